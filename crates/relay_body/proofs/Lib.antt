@@ -1,0 +1,3 @@
+pub mod DotTextLemmas
+pub mod ReadingLemmas
+pub mod WritingLemmas

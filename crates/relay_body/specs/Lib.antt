@@ -1,0 +1,2 @@
+pub mod DotText
+pub mod DotSteps

@@ -1,0 +1,269 @@
+ghost use Rattle.std.specs.Prelude.{◌≡◌, ◌<◌, ◌≤◌, ◌↔◌, ℕ, List, [], ◌∷◌, true, false, length, take, Ok, IfOk, OnOk, OnErr, IsErr, IsTrue, MatchBool};
+ghost use Rattle.relay_body.specs.DotSteps.{IsOpen, RunsOn, phase_behind};
+ghost use Rattle.relay_body.specs.DotText.{IsReading, IsDone, HasFailed, HasRead, Feeds, Uses, gathered_of, limit_of};
+
+use crate::gathered::{BodyFault, Gathered, Gathering};
+use relay_octets::find_crlf;
+use std::alloc::{AllocError, Global};
+
+/// Where a reader stands in a line of mail text.
+#[derive(Clone, Copy, Debug, PartialEq, Eq)]
+enum Phase {
+    LineStart,
+    /// A period at the start of the line, and no more.
+    Period,
+    /// That period and a CR. An LF now is the end of mail data, so the CR is held back.
+    PeriodCr,
+    /// Within a line that isn't the end of mail data.
+    Within,
+    /// The same, behind a CR.
+    WithinCr,
+    Done,
+    Failed,
+}
+
+impl Phase {
+    /// The phase within a line behind this octet.
+    fn behind(octet: u8) -> Phase
+        ensures { result ≡ phase_behind octet }
+    {
+        match octet {
+            b'\r' => Phase::WithinCr,
+            _ => Phase::Within,
+        }
+    }
+}
+
+/// What a feed has done.
+#[derive(Clone, Copy, Debug, PartialEq, Eq)]
+pub struct DotCut {
+    /// How many octets of the piece belong to the text.
+    pub used: usize,
+    /// Whether the text ends with them.
+    pub done: bool,
+}
+
+impl DotCut {
+    /// So many octets, with which no text ends.
+    fn open(used: usize) -> DotCut
+        ensures { result ≡ record { used = used; done = false } }
+    {
+        DotCut { used, done: false }
+    }
+}
+
+/// A reader of one dot text, which may come in any pieces (RFC 5321, section 4.5.2).
+#[derive(Debug, Drop)]
+pub struct DotReader {
+    phase: Phase,
+    gathering: Gathering,
+}
+
+impl DotReader {
+    /// A reader of one text. The limit is the greatest length of its content in octets, counted
+    /// without the periods that are taken off. It takes no memory.
+    pub fn new(alloc: Global, limit: usize) -> Self
+        ensures { IsReading result limit [] }
+    {
+        DotReader {
+            phase: Phase::LineStart,
+            gathering: Gathering::new(alloc, limit),
+        }
+    }
+
+    /// Whether a text has been used whole.
+    pub fn is_done(&self) -> bool
+        ensures { IsTrue result ↔ IsDone self.now }
+    {
+        self.phase == Phase::Done
+    }
+
+    /// Uses the next piece up to the end of the text. Where the content passes the limit, what was
+    /// kept is dropped, and the text is read on all the same. Where memory runs out, the reader
+    /// fails and answers that from then on.
+    pub fn feed(&mut self, piece: &[u8]) -> Result<DotCut, BodyFault>
+        ensures feeds { IfOk result (Feeds self.old self.new piece.now) }
+        ensures within { IfOk result (λ cut. cut.used ≤ length piece.now) }
+        ensures progress { 0 < length piece.now → ¬ IsDone self.old → IfOk result (λ cut. 0 < cut.used) }
+        ensures behind { IsDone self.old
+            → (result ≡ Ok (record { used = 0; done = true })) × (self.new ≡ self.old) }
+        ensures failed { OnErr result (HasFailed self.new) }
+        ensures again { HasFailed self.old → IsErr result }
+        ensures limit { limit_of self.new ≡ limit_of self.old }
+    {
+        match self.phase {
+            Phase::Failed => Err(BodyFault::NoMemory),
+            Phase::Done => Ok(DotCut {
+                used: 0,
+                done: true,
+            }),
+            Phase::LineStart | Phase::Period | Phase::PeriodCr | Phase::Within | Phase::WithinCr =>
+                self.feed_open(piece),
+        }
+    }
+
+    /// The content of the text, or that it was too large. It takes no memory.
+    pub fn finish(self) -> Gathered
+        requires { IsDone self }
+        ensures { (limit : ℕ) (text content : List ℕ)
+            → HasRead self limit text content → result ≡ gathered_of limit content }
+    {
+        self.gathering.finish()
+    }
+
+    /// Reads on, and fails where memory runs out.
+    fn feed_open(&mut self, piece: &[u8]) -> Result<DotCut, BodyFault>
+        requires { IsOpen self.old.phase }
+        ensures feeds { IfOk result (Feeds self.old self.new piece.now) }
+        ensures within { IfOk result (λ cut. cut.used ≤ length piece.now) }
+        ensures progress { 0 < length piece.now → IfOk result (λ cut. 0 < cut.used) }
+        ensures failed { OnErr result (HasFailed self.new) }
+        ensures limit { limit_of self.new ≡ limit_of self.old }
+    {
+        match self.read(piece) {
+            Ok(cut) => Ok(cut),
+            Err(fault) => {
+                self.phase = Phase::Failed;
+                Err(fault)
+            }
+        }
+    }
+
+    /// Uses the piece up to the end of the text.
+    fn read(&mut self, piece: &[u8]) -> Result<DotCut, BodyFault>
+        requires { IsOpen self.old.phase }
+        ensures feeds { IfOk result (Feeds self.old self.new piece.now) }
+        ensures within { IfOk result (λ cut. cut.used ≤ length piece.now) }
+        ensures progress { 0 < length piece.now → IfOk result (λ cut. 0 < cut.used) }
+        ensures limit { limit_of self.new ≡ limit_of self.old }
+    {
+        let mut used = 0;
+        while used < piece.len() {
+            let cut = self.step(&piece[used..])?;
+            used += cut.used;
+            if cut.done {
+                return Ok(DotCut { used, done: true });
+            }
+        }
+        Ok(DotCut::open(used))
+    }
+
+    /// Uses one octet, or a run of octets within a line.
+    fn step(&mut self, rest: &[u8]) -> Result<DotCut, BodyFault>
+        requires phase { IsOpen self.old.phase }
+        requires some { 0 < length rest.now }
+        ensures uses { IfOk result (λ cut. Uses self.old self.new (take cut.used rest.now) cut.done) }
+        ensures within { IfOk result (λ cut. (0 < cut.used) × (cut.used ≤ length rest.now)) }
+        ensures done { IfOk result (λ cut. MatchBool cut.done (IsDone self.new) (IsOpen self.new.phase)) }
+        ensures limit { limit_of self.new ≡ limit_of self.old }
+    {
+        match self.phase {
+            Phase::LineStart => Ok(DotCut::open(self.begin_line(rest)?)),
+            Phase::Period => {
+                self.behind_period(rest[0])?;
+                Ok(DotCut::open(1))
+            }
+            Phase::PeriodCr => {
+                let done = self.behind_period_cr(rest[0])?;
+                Ok(DotCut { used: 1, done })
+            }
+            Phase::Within => Ok(DotCut::open(self.take_run(rest)?)),
+            Phase::WithinCr => {
+                self.behind_cr(rest[0])?;
+                Ok(DotCut::open(1))
+            }
+            Phase::Done | Phase::Failed => unreachable!(),
+        }
+    }
+
+    /// Uses the period that a line begins with, or the line's first run.
+    fn begin_line(&mut self, rest: &[u8]) -> Result<usize, AllocError>
+        requires start { self.old.phase ≡ Phase.LineStart }
+        requires some { 0 < length rest.now }
+        ensures uses { IfOk result (λ used. Uses self.old self.new (take used rest.now) false) }
+        ensures within { IfOk result (λ used. (0 < used) × (used ≤ length rest.now)) }
+        ensures phase { OnOk result (IsOpen self.new.phase) }
+        ensures limit { limit_of self.new ≡ limit_of self.old }
+    {
+        if rest[0] == b'.' {
+            self.phase = Phase::Period;
+            Ok(1)
+        } else {
+            self.take_run(rest)
+        }
+    }
+
+    /// Uses the rest of a line through its CR LF, or all where none is there.
+    fn take_run(&mut self, rest: &[u8]) -> Result<usize, AllocError>
+        requires runs { RunsOn self.old.phase rest.now }
+        requires some { 0 < length rest.now }
+        ensures uses { IfOk result (λ used. Uses self.old self.new (take used rest.now) false) }
+        ensures within { IfOk result (λ used. (0 < used) × (used ≤ length rest.now)) }
+        ensures phase { OnOk result (IsOpen self.new.phase) }
+        ensures limit { limit_of self.new ≡ limit_of self.old }
+    {
+        match find_crlf(rest) {
+            Some(place) => {
+                self.gathering.keep(&rest[..place + 2])?;
+                self.phase = Phase::LineStart;
+                Ok(place + 2)
+            }
+            None => {
+                self.gathering.keep(rest)?;
+                self.phase = Phase::behind(rest[rest.len() - 1]);
+                Ok(rest.len())
+            }
+        }
+    }
+
+    /// Uses the octet behind a period that a line begins with.
+    fn behind_period(&mut self, octet: u8) -> Result<(), AllocError>
+        requires { self.old.phase ≡ Phase.Period }
+        ensures uses { OnOk result (Uses self.old self.new (octet ∷ []) false) }
+        ensures phase { OnOk result (IsOpen self.new.phase) }
+        ensures limit { limit_of self.new ≡ limit_of self.old }
+    {
+        if octet == b'\r' {
+            self.phase = Phase::PeriodCr;
+            Ok(())
+        } else {
+            self.gathering.keep(&[octet])?;
+            self.phase = Phase::Within;
+            Ok(())
+        }
+    }
+
+    /// Uses the octet behind a period and a CR that a line begins with. The CR was held back, and is
+    /// content where no LF comes.
+    fn behind_period_cr(&mut self, octet: u8) -> Result<bool, AllocError>
+        requires { self.old.phase ≡ Phase.PeriodCr }
+        ensures uses { IfOk result (λ done. Uses self.old self.new (octet ∷ []) done) }
+        ensures done { IfOk result (λ done. MatchBool done (IsDone self.new) (IsOpen self.new.phase)) }
+        ensures limit { limit_of self.new ≡ limit_of self.old }
+    {
+        if octet == b'\n' {
+            self.phase = Phase::Done;
+            Ok(true)
+        } else {
+            self.gathering.keep(&[b'\r', octet])?;
+            self.phase = Phase::behind(octet);
+            Ok(false)
+        }
+    }
+
+    /// Uses the octet behind a CR within a line.
+    fn behind_cr(&mut self, octet: u8) -> Result<(), AllocError>
+        requires { self.old.phase ≡ Phase.WithinCr }
+        ensures uses { OnOk result (Uses self.old self.new (octet ∷ []) false) }
+        ensures phase { OnOk result (IsOpen self.new.phase) }
+        ensures limit { limit_of self.new ≡ limit_of self.old }
+    {
+        self.gathering.keep(&[octet])?;
+        if octet == b'\n' {
+            self.phase = Phase::LineStart;
+            return Ok(());
+        }
+        self.phase = Phase::behind(octet);
+        Ok(())
+    }
+}

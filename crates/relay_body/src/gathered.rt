@@ -1,0 +1,92 @@
+ghost use Rattle.std.specs.Option.{ForSome};
+ghost use Rattle.std.specs.Prelude.{◌≤◌, length};
+
+use relay_octets::Octets;
+use std::alloc::{AllocError, Global};
+use thiserror::Error;
+
+/// A content that has come whole.
+#[derive(Debug, Drop)]
+pub enum Gathered {
+    /// The content, which is within the limit.
+    Whole(Octets),
+    /// The content passed the limit, and none of it was kept.
+    TooLarge,
+}
+
+/// Why a reader of a body gives no answer.
+#[derive(Clone, Copy, Debug, PartialEq, Eq, Error)]
+pub enum BodyFault {
+    /// Memory ran out. The reader answers this from then on.
+    #[error("no memory")]
+    NoMemory,
+}
+
+impl From<AllocError> for BodyFault {
+    ghost use Rattle.std.specs.Prelude.{◌≡◌};
+    ghost use Rattle.relay_body.specs.declared.gathered.BodyFault.TheVariants.{NoMemory};
+
+    ghost from_gives = { λ _ fault. fault ≡ NoMemory };
+
+    fn from(_fault: AllocError) -> BodyFault {
+        BodyFault::NoMemory
+    }
+}
+
+/// A content on its way: kept up to a limit, and not at all once it has passed that.
+#[derive(Debug, Drop)]
+pub(crate) struct Gathering {
+    /// The greatest length, in octets, of a content that is kept.
+    limit: usize,
+    /// All of the content so far, or none where it has passed the limit.
+    kept: Option<Octets>,
+    ghost within_limit: { ForSome kept (λ octets. length octets ≤ limit) },
+}
+
+impl Gathering {
+    ghost use Rattle.std.specs.Prelude.{◌≡◌, ℕ, List, [], ◌++◌, OnOk};
+    ghost use Rattle.relay_body.specs.DotText.{KeepsContent, gathered_of};
+
+    /// Nothing of a content yet. It takes no memory.
+    pub(crate) fn new(alloc: Global, limit: usize) -> Self
+        ensures { KeepsContent result limit [] }
+    {
+        Gathering {
+            limit,
+            kept: Some(Octets::new(Vec::new(alloc))),
+        }
+    }
+
+    /// Takes more of the content. What was kept is given up where the limit is passed.
+    pub(crate) fn keep(&mut self, more: &[u8]) -> Result<(), AllocError>
+        ensures keeps { OnOk result ((limit : ℕ) (content : List ℕ)
+            → KeepsContent self.old limit content
+            → KeepsContent self.new limit (content ++ more.now)) }
+        ensures limit { self.new.limit ≡ self.old.limit }
+    {
+        match &mut self.kept {
+            None => Ok(()),
+            Some(octets) => {
+                if more.len() <= self.limit - octets.len() {
+                    octets.push_slice(more)?;
+                    Ok(())
+                } else {
+                    self.kept = None;
+                    Ok(())
+                }
+            }
+        }
+    }
+
+    /// The content, once it has come whole. It takes no memory.
+    pub(crate) fn finish(self) -> Gathered
+        ensures { (limit : ℕ) (content : List ℕ)
+            → KeepsContent self limit content → result ≡ gathered_of limit content }
+    {
+        let Gathering { limit: _, kept } = self;
+        match kept {
+            Some(octets) => Gathered::Whole(octets),
+            None => Gathered::TooLarge,
+        }
+    }
+}

@@ -1,0 +1,11 @@
+//! The body of a mail: dot texts, read in any pieces and written (RFC 5321, section 4.5.2).
+#![tactic(auto)]
+
+mod dot_reader;
+mod dot_writer;
+mod gathered;
+pub mod laws;
+
+pub use dot_reader::{DotCut, DotReader};
+pub use dot_writer::{ends_in_line_end, write_dots};
+pub use gathered::{BodyFault, Gathered};

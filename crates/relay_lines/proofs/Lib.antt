@@ -1,0 +1,4 @@
+pub mod HeldLineLemmas
+pub mod WordLemmas
+pub mod CommandLemmas
+pub mod ReplyLemmas

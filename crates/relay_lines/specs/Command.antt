@@ -1,0 +1,178 @@
+-- Command lines (RFC 5321, section 4.1.1): the command that a line, without its CR LF, gives, or its first fault.
+use Rattle.std.specs.Prelude.{◌≡◌, ◌↔◌, ◌==◌, List, [], ◌∷◌, ◌++◌, ℕ, Bool, true, false, length, codes, Option, Some, None, option_map, ok_or, find, Result, Ok, Err, if◌then◌else◌}
+use Rattle.std.specs.List.{AllPass, suffix_len}
+use Rattle.relay_octets.specs.LetterCase.{IsSameWord}
+use Rattle.relay_lines.specs.Word.{is_printable, is_blank, is_word, are_printable, without_trailing_blanks, first_word, argument_of, behind_keyword, is_host_word, SplitsLine, BeginsWithKeyword, IsHostWord}
+use Rattle.relay_lines.specs.declared.command.LineFault.{LineFault}
+use Rattle.relay_lines.specs.declared.command.LineFault.TheVariants.{Unknown, BadByte, BadArgument}
+use Rattle.relay_lines.specs.declared.command.Verb.{Verb}
+use Rattle.relay_lines.specs.declared.command.Verb.TheVariants as verb
+use Rattle.relay_lines.specs.declared.command.Command.{Command as Parsed}
+use Rattle.relay_lines.specs.declared.command.Command.TheVariants as parsed
+
+-- a command with its octets
+pub data Command : Type 0 where
+  Helo : List ℕ → Command
+  Mail : List ℕ → Command
+  Rcpt : List ℕ → Command
+  Data : Command
+  Rset : Command
+  Noop : Command
+  Quit : Command
+
+-- the word of each verb
+abbrev pub word_of : Verb → List ℕ
+word_of verb.Helo = codes "HELO"
+word_of verb.Mail = codes "MAIL"
+word_of verb.Rcpt = codes "RCPT"
+word_of verb.Data = codes "DATA"
+word_of verb.Rset = codes "RSET"
+word_of verb.Noop = codes "NOOP"
+word_of verb.Quit = codes "QUIT"
+
+-- the verbs
+abbrev pub verbs : List Verb
+verbs = verb.Helo ∷ verb.Mail ∷ verb.Rcpt ∷ verb.Data ∷ verb.Rset ∷ verb.Noop ∷ verb.Quit ∷ []
+
+-- the verb that a word is, in any letter case
+unfoldable pub verb_of : List ℕ → Option Verb
+verb_of word = find (λ verb. is_word word (word_of verb)) verbs
+
+-- the command, where its argument is as it must be
+abbrev pub command_if : Bool → Command → Result Command LineFault
+command_if true command = Ok command
+command_if false command = Err BadArgument
+
+-- what each verb says with an argument (sections 4.1.1.1 to 4.1.1.5, 4.1.1.9 and 4.1.1.10)
+unfoldable pub command_of : Verb → List ℕ → Result Command LineFault
+command_of verb.Helo argument = command_if (is_host_word argument) (Helo argument)
+command_of verb.Mail argument = ok_or (option_map Mail (behind_keyword (codes "FROM:") argument)) BadArgument
+command_of verb.Rcpt argument = ok_or (option_map Rcpt (behind_keyword (codes "TO:") argument)) BadArgument
+command_of verb.Data argument = command_if (length argument == 0) Data
+command_of verb.Rset argument = command_if (length argument == 0) Rset
+command_of verb.Noop argument = Ok Noop
+command_of verb.Quit argument = command_if (length argument == 0) Quit
+
+-- the command of a verb, or the fault that there is none
+abbrev pub reading_of_verb : Option Verb → List ℕ → Result Command LineFault
+reading_of_verb None argument = Err Unknown
+reading_of_verb (Some verb) argument = command_of verb argument
+
+-- the reading of a word and an argument
+unfoldable pub reading_of_words : List ℕ → List ℕ → Result Command LineFault
+reading_of_words word argument = reading_of_verb (verb_of word) argument
+
+-- the reading of a text without blanks at its end: a bad octet is found before the verb, the verb before its argument
+unfoldable pub reading_of_text : List ℕ → Result Command LineFault
+reading_of_text text = if are_printable text then reading_of_words (first_word text) (argument_of text) else Err BadByte
+
+-- the reading of a line
+unfoldable pub reading_of : List ℕ → Result Command LineFault
+reading_of line = reading_of_text (without_trailing_blanks line)
+
+-- the octets of a command that the code answers
+abbrev pub value_of : Parsed → Command
+value_of (parsed.Helo word) = Helo word.now
+value_of (parsed.Mail path) = Mail path.now
+value_of (parsed.Rcpt path) = Rcpt path.now
+value_of parsed.Data = Data
+value_of parsed.Rset = Rset
+value_of parsed.Noop = Noop
+value_of parsed.Quit = Quit
+
+-- what the code answers, with octets in place of slices
+abbrev pub answer_of : Result Parsed LineFault → Result Command LineFault
+answer_of (Ok command) = Ok (value_of command)
+answer_of (Err fault) = Err fault
+
+-- how each command is spelled: its verb, in any letter case, and its argument
+abbrev pub IsSpelled : Command → List ℕ → List ℕ → Type 0
+IsSpelled (Helo host) word argument = IsSameWord word (codes "HELO") × IsHostWord host × (argument ≡ host)
+IsSpelled (Mail path) word argument = IsSameWord word (codes "MAIL") × BeginsWithKeyword argument (codes "FROM:") path
+IsSpelled (Rcpt path) word argument = IsSameWord word (codes "RCPT") × BeginsWithKeyword argument (codes "TO:") path
+IsSpelled Data word argument = IsSameWord word (codes "DATA") × (argument ≡ [])
+IsSpelled Rset word argument = IsSameWord word (codes "RSET") × (argument ≡ [])
+IsSpelled Noop word argument = IsSameWord word (codes "NOOP")
+IsSpelled Quit word argument = IsSameWord word (codes "QUIT") × (argument ≡ [])
+
+-- the line gives this command: its word and its argument are printable, and they spell it
+pub record ReadsCommand (line : List ℕ) (command : Command) : Type 0 where
+  pub word : List ℕ
+  pub argument : List ℕ
+  pub splits : SplitsLine line word argument
+  pub printable : AllPass is_printable (word ++ argument)
+  pub spelled : IsSpelled command word argument
+
+-- A line has a word and an argument.
+abbrev pub EveryLineSplits : Type 0
+EveryLineSplits = (line : List ℕ) → (word : List ℕ) × (argument : List ℕ) × SplitsLine line word argument
+
+-- A line has no other word and no other argument.
+abbrev pub SplitIsOne : Type 0
+SplitIsOne =
+    (line word argument other more : List ℕ) → SplitsLine line word argument → SplitsLine line other more
+    → (word ≡ other) × (argument ≡ more)
+
+-- A line's reading is that of its word and its argument, and the spaces between them and behind them say nothing.
+abbrev pub ReadingIsOfWords : Type 0
+ReadingIsOfWords =
+    (line word argument : List ℕ) → SplitsLine line word argument
+    → reading_of line ≡ (if are_printable (word ++ argument) then reading_of_words word argument else Err BadByte)
+
+-- What is read is spelled so, and what is spelled so is read.
+abbrev pub ReadingIsOfSpelling : Type 0
+ReadingIsOfSpelling = (line : List ℕ) (command : Command) → (reading_of line ≡ Ok command) ↔ ReadsCommand line command
+
+-- A bad octet is found exactly where the word or the argument holds one.
+abbrev pub BadByteIsFound : Type 0
+BadByteIsFound =
+    (line word argument : List ℕ) → SplitsLine line word argument
+    → (reading_of line ≡ Err BadByte) ↔ (¬ AllPass is_printable (word ++ argument))
+
+-- A line is unknown exactly where it is printable and its word is no verb.
+abbrev pub UnknownIsFound : Type 0
+UnknownIsFound =
+    (line word argument : List ℕ) → SplitsLine line word argument
+    → (reading_of line ≡ Err Unknown)
+    ↔ (AllPass is_printable (word ++ argument) × ((verb : Verb) → ¬ IsSameWord word (word_of verb)))
+
+-- An argument is bad exactly where the line is printable, its word is a verb, and the two spell no command.
+abbrev pub BadArgumentIsFound : Type 0
+BadArgumentIsFound =
+    (line word argument : List ℕ) → SplitsLine line word argument
+    → (reading_of line ≡ Err BadArgument)
+    ↔ (AllPass is_printable (word ++ argument) × ((verb : Verb) × IsSameWord word (word_of verb))
+    × ((command : Command) → ¬ IsSpelled command word argument))
+
+-- The letter case of a verb says nothing.
+abbrev pub LetterCaseIsFree : Type 0
+LetterCaseIsFree =
+    (line other word again argument : List ℕ) → SplitsLine line word argument → SplitsLine other again argument
+    → IsSameWord word again → reading_of line ≡ reading_of other
+
+-- A client's MAIL is read as it was written, in any letter case.
+abbrev pub MailIsRead : Type 0
+MailIsRead =
+    (verb keyword path : List ℕ) → IsSameWord verb (codes "MAIL") → IsSameWord keyword (codes "FROM:")
+    → AllPass is_printable path → suffix_len is_blank path ≡ 0
+    → reading_of (verb ++ codes " " ++ (keyword ++ path)) ≡ Ok (Mail path)
+
+-- A client's RCPT is read as it was written, in any letter case.
+abbrev pub RcptIsRead : Type 0
+RcptIsRead =
+    (verb keyword path : List ℕ) → IsSameWord verb (codes "RCPT") → IsSameWord keyword (codes "TO:")
+    → AllPass is_printable path → suffix_len is_blank path ≡ 0
+    → reading_of (verb ++ codes " " ++ (keyword ++ path)) ≡ Ok (Rcpt path)
+
+-- A client's HELO is read as it was written, in any letter case.
+abbrev pub HeloIsRead : Type 0
+HeloIsRead =
+    (verb host : List ℕ) → IsSameWord verb (codes "HELO") → IsHostWord host
+    → reading_of (verb ++ codes " " ++ host) ≡ Ok (Helo host)
+
+-- A client's line of a verb alone is read, in any letter case.
+pub record BareVerbsAreRead : Type 0 where
+  pub data_is : (verb : List ℕ) → IsSameWord verb (codes "DATA") → reading_of verb ≡ Ok Data
+  pub rset_is : (verb : List ℕ) → IsSameWord verb (codes "RSET") → reading_of verb ≡ Ok Rset
+  pub noop_is : (verb : List ℕ) → IsSameWord verb (codes "NOOP") → reading_of verb ≡ Ok Noop
+  pub quit_is : (verb : List ℕ) → IsSameWord verb (codes "QUIT") → reading_of verb ≡ Ok Quit

@@ -1,0 +1,5 @@
+pub mod LineCut
+pub mod HeldLine
+pub mod Word
+pub mod Command
+pub mod Reply

@@ -1,0 +1,57 @@
+-- Replies (RFC 5321, section 4.2): lines of one code, all but the last marked by a hyphen.
+use Rattle.std.specs.Prelude.{◌≡◌, ℕ, ◌+◌, ◌/◌, ◌%◌, ◌<◌, ◌≤◌, List, [], ◌∷◌, ◌++◌, length}
+use Rattle.std.specs.List.{AllByRecursion}
+use Rattle.relay_octets.specs.Line.{crlf, HasNoCrlf}
+
+-- a code, and the text of each line
+pub record Reply : Type 0 where
+  pub code : ℕ
+  pub lines : List (List ℕ)
+
+-- the reply of these parts
+abbrev pub made_of : ℕ → List (List ℕ) → Reply
+made_of code lines = record { code = code; lines = lines }
+
+-- Reply-code: three digits
+abbrev pub code_digits : ℕ → List ℕ
+code_digits code = (48 + code / 100) ∷ (48 + code / 10 % 10) ∷ (48 + code % 10) ∷ []
+
+-- a line that another follows: Reply-code "-" text CRLF
+abbrev pub middle_line : ℕ → List ℕ → List ℕ
+middle_line code text = code_digits code ++ 45 ∷ text ++ crlf
+
+-- the last line: Reply-code [ SP text ] CRLF
+abbrev pub last_line : ℕ → List ℕ → List ℕ
+last_line code [] = code_digits code ++ crlf
+last_line code (octet ∷ text) = code_digits code ++ 32 ∷ octet ∷ text ++ crlf
+
+-- the lines of a reply, as they are written
+abbrev pub lines_of_reply : ℕ → List (List ℕ) → List ℕ
+lines_of_reply code [] = []
+lines_of_reply code (text ∷ []) = last_line code text
+lines_of_reply code (text ∷ next ∷ more) = middle_line code text ++ lines_of_reply code (next ∷ more)
+
+-- a reply, as it is written
+abbrev pub reply_text : Reply → List ℕ
+reply_text reply = lines_of_reply reply.code reply.lines
+
+-- any octets but CR LF; a line has at most 2,048 octets with its code, the mark behind it and its CR LF
+pub record IsReplyLine (text : List ℕ) : Type 0 where
+  pub line : HasNoCrlf text
+  pub short : length text ≤ 2042
+
+-- three digits, the first 2 to 5; profile: at most 100 lines
+pub record IsReply (reply : Reply) : Type 0 where
+  pub code_low : 200 ≤ reply.code
+  pub code_high : reply.code < 600
+  pub some_line : 0 < length reply.lines
+  pub few_lines : length reply.lines ≤ 100
+  pub each : AllByRecursion IsReplyLine reply.lines
+
+-- a reply of one line
+abbrev pub one_line : ℕ → List ℕ → Reply
+one_line code text = made_of code (text ∷ [])
+
+-- the octets begin with these, and some may have come behind them
+abbrev pub Begins : List ℕ → List ℕ → Type 0
+Begins front octets = (rest : List ℕ) × (octets ≡ front ++ rest)

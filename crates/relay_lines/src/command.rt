@@ -1,0 +1,122 @@
+ghost use Rattle.std.specs.Prelude.{◌≡◌};
+ghost use Rattle.relay_lines.specs.Command.{verb_of, command_of, reading_of, answer_of};
+
+use crate::word::{
+    are_printable, argument_of, behind_keyword, first_word, is_host_word, is_word,
+    without_trailing_blanks,
+};
+use thiserror::Error;
+
+/// A command (RFC 5321, section 4.1.1), with its parts as they came.
+#[derive(Clone, Copy, Debug, PartialEq, Eq)]
+pub enum Command<'a> {
+    /// The word of the client: 1 to 255 octets.
+    Helo(&'a [u8]),
+    /// What stands behind the colon of `FROM:`.
+    Mail(&'a [u8]),
+    /// What stands behind the colon of `TO:`.
+    Rcpt(&'a [u8]),
+    /// The mail data comes next.
+    Data,
+    /// The mail transaction is dropped.
+    Rset,
+    /// Nothing is done, whatever its argument.
+    Noop,
+    /// The client ends the session.
+    Quit,
+}
+
+/// Why a line is no command. Faults are looked for in the order BadByte, Unknown, BadArgument, and the first one is
+/// answered.
+#[derive(Clone, Copy, Debug, PartialEq, Eq, Error)]
+pub enum LineFault {
+    /// The line begins with no verb.
+    #[error("unknown command")]
+    Unknown,
+    /// An octet of the line stands outside 32 to 126.
+    #[error("bad octet in line")]
+    BadByte,
+    /// The verb doesn't take this argument.
+    #[error("bad argument")]
+    BadArgument,
+}
+
+/// What a command line begins with.
+#[derive(Clone, Copy, Debug, PartialEq, Eq)]
+enum Verb {
+    Helo,
+    Mail,
+    Rcpt,
+    Data,
+    Rset,
+    Noop,
+    Quit,
+}
+
+/// The verb that a word is, in any letter case.
+#[tactic(auto, unfolding(crate::specs::Command::verb_of))]
+fn verb_of(word: &[u8]) -> Option<Verb>
+    ensures { result ≡ verb_of word.now }
+{
+    if is_word(word, b"HELO") {
+        Some(Verb::Helo)
+    } else if is_word(word, b"MAIL") {
+        Some(Verb::Mail)
+    } else if is_word(word, b"RCPT") {
+        Some(Verb::Rcpt)
+    } else if is_word(word, b"DATA") {
+        Some(Verb::Data)
+    } else if is_word(word, b"RSET") {
+        Some(Verb::Rset)
+    } else if is_word(word, b"NOOP") {
+        Some(Verb::Noop)
+    } else if is_word(word, b"QUIT") {
+        Some(Verb::Quit)
+    } else {
+        None
+    }
+}
+
+impl<'a> Command<'a> {
+    /// Reads a line without its CR LF. The parts of the command are slices of the line. A line may have any length here:
+    /// the limit of a command line (RFC 5321, section 4.5.3.1.4) is held by whoever cuts it.
+    ///
+    /// Spaces and tabs at the end of the line are dropped. The verb is what stands before the first space, and several
+    /// spaces may follow it. It and `FROM:` and `TO:` stand in any letter case (RFC 5321, section 2.4).
+    #[tactic(auto, unfolding(crate::specs::Command::reading_of, crate::specs::Command::reading_of_text, crate::specs::Command::reading_of_words))]
+    pub fn parse(line: &'a [u8]) -> Result<Command<'a>, LineFault>
+        ensures { answer_of result ≡ reading_of line.now }
+    {
+        let text = without_trailing_blanks(line);
+        if !are_printable(text) {
+            return Err(LineFault::BadByte);
+        }
+        match verb_of(first_word(text)) {
+            Some(verb) => Command::of_verb(verb, argument_of(text)),
+            None => Err(LineFault::Unknown),
+        }
+    }
+
+    /// What a verb says with an argument.
+    #[tactic(auto, unfolding(crate::specs::Command::command_of))]
+    fn of_verb(verb: Verb, argument: &'a [u8]) -> Result<Command<'a>, LineFault>
+        ensures { answer_of result ≡ command_of verb argument.now }
+    {
+        match verb {
+            Verb::Helo if is_host_word(argument) => Ok(Command::Helo(argument)),
+            Verb::Mail => match behind_keyword(b"FROM:", argument) {
+                Some(path) => Ok(Command::Mail(path)),
+                None => Err(LineFault::BadArgument),
+            },
+            Verb::Rcpt => match behind_keyword(b"TO:", argument) {
+                Some(path) => Ok(Command::Rcpt(path)),
+                None => Err(LineFault::BadArgument),
+            },
+            Verb::Data if argument.is_empty() => Ok(Command::Data),
+            Verb::Rset if argument.is_empty() => Ok(Command::Rset),
+            Verb::Noop => Ok(Command::Noop),
+            Verb::Quit if argument.is_empty() => Ok(Command::Quit),
+            Verb::Helo | Verb::Data | Verb::Rset | Verb::Quit => Err(LineFault::BadArgument),
+        }
+    }
+}

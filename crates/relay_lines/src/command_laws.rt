@@ -1,0 +1,73 @@
+//! What is true of command lines, whoever reads them.
+ghost use Rattle.relay_lines.specs.Word.{AddressLiteralIsTested, HostWordIsTested};
+ghost use Rattle.relay_lines.specs.Command.{EveryLineSplits, SplitIsOne, ReadingIsOfWords, ReadingIsOfSpelling, BadByteIsFound, UnknownIsFound, BadArgumentIsFound, LetterCaseIsFree, MailIsRead, RcptIsRead, HeloIsRead, BareVerbsAreRead};
+
+/// A line has a word and an argument.
+pub fn every_line_splits()
+    ensures { EveryLineSplits }
+{}
+
+/// A line has no other word and no other argument.
+pub fn split_is_one()
+    ensures { SplitIsOne }
+{}
+
+/// A line's reading is that of its word and its argument, and the spaces between them and behind them say nothing.
+pub fn reading_is_of_words()
+    ensures { ReadingIsOfWords }
+{}
+
+/// What is read is spelled so, and what is spelled so is read.
+pub fn reading_is_of_spelling()
+    ensures { ReadingIsOfSpelling }
+{}
+
+/// A bad octet is found exactly where the word or the argument holds one.
+pub fn bad_byte_is_found()
+    ensures { BadByteIsFound }
+{}
+
+/// A line is unknown exactly where it is printable and its word is no verb.
+pub fn unknown_is_found()
+    ensures { UnknownIsFound }
+{}
+
+/// An argument is bad exactly where the line is printable, its word is a verb, and the two spell no command.
+pub fn bad_argument_is_found()
+    ensures { BadArgumentIsFound }
+{}
+
+/// The letter case of a verb says nothing.
+pub fn letter_case_is_free()
+    ensures { LetterCaseIsFree }
+{}
+
+/// A client's MAIL is read as it was written, in any letter case.
+pub fn mail_is_read()
+    ensures { MailIsRead }
+{}
+
+/// A client's RCPT is read as it was written, in any letter case.
+pub fn rcpt_is_read()
+    ensures { RcptIsRead }
+{}
+
+/// A client's HELO is read as it was written, in any letter case.
+pub fn helo_is_read()
+    ensures { HeloIsRead }
+{}
+
+/// A client's line of a verb alone is read, in any letter case.
+pub fn bare_verbs_are_read()
+    ensures { BareVerbsAreRead }
+{}
+
+/// The test of an address literal passes exactly at one.
+pub fn address_literal_is_tested()
+    ensures { AddressLiteralIsTested }
+{}
+
+/// The test of a host word passes exactly at one.
+pub fn host_word_is_tested()
+    ensures { HostWordIsTested }
+{}

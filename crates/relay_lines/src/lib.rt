@@ -1,0 +1,14 @@
+//! Lines, commands and replies of SMTP, cut exactly out of octets that come in any pieces.
+#![tactic(auto)]
+
+mod command;
+pub mod command_laws;
+mod line;
+mod line_buffer;
+mod reply;
+pub mod word;
+
+pub use command::{Command, LineFault};
+pub use line::{LineCut, next_line};
+pub use line_buffer::{LINE_LIMIT, LineBuffer};
+pub use reply::{REPLY_LINES, Reply, write_line};

@@ -1,0 +1,140 @@
+ghost use Rattle.std.specs.Prelude.{◌≡◌, ℕ, ◌∷◌, ◌++◌, ◌<◌, ◌≤◌, ◌↔◌, ◌||◌, ◌&&◌, nat_lt, List, [], length, take, MatchOption, IsTrue};
+ghost use Rattle.relay_octets.specs.Line.{begins_with_lf};
+ghost use Rattle.relay_lines.specs.HeldLine.{HeldLine, Holds, HoldsLine, EndsLine, GoesOn};
+
+use relay_octets::find_crlf;
+use std::marker::Model;
+
+/// The most octets that a command line or a reply line has, with its CR LF. A command line may so have more
+/// than the 512 octets of RFC 5321, 4.5.3.1.4, which the extensions raise.
+pub const LINE_LIMIT: usize = 2048;
+
+/// A line that comes in pieces. It stands in a fixed array: of a longer line the first 2,048 octets are kept,
+/// and the others are counted as too many and dropped.
+#[derive(Drop)]
+pub struct LineBuffer {
+    octets: [u8; LINE_LIMIT],
+    len: usize,
+    is_long: bool,
+    after_cr: bool,
+}
+
+impl Model for LineBuffer {
+    ghost Value = { HeldLine };
+
+    ghost view = { λ b. record { kept = take b.len b.octets; is_long = b.is_long; after_cr = b.after_cr } };
+
+    ghost invariant = { λ b. b.len ≤ 2048 };
+}
+
+impl LineBuffer {
+    /// An empty buffer.
+    pub fn new() -> Self
+        ensures { Holds result [] }
+    {
+        LineBuffer {
+            octets: [0; LINE_LIMIT],
+            len: 0,
+            is_long: false,
+            after_cr: false,
+        }
+    }
+
+    /// Takes the next octets of the line, up to the line's end where it comes, and answers how many they are then.
+    /// Where it doesn't come, all of the piece is taken. A buffer whose line has ended is cleared first.
+    pub fn feed(&mut self, piece: &[u8]) -> Option<usize>
+        ensures taken { (octets : List ℕ) → Holds self.old octets → MatchOption result (Holds self.new (octets ++ piece.now))
+            (λ used. EndsLine octets (take used piece.now) self.new) }
+        ensures within { MatchOption result (Unit {0}) (λ used. (0 < used) × (used ≤ length piece.now)) }
+    {
+        if self.is_ended_by(piece) {
+            self.drop_cr();
+            return Some(1);
+        }
+        match find_crlf(piece) {
+            Some(place) => {
+                self.push(&piece[..place]);
+                self.end();
+                Some(place + 2)
+            }
+            None => {
+                self.push(piece);
+                None
+            }
+        }
+    }
+
+    /// Whether the piece begins with the LF of a CR LF whose CR has come already.
+    fn is_ended_by(&self, piece: &[u8]) -> bool
+        ensures { result ≡ self.now.after_cr && begins_with_lf piece.now }
+    {
+        match piece {
+            [first, ..] => self.after_cr && *first == b'\n',
+            [] => false,
+        }
+    }
+
+    /// Keeps what fits of further octets.
+    fn push(&mut self, octets: &[u8])
+        ensures { GoesOn self.old self.new octets.now }
+    {
+        let room = LINE_LIMIT - self.len;
+        let Some(last) = octets.last() else {
+            return;
+        };
+        let count = room.min(octets.len());
+        let end = self.len + count;
+        self.octets[self.len..end].copy_from_slice(&octets[..count]);
+        self.len = end;
+        self.is_long |= room < octets.len();
+        self.after_cr = *last == b'\r';
+    }
+
+    /// Ends the line, whose CR LF counts among its octets.
+    fn end(&mut self)
+        ensures kept { self.new.kept ≡ self.old.kept }
+        ensures is_long { self.new.is_long ≡ self.old.is_long || nat_lt 2046 (length self.old.kept) }
+    {
+        self.is_long |= LINE_LIMIT - 2 < self.len;
+    }
+
+    /// Ends the line where its CR has come already.
+    fn drop_cr(&mut self)
+        ensures { (line : List ℕ) → Holds self.old (line ++ 13 ∷ []) → HoldsLine self.new line }
+    {
+        if !self.is_long {
+            self.len = self.len.saturating_sub(1);
+        }
+        self.end();
+    }
+
+    /// Whether the line has more octets than a line may have. Its first ones are in hand.
+    pub fn is_long(&self) -> bool
+        ensures { result ≡ self.now.is_long }
+    {
+        self.is_long
+    }
+
+    /// The octets in hand.
+    pub fn octets(&self) -> &[u8]
+        ensures { result.now ≡ self.now.kept }
+    {
+        &self.octets[..self.len]
+    }
+
+    /// Whether no octet is in hand.
+    pub fn is_empty(&self) -> bool
+        ensures { IsTrue result ↔ (self.now.kept ≡ []) }
+    {
+        self.len == 0
+    }
+
+    /// Forgets the line, so that the next can come.
+    pub fn clear(&mut self)
+        ensures { Holds self.new [] }
+    {
+        self.len = 0;
+        self.is_long = false;
+        self.after_cr = false;
+    }
+}

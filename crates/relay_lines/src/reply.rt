@@ -1,0 +1,161 @@
+ghost use Rattle.std.specs.Prelude.{◌≡◌, ◌<◌, ◌↔◌, ◌++◌, IsTrue, OnOk, OnErr};
+ghost use Rattle.std.specs.List.{AllByRecursion};
+ghost use Rattle.relay_octets.specs.Line.{crlf};
+ghost use Rattle.relay_lines.specs.Reply.{IsReplyLine, Begins, code_digits, last_line, lines_of_reply, one_line, reply_text};
+
+use crate::line_buffer::LINE_LIMIT;
+use relay_octets::{Octets, find_crlf};
+use std::alloc::AllocError;
+use std::marker::Model;
+
+/// The most lines that a reply has.
+pub const REPLY_LINES: usize = 100;
+
+/// What a reply line has beside its text: the code, the mark behind it, and CR LF.
+const LINE_FRAME: usize = 6;
+
+/// A reply (RFC 5321, 4.2): a code of three digits, the first 2 to 5, and 1 to 100 lines of text. A text is any
+/// octets but CR LF, 2,042 of them at most.
+#[derive(Debug, Drop)]
+pub struct Reply {
+    code: u16,
+    lines: Vec<Octets>,
+}
+
+impl Model for Reply {
+    ghost use Rattle.relay_lines.specs.Reply.{Reply as Coded, IsReply, made_of};
+
+    ghost Value = { Coded };
+
+    ghost view = { λ r. made_of r.code r.lines.items };
+
+    ghost invariant = { λ r. IsReply (made_of r.code r.lines.items) };
+}
+
+impl Reply {
+    ghost use Rattle.std.specs.Prelude.{◌≡◌, ◌++◌, MatchOption, OnOk, OnErr};
+    ghost use Rattle.relay_lines.specs.Reply.{IsReply, reply_text, made_of};
+
+    /// A reply of these lines, where they and the code may stand in one.
+    pub fn new(code: u16, lines: Vec<Octets>) -> Option<Self>
+        ensures { MatchOption result (¬ IsReply (made_of code lines.items))
+            (λ reply. (reply ≡ made_of code lines.items) × IsReply reply) }
+    {
+        let has_code = 200 <= code && code < 600;
+        let has_lines = !lines.is_empty() && lines.len() <= REPLY_LINES;
+        if has_code && has_lines && are_reply_lines(&lines) {
+            Some(Reply { code, lines })
+        } else {
+            None
+        }
+    }
+
+    /// The code.
+    pub fn code(&self) -> u16
+        ensures { result ≡ self.now.code }
+    {
+        self.code
+    }
+
+    /// The text of each line.
+    pub fn lines(&self) -> &[Octets]
+        ensures { result.now ≡ self.now.lines }
+    {
+        self.lines.as_slice()
+    }
+
+    /// Writes the reply at the end of `out`. Where memory runs out, nothing is written.
+    pub fn write(&self, out: &mut Vec<u8>) -> Result<(), AllocError>
+        ensures ok { OnOk result (out.new.items ≡ out.old.items ++ reply_text self.now) }
+        ensures err { OnErr result (out.new.items ≡ out.old.items) }
+    {
+        let start = out.len();
+        let written = push_lines(out, self.code, self.lines.as_slice());
+        if written.is_err() {
+            out.truncate(start);
+        }
+        written
+    }
+}
+
+/// Whether each of the texts may stand in a reply.
+fn are_reply_lines(lines: &[Octets]) -> bool
+    ensures { IsTrue result ↔ AllByRecursion IsReplyLine lines.now }
+{
+    for text in lines {
+        if !is_reply_line(text.as_slice()) {
+            return false;
+        }
+    }
+    true
+}
+
+/// Whether the text may stand in a reply.
+fn is_reply_line(text: &[u8]) -> bool
+    ensures { IsTrue result ↔ IsReplyLine text.now }
+{
+    text.len() <= LINE_LIMIT - LINE_FRAME && find_crlf(text).is_none()
+}
+
+/// Writes a reply of one line at the end of `out`: the code, and the text in two parts, each of which may be empty.
+/// Where memory runs out, nothing is written.
+pub fn write_line(out: &mut Vec<u8>, code: u16, text: &[u8], more: &[u8]) -> Result<(), AllocError>
+    requires { code < 1000 }
+    ensures ok { OnOk result (out.new.items ≡ out.old.items ++ reply_text (one_line code (text.now ++ more.now))) }
+    ensures err { OnErr result (out.new.items ≡ out.old.items) }
+{
+    let start = out.len();
+    let written = push_last(out, code, text, more);
+    if written.is_err() {
+        out.truncate(start);
+    }
+    written
+}
+
+/// Writes the lines of a reply: all but the last are marked by a hyphen.
+fn push_lines(out: &mut Vec<u8>, code: u16, lines: &[Octets]) -> Result<(), AllocError>
+    requires { code < 1000 }
+    ensures ok { OnOk result (out.new.items ≡ out.old.items ++ lines_of_reply code lines.now) }
+    ensures front { Begins out.old.items out.new.items }
+{
+    let Some((last, middle)) = lines.split_last() else {
+        return Ok(());
+    };
+    for text in middle {
+        push_line(out, code, b"-", text.as_slice(), b"")?;
+    }
+    push_last(out, code, last.as_slice(), b"")
+}
+
+/// Writes the last line of a reply, which has no space where it has no text.
+fn push_last(out: &mut Vec<u8>, code: u16, text: &[u8], more: &[u8]) -> Result<(), AllocError>
+    requires { code < 1000 }
+    ensures ok { OnOk result (out.new.items ≡ out.old.items ++ last_line code (text.now ++ more.now)) }
+    ensures front { Begins out.old.items out.new.items }
+{
+    if text.is_empty() && more.is_empty() {
+        push_line(out, code, b"", b"", b"")
+    } else {
+        push_line(out, code, b" ", text, more)
+    }
+}
+
+/// Writes the code, the mark behind it, the text in two parts, and CR LF.
+fn push_line(
+    out: &mut Vec<u8>,
+    code: u16,
+    mark: &[u8],
+    text: &[u8],
+    more: &[u8],
+) -> Result<(), AllocError>
+    requires { code < 1000 }
+    ensures ok { OnOk result (out.new.items ≡ out.old.items ++ (code_digits code ++ mark.now ++ text.now ++ more.now ++ crlf)) }
+    ensures front { Begins out.old.items out.new.items }
+{
+    let digit = |n: u16| b'0' + n as u8;
+    out.extend_from_slice(&[digit(code / 100), digit(code / 10 % 10), digit(code % 10)])?;
+    out.extend_from_slice(mark)?;
+    out.extend_from_slice(text)?;
+    out.extend_from_slice(more)?;
+    out.extend_from_slice(b"\r\n")
+}

@@ -1,0 +1,150 @@
+//! Words of a command line (RFC 5321, sections 2.4 and 4.1.1).
+ghost use Rattle.std.specs.Prelude.{◌≡◌, ◌≤◌, length, option_copied};
+ghost use Rattle.relay_lines.specs.Word.{is_printable, is_blank, is_domain_octet, is_literal_octet, are_printable, are_domain_octets, are_literal_octets, without_trailing_blanks, word_len, space_len, first_word, argument_of, is_word, behind_keyword, is_address_literal, is_host_word};
+
+fn is_blank(octet: u8) -> bool
+    ensures { result ≡ is_blank octet }
+{
+    octet == b' ' || octet == b'\t'
+}
+
+fn is_printable(octet: u8) -> bool
+    ensures { result ≡ is_printable octet }
+{
+    b' ' <= octet && octet <= b'~'
+}
+
+fn is_domain_octet(octet: u8) -> bool
+    ensures { result ≡ is_domain_octet octet }
+{
+    octet.is_ascii_alphanumeric() || octet == b'-' || octet == b'.' || octet == b'_'
+}
+
+fn is_literal_octet(octet: u8) -> bool
+    ensures { result ≡ is_literal_octet octet }
+{
+    is_domain_octet(octet) || octet == b':'
+}
+
+/// Whether each octet is a printable one, from the space to `~`.
+#[tactic(auto, unfolding(crate::specs::Word::are_printable))]
+pub(crate) fn are_printable(text: &[u8]) -> bool
+    ensures { result ≡ are_printable text.now }
+{
+    text.iter().all(|octet| is_printable(*octet))
+}
+
+/// Whether each octet is one of a domain (RFC 5321, section 4.1.2): a letter, a digit, `-` or `.`, or `_`.
+#[tactic(auto, unfolding(crate::specs::Word::are_domain_octets))]
+pub fn are_domain_octets(text: &[u8]) -> bool
+    ensures { result ≡ are_domain_octets text.now }
+{
+    text.iter().all(|octet| is_domain_octet(*octet))
+}
+
+#[tactic(auto, unfolding(crate::specs::Word::are_literal_octets))]
+fn are_literal_octets(text: &[u8]) -> bool
+    ensures { result ≡ are_literal_octets text.now }
+{
+    text.iter().all(|octet| is_literal_octet(*octet))
+}
+
+/// The line without the spaces and tabs at its end (RFC 5321, section 4.1.1).
+#[tactic(auto, unfolding(crate::specs::Word::without_trailing_blanks))]
+pub(crate) fn without_trailing_blanks(line: &[u8]) -> &[u8]
+    ensures { result.now ≡ without_trailing_blanks line.now }
+{
+    let mut end = line.len();
+    while end > 0 && is_blank(line[end - 1]) {
+        end -= 1;
+    }
+    &line[..end]
+}
+
+#[tactic(auto, unfolding(crate::specs::Word::word_len))]
+fn word_len(text: &[u8]) -> usize
+    ensures value { result ≡ word_len text.now }
+    ensures within { result ≤ length text.now }
+{
+    for (i, octet) in text.iter().enumerate() {
+        if *octet == b' ' {
+            return i;
+        }
+    }
+    text.len()
+}
+
+#[tactic(auto, unfolding(crate::specs::Word::space_len))]
+fn space_len(text: &[u8]) -> usize
+    ensures value { result ≡ space_len text.now }
+    ensures within { result ≤ length text.now }
+{
+    for (i, octet) in text.iter().enumerate() {
+        if *octet != b' ' {
+            return i;
+        }
+    }
+    text.len()
+}
+
+/// What stands before the first space.
+#[tactic(auto, unfolding(crate::specs::Word::first_word))]
+pub(crate) fn first_word(text: &[u8]) -> &[u8]
+    ensures { result.now ≡ first_word text.now }
+{
+    &text[..word_len(text)]
+}
+
+/// What stands behind the first word and the spaces after it.
+#[tactic(auto, unfolding(crate::specs::Word::argument_of))]
+pub(crate) fn argument_of(text: &[u8]) -> &[u8]
+    ensures { result.now ≡ argument_of text.now }
+{
+    let behind = &text[word_len(text)..];
+    &behind[space_len(behind)..]
+}
+
+/// Whether the text is this word, in any letter case (RFC 5321, section 2.4).
+#[tactic(auto, unfolding(crate::specs::Word::is_word))]
+pub(crate) fn is_word(text: &[u8], word: &[u8]) -> bool
+    ensures { result ≡ is_word text.now word.now }
+{
+    text.eq_ignore_ascii_case(word)
+}
+
+/// What stands behind a keyword, where the text begins with it in any letter case.
+#[tactic(auto, using(crate::proofs::WordLemmas::behind_keyword_short), unfolding(crate::specs::Word::behind_keyword))]
+pub(crate) fn behind_keyword<'a>(keyword: &[u8], text: &'a [u8]) -> Option<&'a [u8]>
+    ensures { option_copied result ≡ behind_keyword keyword.now text.now }
+{
+    let (front, behind) = text.split_at_checked(keyword.len())?;
+    if is_word(front, keyword) {
+        Some(behind)
+    } else {
+        None
+    }
+}
+
+/// Whether the text is an address literal (RFC 5321, section 4.1.3): `[`, then letters, digits, `-`, `.`, `_` and `:`,
+/// or none, then `]`.
+#[tactic(auto, unfolding(crate::specs::Word::is_address_literal))]
+pub fn is_address_literal(text: &[u8]) -> bool
+    ensures { result ≡ is_address_literal text.now }
+{
+    match text {
+        [b'[', inner @ .., b']'] => are_literal_octets(inner),
+        _ => false,
+    }
+}
+
+/// Whether the text is the word of HELO: 1 to 255 octets (RFC 5321, section 4.5.3.1.2), each of them one of a domain, or
+/// an address literal.
+#[tactic(auto, unfolding(crate::specs::Word::is_host_word))]
+pub fn is_host_word(text: &[u8]) -> bool
+    ensures { result ≡ is_host_word text.now }
+{
+    if text.is_empty() || text.len() > 255 {
+        return false;
+    }
+    are_domain_octets(text) || is_address_literal(text)
+}

@@ -1,0 +1,55 @@
+-- Lines (RFC 5321, section 2.3.8): a line ends with CR LF, and a CR or an LF alone ends none.
+use Rattle.std.specs.Prelude.{◌≡◌, ◌≢◌, ℕ, Bool, false, ◌==◌, ◌&&◌, List, [], ◌∷◌, ◌++◌}
+use Rattle.std.specs.List.{flat_map, AllByRecursion}
+
+-- the octets that end a line: CR LF
+abbrev pub crlf : List ℕ
+crlf = 13 ∷ 10 ∷ []
+
+-- no CR LF stands anywhere in the octets
+pub record HasNoCrlf (octets : List ℕ) : Type 0 where
+  pub nowhere : (before after : List ℕ) → octets ≢ before ++ crlf ++ after
+
+-- the stream begins with this line, and the rest follows its CR LF
+pub record ReadsLine (stream line rest : List ℕ) : Type 0 where
+  pub text : stream ≡ line ++ crlf ++ rest
+  pub first : HasNoCrlf line
+
+-- lines one after another, each followed by its CR LF
+abbrev pub line_text : List ℕ → List ℕ
+line_text line = line ++ crlf
+
+abbrev pub lines_text : List (List ℕ) → List ℕ
+lines_text lines = flat_map line_text lines
+
+-- each of them is a line: no CR LF stands in it
+abbrev pub AreLines : List (List ℕ) → Type 0
+AreLines lines = AllByRecursion HasNoCrlf lines
+
+-- a CR is the last octet
+abbrev pub ends_in_cr : List ℕ → Bool
+ends_in_cr [] = false
+ends_in_cr (octet ∷ []) = octet == 13
+ends_in_cr (octet ∷ next ∷ more) = ends_in_cr (next ∷ more)
+
+-- an LF is the first octet
+abbrev pub begins_with_lf : List ℕ → Bool
+begins_with_lf [] = false
+begins_with_lf (octet ∷ octets) = octet == 10
+
+-- the first line of a stream, and what follows it, are fixed by the stream
+abbrev pub FirstLineIsOne : Type 0
+FirstLineIsOne =
+    (stream line rest other more : List ℕ) → ReadsLine stream line rest → ReadsLine stream other more
+    → (line ≡ other) × (rest ≡ more)
+
+-- what comes behind a whole line doesn't change it
+abbrev pub FirstLineStays : Type 0
+FirstLineStays =
+    (stream line rest more : List ℕ) → ReadsLine stream line rest → ReadsLine (stream ++ more) line (rest ++ more)
+
+-- Octets join without a CR LF exactly where neither part has one, and none stands across the join.
+abbrev pub JoinHasNoCrlf : Type 0
+JoinHasNoCrlf =
+    (front back : List ℕ) → HasNoCrlf front → HasNoCrlf back
+    → ends_in_cr front && begins_with_lf back ≡ false → HasNoCrlf (front ++ back)

@@ -1,0 +1,9 @@
+pub mod PathLemmas
+pub mod SessionLemmas
+pub mod StandsLemmas
+pub mod UnitLemmas
+pub mod TurnLemmas
+pub mod DialogueLemmas
+pub mod ReplyTextLemmas
+pub mod BeginningLemmas
+pub mod ReplyLemmas

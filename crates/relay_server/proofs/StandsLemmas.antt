@@ -1,0 +1,200 @@
+-- How a session stands behind what was said, and behind more.
+use Rattle.std.proofs.Common.{◌≡◌, ◌≤◌, ℕ, Bool, true, false, nat_lt, List, [], ◌∷◌, ◌++◌, ◌+◌, length, take, drop, Some, refl, sym, ap, ◌∙◌, subst, inl, inr, append_assoc, arith}
+use Rattle.std.proofs.lemmas.List.{append-nil, take_all}
+use Rattle.std.proofs.lemmas.Grind.{flat_map-append}
+use Rattle.std.proofs.Math.Seq.{take-add}
+use Rattle.std.proofs.lemmas.Bool.Decides.{nat_tests}
+use Rattle.std.specs.List.{flat_map}
+use Rattle.relay_body.specs.declared.gathered.Gathered.{Gathered}
+use Rattle.relay_octets.specs.Line.{ReadsLine, crlf}
+use Rattle.relay_lines.specs.HeldLine.{HeldLine, Holds, HoldsLine}
+use Rattle.relay_lines.specs.Reply.{reply_text}
+use Rattle.relay_server.specs.declared.offer.Answer.{Answer}
+use Rattle.relay_server.specs.declared.reply_table.Row.TheVariants.{Greeting}
+use Rattle.relay_server.specs.declared.routes.Route.{Route}
+use Rattle.relay_server.specs.declared.session.Session.{Session}
+use Rattle.relay_server.specs.declared.server.Server.{Server}
+use Rattle.relay_server.specs.declared.stage.Stage.{Stage}
+use Rattle.relay_server.specs.declared.stage.Stage.TheVariants as stage
+use Rattle.relay_server.specs.declared.state.CommandState.TheVariants as held
+use Rattle.relay_server.specs.declared.state.Transaction.{Transaction}
+use Rattle.relay_server.specs.Dialogue.{Setup, Offered, Turn, IsOutcome, Answers, Turns, Said, more_said, read_by, written_by, offered_by, offers_in, answers_in, row_of_answer}
+use Rattle.relay_server.specs.Reply.{reply_of}
+use Rattle.relay_server.specs.Session.{Advances, IsGiven, Keeps, KeepsText, Stands, Steps, is_reading, new_offers, offers_at, setup_of, state_at}
+use Rattle.relay_server.specs.State.{State, Command, Receiving, Greeted, start}
+
+-- one more turn at the end of a run
+pub turns_more : (setup : Setup) (old : State) (turns : List Turn) (mid : State) (turn : Turn) (new : State) → Turns setup old turns mid → Answers setup mid turn new → Turns setup old (turns ++ turn ∷ []) new
+turns_more setup old [] mid turn new run answers = (new, subst (λ (s : State). Answers setup s turn new) (sym run) answers, refl)
+turns_more setup old (first ∷ turns) mid turn new run answers = (run.0, run.1, turns_more setup run.0 turns mid turn new run.2 answers)
+
+-- what one more turn adds to a list that is gathered over the turns
+added : {X : Type 0} (f : Turn → List X) (turns : List Turn) (turn : Turn) → flat_map f (turns ++ turn ∷ []) ≡ flat_map f turns ++ f turn
+added f turns turn = flat_map-append f turns (turn ∷ []) ∙ ap (λ l. flat_map f turns ++ l) (append-nil (f turn))
+
+gathers : {X : Type 0} (f : Turn → List X) (turns : List Turn) (turn : Turn) (said more : List X) → said ≡ flat_map f turns → more ≡ f turn → said ++ more ≡ flat_map f (turns ++ turn ∷ [])
+gathers f turns turn said more before now = ap (λ l. l ++ more) before ∙ ap (λ l. flat_map f turns ++ l) now ∙ sym (added f turns turn)
+
+-- the same behind and before further things
+between : {X : Type 0} (f : Turn → List X) (turns : List Turn) (turn : Turn) (first said more last next : List X) → said ≡ first ++ flat_map f turns ++ last → last ++ more ≡ f turn ++ next → said ++ more ≡ first ++ flat_map f (turns ++ turn ∷ []) ++ next
+between f turns turn first said more last next before now =
+    ap (λ l. l ++ more) before ∙ append_assoc (first ++ flat_map f turns) last more ∙ ap (λ l. first ++ flat_map f turns ++ l) now
+    ∙ sym (append_assoc (first ++ flat_map f turns) (f turn) next) ∙ ap (λ l. l ++ next) (append_assoc first (flat_map f turns) (f turn) ∙ ap (λ l. first ++ l) (sym (added f turns turn)))
+
+-- Behind one more turn, which ends the unit that was begun, a session stands.
+pub stands_turn : (setup : Setup) (old new : Session) (said : Said) (more : List ℕ) (answers : List Answer) (written : List ℕ) (offers : List Offered) (turn : Turn) → (s : Stands setup old said) → new.server ≡ old.server → Answers setup (state_at old.stage) turn (state_at new.stage) → turn.asked ≡ s.rest ++ more → written ≡ reply_text turn.reply → answers ≡ answers_in turn.offer → offers_at old.stage ++ offers ≡ offers_in turn.offer ++ offers_at new.stage → Keeps setup.max_content new.line new.stage [] → Stands setup new (more_said said more answers written offers)
+stands_turn setup old new said more answers written offers turn s same row asked reply given unanswered keeps = record {
+  setup_is = s.setup_is ∙ ap (λ (server : Server). setup_of server setup.routes) (sym same);
+  turns = s.turns ++ turn ∷ [];
+  rest = [];
+  runs = turns_more setup start s.turns (state_at old.stage) turn (state_at new.stage) s.runs row;
+  input = between (λ (t : Turn). t.asked) s.turns turn [] said.input more s.rest [] s.input (sym asked ∙ sym (append-nil turn.asked));
+  output =
+      ap (λ l. l ++ written) s.output ∙ append_assoc (reply_text (reply_of setup.host Greeting)) (written_by s.turns) written
+      ∙ ap (λ l. reply_text (reply_of setup.host Greeting) ++ l) (gathers (λ (t : Turn). reply_text t.reply) s.turns turn (written_by s.turns) written refl reply);
+  answers = gathers (λ (t : Turn). answers_in t.offer) s.turns turn said.answers answers s.answers given;
+  offers = between (λ (t : Turn). offers_in t.offer) s.turns turn [] said.offers offers (offers_at old.stage) (offers_at new.stage) s.offers unanswered;
+  keeps = keeps;
+}
+
+-- Where further octets belong to the unit that was begun, a session stands.
+pub stands_on : (setup : Setup) (old new : Session) (said : Said) (more : List ℕ) (offers : List Offered) → (s : Stands setup old said) → new.server ≡ old.server → state_at new.stage ≡ state_at old.stage → offers_at old.stage ++ offers ≡ offers_at new.stage → Keeps setup.max_content new.line new.stage (s.rest ++ more) → Stands setup new (more_said said more [] [] offers)
+stands_on setup old new said more offers s same state unanswered keeps = record {
+  setup_is = s.setup_is ∙ ap (λ (server : Server). setup_of server setup.routes) (sym same);
+  turns = s.turns;
+  rest = s.rest ++ more;
+  runs = subst (λ (x : State). Turns setup start s.turns x) (sym state) s.runs;
+  input = ap (λ l. l ++ more) s.input ∙ append_assoc (read_by s.turns) s.rest more;
+  output = append-nil said.output ∙ s.output;
+  answers = append-nil said.answers ∙ s.answers;
+  offers = ap (λ l. l ++ offers) s.offers ∙ append_assoc (offered_by s.turns) (offers_at old.stage) offers ∙ ap (λ l. offered_by s.turns ++ l) unanswered;
+  keeps = keeps;
+}
+
+-- what a stage keeps, and a line buffer without a line, are what a session keeps
+pub keeps_text : (limit : ℕ) (line : HeldLine) (now : Stage) (octets : List ℕ) → Holds line [] → KeepsText limit now octets → Keeps limit line now octets
+keeps_text limit line (stage.Command state) octets empty kept = subst (λ (o : List ℕ). Holds line o) (sym kept) empty
+keeps_text limit line (stage.Receiving mail) octets empty kept = (empty, kept)
+keeps_text limit line (stage.Offering transaction content) octets empty kept = (empty, kept.0, kept.1)
+keeps_text limit line stage.Closed octets empty kept = (empty, kept)
+keeps_text limit line stage.Failed octets empty kept = kept
+
+-- a stage that reads has no offer
+none_at : (now : Stage) → is_reading now ≡ true → offers_at now ≡ []
+none_at (stage.Command state) reads = refl
+none_at (stage.Receiving mail) reads = refl
+none_at (stage.Offering transaction content) reads = cc
+none_at stage.Closed reads = refl
+none_at stage.Failed reads = refl
+
+-- what a call of the session has done, it has done in the dialogue
+stands_step : (setup : Setup) (old new : Session) (said : Said) (used before after : List ℕ) → (s : Stands setup old said) → is_reading old.stage ≡ true → new.server ≡ old.server → Steps setup (state_at old.stage) new (s.rest ++ used) before after → (more : List ℕ) × (after ≡ before ++ more) × Stands setup new (more_said said used [] more (offers_at new.stage))
+stands_step setup old new said used before after s reads same (inl goes) = (
+  [],
+  goes.2 ∙ sym (append-nil before),
+  stands_on setup old new said used (offers_at new.stage) s same goes.0 (ap (λ l. l ++ offers_at new.stage) (none_at old.stage reads)) goes.1,
+)
+stands_step setup old new said used before after s reads same (inr ends) =
+    let turn = ends.0.turn in
+    let none = none_at old.stage reads in (
+      reply_text turn.reply,
+      ends.0.written,
+      stands_turn setup old new said used [] (reply_text turn.reply) (offers_at new.stage) turn s same ends.0.answers ends.0.asked_is refl
+          (ap answers_in (sym ends.0.no_offer)) (ap (λ l. l ++ offers_at new.stage) (none ∙ ap offers_in (sym ends.0.no_offer)))
+          (keeps_text setup.max_content new.line new.stage [] ends.1 ends.0.nothing_kept),
+    )
+
+-- a setup is that of the server and the routes
+setup_by : (setup : Setup) (server : Server) (routes : List Route) → setup ≡ setup_of server setup.routes → setup.routes ≡ routes → setup ≡ setup_of server routes
+setup_by setup server routes is same = is ∙ ap (setup_of server) same
+
+pub stands_advanced : (setup : Setup) (old new : Session) (routes : List Route) (said : Said) (used before after : List ℕ) → setup.routes ≡ routes → Stands setup old said → is_reading old.stage ≡ true → Advances old new routes used before after → (more : List ℕ) × (after ≡ before ++ more) × Stands setup new (more_said said used [] more (offers_at new.stage))
+stands_advanced setup old new routes said used before after same s reads advances =
+    let e = setup_by setup old.server routes s.setup_is same in
+    let keeps : Keeps old.server.max_content old.line old.stage s.rest = subst (λ (x : Setup). Keeps x.max_content old.line old.stage s.rest) e s.keeps in
+    stands_step setup old new said used before after s reads advances.server
+    (subst (λ (x : Setup). Steps x (state_at old.stage) new (s.rest ++ used) before after) (sym e) (advances.moves s.rest keeps))
+
+-- an answer ends the text's turn
+pub answered : (setup : Setup) (old new : Session) (said : Said) (transaction : Transaction) (content : List ℕ) (given : Answer) (out : List ℕ) → Stands setup old said → old.stage ≡ stage.Offering transaction content → new.server ≡ old.server → new.line ≡ old.line → new.stage ≡ stage.Command (held.Greeted transaction.client) → out ≡ [] ++ reply_text (reply_of old.server.host (row_of_answer given)) → Stands setup new (more_said said [] (given ∷ []) out [])
+answered setup old new said transaction content given out s offering same line_is now written =
+    let kept : Keeps setup.max_content old.line (stage.Offering transaction content) s.rest = subst (λ (x : Stage). Keeps setup.max_content old.line x s.rest) offering s.keeps in
+    let offer : Offered = record { client = transaction.client; envelope = transaction.envelope; content = content } in
+    let turn : Turn = record { asked = s.rest; reply = reply_of setup.host (row_of_answer given); offer = Some (offer, given) } in
+    let row : Answers setup (Receiving transaction.client transaction.envelope) turn (Command (Greeted transaction.client)) = record {
+      content = content;
+      unit = kept.1;
+      outcome = subst (λ (gathered : Gathered). IsOutcome setup transaction.client transaction.envelope gathered turn) (sym kept.2) (given, refl, refl);
+      next = refl;
+    } in
+    let host = ap (λ (x : Setup). x.host) s.setup_is in
+    stands_turn setup old new said [] (given ∷ []) out [] turn s same
+    (subst (λ (x : Stage). Answers setup (state_at x) turn (state_at new.stage)) (sym offering)
+    (subst (λ (x : Stage). Answers setup (Receiving transaction.client transaction.envelope) turn (state_at x)) (sym now) row))
+    (sym (append-nil s.rest)) (written ∙ ap (λ (h : List ℕ). reply_text (reply_of h (row_of_answer given))) (sym host)) refl
+    (ap (λ (x : Stage). offers_at x ++ []) offering ∙ sym (ap (λ (x : Stage). offer ∷ offers_at x) now))
+    (subst (λ (x : Stage). Keeps setup.max_content new.line x []) (sym now) (subst (λ (l : HeldLine). Holds l []) (sym line_is) kept.0))
+
+given_by : (is_long : Bool) (line kept : List ℕ) → kept ≡ take 2048 line → is_long ≡ nat_lt 2046 (length line) → IsGiven line kept is_long
+given_by true line kept kept_is long_is = grind (arith, nat_tests)
+given_by false line kept kept_is long_is =
+    let short : length line ≤ 2046 = grind (arith, nat_tests) in
+    (short, kept_is ∙ take_all 2048 line (omega arith))
+
+-- the text that a line buffer gives of an ended line
+pub given_line : (held_line : HeldLine) (line : List ℕ) → HoldsLine held_line line → IsGiven line held_line.kept held_line.is_long
+given_line held_line line holds = given_by held_line.is_long line held_line.kept holds.kept holds.is_long
+
+-- an ended line is a unit
+pub line_is_unit : (octets line : List ℕ) → ReadsLine octets line [] → octets ≡ line ++ crlf
+line_is_unit octets line reads = reads.text ∙ append-nil (line ++ crlf)
+
+-- what was said is told by its four parts
+pub stands_by : (setup : Setup) (session : Session) (said other : Said) → Stands setup session said → other.input ≡ said.input → other.answers ≡ said.answers → other.output ≡ said.output → other.offers ≡ said.offers → Stands setup session other
+stands_by setup session said other s input answers output offers = record {
+  setup_is = s.setup_is;
+  turns = s.turns;
+  rest = s.rest;
+  runs = s.runs;
+  input = input ∙ s.input;
+  output = output ∙ s.output;
+  answers = answers ∙ s.answers;
+  offers = offers ∙ s.offers;
+  keeps = s.keeps;
+}
+
+-- no offer is new where nothing was done
+none_new : (now : Stage) → new_offers now now ≡ []
+none_new (stage.Command state) = refl
+none_new (stage.Receiving mail) = refl
+none_new (stage.Offering transaction content) = refl
+none_new stage.Closed = refl
+none_new stage.Failed = refl
+
+pub stands_still : (setup : Setup) (session : Session) (said : Said) → Stands setup session said → Stands setup session (more_said said [] [] [] (new_offers session.stage session.stage))
+stands_still setup session said s =
+    stands_by setup session said (more_said said [] [] [] (new_offers session.stage session.stage)) s (append-nil said.input) (append-nil said.answers) (append-nil said.output)
+    (ap (λ l. said.offers ++ l) (none_new session.stage) ∙ append-nil said.offers)
+
+-- behind a stage that reads the offers are new
+new_behind : (old new : Stage) → is_reading old ≡ true → new_offers old new ≡ offers_at new
+new_behind (stage.Command state) new reads = refl
+new_behind (stage.Receiving mail) new reads = refl
+new_behind (stage.Offering transaction content) new reads = cc
+new_behind stage.Closed new reads = refl
+new_behind stage.Failed new reads = refl
+
+-- one call behind others
+pub stands_behind : (setup : Setup) (first old new : Session) (routes : List Route) (said : Said) (piece : List ℕ) (used count : ℕ) (start_out before after : List ℕ) → setup.routes ≡ routes → is_reading first.stage ≡ true → is_reading old.stage ≡ true → ((more : List ℕ) × (before ≡ start_out ++ more) × Stands setup old (more_said said (take used piece) [] more (new_offers first.stage old.stage))) → Advances old new routes (take count (drop used piece)) before after → (more : List ℕ) × (after ≡ start_out ++ more) × Stands setup new (more_said said (take (used + count) piece) [] more (new_offers first.stage new.stage))
+stands_behind setup first old new routes said piece used count start_out before after same began reads so_far advances =
+    let past = more_said said (take used piece) [] so_far.0 (new_offers first.stage old.stage) in
+    let next = stands_advanced setup old new routes past (take count (drop used piece)) before after same so_far.2 reads advances in
+    let none = new_behind first.stage old.stage began ∙ none_at old.stage reads in (
+      so_far.0 ++ next.0,
+      next.1 ∙ ap (λ l. l ++ next.0) so_far.1 ∙ append_assoc start_out so_far.0 next.0,
+      stands_by setup new (more_said past (take count (drop used piece)) [] next.0 (offers_at new.stage)) (more_said said (take (used + count) piece) [] (so_far.0 ++ next.0) (new_offers first.stage new.stage)) next.2
+          (ap (λ l. said.input ++ l) (take-add used count piece) ∙ sym (append_assoc said.input (take used piece) (take count (drop used piece))))
+          (sym (append-nil (said.answers ++ [])))
+          (sym (append_assoc said.output so_far.0 next.0))
+          (ap (λ l. said.offers ++ l) (new_behind first.stage new.stage began) ∙ sym (ap (λ l. l ++ offers_at new.stage) (ap (λ l. said.offers ++ l) none ∙ append-nil said.offers))),
+    )

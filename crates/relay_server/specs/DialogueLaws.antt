@@ -1,0 +1,83 @@
+-- What is true of units, turns and dialogues, whatever the pieces that the input comes in.
+use Rattle.std.specs.Prelude.{◌≡◌, ◌≢◌, ℕ, ◌^◌, ◌<◌, ◌≤◌, List, [], ◌∷◌, ◌++◌}
+use Rattle.std.specs.List.{AllByRecursion}
+use Rattle.relay_lines.specs.Reply.{IsReply}
+use Rattle.relay_server.specs.declared.envelope.Envelope.{Envelope}
+use Rattle.relay_server.specs.declared.offer.Answer.{Answer}
+use Rattle.relay_server.specs.declared.offer.Answer.TheVariants.{Queued, Full}
+use Rattle.relay_server.specs.declared.reply_table.Row.TheVariants.{Greeting}
+use Rattle.relay_server.specs.declared.session.Session.{Session}
+use Rattle.relay_server.specs.Config.{IsHostName}
+use Rattle.relay_server.specs.Dialogue.{Setup, Turn, Answers, Turns, Said, IsDialogue, answers_in, answered_by}
+use Rattle.relay_server.specs.Reply.{reply_of}
+use Rattle.relay_server.specs.Session.{Stands}
+use Rattle.relay_server.specs.State.{State, Receiving}
+use Rattle.relay_server.specs.Unit.{IsUnit}
+
+-- the list begins with these
+abbrev pub Begins : {A : Type 0} → List A → List A → Type 0
+Begins {A = A} front whole = (rest : List A) × (whole ≡ front ++ rest)
+
+-- the number of an answer is one of 64 bits
+abbrev pub IsNumbered : Answer → Type 0
+IsNumbered (Queued number) = number < 2 ^ 64
+IsNumbered Full = Unit {0}
+
+-- the numbers of all of them are
+abbrev pub AreNumbered : List Answer → Type 0
+AreNumbered answers = AllByRecursion IsNumbered answers
+
+-- no unit is empty
+abbrev pub NoUnitIsEmpty : Type 0
+NoUnitIsEmpty = (state : State) (unit : List ℕ) → IsUnit state unit → unit ≢ []
+
+-- of the units of a state none begins another, and what stands behind one is fixed
+abbrev pub NoUnitBeginsAnother : Type 0
+NoUnitBeginsAnother =
+    (state : State) (unit other behind rest : List ℕ) → IsUnit state unit → IsUnit state other
+    → unit ++ behind ≡ other ++ rest → (unit ≡ other) × (behind ≡ rest)
+
+-- turns that lead to a state, and turns that lead on from it, are one run
+abbrev pub RunsCompose : Type 0
+RunsCompose =
+    (setup : Setup) (old mid new : State) (turns more : List Turn) → Turns setup old turns mid → Turns setup mid more new
+    → Turns setup old (turns ++ more) new
+
+-- what fits a session is a dialogue
+abbrev pub WhatStandsIsADialogue : Type 0
+WhatStandsIsADialogue = (setup : Setup) (session : Session) (said : Said) → Stands setup session said → IsDialogue setup said
+
+-- state, unit and answer fix the turn, and the state behind it
+abbrev pub RowIsFixed : Type 0
+RowIsFixed =
+    (setup : Setup) (old new next : State) (turn other : Turn) → Answers setup old turn new → Answers setup old other next
+    → turn.asked ≡ other.asked → answers_in turn.offer ≡ answers_in other.offer → (turn ≡ other) × (new ≡ next)
+
+-- the input and the answers of a dialogue fix its output and its offers
+abbrev pub OutputIsFixed : Type 0
+OutputIsFixed =
+    (setup : Setup) (said other : Said) → IsDialogue setup said → IsDialogue setup other
+    → said.input ≡ other.input → said.answers ≡ other.answers
+    → (said.output ≡ other.output) × (said.offers ≡ other.offers)
+
+-- where the input and the output of a dialogue begin another's, so do its answers and its offers
+abbrev pub BeginningsHaveBeginnings : Type 0
+BeginningsHaveBeginnings =
+    (setup : Setup) (said other : Said) → IsDialogue setup said → IsDialogue setup other → AreNumbered other.answers
+    → Begins said.input other.input → Begins said.output other.output
+    → Begins said.answers other.answers × Begins said.offers other.offers
+
+-- of all replies to a text only the one to a queued offer is positive
+abbrev pub OnlyQueuedIsPositive : Type 0
+OnlyQueuedIsPositive =
+    (setup : Setup) (client : List ℕ) (envelope : Envelope) (turn : Turn) (new : State)
+    → Answers setup (Receiving client envelope) turn new → 200 ≤ turn.reply.code → turn.reply.code < 300
+    → (number : ℕ) × (answers_in turn.offer ≡ Queued number ∷ [])
+
+-- the greeting and the replies of all turns are well formed
+abbrev pub RepliesAreWellFormed : Type 0
+RepliesAreWellFormed =
+    (setup : Setup) → IsHostName setup.host
+    → IsReply (reply_of setup.host Greeting)
+    × ((old new : State) (turns : List Turn) → Turns setup old turns new → AreNumbered (answered_by turns)
+    → AllByRecursion (λ turn. IsReply turn.reply) turns)

@@ -1,0 +1,13 @@
+pub mod Mailbox
+pub mod Path
+pub mod Envelope
+pub mod Routes
+pub mod Config
+pub mod State
+pub mod Unit
+pub mod Reply
+pub mod ReplyTable
+pub mod Dialogue
+pub mod Values
+pub mod Session
+pub mod DialogueLaws

@@ -1,0 +1,47 @@
+//! What is true of dialogues, whatever session holds them.
+ghost use Rattle.relay_server.specs.DialogueLaws.{NoUnitIsEmpty, NoUnitBeginsAnother, RunsCompose, WhatStandsIsADialogue, RowIsFixed, OutputIsFixed, BeginningsHaveBeginnings, OnlyQueuedIsPositive, RepliesAreWellFormed};
+
+/// No unit is empty.
+pub fn no_unit_is_empty()
+    ensures { NoUnitIsEmpty }
+{}
+
+/// Octets begin with at most one unit of a state, and one rest follows it.
+pub fn no_unit_begins_another()
+    ensures { NoUnitBeginsAnother }
+{}
+
+/// Turns, and further turns from the state that they lead to, are turns in one.
+pub fn runs_compose()
+    ensures { RunsCompose }
+{}
+
+/// Whatever was said in a session is a dialogue.
+pub fn what_stands_is_a_dialogue()
+    ensures { WhatStandsIsADialogue }
+{}
+
+/// State, unit and answer fix the reply, the offer and the next state.
+pub fn row_is_fixed()
+    ensures { RowIsFixed }
+{}
+
+/// The input and the answers of a dialogue fix its output and its offers.
+pub fn output_is_fixed()
+    ensures { OutputIsFixed }
+{}
+
+/// Where the input and the output of a dialogue begin another's, so do its answers and its offers.
+pub fn beginnings_have_beginnings()
+    ensures { BeginningsHaveBeginnings }
+{}
+
+/// Of all replies to mail data only the one to a queued message is positive.
+pub fn only_queued_is_positive()
+    ensures { OnlyQueuedIsPositive }
+{}
+
+/// The greeting and every reply are well formed, for a host name and numbers of 64 bits.
+pub fn replies_are_well_formed()
+    ensures { RepliesAreWellFormed }
+{}

@@ -1,0 +1,91 @@
+ghost use Rattle.std.specs.Prelude.{◌≡◌, ◌++◌, OnOk, OnErr};
+ghost use Rattle.relay_lines.specs.Reply.{reply_text};
+ghost use Rattle.relay_server.specs.Reply.{reply_of};
+
+use itoa::Buffer;
+use relay_lines::write_line;
+use std::alloc::AllocError;
+
+/// What the server answers: one row for each reply.
+#[derive(Clone, Copy, Debug, Drop, PartialEq, Eq)]
+pub(crate) enum Row {
+    /// A connection is there.
+    Greeting,
+    /// HELO.
+    Hello,
+    /// MAIL has opened a transaction.
+    SenderOk,
+    /// RCPT has added a recipient.
+    RecipientOk,
+    /// The transaction has 100 recipients already.
+    TooManyRecipients,
+    /// No next hop takes the recipient's domain.
+    NoRoute,
+    /// The command may not come here.
+    BadSequence,
+    /// DATA, and no recipient was accepted.
+    NoValidRecipients,
+    /// DATA: mail data follows.
+    StartMailInput,
+    /// The content has more octets than the configuration allows.
+    ContentTooLarge,
+    /// The message is in the queue, under this number.
+    Queued(u64),
+    /// The message was not stored, for want of room.
+    SpoolFull,
+    /// RSET and NOOP.
+    Done,
+    /// QUIT.
+    Closing,
+    /// The verb is none of ours.
+    UnknownCommand,
+    /// The line holds an octet outside 32 to 126.
+    BadOctet,
+    /// The line has more than 2,048 octets.
+    LineTooLong,
+    /// The verb's argument isn't what it must be.
+    BadArgument,
+    /// No path stands where one must.
+    BadPath,
+    /// A parameter that isn't offered.
+    UnknownParameter,
+}
+
+impl Row {
+    /// Writes the reply at the end of `out`. Where memory runs out, nothing is written.
+    #[tactic(auto, unfolding(crate::specs::Reply::reply_of))]
+    pub(crate) fn write(self, host: &[u8], out: &mut Vec<u8>) -> Result<(), AllocError>
+        ensures ok { OnOk result (out.new.items ≡ out.old.items ++ reply_text (reply_of host.now self)) }
+        ensures err { OnErr result (out.new.items ≡ out.old.items) }
+    {
+        match self {
+            Row::Greeting => write_line(out, 220, host, b" ESMTP relay ready"),
+            Row::Hello => write_line(out, 250, host, b""),
+            Row::SenderOk => write_line(out, 250, b"sender OK", b""),
+            Row::RecipientOk => write_line(out, 250, b"recipient OK", b""),
+            Row::TooManyRecipients => write_line(out, 452, b"too many recipients", b""),
+            Row::NoRoute => write_line(out, 550, b"no route", b""),
+            Row::BadSequence => write_line(out, 503, b"bad sequence", b""),
+            Row::NoValidRecipients => write_line(out, 554, b"no valid recipients", b""),
+            Row::StartMailInput => write_line(out, 354, b"end with a line of one period", b""),
+            Row::ContentTooLarge => write_line(out, 552, b"content too large", b""),
+            Row::Queued(number) => {
+                write_line(
+                    out,
+                    250,
+                    b"queued as ",
+                    Buffer::new().format(number).as_bytes(),
+                )
+            }
+            Row::SpoolFull => write_line(out, 452, b"spool full", b""),
+            Row::Done => write_line(out, 250, b"OK", b""),
+            Row::Closing => write_line(out, 221, host, b" closing"),
+            Row::UnknownCommand => write_line(out, 500, b"unknown command", b""),
+            Row::BadOctet => write_line(out, 500, b"bad octet in line", b""),
+            Row::LineTooLong => write_line(out, 500, b"line too long", b""),
+            Row::BadArgument => write_line(out, 501, b"bad argument", b""),
+            Row::BadPath => write_line(out, 501, b"bad path", b""),
+            Row::UnknownParameter => write_line(out, 555, b"unknown parameter", b""),
+        }
+    }
+}

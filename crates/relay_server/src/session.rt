@@ -1,0 +1,219 @@
+ghost use Rattle.std.specs.Prelude.{◌≡◌, ℕ, List, [], ◌∷◌, ◌++◌, ◌≤◌, ◌<◌, length, take, true, false, IfOk, OnErr, IsErr, MatchOption};
+ghost use Rattle.relay_server.specs.Dialogue.{Said, Setup, more_said};
+ghost use Rattle.relay_server.specs.Session.{Advances, IsOffering, Stands, Steps, is_reading, new_offers, next_at, offered, offers_at, setup_of};
+ghost use Rattle.relay_server.specs.State as standing;
+ghost use Rattle.relay_server.specs.Values.{command_state_of};
+ghost use Rattle.relay_lines.specs.HeldLine.{Holds};
+
+use crate::config::Config;
+use crate::offer::{Answer, Offer};
+use crate::reply_table::Row;
+use crate::routes::Table;
+use crate::server::{Server, row_of_answer};
+use crate::stage::Stage;
+use crate::state::CommandState;
+use relay_lines::{LINE_LIMIT, LineBuffer, LineCut, next_line};
+use relay_octets::Octets;
+use std::alloc::{AllocError, Global};
+use std::mem;
+
+/// What the caller does next.
+#[derive(Clone, Copy, Debug, Drop, PartialEq, Eq)]
+pub enum Next {
+    /// Feeds the next octets, once they have come.
+    More,
+    /// Takes the offer, and answers it.
+    Offer,
+    /// Writes what there is to write, and closes the connection.
+    Close,
+}
+
+/// What a feed has done.
+#[derive(Debug, Drop)]
+pub struct Fed {
+    /// How many octets of the piece it has used.
+    pub used: usize,
+    /// What goes to the client.
+    pub out: Vec<u8>,
+    /// What the caller does next.
+    pub next: Next,
+}
+
+/// The server's end of one connection.
+#[derive(Drop)]
+pub struct Session {
+    server: Server,
+    /// What has come of a command line, and nothing while mail data comes.
+    line: LineBuffer,
+    stage: Stage,
+}
+
+impl Session {
+    /// A session, and the greeting for the client. It fails where memory runs out.
+    pub fn new(alloc: Global, config: &Config) -> Result<(Self, Vec<u8>), AllocError>
+        ensures { IfOk result (λ made. (setup : Setup) → setup.host ≡ config.now.host → setup.max_content ≡ config.now.max_content
+            → Stands setup made.0 (record { input = []; answers = []; output = made.1.items; offers = [] })) }
+    {
+        let server = Server {
+            alloc,
+            host: Octets::from_slice(alloc, config.host.as_slice())?,
+            max_content: config.max_content,
+        };
+        let mut greeting = Vec::new(alloc);
+        Row::Greeting.write(server.host.as_slice(), &mut greeting)?;
+        let session = Session {
+            server,
+            line: LineBuffer::new(),
+            stage: Stage::Command(CommandState::Fresh),
+        };
+        Ok((session, greeting))
+    }
+
+    /// Uses octets of a piece up to an offer or a close, or all of them.
+    pub fn feed(&mut self, table: &Table, piece: &[u8]) -> Result<Fed, AllocError>
+        ensures stands { IfOk result (λ fed. (setup : Setup) (said : Said) → setup.routes ≡ table.now → Stands setup self.old said
+            → Stands setup self.new (more_said said (take fed.used piece.now) [] fed.out.items (new_offers self.old.stage self.new.stage))) }
+        ensures within { IfOk result (λ fed. fed.used ≤ length piece.now) }
+        ensures whole { IfOk result (λ fed. fed.next ≡ Next.More → fed.used ≡ length piece.now) }
+        ensures next { IfOk result (λ fed. fed.next ≡ next_at self.new.stage) }
+        // While an offer is open, and after a close, it uses nothing.
+        ensures waits { is_reading self.old.stage ≡ false → (self.new ≡ self.old) × IfOk result (λ fed. (fed.used ≡ 0) × (fed.out.items ≡ [])) }
+        ensures failed { OnErr result (self.new.stage ≡ Stage.Failed) }
+        ensures again { self.old.stage ≡ Stage.Failed → IsErr result }
+    {
+        if let Stage::Failed = self.stage {
+            return Err(AllocError);
+        }
+        let mut out = Vec::new(self.server.alloc);
+        let used = self.read(table, piece, &mut out)?;
+        let next = self.next();
+        Ok(Fed { used, out, next })
+    }
+
+    /// The offer that is open. It takes no memory.
+    pub fn offer(&self) -> Option<Offer<'_>>
+        ensures { MatchOption result (offers_at self.now.stage ≡ []) (λ offer. offers_at self.now.stage ≡ offered offer ∷ []) }
+    {
+        match &self.stage {
+            Stage::Offering(transaction, content) => Some(Offer {
+                client: transaction.client.as_slice(),
+                envelope: &transaction.envelope,
+                content: content.as_slice(),
+            }),
+            Stage::Command(_) | Stage::Receiving(_) | Stage::Closed | Stage::Failed => None,
+        }
+    }
+
+    /// Answers the offer that is open, and gives what goes to the client. It fails where memory runs out.
+    pub fn answer(&mut self, answer: Answer) -> Result<Vec<u8>, AllocError>
+        requires { IsOffering self.old.stage }
+        ensures stands { IfOk result (λ out. (setup : Setup) (said : Said) → Stands setup self.old said
+            → Stands setup self.new (more_said said [] (answer ∷ []) out.items [])) }
+        ensures failed { OnErr result (self.new.stage ≡ Stage.Failed) }
+    {
+        let Stage::Offering(transaction, _) = mem::replace(&mut self.stage, Stage::Failed) else {
+            unreachable!()
+        };
+        let mut out = Vec::new(self.server.alloc);
+        row_of_answer(answer).write(self.server.host.as_slice(), &mut out)?;
+        self.stage = Stage::Command(CommandState::Greeted(transaction.client));
+        Ok(out)
+    }
+
+    /// What the caller does next.
+    fn next(&self) -> Next
+        ensures { result ≡ next_at self.now.stage }
+    {
+        match &self.stage {
+            Stage::Command(_) | Stage::Receiving(_) => Next::More,
+            Stage::Offering(..) => Next::Offer,
+            Stage::Closed | Stage::Failed => Next::Close,
+        }
+    }
+
+    /// Uses octets of a piece up to an offer or a close, or all of them, and answers how many.
+    fn read(&mut self, table: &Table, piece: &[u8], out: &mut Vec<u8>) -> Result<usize, AllocError>
+        ensures stands { IfOk result (λ used. (setup : Setup) (said : Said) → setup.routes ≡ table.now → Stands setup self.old said
+            → (more : List ℕ) × (out.new.items ≡ out.old.items ++ more)
+            × Stands setup self.new (more_said said (take used piece.now) [] more (new_offers self.old.stage self.new.stage))) }
+        ensures within { IfOk result (λ used. used ≤ length piece.now) }
+        ensures whole { IfOk result (λ used. is_reading self.new.stage ≡ true → used ≡ length piece.now) }
+        ensures waits { is_reading self.old.stage ≡ false → (self.new ≡ self.old) × (out.new.items ≡ out.old.items) × IfOk result (λ used. used ≡ 0) }
+        ensures failed { OnErr result (self.new.stage ≡ Stage.Failed) }
+    {
+        let mut used = 0;
+        while used < piece.len() && self.is_reading() {
+            used += self.advance(table, &piece[used..], out)?;
+        }
+        Ok(used)
+    }
+
+    /// Whether octets are read.
+    fn is_reading(&self) -> bool
+        ensures { result ≡ is_reading self.now.stage }
+    {
+        match &self.stage {
+            Stage::Command(_) | Stage::Receiving(_) => true,
+            Stage::Offering(..) | Stage::Closed | Stage::Failed => false,
+        }
+    }
+
+    /// Uses the octets of one unit, or the next ones of it.
+    fn advance(
+        &mut self,
+        table: &Table,
+        rest: &[u8],
+        out: &mut Vec<u8>,
+    ) -> Result<usize, AllocError>
+        requires some { 0 < length rest.now }
+        requires reading { is_reading self.old.stage ≡ true }
+        ensures advances { IfOk result (λ used. Advances self.old self.new table.now (take used rest.now) out.old.items out.new.items) }
+        ensures within { IfOk result (λ used. (0 < used) × (used ≤ length rest.now)) }
+        ensures failed { OnErr result (self.new.stage ≡ Stage.Failed) }
+    {
+        match mem::replace(&mut self.stage, Stage::Failed) {
+            Stage::Command(state) => self.read_line(table, state, rest, out),
+            Stage::Receiving(mail) => {
+                let (stage, used) = self.server.read_text(mail, rest, out)?;
+                self.stage = stage;
+                Ok(used)
+            }
+            Stage::Offering(..) | Stage::Closed | Stage::Failed => unreachable!(),
+        }
+    }
+
+    /// Uses the octets of one command line, or the next ones of it. A line that stands whole in the piece is read there.
+    fn read_line(
+        &mut self,
+        table: &Table,
+        state: CommandState,
+        rest: &[u8],
+        out: &mut Vec<u8>,
+    ) -> Result<usize, AllocError>
+        requires some { 0 < length rest.now }
+        ensures steps { IfOk result (λ used. (octets : List ℕ) → Holds self.old.line octets
+            → Steps (setup_of self.old.server table.now) (standing.Command (command_state_of state)) self.new (octets ++ take used rest.now) out.old.items out.new.items) }
+        ensures server { self.new.server ≡ self.old.server }
+        ensures within { IfOk result (λ used. (0 < used) × (used ≤ length rest.now)) }
+        ensures failed { OnErr result (self.new.stage ≡ self.old.stage) }
+    {
+        if self.line.is_empty()
+            && let LineCut::Whole(end) = next_line(rest, LINE_LIMIT)
+        {
+            self.stage = self
+                .server
+                .answer_line(table, &rest[..end - 2], false, state, out)?;
+            return Ok(end);
+        }
+        let Some(used) = self.line.feed(rest) else {
+            self.stage = Stage::Command(state);
+            return Ok(rest.len());
+        };
+        let is_long = self.line.is_long();
+        self.stage = self
+            .server
+            .answer_line(table, self.line.octets(), is_long, state, out)?;
+        self.line.clear();
+        Ok(used)
+    }
+}
