@@ -1,0 +1,4 @@
+pub mod DeviceLemmas
+pub mod ImageLemmas
+pub mod CallLemmas
+pub mod PickLemmas

@@ -1,0 +1,6 @@
+pub mod Device
+pub mod MayLeave
+pub mod Pick
+pub mod Memory
+pub mod File
+pub mod MemoryLaws

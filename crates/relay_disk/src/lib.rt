@@ -1,0 +1,13 @@
+//! Disks: what a read gives, what a stop at any moment may leave, and when a call fails.
+#![tactic(auto)]
+
+mod call;
+mod disk;
+mod file;
+pub mod laws;
+mod memory;
+mod pick;
+
+pub use disk::{Disk, DiskFault, Reboot};
+pub use file::FileDisk;
+pub use memory::MemoryDisk;

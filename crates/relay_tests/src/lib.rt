@@ -1,0 +1,13 @@
+//! Tests of the public calls of relay_octets, relay_lines and relay_body: rows written out by hand.
+#![tactic(auto)]
+
+#[cfg(test)]
+mod commands;
+#[cfg(test)]
+mod dot_texts;
+#[cfg(test)]
+mod lines;
+#[cfg(test)]
+mod octets;
+#[cfg(test)]
+mod replies;
