@@ -1,0 +1,4 @@
+pub mod Setup
+pub mod Kept
+pub mod Exchange
+pub mod Served

@@ -1,0 +1,59 @@
+use crate::streams::session;
+use crate::words::{Subcommand, arguments};
+use clap::Error;
+use clap::error::ErrorKind;
+use std::alloc::Global;
+use std::convert::AsStr;
+use std::fmt::Display;
+use std::io::{Read, Write};
+
+/// The status of a run that did what it was asked for.
+const DONE: u8 = 0;
+
+/// The status of a run that met a fault.
+const FAULT: u8 = 1;
+
+/// The status of a run with wrong arguments.
+const WRONG_ARGUMENTS: u8 = 2;
+
+/// Runs the subcommand that the words name, the program's own name first, and answers the status for the system:
+/// 0 done, 1 a fault, with one line on `errors`, 2 wrong arguments, with the argument reader's text on `errors`.
+/// `--help` writes that reader's text on `writer`, and is done.
+pub fn command<S: AsStr, R: Read, W: Write, E: Write>(
+    alloc: Global,
+    words: &[S],
+    reader: &mut R,
+    writer: &mut W,
+    errors: &mut E,
+) -> u8 {
+    match arguments(alloc, words) {
+        Ok(Subcommand::Session) => match session(alloc, reader, writer) {
+            Ok(_) => DONE,
+            Err(fault) => fail(errors, fault),
+        },
+        Err(error) => explain(&error, writer, errors),
+    }
+}
+
+/// Writes the argument reader's text where it belongs, and answers the status.
+fn explain<W: Write, E: Write>(error: &Error, writer: &mut W, errors: &mut E) -> u8 {
+    match error.kind() {
+        ErrorKind::DisplayHelp => match write!(writer, "{error}").and_then(|()| writer.flush()) {
+            Ok(()) => DONE,
+            Err(_) => fail(errors, "output"),
+        },
+        ErrorKind::OutOfMemory => fail(errors, "no memory"),
+        _ => {
+            // Nothing is left to do where this text can't be written either: the status tells of the fault.
+            let _ = write!(errors, "{error}");
+            WRONG_ARGUMENTS
+        }
+    }
+}
+
+/// Writes the line of a fault, and answers the status.
+fn fail<E: Write, F: Display + Drop>(errors: &mut E, fault: F) -> u8 {
+    // Nothing is left to do where this line can't be written either: the status tells of the fault.
+    let _ = writeln!(errors, "relayd: {fault}");
+    FAULT
+}
