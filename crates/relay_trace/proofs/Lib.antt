@@ -1,0 +1,7 @@
+pub mod DateLemmas
+pub mod StampLemmas
+pub mod HeaderLemmas
+pub mod HeaderSteps
+pub mod LawLemmas
+pub mod LinesLemmas
+pub mod DateTextLemmas

@@ -1,0 +1,3 @@
+pub mod DateTime
+pub mod HeaderSection
+pub mod TimeStamp

@@ -1,0 +1,49 @@
+ghost use Rattle.std.specs.Prelude.{◌≡◌};
+ghost use Rattle.relay_trace.specs.HeaderSection.{header_end_of, is_received, received_count_of};
+
+use relay_octets::find_crlf;
+
+/// The name of a time stamp line's field (RFC 5321, section 4.4), with its colon.
+const RECEIVED: &[u8; 9] = b"Received:";
+
+/// How many lines of the header section begin with `Received:`, in any letter case. The header section is the lines
+/// before the first empty one, and what stands behind the last CR LF is a line too. It takes no memory.
+pub fn received_count(text: &[u8]) -> usize
+    ensures { result ≡ received_count_of text.now }
+{
+    let mut count = 0;
+    let mut rest = text;
+    while let Some(place) = find_crlf(rest) {
+        if place == 0 {
+            return count;
+        }
+        if is_received(&rest[..place]) {
+            count += 1;
+        }
+        rest = &rest[place + 2..];
+    }
+    if is_received(rest) { count + 1 } else { count }
+}
+
+/// The place of the first empty line, at which the header section ends, or the text's length where it has none. It
+/// takes no memory.
+pub fn header_end(text: &[u8]) -> usize
+    ensures { result ≡ header_end_of text.now }
+{
+    let mut end = 0;
+    while let Some(place) = find_crlf(&text[end..]) {
+        if place == 0 {
+            return end;
+        }
+        end += place + 2;
+    }
+    text.len()
+}
+
+/// Whether a line begins with `Received:`, in any letter case (RFC 5322, section 1.2.2).
+#[tactic(auto, unfolding(crate::specs::HeaderSection::is_received))]
+fn is_received(line: &[u8]) -> bool
+    ensures { result ≡ is_received line.now }
+{
+    line.len() >= RECEIVED.len() && line[..RECEIVED.len()].eq_ignore_ascii_case(RECEIVED)
+}
