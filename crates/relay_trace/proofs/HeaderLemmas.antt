@@ -91,16 +91,16 @@ received_count_of-last last none =
     ap (λ lines. count_by is_received (before_empty lines)) (lines_of-last last none) ∙ count-last last
 
 -- the length of the lines with their CR LFs
-lines_length : List (List ℕ) → ℕ
+unfoldable pub lines_length : List (List ℕ) → ℕ
 lines_length lines = length (lines_text (before_empty lines))
 
-lines_length-line : (line : List ℕ) (lines : List (List ℕ)) → 0 < length line → lines_length (line ∷ lines) ≡ length line + 2 + lines_length lines
+pub lines_length-line : (line : List ℕ) (lines : List (List ℕ)) → 0 < length line → lines_length (line ∷ lines) ≡ length line + 2 + lines_length lines
 unfolding lines_length
 lines_length-line [] lines some = absurd (omega arith)
 lines_length-line (octet ∷ line) lines some =
     length-append ((octet ∷ line) ++ crlf) (lines_text (before_empty lines)) ∙ ap (λ n. n + length (lines_text (before_empty lines))) (length-append (octet ∷ line) crlf)
 
-header_end_of-parts : (text : List ℕ) → header_end_of text ≡ min (lines_length (lines_of text)) (length text)
+pub header_end_of-parts : (text : List ℕ) → header_end_of text ≡ min (lines_length (lines_of text)) (length text)
 unfolding header_end_of lines_length
 header_end_of-parts text = refl
 

@@ -1,9 +1,9 @@
 -- Single steps over a header section: what the loops of this crate keep.
-use Rattle.std.proofs.Common.{◌≡◌, ◌≢◌, ℕ, ◌+◌, ◌-◌, ◌≤◌, Bool, true, false, cond, List, length, take, drop, ap, ◌∙◌, arith}
-use Rattle.std.proofs.lemmas.List.{length-take, length-drop, drop-drop}
+use Rattle.std.proofs.Common.{◌≡◌, ◌≢◌, ℕ, ◌+◌, ◌≤◌, Bool, true, false, cond, List, length, take, drop, ap, arith}
+use Rattle.std.proofs.lemmas.List.{length-take, length-drop}
 use Rattle.relay_octets.specs.Line.{HasNoCrlf, ReadsLine}
-use Rattle.relay_trace.specs.HeaderSection.{header_end_of, is_received, received_count_of}
-use Rattle.relay_trace.proofs.HeaderLemmas.{one_if_received, received_count_of-line, received_count_of-empty, received_count_of-last, header_end_of-line, header_end_of-empty, header_end_of-last}
+use Rattle.relay_trace.specs.HeaderSection.{is_received, received_count_of}
+use Rattle.relay_trace.proofs.HeaderLemmas.{one_if_received, received_count_of-line, received_count_of-empty, received_count_of-last}
 
 -- the count so far, with that of the rest, is the count of the text
 pub record CountsSoFar (text rest : List ℕ) (count : ℕ) : Type 0 where
@@ -36,38 +36,3 @@ counts_last text rest count test so_far none tested =
     let step = received_count_of-last rest none in
     let one : cond test 1 0 ≡ one_if_received rest = ap (λ b. cond b 1 0) tested in
     omega (arith, so_far.counted)
-
--- the place so far begins a line, and the header section goes on at it
-pub record EndsBehind (text : List ℕ) (place : ℕ) : Type 0 where
-  pub within : place ≤ length text
-  pub goes_on : place + header_end_of (drop place text) ≡ header_end_of text
-
--- a line that isn't empty
-pub ends_line : (text piece : List ℕ) (end place : ℕ) → EndsBehind text end → piece ≡ drop end text → place ≢ 0 → place + 2 ≤ length piece → ReadsLine piece (take place piece) (drop (place + 2) piece) → EndsBehind text (end + (place + 2))
-ends_line text piece end place so_far is some fits reads =
-    let long : length (take place piece) ≡ place = omega (arith, length-take place piece) in
-    let step = header_end_of-line piece (take place piece) (drop (place + 2) piece) (omega arith) reads in
-    let size : length piece ≡ length text - end = ap length is ∙ length-drop end text in
-    let same : header_end_of piece ≡ header_end_of (drop end text) = ap header_end_of is in
-    let behind : drop (place + 2) piece ≡ drop (end + (place + 2)) text = ap (drop (place + 2)) is ∙ drop-drop (place + 2) end text in
-    let later : header_end_of (drop (place + 2) piece) ≡ header_end_of (drop (end + (place + 2)) text) = ap header_end_of behind in
-    record {
-      within = omega (arith, so_far.within);
-      goes_on = omega (arith, so_far.goes_on);
-    }
-
--- an empty line ends the header section
-pub ends_here : (text piece : List ℕ) (end place : ℕ) → EndsBehind text end → piece ≡ drop end text → place ≡ 0 → ReadsLine piece (take place piece) (drop (place + 2) piece) → end ≡ header_end_of text
-ends_here text piece end place so_far is none reads =
-    let no_octet : length (take place piece) ≡ 0 = omega (arith, length-take place piece) in
-    let step = header_end_of-empty piece (take place piece) (drop (place + 2) piece) no_octet reads in
-    let same : header_end_of piece ≡ header_end_of (drop end text) = ap header_end_of is in
-    omega (arith, so_far.goes_on)
-
--- and behind the last CR LF it ends with the text
-pub ends_last : (text piece : List ℕ) (end : ℕ) → EndsBehind text end → piece ≡ drop end text → HasNoCrlf piece → length text ≡ header_end_of text
-ends_last text piece end so_far is none =
-    let step = header_end_of-last piece none in
-    let same : header_end_of piece ≡ header_end_of (drop end text) = ap header_end_of is in
-    let size : length piece ≡ length text - end = ap length is ∙ length-drop end text in
-    omega (arith, so_far.goes_on, so_far.within)

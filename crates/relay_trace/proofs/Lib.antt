@@ -5,3 +5,4 @@ pub mod HeaderSteps
 pub mod LawLemmas
 pub mod LinesLemmas
 pub mod DateTextLemmas
+pub mod EndLemmas

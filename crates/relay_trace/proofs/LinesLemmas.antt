@@ -11,7 +11,7 @@ use Rattle.relay_trace.specs.HeaderSection.{lines_of, before_lines, is_received,
 use Rattle.relay_trace.proofs.HeaderLemmas.{lines_of-line, lines_of-last, lines_of-octet, lines_of-crlf, lines_of-one, lines_of-nil}
 
 -- lines as a text, the last without its CR LF
-joined : List ℕ → List (List ℕ) → List ℕ
+unfoldable pub joined : List ℕ → List (List ℕ) → List ℕ
 joined line [] = line
 joined line (next ∷ more) = line ++ (crlf ++ joined next more)
 
@@ -29,14 +29,19 @@ lines_of-joined line [] each = lines_of-last line each.0
 lines_of-joined line (next ∷ more) each =
     lines_of-line line (joined next more) each.0 ∙ ap (λ l. line ∷ l) (lines_of-joined next more each.1)
 
-only_lines : (text : List ℕ) (lines : List (List ℕ)) → HasLines text lines → lines ≡ lines_of text
-only_lines text [] has =
+-- a text as its first line and the others
+pub split_lines : (text : List ℕ) (lines : List (List ℕ)) → HasLines text lines → (line : List ℕ) × (rest : List (List ℕ)) × AreLines (line ∷ rest) × (text ≡ joined line rest) × (lines ≡ line ∷ rest)
+split_lines text [] has =
     let size = length-append text crlf in
     let none = ap length has.text_is in
     absurd (omega arith)
-only_lines text (line ∷ lines) has =
-    let same = append_cancel_right text (joined line lines) crlf (has.text_is ∙ sym (joined-crlf line lines)) in
-    sym (ap lines_of same ∙ lines_of-joined line lines has.each)
+split_lines text (line ∷ lines) has =
+    (line, lines, has.each, append_cancel_right text (joined line lines) crlf (has.text_is ∙ sym (joined-crlf line lines)), refl)
+
+only_lines : (text : List ℕ) (lines : List (List ℕ)) → HasLines text lines → lines ≡ lines_of text
+only_lines text lines has =
+    let split = split_lines text lines has in
+    split.4 ∙ sym (ap lines_of split.3 ∙ lines_of-joined split.0 split.1 split.2)
 
 -- with an octet in front that begins no CR LF
 with_octet : (octet next : ℕ) (rest : List ℕ) (lines : List (List ℕ)) → (octet == 13 && next == 10) ≡ false → HasLines (next ∷ rest) lines → HasLines (octet ∷ next ∷ rest) (before_lines octet lines)
@@ -57,7 +62,7 @@ with_octet octet next rest ((first ∷ line) ∷ lines) none has = record {
       );
 }
 
-has_lines : (text : List ℕ) → HasLines text (lines_of text)
+pub has_lines : (text : List ℕ) → HasLines text (lines_of text)
 has_lines [] = subst (HasLines []) (sym lines_of-nil) (record { text_is = refl; each = (no_crlf_nil, tt) })
 has_lines (octet ∷ []) = subst (HasLines (octet ∷ [])) (sym (lines_of-one octet)) (record { text_is = refl; each = (no_crlf_one octet, tt) })
 has_lines (octet ∷ next ∷ rest) =

@@ -1,6 +1,7 @@
 ghost use Rattle.std.specs.Prelude.{◌≡◌};
 ghost use Rattle.relay_trace.specs.HeaderSection.{header_end_of, is_received, received_count_of};
 
+use memchr::memmem;
 use relay_octets::find_crlf;
 
 /// The name of a time stamp line's field (RFC 5321, section 4.4), with its colon.
@@ -30,14 +31,13 @@ pub fn received_count(text: &[u8]) -> usize
 pub fn header_end(text: &[u8]) -> usize
     ensures { result ≡ header_end_of text.now }
 {
-    let mut end = 0;
-    while let Some(place) = find_crlf(&text[end..]) {
-        if place == 0 {
-            return end;
-        }
-        end += place + 2;
+    if text.starts_with(b"\r\n") {
+        return 0;
     }
-    text.len()
+    match memmem::find(text, b"\r\n\r\n") {
+        Some(place) => place + 2,
+        None => text.len(),
+    }
 }
 
 /// Whether a line begins with `Received:`, in any letter case (RFC 5322, section 1.2.2).

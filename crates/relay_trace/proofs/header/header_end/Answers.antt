@@ -1,15 +1,17 @@
-use Rattle.std.proofs.lemmas.List.{take_rest}
-use Rattle.relay_trace.proofs.HeaderSteps.{ends_line, ends_here, ends_last}
+use Rattle.std.proofs.Common.{sym, ◌∙◌}
+use Rattle.relay_trace.proofs.EndLemmas.{begins_empty, begins_filled, end_found, no_end_found}
 use Rattle.relay_trace.proofs.header.header_end.Goals as goal
 
-pub returns-then-place-eq0 : goal.returns-then-place-eq0
-returns-then-place-eq0 c =
-    ends_here c.args.text.now _ c.loop-place.end c.in-Some.place c.loop-place.invariant (take_rest c.args.text.now c.loop-place.end) c.if-place-eq0.true c.in-Some.ensures.first
+pub returns-then-starts_with : goal.returns-then-starts_with
+returns-then-starts_with c =
+    begins_empty c.args.text.now (sym c.starts_with.ensures.value ∙ c.if-starts_with.true)
 
-pub loop-place-preserved : goal.loop-place-preserved
-loop-place-preserved c =
-    ends_line c.args.text.now _ c.loop-place.end c.in-Some.place c.loop-place.invariant (take_rest c.args.text.now c.loop-place.end) c.if-place-eq0.false c.in-Some.ensures.within c.in-Some.ensures.first
+pub returns-in-Some : goal.returns-in-Some
+returns-in-Some c =
+    let filled = begins_filled c.args.text.now (sym c.starts_with.ensures.value ∙ c.if-starts_with.false) in
+    end_found c.args.text.now c.in-Some.place filled c.in-Some.ensures.0 c.in-Some.ensures.1
 
-pub returns : goal.returns
-returns c =
-    ends_last c.args.text.now _ c.loop-place.end c.loop-place.invariant (take_rest c.args.text.now c.loop-place.end) c.in_default.ensures.first
+pub returns-in-None : goal.returns-in-None
+returns-in-None c =
+    let filled = begins_filled c.args.text.now (sym c.starts_with.ensures.value ∙ c.if-starts_with.false) in
+    no_end_found c.args.text.now filled c.in-None.ensures
