@@ -14,9 +14,10 @@ use Rattle.relay_octets.specs.Line.{HasNoCrlf, lines_text, ends_in_cr, begins_wi
 use Rattle.relay_octets.proofs.LineLemmas.{has_crlf, no_crlf_by_test, no_crlf_joined, no_crlf_nil}
 use Rattle.relay_trace.specs.DateTime.{IsDateText, date_time_text, day_name, day_names, month_name, month_names, two_digits}
 use Rattle.relay_trace.specs.HeaderSection.{IsFilledLine, is_received, received_count_of, header_end_of}
-use Rattle.relay_trace.specs.TimeStamp.{Stamp, IsStamp, IsTimeStamp, TimeStampIsOneField, PassingAddsOne, PassingKeepsHeader, address_text, protocol_word, from_line, by_line, date_line}
+use Rattle.relay_trace.specs.TimeStamp.{Stamp, IsStamp, IsTimeStamp, TimeStampIsOne, TimeStampIsOneField, PassingAddsOne, PassingKeepsHeader, address_text, protocol_word, from_line, by_line, date_line}
 use Rattle.relay_trace.specs.declared.received.Protocol.{Protocol}
 use Rattle.relay_trace.specs.declared.received.Protocol.TheVariants.{Smtp, Esmtp}
+use Rattle.relay_trace.proofs.DateTextLemmas.{date_text_is_one}
 use Rattle.relay_trace.proofs.LawLemmas.{header_goes_on, header_ends_with_text}
 
 -- what five writes leave, the last of two parts
@@ -240,3 +241,8 @@ passing_keeps_header stamp content text valid passed =
     let end = ap header_end_of passed.text_is ∙ (behind stamp passed.line content valid passed.line_is).1 in
     ap (λ n. take n text) end ∙ ap (take (length passed.line + header_end_of content)) passed.text_is
     ∙ take-append-add passed.line content (header_end_of content)
+
+pub time_stamp_is_one : TimeStampIsOne
+time_stamp_is_one stamp line other one two =
+    let date = date_text_is_one stamp.accepted one.date two.date one.date_is two.date_is in
+    one.line_is ∙ ap (λ d. lines_text (from_line stamp ∷ by_line stamp ∷ date_line d ∷ [])) date ∙ sym two.line_is

@@ -36,11 +36,11 @@ is_received line = str_eq_ignore_ascii_case (take 9 line) (codes "Received:")
 unfoldable pub received_count_of : List ℕ → ℕ
 received_count_of text = count_by is_received (before_empty (lines_of text))
 
--- the place of the first empty line, or the text's length where it has none
+-- the place of the first empty line, behind the lines before it, or the text's length where it has none
 unfoldable pub header_end_of : List ℕ → ℕ
 header_end_of text = min (length (lines_text (before_empty (lines_of text)))) (length text)
 
--- a line that isn't empty
+-- a line, without its CR LF, that isn't empty
 pub record IsFilledLine (line : List ℕ) : Type 0 where
   pub no_crlf : HasNoCrlf line
   pub not_empty : line ≢ []
@@ -73,12 +73,12 @@ HeaderGoesOn =
     → (received_count_of (lines_text lines ++ rest) ≡ count_by is_received lines + received_count_of rest)
     × (header_end_of (lines_text lines ++ rest) ≡ length (lines_text lines) + header_end_of rest)
 
--- It ends at an empty line, whatever follows.
+-- The header section ends at an empty line, whatever follows.
 abbrev pub HeaderEndsAtEmptyLine : Type 0
 HeaderEndsAtEmptyLine =
     (rest : List ℕ) → (received_count_of (crlf ++ rest) ≡ 0) × (header_end_of (crlf ++ rest) ≡ 0)
 
--- What stands behind the last CR LF is a line of it too.
+-- What stands behind the last CR LF is a line of the header section too.
 abbrev pub HeaderEndsWithText : Type 0
 HeaderEndsWithText =
     (last : List ℕ) → HasNoCrlf last

@@ -74,6 +74,11 @@ stamp_of stamp = record {
   accepted = stamp.accepted;
 }
 
+-- A stamp has one time stamp line.
+abbrev pub TimeStampIsOne : Type 0
+TimeStampIsOne =
+    (stamp : Stamp) (line other : List ℕ) → IsTimeStamp stamp line → IsTimeStamp stamp other → line ≡ other
+
 -- A time stamp line has no empty line in it, and its count of `Received:` fields is 1.
 abbrev pub TimeStampIsOneField : Type 0
 TimeStampIsOneField =

@@ -1,7 +1,7 @@
 //! What is true of dates, header sections and time stamp lines, whoever writes them.
 ghost use Rattle.relay_trace.specs.DateTime.{DateTextIsOne, DateTextTellsMoment};
 ghost use Rattle.relay_trace.specs.HeaderSection.{HeaderEndsAtEmptyLine, HeaderEndsWithText, HeaderGoesOn, LinesAreOne, ReceivedIsTested};
-ghost use Rattle.relay_trace.specs.TimeStamp.{PassingAddsOne, PassingKeepsHeader, TimeStampIsOneField};
+ghost use Rattle.relay_trace.specs.TimeStamp.{PassingAddsOne, PassingKeepsHeader, TimeStampIsOne, TimeStampIsOneField};
 
 /// A moment has one date text.
 pub fn date_text_is_one()
@@ -36,6 +36,11 @@ pub fn header_ends_at_empty_line()
 /// What stands behind the last CR LF is a line too.
 pub fn header_ends_with_text()
     ensures { HeaderEndsWithText }
+{}
+
+/// A stamp has one time stamp line.
+pub fn time_stamp_is_one()
+    ensures { TimeStampIsOne }
 {}
 
 /// A time stamp line has no empty line in it, and it is one `Received:` field.
