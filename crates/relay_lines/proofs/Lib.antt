@@ -2,3 +2,5 @@ pub mod HeldLineLemmas
 pub mod WordLemmas
 pub mod CommandLemmas
 pub mod ReplyLemmas
+pub mod ReplyReadingLemmas
+pub mod ReplyLawLemmas

@@ -3,3 +3,4 @@ pub mod HeldLine
 pub mod Word
 pub mod Command
 pub mod Reply
+pub mod ReplyReading

@@ -1,6 +1,6 @@
 -- Replies (RFC 5321, section 4.2): lines of one code, all but the last marked by a hyphen.
-use Rattle.std.specs.Prelude.{◌≡◌, ℕ, ◌+◌, ◌/◌, ◌%◌, ◌<◌, ◌≤◌, List, [], ◌∷◌, ◌++◌, length}
-use Rattle.std.specs.List.{AllByRecursion}
+use Rattle.std.specs.Prelude.{◌≡◌, ℕ, ◌+◌, ◌/◌, ◌%◌, ◌<◌, ◌≤◌, ◌⊎◌, Bool, true, false, List, [], ◌∷◌, ◌++◌, length}
+use Rattle.std.specs.List.{AllByRecursion, flat_map}
 use Rattle.relay_octets.specs.Line.{crlf, HasNoCrlf}
 
 -- a code, and the text of each line
@@ -55,3 +55,36 @@ one_line code text = made_of code (text ∷ [])
 -- the octets begin with these, and some may have come behind them
 abbrev pub Begins : List ℕ → List ℕ → Type 0
 Begins front octets = (rest : List ℕ) × (octets ≡ front ++ rest)
+
+-- Reply-code: three digits, the first 2 to 5
+pub record IsCode (code : ℕ) : Type 0 where
+  pub low : 200 ≤ code
+  pub high : code < 600
+
+-- what follows the code in a line with this text: where it is the last line, SP and the text, or nothing where there is
+-- no text; else a hyphen and the text
+abbrev pub IsBehindCode : Bool → List ℕ → List ℕ → Type 0
+IsBehindCode true text behind = (behind ≡ 32 ∷ text) ⊎ ((behind ≡ []) × (text ≡ []))
+IsBehindCode false text behind = behind ≡ 45 ∷ text
+
+-- the line, without its CR LF, is a reply's line of this code and text, the last one or not
+pub record SpellsLine (line : List ℕ) (code : ℕ) (is_last : Bool) (text : List ℕ) : Type 0 where
+  pub behind : List ℕ
+  pub code_is : IsCode code
+  pub behind_is : IsBehindCode is_last text behind
+  pub line_is : line ≡ code_digits code ++ behind
+
+-- lines of one code, with these texts, each of which another follows
+abbrev pub followed_lines : ℕ → List (List ℕ) → List ℕ
+followed_lines code lines = flat_map (middle_line code) lines
+
+-- The octets are this reply as it may come: Reply-code "-" text CRLF any number of times, and then Reply-code [ SP text ] CRLF.
+-- That is its written form, or this with a space behind the last code where no text follows.
+pub record ReadsReply (octets : List ℕ) (reply : Reply) : Type 0 where
+  pub middle : List (List ℕ)
+  pub last : List ℕ
+  pub line : List ℕ
+  pub is_reply : IsReply reply
+  pub lines_are : reply.lines ≡ middle ++ last ∷ []
+  pub last_is : SpellsLine line reply.code true last
+  pub octets_are : octets ≡ followed_lines reply.code middle ++ (line ++ crlf)

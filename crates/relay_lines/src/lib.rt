@@ -6,9 +6,12 @@ pub mod command_laws;
 mod line;
 mod line_buffer;
 mod reply;
+pub mod reply_laws;
+mod reply_reader;
 pub mod word;
 
 pub use command::{Command, LineFault};
 pub use line::{LineCut, next_line};
 pub use line_buffer::{LINE_LIMIT, LineBuffer};
 pub use reply::{REPLY_LINES, Reply, write_line};
+pub use reply_reader::{ReplyCut, ReplyFault, ReplyReader};

@@ -1,0 +1,505 @@
+-- Replies: each is read in one way, none begins another, and a fault is none where a reply stands or goes on.
+use Rattle.std.proofs.Common.{◌≡◌, ◌≢◌, ℕ, ◌+◌, ◌-◌, ◌*◌, ◌/◌, ◌%◌, ◌<◌, ◌≤◌, ◌⊎◌, ◌&&◌, Bool, true, false, List, [], ◌∷◌, ◌++◌, length, take, drop, inl, inr, refl, sym, ap, ◌∙◌, subst, arith, append_assoc}
+use Rattle.std.specs.List.{AllByRecursion, flat_map}
+use Rattle.std.proofs.lemmas.List.{append-nil, length-append, take_at}
+use Rattle.std.proofs.Math.Seq.{take-append-add}
+use Rattle.std.proofs.lemmas.Bool.{ne_eqb}
+use Rattle.relay_octets.specs.Line.{crlf, HasNoCrlf, ReadsLine, begins_with_lf}
+use Rattle.relay_octets.proofs.LineLemmas.{no_crlf_joined, no_crlf_one, no_crlf_nil, first_line_is_one, first_line_stays}
+use Rattle.relay_lines.proofs.ReplyLemmas.{lines_of_reply-append}
+use Rattle.relay_lines.specs.Reply.{Reply, IsReply, IsReplyLine, IsCode, SpellsLine, ReadsReply, IsBehindCode, code_digits, followed_lines, last_line, lines_of_reply, made_of, middle_line, reply_text}
+use Rattle.relay_lines.specs.ReplyReading.{AreFollowed, BeginningIsCut, Breaks, CutsReplies, FaultIsOne, FaultStays, HasFault, HeldIsUnfinished, HoldsRest, IsLineOf, IsUnfinished, NoReplyBeginsAnother, ReplyHasNoFault, ShowsLine, UnfinishedHasNoFault, UnfinishedHasNoReply, WrittenIsRead, written_replies}
+use Rattle.relay_lines.specs.declared.reply_reader.ReplyFault.{ReplyFault}
+use Rattle.relay_lines.specs.declared.reply_reader.ReplyFault.TheVariants.{BadLine, MixedCodes, TooLong, NoMemory}
+
+-- an octet other than a CR, before octets without a CR LF
+no_crlf_cons : (octet : ℕ) (octets : List ℕ) → octet ≢ 13 → HasNoCrlf octets → HasNoCrlf (octet ∷ octets)
+no_crlf_cons octet octets other none =
+    no_crlf_joined (octet ∷ []) octets (no_crlf_one octet) none (ap (λ b. b && begins_with_lf octets) (ne_eqb octet 13 other))
+
+-- a code before octets without a CR LF
+digits_cons : (code : ℕ) (behind : List ℕ) → HasNoCrlf behind → HasNoCrlf (code_digits code ++ behind)
+digits_cons code behind none =
+    let high : 48 + code / 100 ≢ 13 = omega arith in
+    let mid : 48 + code / 10 % 10 ≢ 13 = omega arith in
+    let low : 48 + code % 10 ≢ 13 = omega arith in
+    no_crlf_cons (48 + code / 100) ((48 + code / 10 % 10) ∷ (48 + code % 10) ∷ behind) high
+    (no_crlf_cons (48 + code / 10 % 10) ((48 + code % 10) ∷ behind) mid (no_crlf_cons (48 + code % 10) behind low none))
+
+-- a line of a reply is a line
+middle_has_none : (code : ℕ) (text : List ℕ) → HasNoCrlf text → HasNoCrlf (code_digits code ++ 45 ∷ text)
+middle_has_none code text none = let other : ◌≢◌ {A = ℕ} 45 13 = omega arith in digits_cons code (45 ∷ text) (no_crlf_cons 45 text other none)
+
+behind_has_none : (is_last : Bool) (text behind : List ℕ) (spells : IsBehindCode is_last text behind) → HasNoCrlf text → HasNoCrlf behind
+behind_has_none true text behind (inl is) none = let other : ◌≢◌ {A = ℕ} 32 13 = omega arith in subst HasNoCrlf (sym is) (no_crlf_cons 32 text other none)
+behind_has_none true text behind (inr is) none = subst HasNoCrlf (sym is.0) no_crlf_nil
+behind_has_none false text behind is none = let other : ◌≢◌ {A = ℕ} 45 13 = omega arith in subst HasNoCrlf (sym is) (no_crlf_cons 45 text other none)
+
+line_has_none : (line : List ℕ) (code : ℕ) (is_last : Bool) (text : List ℕ) → SpellsLine line code is_last text → HasNoCrlf text → HasNoCrlf line
+line_has_none line code is_last text spells none =
+    subst HasNoCrlf (sym spells.line_is) (digits_cons code spells.behind (behind_has_none is_last text spells.behind spells.behind_is none))
+
+-- a code is told by its digits
+code_is_one : (code other : ℕ) → IsCode code → IsCode other → 48 + code / 100 ≡ 48 + other / 100 → 48 + code / 10 % 10 ≡ 48 + other / 10 % 10 → 48 + code % 10 ≡ 48 + other % 10 → code ≡ other
+code_is_one code other is is_other high mid low =
+    let low_end = is.high in let other_end = is_other.high in omega arith
+
+digits_are_one : (code other : ℕ) (behind more : List ℕ) → IsCode code → IsCode other → code_digits code ++ behind ≡ code_digits other ++ more → (code ≡ other) × (behind ≡ more)
+digits_are_one code other behind more is is_other e =
+    let high : 48 + code / 100 ≡ 48 + other / 100 = cc in
+    let mid : 48 + code / 10 % 10 ≡ 48 + other / 10 % 10 = cc in
+    let low : 48 + code % 10 ≡ 48 + other % 10 = cc in
+    (code_is_one code other is is_other high mid low, ap (drop 3) e)
+
+-- the last line isn't one that another follows
+last_is_not_middle : (line : List ℕ) (code other : ℕ) (text follows : List ℕ) → IsCode other → SpellsLine line code true text → line ≡ code_digits other ++ 45 ∷ follows → ⊥
+last_is_not_middle line code other text follows is spells e =
+    let same = digits_are_one code other spells.behind (45 ∷ follows) spells.code_is is (sym spells.line_is ∙ e) in
+    elim spells.behind_is [
+      | inl space ↦ let no : ◌≡◌ {A = ℕ} 45 32 = cc in absurd (omega arith)
+      | inr nothing ↦ let no : [] ≡ 45 ∷ follows = sym nothing.0 ∙ same.1 in cc
+    ]
+
+-- the first of lines that others follow
+first_of_followed : (code : ℕ) (text : List ℕ) (lines : List (List ℕ)) (rest : List ℕ) → IsReplyLine text → ReadsLine (followed_lines code (text ∷ lines) ++ rest) (code_digits code ++ 45 ∷ text) (followed_lines code lines ++ rest)
+first_of_followed code text lines rest is = record {
+  text = append_assoc (middle_line code text) (followed_lines code lines) rest;
+  first = middle_has_none code text is.line;
+}
+
+-- the first line of equal octets
+same_first : (octets line rest stream other more : List ℕ) → octets ≡ stream → ReadsLine octets line rest → ReadsLine stream other more → (line ≡ other) × (rest ≡ more)
+same_first octets line rest stream other more e one two =
+    let P : List ℕ → Type 0 = λ l. ReadsLine l line rest in
+    first_line_is_one stream line rest other more (subst P e one) two
+
+-- both have the same lines that others follow, and the same octets behind them
+record SameLines (c d : ℕ) (lines others : List (List ℕ)) (rest more : List ℕ) : Type 0 where
+  lines_are : lines ≡ others
+  rest_is : rest ≡ more
+  code_is : 0 < length lines → c ≡ d
+
+-- the others go on where the lines end
+record GoesFurther (c d : ℕ) (lines others : List (List ℕ)) (rest more : List ℕ) : Type 0 where
+  text : List ℕ
+  later : List (List ℕ)
+  others_are : others ≡ lines ++ text ∷ later
+  rest_is : rest ≡ followed_lines d (text ∷ later) ++ more
+  code_is : 0 < length lines → c ≡ d
+
+-- of two readings of octets one goes further, or they are the same
+abbrev Agree : ℕ → ℕ → List (List ℕ) → List (List ℕ) → List ℕ → List ℕ → Type 0
+Agree c d lines others rest more = SameLines c d lines others rest more ⊎ (GoesFurther c d lines others rest more ⊎ GoesFurther d c others lines more rest)
+
+agree_behind : (c d : ℕ) (text other : List ℕ) (lines others : List (List ℕ)) (rest more : List ℕ) → c ≡ d → text ≡ other → Agree c d lines others rest more → Agree c d (text ∷ lines) (other ∷ others) rest more
+agree_behind c d text other lines others rest more codes texts (inl same) = inl record {
+  lines_are = ap (λ t. t ∷ lines) texts ∙ ap (λ ls. other ∷ ls) same.lines_are;
+  rest_is = same.rest_is;
+  code_is = λ _. codes;
+}
+agree_behind c d text other lines others rest more codes texts (inr (inl further)) = inr (inl record {
+  text = further.text;
+  later = further.later;
+  others_are = ap (λ t. t ∷ others) (sym texts) ∙ ap (λ ls. text ∷ ls) further.others_are;
+  rest_is = further.rest_is;
+  code_is = λ _. codes;
+})
+agree_behind c d text other lines others rest more codes texts (inr (inr further)) = inr (inr record {
+  text = further.text;
+  later = further.later;
+  others_are = ap (λ t. t ∷ lines) texts ∙ ap (λ ls. other ∷ ls) further.others_are;
+  rest_is = further.rest_is;
+  code_is = λ _. sym codes;
+})
+
+agree : (c d : ℕ) (lines others : List (List ℕ)) (rest more : List ℕ) → IsCode c → IsCode d → AllByRecursion IsReplyLine lines → AllByRecursion IsReplyLine others → followed_lines c lines ++ rest ≡ followed_lines d others ++ more → Agree c d lines others rest more
+agree c d [] [] rest more is is_other each each_other e = inl record {
+  lines_are = refl;
+  rest_is = e;
+  code_is = λ some. absurd (omega arith);
+}
+agree c d [] (other ∷ others) rest more is is_other each each_other e = inr (inl record {
+  text = other;
+  later = others;
+  others_are = refl;
+  rest_is = e;
+  code_is = λ some. absurd (omega arith);
+})
+agree c d (text ∷ lines) [] rest more is is_other each each_other e = inr (inr record {
+  text = text;
+  later = lines;
+  others_are = refl;
+  rest_is = sym e;
+  code_is = λ some. absurd (omega arith);
+})
+agree c d (text ∷ lines) (other ∷ others) rest more is is_other each each_other e =
+    let same = same_first (followed_lines c (text ∷ lines) ++ rest) (code_digits c ++ 45 ∷ text) (followed_lines c lines ++ rest) (followed_lines d (other ∷ others) ++ more) (code_digits d ++ 45 ∷ other) (followed_lines d others ++ more) e (first_of_followed c text lines rest each.0) (first_of_followed d other others more each_other.0) in
+    let codes = digits_are_one c d (45 ∷ text) (45 ∷ other) is is_other same.0 in
+    agree_behind c d text other lines others rest more codes.0 (ap (drop 1) codes.1) (agree c d lines others rest more is is_other each.1 each_other.1 same.1)
+
+-- the lines of a reply, and the last one
+each_parts : (middle : List (List ℕ)) (last : List ℕ) → AllByRecursion IsReplyLine (middle ++ last ∷ []) → AllByRecursion IsReplyLine middle × IsReplyLine last
+each_parts [] last each = (tt, each.0)
+each_parts (text ∷ middle) last each = let more = each_parts middle last each.1 in ((each.0, more.0), more.1)
+
+reply_parts : (octets : List ℕ) (reply : Reply) (reads : ReadsReply octets reply) → AllByRecursion IsReplyLine reads.middle × IsReplyLine reads.last
+reply_parts octets reply reads =
+    let P : List (List ℕ) → Type 0 = λ ls. AllByRecursion IsReplyLine ls in
+    each_parts reads.middle reads.last (subst P reads.lines_are reads.is_reply.each)
+
+-- the first line behind those of a reply that others follow
+last_reads : (octets behind : List ℕ) (reply : Reply) (reads : ReadsReply octets reply) → ReadsLine ((reads.line ++ crlf) ++ behind) reads.line behind
+last_reads octets behind reply reads =
+    let parts = reply_parts octets reply reads in
+    record {
+      text = refl;
+      first = line_has_none reads.line reply.code true reads.last reads.last_is parts.1.line;
+    }
+
+-- a reply and what is behind it
+reply_split : (octets behind : List ℕ) (reply : Reply) (reads : ReadsReply octets reply) → octets ++ behind ≡ followed_lines reply.code reads.middle ++ ((reads.line ++ crlf) ++ behind)
+reply_split octets behind reply reads =
+    ap (λ l. l ++ behind) reads.octets_are ∙ append_assoc (followed_lines reply.code reads.middle) (reads.line ++ crlf) behind
+
+-- a reply's last line isn't one that another follows
+ends_there : (octets behind rest : List ℕ) (reply : Reply) (code : ℕ) (text : List ℕ) (later : List (List ℕ)) (reads : ReadsReply octets reply) → IsCode code → IsReplyLine text → (reads.line ++ crlf) ++ behind ≡ followed_lines code (text ∷ later) ++ rest → ⊥
+ends_there octets behind rest reply code text later reads is is_line e =
+    let same = same_first ((reads.line ++ crlf) ++ behind) reads.line behind (followed_lines code (text ∷ later) ++ rest) (code_digits code ++ 45 ∷ text) (followed_lines code later ++ rest) e (last_reads octets behind reply reads) (first_of_followed code text later rest is_line) in
+    last_is_not_middle reads.line reply.code code reads.last text is reads.last_is same.0
+
+-- one of the lines that go further
+each_further : (lines : List (List ℕ)) (text : List ℕ) (later : List (List ℕ)) → AllByRecursion IsReplyLine (lines ++ text ∷ later) → IsReplyLine text
+each_further [] text later each = each.0
+each_further (line ∷ lines) text later each = each_further lines text later each.1
+
+further_line : (c d : ℕ) (lines others : List (List ℕ)) (rest more : List ℕ) (further : GoesFurther c d lines others rest more) → AllByRecursion IsReplyLine others → IsReplyLine further.text
+further_line c d lines others rest more further each =
+    let P : List (List ℕ) → Type 0 = λ ls. AllByRecursion IsReplyLine ls in
+    each_further lines further.text further.later (subst P further.others_are each)
+
+-- the text behind a code is told by what follows the code
+text_is_one : (behind text other : List ℕ) → IsBehindCode true text behind → IsBehindCode true other behind → text ≡ other
+text_is_one behind text other (inl one) (inl two) = ap (drop 1) (sym one ∙ two)
+text_is_one behind text other (inl one) (inr two) = let no : 32 ∷ text ≡ [] = sym one ∙ two.0 in cc
+text_is_one behind text other (inr one) (inl two) = let no : [] ≡ 32 ∷ other = sym one.0 ∙ two in cc
+text_is_one behind text other (inr one) (inr two) = one.1 ∙ sym two.1
+
+same_reply : (reply second : Reply) → reply.code ≡ second.code → reply.lines ≡ second.lines → reply ≡ second
+same_reply reply second codes lines = ap (λ n. made_of n reply.lines) codes ∙ ap (λ ls. made_of second.code ls) lines
+
+one_reply : (text other behind rest : List ℕ) (reply second : Reply) (one : ReadsReply text reply) (two : ReadsReply other second) → Agree reply.code second.code one.middle two.middle ((one.line ++ crlf) ++ behind) ((two.line ++ crlf) ++ rest) → (text ≡ other) × (behind ≡ rest) × (reply ≡ second)
+one_reply text other behind rest reply second one two (inl same) =
+    let first = same_first ((one.line ++ crlf) ++ behind) one.line behind ((two.line ++ crlf) ++ rest) two.line rest same.rest_is (last_reads text behind reply one) (last_reads other rest second two) in
+    let codes = digits_are_one reply.code second.code one.last_is.behind two.last_is.behind one.last_is.code_is two.last_is.code_is (sym one.last_is.line_is ∙ first.0 ∙ two.last_is.line_is) in
+    let P : List ℕ → Type 0 = λ l. IsBehindCode true one.last l in
+    let last = text_is_one two.last_is.behind one.last two.last (subst P codes.1 one.last_is.behind_is) two.last_is.behind_is in
+    let lines = one.lines_are ∙ ap (λ ls. ls ++ one.last ∷ []) same.lines_are ∙ ap (λ t. two.middle ++ t ∷ []) last ∙ sym two.lines_are in (
+      one.octets_are ∙ ap (λ n. followed_lines n one.middle ++ (one.line ++ crlf)) codes.0 ∙ ap (λ ls. followed_lines second.code ls ++ (one.line ++ crlf)) same.lines_are ∙ ap (λ l. followed_lines second.code two.middle ++ (l ++ crlf)) first.0 ∙ sym two.octets_are,
+      first.1,
+      same_reply reply second codes.0 lines,
+    )
+one_reply text other behind rest reply second one two (inr (inl further)) =
+    let parts = reply_parts other second two in
+    absurd (ends_there text behind ((two.line ++ crlf) ++ rest) reply second.code further.text further.later one two.last_is.code_is (further_line reply.code second.code one.middle two.middle ((one.line ++ crlf) ++ behind) ((two.line ++ crlf) ++ rest) further parts.0) further.rest_is)
+one_reply text other behind rest reply second one two (inr (inr further)) =
+    let parts = reply_parts text reply one in
+    absurd (ends_there other rest ((one.line ++ crlf) ++ behind) second reply.code further.text further.later two one.last_is.code_is (further_line second.code reply.code two.middle one.middle ((two.line ++ crlf) ++ rest) ((one.line ++ crlf) ++ behind) further parts.0) further.rest_is)
+
+-- no reply begins another
+pub no_reply_begins_another : NoReplyBeginsAnother
+no_reply_begins_another text other behind rest reply second one two e =
+    let one_parts = reply_parts text reply one in
+    let two_parts = reply_parts other second two in
+    one_reply text other behind rest reply second one two (agree reply.code second.code one.middle two.middle ((one.line ++ crlf) ++ behind) ((two.line ++ crlf) ++ rest) one.last_is.code_is two.last_is.code_is one_parts.0 two_parts.0 (sym (reply_split text behind reply one) ∙ e ∙ reply_split other rest second two))
+
+-- the last of some lines, and those before it
+split_last : (lines : List (List ℕ)) → 0 < length lines → (middle : List (List ℕ)) × (last : List ℕ) × (lines ≡ middle ++ last ∷ [])
+split_last [] some = absurd (omega arith)
+split_last (text ∷ []) some = ([], text, refl)
+split_last (text ∷ next ∷ more) some =
+    let split = split_last (next ∷ more) (omega arith) in
+    (text ∷ split.0, split.1, ap (λ ls. text ∷ ls) split.2)
+
+-- the last line, as it is written
+written_last : (code : ℕ) (last : List ℕ) → IsCode code → (line : List ℕ) × SpellsLine line code true last × (last_line code last ≡ line ++ crlf)
+written_last code [] is = (code_digits code, record { behind = []; code_is = is; behind_is = inr (refl, refl); line_is = refl }, refl)
+written_last code (octet ∷ text) is = (
+  code_digits code ++ 32 ∷ octet ∷ text,
+  record { behind = 32 ∷ octet ∷ text; code_is = is; behind_is = inl refl; line_is = refl },
+  refl,
+)
+
+-- what is written is read
+pub written_is_read : WrittenIsRead
+written_is_read reply is =
+    let split = split_last reply.lines is.some_line in
+    let code : IsCode reply.code = record { low = is.code_low; high = is.code_high } in
+    let last = written_last reply.code split.1 code in
+    record {
+      middle = split.0;
+      last = split.1;
+      line = last.0;
+      is_reply = is;
+      lines_are = split.2;
+      last_is = last.1;
+      octets_are = ap (λ ls. lines_of_reply reply.code ls) split.2 ∙ lines_of_reply-append reply.code split.0 split.1 ∙ ap (λ l. followed_lines reply.code split.0 ++ l) last.2;
+    }
+
+-- where a short line ends, no other shows
+short_shows : (octets line other rest : List ℕ) → ShowsLine octets line → ReadsLine octets other rest → length other ≤ 2046 → line ≡ other
+short_shows octets line other rest (inl shows) reads short =
+    let same = first_line_is_one octets line shows.0 other rest shows.1 reads in
+    same.0
+short_shows octets line other rest (inr shows) reads short =
+    let size = length-append other crlf in
+    let room = 2048 - length (other ++ crlf) in
+    let n : 2048 ≡ length (other ++ crlf) + room = omega (arith, size) in
+    let whole : line ≡ (other ++ crlf) ++ take room rest =
+    sym (take_at line shows.0 2048 shows.3) ∙ ap (take 2048) (sym shows.1 ∙ reads.text) ∙ ap (λ m. take m ((other ++ crlf) ++ rest)) n ∙ take-append-add (other ++ crlf) rest room in
+    absurd (shows.2.nowhere other (take room rest) whole)
+
+-- a line that another follows, and a last line, are lines of their code, and short enough
+middle_is_line : (code : ℕ) (text : List ℕ) → IsCode code → IsLineOf (code_digits code ++ 45 ∷ text) code
+middle_is_line code text is = record {
+  is_last = false;
+  text = text;
+  spells = record { behind = 45 ∷ text; code_is = is; behind_is = refl; line_is = refl };
+}
+
+behind_is_short : (text behind : List ℕ) → IsBehindCode true text behind → length behind ≤ length text + 1
+behind_is_short text behind (inl is) = let size = ap length is in omega arith
+behind_is_short text behind (inr is) = let size = ap length is.0 in omega arith
+
+last_is_short : (octets : List ℕ) (reply : Reply) (reads : ReadsReply octets reply) → length reads.line ≤ 2046
+last_is_short octets reply reads =
+    let parts = reply_parts octets reply reads in
+    let short = parts.1.short in
+    let size = ap length reads.last_is.line_is in
+    let behind = behind_is_short reads.last reads.last_is.behind reads.last_is.behind_is in
+    omega arith
+
+-- two codes of one line are one
+line_has_one_code : (line : List ℕ) (code other : ℕ) → IsLineOf line code → IsLineOf line other → code ≡ other
+line_has_one_code line code other is is_other =
+    let one = is.spells in
+    let two = is_other.spells in
+    let same = digits_are_one code other one.behind two.behind one.code_is two.code_is (sym one.line_is ∙ two.line_is) in
+    same.0
+
+-- a line that may stand behind these breaks no rule
+breaks_none : (fault : ReplyFault) (c d : ℕ) (lines : List (List ℕ)) (line : List ℕ) → IsLineOf line d → length line ≤ 2046 → (0 < length lines → c ≡ d) → length lines < 100 → Breaks fault c lines line → ⊥
+breaks_none BadLine c d lines line is short same few breaks = let spells = is.spells in breaks.none d is.is_last is.text spells
+breaks_none MixedCodes c d lines line is short same few breaks =
+    breaks.3 (line_has_one_code line breaks.0 d breaks.1 is ∙ sym (same breaks.2))
+breaks_none TooLong c d lines line is short same few breaks = elim breaks.3 [ inl long ↦ omega arith | inr many ↦ omega arith ]
+breaks_none NoMemory c d lines line is short same few breaks = breaks
+
+-- the same of the line that shows
+shows_none : (fault : ReplyFault) (c d : ℕ) (lines : List (List ℕ)) (octets line other rest : List ℕ) → ShowsLine octets line → ReadsLine octets other rest → IsLineOf other d → length other ≤ 2046 → (0 < length lines → c ≡ d) → length lines < 100 → Breaks fault c lines line → ⊥
+shows_none fault c d lines octets line other rest shows reads is short same few breaks =
+    let P : List ℕ → Type 0 = λ l. Breaks fault c lines l in
+    breaks_none fault c d lines other is short same few (subst P (short_shows octets line other rest shows reads short) breaks)
+
+-- where lines go further, the next one breaks no rule
+further_none : (fault : ReplyFault) (c d : ℕ) (lines others : List (List ℕ)) (rest more line : List ℕ) (further : GoesFurther c d lines others rest more) → IsCode d → AllByRecursion IsReplyLine others → length others ≤ 100 → ShowsLine rest line → Breaks fault c lines line → ⊥
+further_none fault c d lines others rest more line further is each few shows breaks =
+    let one = further_line c d lines others rest more further each in
+    let short = one.short in
+    let P : List ℕ → Type 0 = λ l. ReadsLine l (code_digits d ++ 45 ∷ further.text) (followed_lines d further.later ++ more) in
+    let reads = subst P (sym further.rest_is) (first_of_followed d further.text further.later more one) in
+    let count = ap length further.others_are ∙ length-append lines (further.text ∷ further.later) in
+    shows_none fault c d lines rest line (code_digits d ++ 45 ∷ further.text) (followed_lines d further.later ++ more) shows reads (middle_is_line d further.text is) (omega arith) further.code_is (omega arith) breaks
+
+-- where lines go further, a line ends
+further_ends : (c d : ℕ) (lines others : List (List ℕ)) (part more : List ℕ) (further : GoesFurther c d lines others part more) → AllByRecursion IsReplyLine others → HasNoCrlf part → ⊥
+further_ends c d lines others part more further each none =
+    let one = further_line c d lines others part more further each in
+    let reads = first_of_followed d further.text further.later more one in
+    none.nowhere (code_digits d ++ 45 ∷ further.text) (followed_lines d further.later ++ more) (further.rest_is ∙ reads.text)
+
+-- how many lines of a reply others follow
+few_middle : (octets : List ℕ) (reply : Reply) (reads : ReadsReply octets reply) → length reads.middle < 100
+few_middle octets reply reads =
+    let few = reads.is_reply.few_lines in
+    let count = ap length reads.lines_are ∙ length-append reads.middle (reads.last ∷ []) in
+    omega arith
+
+reply_none : (text rest : List ℕ) (reply : Reply) (fault : ReplyFault) (reads : ReadsReply text reply) (has : HasFault (text ++ rest) fault) → Agree has.code reply.code has.lines reads.middle has.rest ((reads.line ++ crlf) ++ rest) → ⊥
+reply_none text rest reply fault reads has (inl same) =
+    let P : List ℕ → Type 0 = λ l. ReadsLine l reads.line rest in
+    let few = few_middle text reply reads in
+    let count = ap length same.lines_are in
+    let line : IsLineOf reads.line reply.code = record { is_last = true; text = reads.last; spells = reads.last_is } in
+    shows_none fault has.code reply.code has.lines has.rest has.line reads.line rest has.shows (subst P (sym same.rest_is) (last_reads text rest reply reads)) line (last_is_short text reply reads) same.code_is (omega arith) has.breaks
+reply_none text rest reply fault reads has (inr (inl further)) =
+    let parts = reply_parts text reply reads in
+    let few = few_middle text reply reads in
+    further_none fault has.code reply.code has.lines reads.middle has.rest ((reads.line ++ crlf) ++ rest) has.line further reads.last_is.code_is parts.0 (omega arith) has.shows has.breaks
+reply_none text rest reply fault reads has (inr (inr further)) =
+    ends_there text rest has.rest reply has.code further.text further.later reads has.followed.code_is (further_line reply.code has.code reads.middle has.lines ((reads.line ++ crlf) ++ rest) has.rest further has.followed.each) further.rest_is
+
+-- octets that begin with a reply have no fault
+pub reply_has_no_fault : ReplyHasNoFault
+reply_has_no_fault text rest reply fault reads has =
+    let parts = reply_parts text reply reads in
+    reply_none text rest reply fault reads has (agree has.code reply.code has.lines reads.middle has.rest ((reads.line ++ crlf) ++ rest) has.followed.code_is reads.last_is.code_is has.followed.each parts.0 (sym has.octets_are ∙ reply_split text rest reply reads))
+
+unfinished_none : (octets : List ℕ) (fault : ReplyFault) (rests : IsUnfinished octets) (has : HasFault octets fault) → Agree has.code rests.code has.lines rests.lines has.rest rests.part → ⊥
+unfinished_none octets fault rests has (inl same) = elim has.shows [
+  | inl whole ↦ rests.unended.nowhere has.line whole.0 (sym same.rest_is ∙ whole.1.text)
+  | inr long ↦
+      let size = ap length (sym same.rest_is ∙ long.1) ∙ length-append has.line long.0 in
+      let short = rests.short in
+      let full = long.3 in
+      omega arith
+]
+unfinished_none octets fault rests has (inr (inl further)) =
+    further_none fault has.code rests.code has.lines rests.lines has.rest rests.part has.line further rests.followed.code_is rests.followed.each rests.followed.few has.shows has.breaks
+unfinished_none octets fault rests has (inr (inr further)) =
+    further_ends rests.code has.code rests.lines has.lines rests.part has.rest further has.followed.each rests.unended
+
+-- a rest that isn't whole has no fault
+pub unfinished_has_no_fault : UnfinishedHasNoFault
+unfinished_has_no_fault octets fault rests has =
+    unfinished_none octets fault rests has (agree has.code rests.code has.lines rests.lines has.rest rests.part has.followed.code_is rests.followed.code_is has.followed.each rests.followed.each (sym has.octets_are ∙ rests.octets_are))
+
+unfinished_no_reply : (text rest : List ℕ) (reply : Reply) (reads : ReadsReply text reply) (rests : IsUnfinished (text ++ rest)) → Agree reply.code rests.code reads.middle rests.lines ((reads.line ++ crlf) ++ rest) rests.part → ⊥
+unfinished_no_reply text rest reply reads rests (inl same) = rests.unended.nowhere reads.line rest (sym same.rest_is)
+unfinished_no_reply text rest reply reads rests (inr (inl further)) =
+    ends_there text rest rests.part reply rests.code further.text further.later reads rests.followed.code_is (further_line reply.code rests.code reads.middle rests.lines ((reads.line ++ crlf) ++ rest) rests.part further rests.followed.each) further.rest_is
+unfinished_no_reply text rest reply reads rests (inr (inr further)) =
+    let parts = reply_parts text reply reads in
+    further_ends rests.code reply.code rests.lines reads.middle rests.part ((reads.line ++ crlf) ++ rest) further parts.0 rests.unended
+
+-- a rest that isn't whole begins with no reply
+pub unfinished_has_no_reply : UnfinishedHasNoReply
+unfinished_has_no_reply text rest reply reads rests =
+    let parts = reply_parts text reply reads in
+    unfinished_no_reply text rest reply reads rests (agree reply.code rests.code reads.middle rests.lines ((reads.line ++ crlf) ++ rest) rests.part reads.last_is.code_is rests.followed.code_is parts.0 rests.followed.each (sym (reply_split text rest reply reads) ∙ rests.octets_are))
+
+shows_more : (octets line more : List ℕ) → ShowsLine octets line → ShowsLine (octets ++ more) line
+shows_more octets line more (inl shows) = inl (shows.0 ++ more, first_line_stays octets line shows.0 more shows.1, shows.2)
+shows_more octets line more (inr shows) = inr (
+  shows.0 ++ more,
+  ap (λ l. l ++ more) shows.1 ∙ append_assoc line shows.0 more,
+  shows.2,
+  shows.3,
+)
+
+-- a fault stays one
+pub fault_stays : FaultStays
+fault_stays octets more fault has = record {
+  code = has.code;
+  lines = has.lines;
+  line = has.line;
+  rest = has.rest ++ more;
+  followed = has.followed;
+  octets_are = ap (λ l. l ++ more) has.octets_are ∙ append_assoc (followed_lines has.code has.lines) has.rest more;
+  shows = shows_more has.rest has.line more has.shows;
+  breaks = has.breaks;
+}
+
+-- no octets have no fault
+nothing_has_no_fault : (octets : List ℕ) (fault : ReplyFault) → octets ≡ [] → ¬ HasFault octets fault
+nothing_has_no_fault octets fault nothing has =
+    let size = ap length (sym nothing ∙ has.octets_are) ∙ length-append (followed_lines has.code has.lines) has.rest in
+    elim has.shows [
+      | inl whole ↦
+          let long = ap length whole.1.text ∙ length-append (has.line ++ crlf) whole.0 in
+          let end = length-append has.line crlf in
+          omega arith
+      | inr long ↦
+          let full = ap length long.1 ∙ length-append has.line long.0 in
+          let count = long.3 in
+          omega arith
+    ]
+
+-- a part of no octets is none
+front_of_none : (front back : List ℕ) → front ++ back ≡ [] → front ≡ []
+front_of_none [] back none = refl
+front_of_none (octet ∷ front) back none = cc
+
+-- octets that begin written replies have no fault
+written_has_no_fault : (octets more : List ℕ) (replies : List Reply) (fault : ReplyFault) → AllByRecursion IsReply replies → octets ++ more ≡ written_replies replies → ¬ HasFault octets fault
+written_has_no_fault octets more [] fault each e has = nothing_has_no_fault octets fault (front_of_none octets more e) has
+written_has_no_fault octets more (reply ∷ replies) fault each e has =
+    let P : List ℕ → Type 0 = λ l. HasFault l fault in
+    reply_has_no_fault (reply_text reply) (written_replies replies) reply fault (written_is_read reply each.0) (subst P e (fault_stays octets more fault has))
+
+-- no reply is empty
+reply_is_some : (octets : List ℕ) (reply : Reply) → ReadsReply octets reply → octets ≢ []
+reply_is_some octets reply reads none =
+    let size = ap length (sym none ∙ reads.octets_are) ∙ length-append (followed_lines reply.code reads.middle) (reads.line ++ crlf) in
+    let end = length-append reads.line crlf in
+    omega arith
+
+-- what is cut from the beginning of written replies begins those
+pub beginning_is_cut : BeginningIsCut
+beginning_is_cut octets more rest [] replies each e cut = (
+  (replies, refl),
+  λ fault has.
+      let P : List ℕ → Type 0 = λ l. HasFault l fault in
+      written_has_no_fault octets more replies fault each e (subst P (sym cut) has),
+)
+beginning_is_cut octets more rest (reply ∷ cut) [] each e cuts =
+    absurd (reply_is_some cuts.0 reply cuts.2 (front_of_none cuts.0 (cuts.1 ++ more) (sym (append_assoc cuts.0 cuts.1 more) ∙ ap (λ l. l ++ more) (sym cuts.3) ∙ e)))
+beginning_is_cut octets more rest (reply ∷ cut) (first ∷ replies) each e cuts =
+    let all = sym (append_assoc cuts.0 cuts.1 more) ∙ ap (λ l. l ++ more) (sym cuts.3) ∙ e in
+    let same = no_reply_begins_another cuts.0 (reply_text first) (cuts.1 ++ more) (written_replies replies) reply first cuts.2 (written_is_read first each.0) all in
+    let later = beginning_is_cut cuts.1 more rest cut replies each.1 same.1 cuts.4 in (
+      (later.0.0, ap (λ r. r ∷ replies) (sym same.2) ∙ ap (λ rs. reply ∷ rs) later.0.1),
+      later.1,
+    )
+
+-- what shows is one line
+one_shows : (octets line other : List ℕ) → ShowsLine octets line → ShowsLine octets other → line ≡ other
+one_shows octets line other shows (inl two) = short_shows octets line other two.0 shows two.1 two.2
+one_shows octets line other (inl one) (inr two) = sym (short_shows octets other line one.0 (inr two) one.1 one.2)
+one_shows octets line other (inr one) (inr two) =
+    sym (take_at line one.0 2048 one.3) ∙ ap (take 2048) (sym one.1 ∙ two.1) ∙ take_at other two.0 2048 two.3
+
+-- a line breaks one rule
+one_breaks : (fault other : ReplyFault) (c d : ℕ) (lines : List (List ℕ)) (line : List ℕ) → (0 < length lines → c ≡ d) → Breaks fault c lines line → Breaks other d lines line → fault ≡ other
+one_breaks BadLine BadLine c d lines line same one two = refl
+one_breaks BadLine MixedCodes c d lines line same one two = let is = two.1 in absurd (one.none two.0 is.is_last is.text is.spells)
+one_breaks BadLine TooLong c d lines line same one two = let is = two.1 in absurd (one.none two.0 is.is_last is.text is.spells)
+one_breaks MixedCodes BadLine c d lines line same one two = let is = one.1 in absurd (two.none one.0 is.is_last is.text is.spells)
+one_breaks MixedCodes MixedCodes c d lines line same one two = refl
+one_breaks MixedCodes TooLong c d lines line same one two =
+    absurd (one.3 (line_has_one_code line one.0 two.0 one.1 two.1 ∙ two.2 one.2 ∙ sym (same one.2)))
+one_breaks TooLong BadLine c d lines line same one two = let is = one.1 in absurd (two.none one.0 is.is_last is.text is.spells)
+one_breaks TooLong MixedCodes c d lines line same one two =
+    absurd (two.3 (line_has_one_code line two.0 one.0 two.1 one.1 ∙ one.2 two.2 ∙ same two.2))
+one_breaks TooLong TooLong c d lines line same one two = refl
+one_breaks NoMemory other c d lines line same one two = absurd one
+one_breaks fault NoMemory c d lines line same one two = absurd two
+
+one_fault : (octets : List ℕ) (fault other : ReplyFault) (has : HasFault octets fault) (second : HasFault octets other) → Agree has.code second.code has.lines second.lines has.rest second.rest → fault ≡ other
+one_fault octets fault other has second (inl same) =
+    let P : List ℕ → Type 0 = λ l. ShowsLine l has.line in
+    let Q : List ℕ → Type 0 = λ l. Breaks fault has.code second.lines l in
+    let R : List (List ℕ) → Type 0 = λ ls. Breaks fault has.code ls has.line in
+    let S : List (List ℕ) → Type 0 = λ ls. 0 < length ls → has.code ≡ second.code in
+    let line = one_shows second.rest has.line second.line (subst P same.rest_is has.shows) second.shows in
+    one_breaks fault other has.code second.code second.lines second.line (subst S same.lines_are same.code_is) (subst Q line (subst R same.lines_are has.breaks)) second.breaks
+one_fault octets fault other has second (inr (inl further)) =
+    absurd (further_none fault has.code second.code has.lines second.lines has.rest second.rest has.line further second.followed.code_is second.followed.each second.followed.few has.shows has.breaks)
+one_fault octets fault other has second (inr (inr further)) =
+    absurd (further_none other second.code has.code second.lines has.lines second.rest has.rest second.line further has.followed.code_is has.followed.each has.followed.few second.shows second.breaks)
+
+-- octets have one fault
+pub fault_is_one : FaultIsOne
+fault_is_one octets fault other has second =
+    one_fault octets fault other has second (agree has.code second.code has.lines second.lines has.rest second.rest has.followed.code_is second.followed.code_is has.followed.each second.followed.each (sym has.octets_are ∙ second.octets_are))
+
+-- what a reader holds isn't whole
+pub held_is_unfinished : HeldIsUnfinished
+held_is_unfinished reader rest held = record {
+  code = reader.code;
+  lines = reader.lines.items;
+  part = held.part;
+  followed = held.followed;
+  unended = held.holds.unended;
+  short = held.short;
+  octets_are = held.rest_is;
+}

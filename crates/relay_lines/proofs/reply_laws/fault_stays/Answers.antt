@@ -1,0 +1,5 @@
+use Rattle.relay_lines.proofs.ReplyLawLemmas.{fault_stays}
+use Rattle.relay_lines.proofs.reply_laws.fault_stays.Goals as goal
+
+pub returns : goal.returns
+returns c = fault_stays

@@ -1,0 +1,5 @@
+use Rattle.relay_lines.proofs.ReplyLawLemmas.{unfinished_has_no_fault}
+use Rattle.relay_lines.proofs.reply_laws.unfinished_has_no_fault.Goals as goal
+
+pub returns : goal.returns
+returns c = unfinished_has_no_fault

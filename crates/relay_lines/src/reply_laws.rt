@@ -1,0 +1,48 @@
+//! What is true of replies, whoever reads or writes them.
+ghost use Rattle.relay_lines.specs.ReplyReading.{BeginningIsCut, FaultIsOne, FaultStays, HeldIsUnfinished, NoReplyBeginsAnother, ReplyHasNoFault, UnfinishedHasNoFault, UnfinishedHasNoReply, WrittenIsRead};
+
+/// What is written is read again as the same reply.
+pub fn written_is_read()
+    ensures { WrittenIsRead }
+{}
+
+/// No reply begins another, and octets are one reply at most.
+pub fn no_reply_begins_another()
+    ensures { NoReplyBeginsAnother }
+{}
+
+/// Where octets begin replies as they are written, what is cut from the octets is a beginning of those replies, and the
+/// rest has no fault.
+pub fn beginning_is_cut()
+    ensures { BeginningIsCut }
+{}
+
+/// Octets that begin with a reply have no fault.
+pub fn reply_has_no_fault()
+    ensures { ReplyHasNoFault }
+{}
+
+/// A rest that isn't whole has no fault.
+pub fn unfinished_has_no_fault()
+    ensures { UnfinishedHasNoFault }
+{}
+
+/// A rest that isn't whole begins with no reply.
+pub fn unfinished_has_no_reply()
+    ensures { UnfinishedHasNoReply }
+{}
+
+/// A fault stays one, whatever comes behind.
+pub fn fault_stays()
+    ensures { FaultStays }
+{}
+
+/// Octets have one fault at most.
+pub fn fault_is_one()
+    ensures { FaultIsOne }
+{}
+
+/// What a reader holds is a rest that isn't whole.
+pub fn held_is_unfinished()
+    ensures { HeldIsUnfinished }
+{}
