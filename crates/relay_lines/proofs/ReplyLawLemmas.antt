@@ -4,11 +4,11 @@ use Rattle.std.specs.List.{AllByRecursion, flat_map}
 use Rattle.std.proofs.lemmas.List.{append-nil, length-append, take_at}
 use Rattle.std.proofs.Math.Seq.{take-append-add}
 use Rattle.std.proofs.lemmas.Bool.{ne_eqb}
-use Rattle.relay_octets.specs.Line.{crlf, HasNoCrlf, ReadsLine, begins_with_lf}
-use Rattle.relay_octets.proofs.LineLemmas.{no_crlf_joined, no_crlf_one, no_crlf_nil, first_line_is_one, first_line_stays}
+use Rattle.relay_octets.specs.Line.{crlf, HasNoCrlf, ReadsLine, begins_with_lf, ends_in_cr}
+use Rattle.relay_octets.proofs.LineLemmas.{no_crlf_joined, no_crlf_front, no_crlf_one, no_crlf_nil, first_line_is_one, first_line_stays}
 use Rattle.relay_lines.proofs.ReplyLemmas.{lines_of_reply-append}
 use Rattle.relay_lines.specs.Reply.{Reply, IsReply, IsReplyLine, IsCode, SpellsLine, ReadsReply, IsBehindCode, code_digits, followed_lines, last_line, lines_of_reply, made_of, middle_line, reply_text}
-use Rattle.relay_lines.specs.ReplyReading.{AreFollowed, BeginningIsCut, Breaks, CutsReplies, FaultIsOne, FaultStays, HasFault, HeldIsUnfinished, HoldsRest, IsLineOf, IsUnfinished, NoReplyBeginsAnother, ReplyHasNoFault, ShowsLine, UnfinishedHasNoFault, UnfinishedHasNoReply, WrittenIsRead, written_replies}
+use Rattle.relay_lines.specs.ReplyReading.{AreFollowed, BeginningIsCut, BeginningIsUnfinished, Breaks, CutsReplies, FaultIsOne, FaultStays, HasFault, HeldIsUnfinished, HoldsRest, IsLineOf, IsUnfinished, NoReplyBeginsAnother, ReplyHasNoFault, ShowsLine, UnfinishedHasNoFault, UnfinishedHasNoReply, WrittenIsRead, written_replies}
 use Rattle.relay_lines.specs.declared.reply_reader.ReplyFault.{ReplyFault}
 use Rattle.relay_lines.specs.declared.reply_reader.ReplyFault.TheVariants.{BadLine, MixedCodes, TooLong, NoMemory}
 
@@ -503,3 +503,122 @@ held_is_unfinished reader rest held = record {
   short = held.short;
   octets_are = held.rest_is;
 }
+
+and_false : (b : Bool) → b && false ≡ false
+and_false true = refl
+and_false false = refl
+
+is_nothing : (octets : List ℕ) → length octets ≡ 0 → octets ≡ []
+is_nothing [] none = refl
+is_nothing (octet ∷ octets) none = absurd (omega arith)
+
+-- of two fronts of octets one begins the other: the first is shorter, or goes at least as far
+record IsShorter (front other : List ℕ) : Type 0 where
+  gap : List ℕ
+  other_is : other ≡ front ++ gap
+  some : 0 < length gap
+
+record GoesAsFar (front back other rest : List ℕ) : Type 0 where
+  gap : List ℕ
+  front_is : front ≡ other ++ gap
+  rest_is : rest ≡ gap ++ back
+
+fronts : (front back other rest : List ℕ) → front ++ back ≡ other ++ rest → IsShorter front other ⊎ GoesAsFar front back other rest
+fronts front back [] rest e = inr record { gap = front; front_is = refl; rest_is = sym e }
+fronts [] back (octet ∷ other) rest e = inl record { gap = octet ∷ other; other_is = refl; some = omega arith }
+fronts (first ∷ front) back (octet ∷ other) rest e =
+    let head : first ≡ octet = cc in
+    let tail : front ++ back ≡ other ++ rest = cc in
+    elim (fronts front back other rest tail) [
+      | inl shorter ↦ inl record {
+        gap = shorter.gap;
+        other_is = ap (λ o. o ∷ other) (sym head) ∙ ap (λ l. first ∷ l) shorter.other_is;
+        some = shorter.some;
+      }
+      | inr far ↦ inr record {
+        gap = far.gap;
+        front_is = ap (λ l. first ∷ l) far.front_is ∙ ap (λ o. o ∷ (other ++ far.gap)) head;
+        rest_is = far.rest_is;
+      }
+    ]
+
+-- what is shorter than a line with its CR LF has no CR LF
+front_of_line : (part line gap : List ℕ) → HasNoCrlf line → line ++ crlf ≡ part ++ gap → 0 < length gap → HasNoCrlf part
+front_of_line part line gap none e some =
+    let with_cr = no_crlf_joined line (13 ∷ []) none (no_crlf_one 13) (and_false (ends_in_cr line)) in
+    let all : part ++ gap ≡ (line ++ 13 ∷ []) ++ 10 ∷ [] = sym e ∙ sym (append_assoc line (13 ∷ []) (10 ∷ [])) in
+    elim (fronts part gap (line ++ 13 ∷ []) (10 ∷ []) all) [
+      | inl shorter ↦ no_crlf_front part shorter.gap (subst HasNoCrlf shorter.other_is with_cr)
+      | inr far ↦
+          let one = ap length far.rest_is ∙ length-append far.gap gap in
+          let same = far.front_is ∙ ap (λ l. (line ++ 13 ∷ []) ++ l) (is_nothing far.gap (omega arith)) ∙ append-nil (line ++ 13 ∷ []) in
+          subst HasNoCrlf (sym same) with_cr
+    ]
+
+-- lines that another follows, and a part of the next
+record Parts (code : ℕ) (count : ℕ) (octets : List ℕ) : Type 0 where
+  lines : List (List ℕ)
+  part : List ℕ
+  each : AllByRecursion IsReplyLine lines
+  few : length lines ≤ count
+  unended : HasNoCrlf part
+  short : length part < 2048
+  octets_are : octets ≡ followed_lines code lines ++ part
+
+-- a front of a line with its CR LF is a part
+part_alone : (code count : ℕ) (octets line gap : List ℕ) → HasNoCrlf line → length line ≤ 2046 → line ++ crlf ≡ octets ++ gap → 0 < length gap → Parts code count octets
+part_alone code count octets line gap none short e some =
+    let size = ap length e ∙ length-append octets gap in
+    let all = length-append line crlf in
+    record {
+      lines = [];
+      part = octets;
+      each = tt;
+      few = omega arith;
+      unended = front_of_line octets line gap none e some;
+      short = omega arith;
+      octets_are = refl;
+    }
+
+-- a front of lines and a last line, shorter than these, is such lines and a part
+front_parts : (code : ℕ) (middle : List (List ℕ)) (octets more line : List ℕ) → AllByRecursion IsReplyLine middle → HasNoCrlf line → length line ≤ 2046 → octets ++ more ≡ followed_lines code middle ++ (line ++ crlf) → 0 < length more → Parts code (length middle) octets
+front_parts code [] octets more line each none short e some = part_alone code 0 octets line more none short (sym e) some
+front_parts code (text ∷ middle) octets more line each none short e some =
+    let first = middle_line code text in
+    let rest = followed_lines code middle ++ (line ++ crlf) in
+    let all : octets ++ more ≡ first ++ rest = e ∙ append_assoc first (followed_lines code middle) (line ++ crlf) in
+    let text_line = each.0 in
+    let long = text_line.short in
+    elim (fronts octets more first rest all) [
+      | inl shorter ↦ part_alone code (length (text ∷ middle)) octets (code_digits code ++ 45 ∷ text) shorter.gap (middle_has_none code text text_line.line) (omega arith) shorter.other_is shorter.some
+      | inr far ↦
+          let later = front_parts code middle far.gap more line each.1 none short (sym far.rest_is) some in
+          let few = later.few in
+          record {
+            lines = text ∷ later.lines;
+            part = later.part;
+            each = (each.0, later.each);
+            few = omega arith;
+            unended = later.unended;
+            short = later.short;
+            octets_are = far.front_is ∙ ap (λ l. first ++ l) later.octets_are ∙ sym (append_assoc first (followed_lines code later.lines) later.part);
+          }
+    ]
+
+-- a beginning of a reply isn't whole
+pub beginning_is_unfinished : BeginningIsUnfinished
+beginning_is_unfinished octets more reply reads some =
+    let parts = reply_parts (octets ++ more) reply reads in
+    let last = last_reads (octets ++ more) [] reply reads in
+    let found = front_parts reply.code reads.middle octets more reads.line parts.0 last.first (last_is_short (octets ++ more) reply reads) reads.octets_are some in
+    let count = few_middle (octets ++ more) reply reads in
+    let few = found.few in
+    record {
+      code = reply.code;
+      lines = found.lines;
+      part = found.part;
+      followed = record { code_is = reads.last_is.code_is; few = omega arith; each = found.each };
+      unended = found.unended;
+      short = found.short;
+      octets_are = found.octets_are;
+    }

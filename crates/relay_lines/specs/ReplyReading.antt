@@ -164,6 +164,11 @@ UnfinishedHasNoFault = (octets : List ℕ) (fault : ReplyFault) → IsUnfinished
 abbrev pub UnfinishedHasNoReply : Type 0
 UnfinishedHasNoReply = (text rest : List ℕ) (reply : Reply) → ReadsReply text reply → ¬ IsUnfinished (text ++ rest)
 
+-- a beginning of a reply, where it isn't all of it, is a rest that isn't whole
+abbrev pub BeginningIsUnfinished : Type 0
+BeginningIsUnfinished =
+    (octets more : List ℕ) (reply : Reply) → ReadsReply (octets ++ more) reply → 0 < length more → IsUnfinished octets
+
 -- a fault stays one, whatever comes behind
 abbrev pub FaultStays : Type 0
 FaultStays = (octets more : List ℕ) (fault : ReplyFault) → HasFault octets fault → HasFault (octets ++ more) fault

@@ -50,14 +50,6 @@ impl Reply {
         }
     }
 
-    /// The reply of these parts, which are known to be one.
-    pub(crate) fn of_parts(code: u16, lines: Vec<Octets>) -> Self
-        requires { IsReply (made_of code lines.items) }
-        ensures { result ≡ made_of code lines.items }
-    {
-        Reply { code, lines }
-    }
-
     /// The code.
     pub fn code(&self) -> u16
         ensures { result ≡ self.now.code }

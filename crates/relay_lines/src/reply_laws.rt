@@ -1,5 +1,5 @@
 //! What is true of replies, whoever reads or writes them.
-ghost use Rattle.relay_lines.specs.ReplyReading.{BeginningIsCut, FaultIsOne, FaultStays, HeldIsUnfinished, NoReplyBeginsAnother, ReplyHasNoFault, UnfinishedHasNoFault, UnfinishedHasNoReply, WrittenIsRead};
+ghost use Rattle.relay_lines.specs.ReplyReading.{BeginningIsCut, BeginningIsUnfinished, FaultIsOne, FaultStays, HeldIsUnfinished, NoReplyBeginsAnother, ReplyHasNoFault, UnfinishedHasNoFault, UnfinishedHasNoReply, WrittenIsRead};
 
 /// What is written is read again as the same reply.
 pub fn written_is_read()
@@ -30,6 +30,11 @@ pub fn unfinished_has_no_fault()
 /// A rest that isn't whole begins with no reply.
 pub fn unfinished_has_no_reply()
     ensures { UnfinishedHasNoReply }
+{}
+
+/// A beginning of a reply, where it isn't all of it, is a rest that isn't whole.
+pub fn beginning_is_unfinished()
+    ensures { BeginningIsUnfinished }
 {}
 
 /// A fault stays one, whatever comes behind.

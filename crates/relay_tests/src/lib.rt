@@ -11,3 +11,5 @@ mod lines;
 mod octets;
 #[cfg(test)]
 mod replies;
+#[cfg(test)]
+mod reply_reader;

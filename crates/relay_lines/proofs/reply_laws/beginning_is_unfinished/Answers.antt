@@ -1,0 +1,5 @@
+use Rattle.relay_lines.proofs.ReplyLawLemmas.{beginning_is_unfinished}
+use Rattle.relay_lines.proofs.reply_laws.beginning_is_unfinished.Goals as goal
+
+pub returns : goal.returns
+returns c = beginning_is_unfinished
