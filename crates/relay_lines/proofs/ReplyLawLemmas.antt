@@ -1,6 +1,6 @@
 -- Replies: each is read in one way, none begins another, and a fault is none where a reply stands or goes on.
-use Rattle.std.proofs.Common.{◌≡◌, ◌≢◌, ℕ, ◌+◌, ◌-◌, ◌*◌, ◌/◌, ◌%◌, ◌<◌, ◌≤◌, ◌⊎◌, ◌&&◌, Bool, true, false, List, [], ◌∷◌, ◌++◌, length, take, drop, inl, inr, refl, sym, ap, ◌∙◌, subst, arith, append_assoc}
-use Rattle.std.specs.List.{AllByRecursion, flat_map}
+use Rattle.std.proofs.Common.{◌≡◌, ◌≢◌, ℕ, ◌+◌, ◌-◌, ◌/◌, ◌%◌, ◌<◌, ◌≤◌, ◌⊎◌, ◌&&◌, Bool, true, false, List, [], ◌∷◌, ◌++◌, length, take, drop, inl, inr, refl, sym, ap, ◌∙◌, subst, arith, append_assoc}
+use Rattle.std.specs.List.{AllByRecursion}
 use Rattle.std.proofs.lemmas.List.{append-nil, length-append, take_at}
 use Rattle.std.proofs.Math.Seq.{take-append-add}
 use Rattle.std.proofs.lemmas.Bool.{ne_eqb}
@@ -8,7 +8,7 @@ use Rattle.relay_octets.specs.Line.{crlf, HasNoCrlf, ReadsLine, begins_with_lf, 
 use Rattle.relay_octets.proofs.LineLemmas.{no_crlf_joined, no_crlf_front, no_crlf_one, no_crlf_nil, first_line_is_one, first_line_stays}
 use Rattle.relay_lines.proofs.ReplyLemmas.{lines_of_reply-append}
 use Rattle.relay_lines.specs.Reply.{Reply, IsReply, IsReplyLine, IsCode, SpellsLine, ReadsReply, IsBehindCode, code_digits, followed_lines, last_line, lines_of_reply, made_of, middle_line, reply_text}
-use Rattle.relay_lines.specs.ReplyReading.{AreFollowed, BeginningIsCut, BeginningIsUnfinished, Breaks, CutsReplies, FaultIsOne, FaultStays, HasFault, HeldIsUnfinished, HoldsRest, IsLineOf, IsUnfinished, NoReplyBeginsAnother, ReplyHasNoFault, ShowsLine, UnfinishedHasNoFault, UnfinishedHasNoReply, WrittenIsRead, written_replies}
+use Rattle.relay_lines.specs.ReplyReading.{BeginningIsCut, BeginningIsUnfinished, Breaks, FaultIsOne, FaultStays, HasFault, HeldIsUnfinished, IsLineOf, IsUnfinished, NoReplyBeginsAnother, ReplyHasNoFault, ShowsLine, UnfinishedHasNoFault, UnfinishedHasNoReply, WrittenIsRead, written_replies}
 use Rattle.relay_lines.specs.declared.reply_reader.ReplyFault.{ReplyFault}
 use Rattle.relay_lines.specs.declared.reply_reader.ReplyFault.TheVariants.{BadLine, MixedCodes, TooLong, NoMemory}
 

@@ -1,8 +1,8 @@
 -- Replies that are read (RFC 5321, section 4.2): whole ones, a rest that isn't whole, and where a rest has a fault.
-use Rattle.std.specs.Prelude.{◌≡◌, ◌≢◌, ◌⊎◌, ℕ, ◌<◌, ◌≤◌, Bool, true, false, List, [], ◌∷◌, ◌++◌, length, drop, take, Option, None, Some}
+use Rattle.std.specs.Prelude.{◌≡◌, ◌≢◌, ◌⊎◌, ℕ, ◌<◌, ◌≤◌, Bool, true, false, List, [], ◌∷◌, ◌++◌, length, drop, Option, None, Some}
 use Rattle.std.specs.List.{AllByRecursion, flat_map}
-use Rattle.relay_octets.specs.Line.{crlf, HasNoCrlf, ReadsLine}
-use Rattle.relay_lines.specs.HeldLine.{HeldLine, Holds, HoldsLine}
+use Rattle.relay_octets.specs.Line.{HasNoCrlf, ReadsLine}
+use Rattle.relay_lines.specs.HeldLine.{Holds, HoldsLine}
 use Rattle.relay_lines.specs.Reply.{Reply, IsReply, IsReplyLine, IsCode, SpellsLine, ReadsReply, code_digits, followed_lines, reply_text}
 use Rattle.relay_lines.specs.declared.reply_reader.ReplyFault.{ReplyFault}
 use Rattle.relay_lines.specs.declared.reply_reader.ReplyFault.TheVariants.{BadLine, MixedCodes, TooLong, NoMemory}

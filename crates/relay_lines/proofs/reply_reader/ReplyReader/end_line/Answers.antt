@@ -1,6 +1,4 @@
-use Rattle.std.proofs.Common.{◌≡◌, true, false, ℕ, Bool, subst}
 use Rattle.relay_lines.specs.Reply.{made_of}
-use Rattle.relay_lines.specs.ReplyReading.{IsNextLine}
 use Rattle.relay_lines.proofs.ReplyReadingLemmas.{next_followed, next_is_reply, next_made, parts_are_none}
 use Rattle.relay_lines.proofs.reply_reader.ReplyReader.end_line.Goals as goal
 

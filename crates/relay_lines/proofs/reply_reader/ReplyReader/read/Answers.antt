@@ -1,4 +1,4 @@
-use Rattle.std.proofs.Common.{◌≡◌, ◌++◌, false, take, inl, inr, arith, sym, ◌∙◌}
+use Rattle.std.proofs.Common.{◌++◌, take, inl, inr, arith, sym, ◌∙◌}
 use Rattle.std.proofs.lemmas.List.{take_rest, length-drop}
 use Rattle.std.proofs.lemmas.Result.{err_from_is_err_and}
 use Rattle.relay_lines.proofs.ReplyReadingLemmas.{step_made, step_held, step_fault}

@@ -1,7 +1,6 @@
-use Rattle.std.proofs.Common.{◌≡◌, ◌++◌, ℕ, List, length, take, refl, inl, inr, subst, sym, ap, ◌∙◌, arith, ⊎_elim}
+use Rattle.std.proofs.Common.{length, take, refl, inl, inr, arith}
 use Rattle.std.proofs.lemmas.List.{take_all}
 use Rattle.std.proofs.lemmas.Result.{err_from_is_err_and}
-use Rattle.relay_lines.specs.ReplyReading.{HasMade, HasFault, HoldsRest}
 use Rattle.relay_lines.proofs.ReplyReadingLemmas.{part_is_held, part_has_fault, ended_has_fault, ended_behind}
 use Rattle.relay_lines.proofs.reply_reader.ReplyReader.step.Goals as goal
 
