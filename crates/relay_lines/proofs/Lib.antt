@@ -4,3 +4,4 @@ pub mod CommandLemmas
 pub mod ReplyLemmas
 pub mod ReplyReadingLemmas
 pub mod ReplyLawLemmas
+pub mod ReplyFaultLemmas

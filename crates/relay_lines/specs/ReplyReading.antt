@@ -180,3 +180,13 @@ FaultIsOne = (octets : List ℕ) (fault other : ReplyFault) → HasFault octets 
 -- what a reader holds is a rest that isn't whole
 abbrev pub HeldIsUnfinished : Type 0
 HeldIsUnfinished = (reader : ReplyReader) (rest : List ℕ) → HoldsRest reader rest → IsUnfinished rest
+
+-- the octets aren't whole, or have a fault: no reply can be cut from them
+abbrev pub EndsCut : List ℕ → Type 0
+EndsCut octets = IsUnfinished octets ⊎ ((fault : ReplyFault) × HasFault octets fault)
+
+-- octets are cut in one way, up to a rest from which no reply can be cut
+abbrev pub CutIsOne : Type 0
+CutIsOne =
+    (octets rest more : List ℕ) (replies others : List Reply) → CutsReplies octets replies rest → CutsReplies octets others more
+    → EndsCut rest → EndsCut more → (replies ≡ others) × (rest ≡ more)

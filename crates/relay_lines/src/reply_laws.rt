@@ -1,5 +1,5 @@
 //! What is true of replies, whoever reads or writes them.
-ghost use Rattle.relay_lines.specs.ReplyReading.{BeginningIsCut, BeginningIsUnfinished, FaultIsOne, FaultStays, HeldIsUnfinished, NoReplyBeginsAnother, ReplyHasNoFault, UnfinishedHasNoFault, UnfinishedHasNoReply, WrittenIsRead};
+ghost use Rattle.relay_lines.specs.ReplyReading.{BeginningIsCut, BeginningIsUnfinished, CutIsOne, FaultIsOne, FaultStays, HeldIsUnfinished, NoReplyBeginsAnother, ReplyHasNoFault, UnfinishedHasNoFault, UnfinishedHasNoReply, WrittenIsRead};
 
 /// What is written is read again as the same reply.
 pub fn written_is_read()
@@ -15,6 +15,11 @@ pub fn no_reply_begins_another()
 /// rest has no fault.
 pub fn beginning_is_cut()
     ensures { BeginningIsCut }
+{}
+
+/// Octets are cut into replies in one way, up to a rest from which no reply can be cut.
+pub fn cut_is_one()
+    ensures { CutIsOne }
 {}
 
 /// Octets that begin with a reply have no fault.

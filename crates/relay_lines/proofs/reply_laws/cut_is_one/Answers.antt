@@ -1,0 +1,5 @@
+use Rattle.relay_lines.proofs.ReplyFaultLemmas.{cut_is_one}
+use Rattle.relay_lines.proofs.reply_laws.cut_is_one.Goals as goal
+
+pub returns : goal.returns
+returns c = cut_is_one
