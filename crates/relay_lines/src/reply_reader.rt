@@ -184,6 +184,7 @@ impl ReplyReader {
         self.keep_line(front.code)?;
         if front.is_last {
             let reply = self.take_reply();
+            // lines that were judged make a reply, so this doesn't come
             if reply.is_none() {
                 return Err(ReplyFault::BadLine);
             }
