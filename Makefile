@@ -1,5 +1,5 @@
 # What a fresh machine with the toolchain needs: `make demo` and `make test`.
-.PHONY: test demo relayd
+.PHONY: test demo bench relayd relay_bench
 
 # The whole gate: the program over two pipes first, and then every proof from nothing, the edits that must fail and the
 # tests. Its closing line is the last.
@@ -11,8 +11,17 @@ test: relayd
 demo: relayd
 	build/relayd session < crates/relayd/stdin
 
-# Proves and links the program. It runs once, on its stored dialogue.
+# Measures the program and library calls beside `wc` on the same octets (docs/PERFORMANCE.md).
+bench: relayd relay_bench
+	bench/run.sh build/relayd build/relay_bench
+
+# Proves and links a program. It runs once, on its stored input.
 relayd:
 	mkdir -p build
 	cd crates/relayd && rt run -- session > ../../build/relayd.log 2>&1 || { cat ../../build/relayd.log; exit 1; }
 	cp crates/relayd/out/relayd build/relayd
+
+relay_bench:
+	mkdir -p build
+	cd crates/relay_bench && rt run > ../../build/relay_bench.log 2>&1 || { cat ../../build/relay_bench.log; exit 1; }
+	cp crates/relay_bench/out/relay_bench build/relay_bench

@@ -157,3 +157,33 @@ next_at (stage.Receiving mail) = next.More
 next_at (stage.Offering transaction content) = next.Offer
 next_at stage.Closed = next.Close
 next_at stage.Failed = next.Close
+
+-- What callers see of a session:
+
+-- an offer is open
+abbrev pub HasOffer : Session → Type 0
+HasOffer session = IsOffering session.stage
+
+-- the offer that is open, if there is one
+abbrev pub open_offers : Session → List Offered
+open_offers session = offers_at session.stage
+
+-- the offers that are new behind a call on the session
+abbrev pub offers_since : Session → Session → List Offered
+offers_since old new = new_offers old.stage new.stage
+
+-- what the caller does next
+abbrev pub next_of : Session → Next
+next_of session = next_at session.stage
+
+-- no octet is read: an offer is open, or the session is closed, or it has failed
+abbrev pub Waits : Session → Type 0
+Waits session = is_reading session.stage ≡ false
+
+-- the session is closed
+abbrev pub IsClosed : Session → Type 0
+IsClosed session = session.stage ≡ stage.Closed
+
+-- memory ran out in a call on the session
+abbrev pub HasFailed : Session → Type 0
+HasFailed session = session.stage ≡ stage.Failed

@@ -1,6 +1,6 @@
 ghost use Rattle.std.specs.Prelude.{◌≡◌, ℕ, List, [], ◌∷◌, ◌++◌, ◌≤◌, ◌<◌, length, take, true, false, IfOk, OnErr, IsErr, MatchOption};
 ghost use Rattle.relay_server.specs.Dialogue.{Said, Setup, more_said};
-ghost use Rattle.relay_server.specs.Session.{Advances, IsOffering, Stands, Steps, is_reading, new_offers, next_at, offered, offers_at, setup_of};
+ghost use Rattle.relay_server.specs.Session.{Advances, HasFailed, HasOffer, Stands, Steps, Waits, is_reading, new_offers, next_of, offered, offers_since, open_offers, setup_of};
 ghost use Rattle.relay_server.specs.State as standing;
 ghost use Rattle.relay_server.specs.Values.{command_state_of};
 ghost use Rattle.relay_lines.specs.HeldLine.{Holds};
@@ -51,8 +51,10 @@ pub struct Session {
 impl Session {
     /// A session, and the greeting for the client. It fails where memory runs out.
     pub fn new(alloc: Global, config: &Config) -> Result<(Self, Vec<u8>), AllocError>
-        ensures { IfOk result (λ made. (setup : Setup) → setup.host ≡ config.now.host → setup.max_content ≡ config.now.max_content
-            → Stands setup made.0 (record { input = []; answers = []; output = made.1.items; offers = [] })) }
+        ensures { IfOk result (λ made. (setup : Setup) → setup.host ≡ config.now.host
+            → setup.max_content ≡ config.now.max_content
+            → Stands setup made.0
+            (record { input = []; answers = []; output = made.1.items; offers = [] })) }
     {
         let server = Server {
             alloc,
@@ -71,15 +73,18 @@ impl Session {
 
     /// Uses octets of a piece up to an offer or a close, or all of them.
     pub fn feed(&mut self, table: &Table, piece: &[u8]) -> Result<Fed, AllocError>
-        ensures stands { IfOk result (λ fed. (setup : Setup) (said : Said) → setup.routes ≡ table.now → Stands setup self.old said
-            → Stands setup self.new (more_said said (take fed.used piece.now) [] fed.out.items (new_offers self.old.stage self.new.stage))) }
+        ensures stands { IfOk result (λ fed. (setup : Setup) (said : Said)
+            → setup.routes ≡ table.now → Stands setup self.old said
+            → Stands setup self.new (more_said said (take fed.used piece.now) [] fed.out.items
+            (offers_since self.old self.new))) }
         ensures within { IfOk result (λ fed. fed.used ≤ length piece.now) }
         ensures whole { IfOk result (λ fed. fed.next ≡ Next.More → fed.used ≡ length piece.now) }
-        ensures next { IfOk result (λ fed. fed.next ≡ next_at self.new.stage) }
+        ensures next { IfOk result (λ fed. fed.next ≡ next_of self.new) }
         // While an offer is open, and after a close, it uses nothing.
-        ensures waits { is_reading self.old.stage ≡ false → (self.new ≡ self.old) × IfOk result (λ fed. (fed.used ≡ 0) × (fed.out.items ≡ [])) }
-        ensures failed { OnErr result (self.new.stage ≡ Stage.Failed) }
-        ensures again { self.old.stage ≡ Stage.Failed → IsErr result }
+        ensures waits { Waits self.old → (self.new ≡ self.old)
+            × IfOk result (λ fed. (fed.used ≡ 0) × (fed.out.items ≡ [])) }
+        ensures failed { OnErr result (HasFailed self.new) }
+        ensures again { HasFailed self.old → IsErr result }
     {
         if let Stage::Failed = self.stage {
             return Err(AllocError);
@@ -92,7 +97,8 @@ impl Session {
 
     /// The offer that is open. It takes no memory.
     pub fn offer(&self) -> Option<Offer<'_>>
-        ensures { MatchOption result (offers_at self.now.stage ≡ []) (λ offer. offers_at self.now.stage ≡ offered offer ∷ []) }
+        ensures { MatchOption result (open_offers self.now ≡ [])
+            (λ offer. open_offers self.now ≡ offered offer ∷ []) }
     {
         match &self.stage {
             Stage::Offering(transaction, content) => Some(Offer {
@@ -106,10 +112,10 @@ impl Session {
 
     /// Answers the offer that is open, and gives what goes to the client. It fails where memory runs out.
     pub fn answer(&mut self, answer: Answer) -> Result<Vec<u8>, AllocError>
-        requires { IsOffering self.old.stage }
+        requires { HasOffer self.old }
         ensures stands { IfOk result (λ out. (setup : Setup) (said : Said) → Stands setup self.old said
             → Stands setup self.new (more_said said [] (answer ∷ []) out.items [])) }
-        ensures failed { OnErr result (self.new.stage ≡ Stage.Failed) }
+        ensures failed { OnErr result (HasFailed self.new) }
     {
         let Stage::Offering(transaction, _) = mem::replace(&mut self.stage, Stage::Failed) else {
             unreachable!()
@@ -122,7 +128,7 @@ impl Session {
 
     /// What the caller does next.
     fn next(&self) -> Next
-        ensures { result ≡ next_at self.now.stage }
+        ensures { result ≡ next_of self.now }
     {
         match &self.stage {
             Stage::Command(_) | Stage::Receiving(_) => Next::More,

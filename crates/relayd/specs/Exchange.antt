@@ -1,8 +1,7 @@
 -- A session whose offers are kept, in the dialogue that it has held.
 use Rattle.std.specs.Prelude.{◌≡◌, ℕ, Bool, true, false, List, [], ◌++◌, length}
-use Rattle.relay_server.specs.declared.stage.Stage.TheVariants as stage
 use Rattle.relay_server.specs.Dialogue.{Said}
-use Rattle.relay_server.specs.Session.{Stands, offers_at}
+use Rattle.relay_server.specs.Session.{IsClosed, Stands, open_offers}
 use Rattle.relayd.specs.declared.exchange.Exchange.{Exchange}
 use Rattle.relayd.specs.Kept.{queued_to}
 use Rattle.relayd.specs.Setup.{session_setup}
@@ -11,7 +10,7 @@ use Rattle.relayd.specs.Setup.{session_setup}
 -- by its number
 pub record Serves (exchange : Exchange) (said : Said) : Type 0 where
   pub stands : Stands session_setup exchange.session said
-  pub kept : said.offers ≡ exchange.messages ++ offers_at exchange.session.stage
+  pub kept : said.offers ≡ exchange.messages ++ open_offers exchange.session
   pub numbered : said.answers ≡ queued_to (length exchange.messages)
 
 -- the session stands behind what was said, and each offer is kept, in order, and was answered by its number
@@ -33,4 +32,4 @@ pub record Receives (said : Said) (new : Exchange) (octets before after : List �
   pub output : later.output ≡ said.output ++ written
   pub out : after ≡ before ++ written
   pub whole : is_closed ≡ false → unused ≡ []
-  pub closed : is_closed ≡ true → new.session.stage ≡ stage.Closed
+  pub closed : is_closed ≡ true → IsClosed new.session

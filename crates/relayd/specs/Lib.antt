@@ -2,3 +2,4 @@ pub mod Setup
 pub mod Kept
 pub mod Exchange
 pub mod Served
+pub mod Arguments

@@ -1,8 +1,8 @@
 -- What a session from one reader to one writer has done: a dialogue, with each offer kept and answered by its number.
 use Rattle.std.specs.Prelude.{◌≡◌, ◌⊎◌, ℕ, Option, List, [], ◌++◌, length, Bool, true, false}
 use Rattle.std.specs.Io.KnownBytes.{Appends, Consumes, IsAtEnd}
-use Rattle.relay_server.specs.declared.stage.Stage.TheVariants as stage
 use Rattle.relay_server.specs.Dialogue.{Said, Offered, IsDialogue}
+use Rattle.relay_server.specs.Session.{IsClosed}
 use Rattle.relay_server.specs.State.{Closed}
 use Rattle.relayd.specs.declared.exchange.Exchange.{Exchange}
 use Rattle.relayd.specs.Exchange.{Rests}
@@ -51,7 +51,7 @@ pub record GoesRound (left new_left held new_held : Option (List ℕ)) (said : S
   pub output : later.output ≡ said.output ++ replies
   pub written : Appends held new_held replies
   pub goes_on : is_last ≡ false → unused ≡ []
-  pub ends : is_last ≡ true → (new.session.stage ≡ stage.Closed) ⊎ ((unused ≡ []) × IsAtEnd new_left)
+  pub ends : is_last ≡ true → IsClosed new.session ⊎ ((unused ≡ []) × IsAtEnd new_left)
 
 -- A round that a fault has ended has read octets, and written a beginning of the replies.
 pub record BreaksOff (left new_left held new_held : Option (List ℕ)) (said : Said) : Type 0 where

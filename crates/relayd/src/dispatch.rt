@@ -1,3 +1,7 @@
+ghost use Rattle.std.specs.Prelude.{◌≡◌, ◌≢◌, ◌⊎◌, [], ◌∷◌, map};
+ghost use Rattle.clap.specs.Words.{kind_of};
+ghost use Rattle.relayd.specs.Arguments.{AreWrong, HasFault, HasServed, faults_in};
+
 use crate::streams::session;
 use crate::words::{Subcommand, arguments};
 use clap::Error;
@@ -25,7 +29,16 @@ pub fn command<S: AsStr, R: Read, W: Write, E: Write>(
     reader: &mut R,
     writer: &mut W,
     errors: &mut E,
-) -> u8 {
+) -> u8
+    ensures served { faults_in (map S.text words.now) ≡ [] → result ≡ 0
+        → HasServed (R.remaining reader.old) (R.remaining reader.new) (W.contents writer.old) (W.contents writer.new) }
+    ensures fault { faults_in (map S.text words.now) ≡ [] → result ≢ 0
+        → HasFault result (R.remaining reader.old) (R.remaining reader.new) (W.contents writer.old) (W.contents writer.new) }
+    ensures wrong { AreWrong (faults_in (map S.text words.now))
+        → ((result ≡ 1) ⊎ (result ≡ 2)) × (W.contents writer.new ≡ W.contents writer.old) }
+    ensures help { faults_in (map S.text words.now) ≡ ErrorKind.DisplayHelp ∷ [] → (result ≡ 0) ⊎ (result ≡ 1) }
+    ensures unread { faults_in (map S.text words.now) ≢ [] → R.remaining reader.new ≡ R.remaining reader.old }
+{
     match arguments(alloc, words) {
         Ok(Subcommand::Session) => match session(alloc, reader, writer) {
             Ok(_) => DONE,
@@ -36,7 +49,12 @@ pub fn command<S: AsStr, R: Read, W: Write, E: Write>(
 }
 
 /// Writes the argument reader's text where it belongs, and answers the status.
-fn explain<W: Write, E: Write>(error: &Error, writer: &mut W, errors: &mut E) -> u8 {
+fn explain<W: Write, E: Write>(error: &Error, writer: &mut W, errors: &mut E) -> u8
+    ensures help { kind_of error.now ≡ ErrorKind.DisplayHelp → (result ≡ 0) ⊎ (result ≡ 1) }
+    ensures memory { kind_of error.now ≡ ErrorKind.OutOfMemory → result ≡ 1 }
+    ensures wrong { kind_of error.now ≢ ErrorKind.DisplayHelp → kind_of error.now ≢ ErrorKind.OutOfMemory → result ≡ 2 }
+    ensures writer { kind_of error.now ≢ ErrorKind.DisplayHelp → writer.new ≡ writer.old }
+{
     match error.kind() {
         ErrorKind::DisplayHelp => match write!(writer, "{error}").and_then(|()| writer.flush()) {
             Ok(()) => DONE,
@@ -52,7 +70,9 @@ fn explain<W: Write, E: Write>(error: &Error, writer: &mut W, errors: &mut E) ->
 }
 
 /// Writes the line of a fault, and answers the status.
-fn fail<E: Write, F: Display + Drop>(errors: &mut E, fault: F) -> u8 {
+fn fail<E: Write, F: Display + Drop>(errors: &mut E, fault: F) -> u8
+    ensures { result ≡ 1 }
+{
     // Nothing is left to do where this line can't be written either: the status tells of the fault.
     let _ = writeln!(errors, "relayd: {fault}");
     FAULT

@@ -1,6 +1,6 @@
 ghost use Rattle.std.specs.Prelude.{◌≡◌, [], false, IfOk, OnOk};
 ghost use Rattle.relay_server.specs.Dialogue.{Said};
-ghost use Rattle.relay_server.specs.Session.{IsOffering};
+ghost use Rattle.relay_server.specs.Session.{HasOffer};
 ghost use Rattle.relayd.specs.Exchange.{Receives, Rests, Serves};
 ghost use Rattle.relayd.specs.Setup.{session_setup};
 
@@ -49,7 +49,7 @@ impl Exchange {
     /// Keeps the message that is offered, answers with its number, and puts the reply behind `out`. It fails where
     /// memory runs out.
     fn keep(&mut self, alloc: Global, out: &mut Vec<u8>) -> Result<(), AllocError>
-        requires { IsOffering self.old.session.stage }
+        requires { HasOffer self.old.session }
         ensures { OnOk result ((said : Said) → Serves self.old said
             → Receives said self.new [] out.old.items out.new.items false) }
     {

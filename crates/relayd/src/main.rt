@@ -6,6 +6,8 @@ mod exchange;
 mod message;
 mod setup;
 mod streams;
+#[cfg(test)]
+mod tests;
 mod whole;
 mod words;
 

@@ -1,0 +1,101 @@
+#!/usr/bin/env bash
+# Measures the built program and library calls, each beside `wc` on the same octets through the same kind of pipe in
+# the same run: one line a figure, the median of RUNS runs (5). It needs bash, coreutils, awk and yes.
+#
+#   bench/run.sh build/relayd build/relay_bench
+set -euo pipefail
+export LC_ALL=C
+
+relayd=$1
+bench=$2
+runs=${RUNS:-5}
+room=$(mktemp -d)
+trap 'rm -rf "$room"' EXIT
+
+# How many microseconds the command takes that reads the file through a pipe. Its output is kept for a look at it.
+micros() {
+    local file=$1 begun ended
+    shift
+    begun=${EPOCHREALTIME/./}
+    cat "$file" | "$@" > "$room/out"
+    ended=${EPOCHREALTIME/./}
+    echo $((ended - begun))
+}
+
+median() {
+    sort -n | awk '{ at[NR] = $1 } END { print at[int((NR + 1) / 2)] }'
+}
+
+# measure NAME UNIT COUNT FILE WC-OPTION LINES COMMAND..: COUNT units of work in FILE, whose answer ends with LINES lines.
+measure() {
+    local name=$1 unit=$2 count=$3 file=$4 option=$5 lines=$6
+    shift 6
+    local ours="$room/ours" theirs="$room/theirs"
+    : > "$ours"
+    : > "$theirs"
+    for ((run = 0; run < runs; run++)); do
+        micros "$file" "$@" >> "$ours"
+        if [ "$(wc -l < "$room/out")" -ne "$lines" ]; then
+            echo "$name: $(wc -l < "$room/out") lines came out, and not $lines" >&2
+            exit 1
+        fi
+        micros "$file" wc "$option" >> "$theirs"
+    done
+    awk -v name="$name" -v unit="$unit" -v count="$count" -v ours="$(median < "$ours")" -v theirs="$(median < "$theirs")" \
+        -v option="$option" 'BEGIN {
+            printf "%-52s %12.0f %s/s   %.2f of wc %s\n", name, count / ours * 1000000, unit, theirs / ours, option }'
+}
+
+# Lines of 76 octets with their CR LF.
+line=$(printf '%074d' 0)
+mail_lines() {
+    yes "$line"$'\r' | head -n "$1" || true
+}
+
+transaction() {
+    printf 'MAIL FROM:<a@example.org>\r\nRCPT TO:<b@example.org>\r\nDATA\r\n'
+}
+
+{
+    printf 'HELO x\r\n'
+    transaction
+    mail_lines 2631579
+    printf '.\r\nQUIT\r\n'
+} > "$room/refused"
+
+{
+    printf 'HELO x\r\n'
+    transaction > "$room/head"
+    # 13,797 lines are 1,048,572 octets, the most lines that are kept.
+    mail_lines 13797 > "$room/content"
+    for ((message = 0; message < 200; message++)); do
+        cat "$room/head" "$room/content"
+        printf '.\r\n'
+    done
+    printf 'QUIT\r\n'
+} > "$room/kept"
+
+{
+    printf 'HELO x\r\n'
+    yes "$(transaction; printf 'hello\r\n.\r')" | head -n 500000 || true
+    printf 'QUIT\r\n'
+} > "$room/small"
+
+{
+    yes $'NOOP\r' | head -n 1000000 || true
+    printf 'QUIT\r\n'
+} > "$room/noops"
+
+{
+    mail_lines 2631579
+    printf '.\r\n'
+} > "$room/text"
+
+yes $'RCPT TO:<somebody@example.org>\r' | head -n 2000000 > "$room/commands" || true
+
+measure "session: mail data that is refused" octets "$(stat -c %s "$room/refused")" "$room/refused" -l 7 "$relayd" session
+measure "session: 200 messages of 1 MiB that are kept" octets "$(stat -c %s "$room/kept")" "$room/kept" -l 803 "$relayd" session
+measure "session: 100,000 small messages" messages 100000 "$room/small" -l 400003 "$relayd" session
+measure "session: 1,000,000 pipelined NOOPs" commands 1000000 "$room/noops" -l 1000002 "$relayd" session
+measure "library: a dot text that is refused" octets "$(stat -c %s "$room/text")" "$room/text" -l 1 "$bench" texts
+measure "library: RCPT lines that are parsed" commands 2000000 "$room/commands" -l 1 "$bench" commands

@@ -1,0 +1,73 @@
+use crate::blocks::Blocks;
+use relay_body::{DotReader, Gathered};
+use std::alloc::Global;
+use std::io::Read;
+use std::test::Fail;
+
+/// The most octets of a content.
+const LIMIT: usize = 1_048_576;
+
+/// What was counted of dot texts.
+#[derive(Drop)]
+struct Tally {
+    whole: u64,
+    octets: u64,
+    too_large: u64,
+}
+
+/// Reads the input as dot texts, one behind another, and counts them and the octets of their contents.
+pub fn count_texts<R: Read>(alloc: Global, reader: &mut R) -> Result<String, Fail> {
+    let mut tally = Tally {
+        whole: 0,
+        octets: 0,
+        too_large: 0,
+    };
+    let mut text = DotReader::new(alloc, LIMIT);
+    let mut blocks = Blocks::new(alloc)?;
+    for _ in 0..u64::MAX {
+        let block = blocks.next(reader)?;
+        if block.is_empty() {
+            break;
+        }
+        text = read_block(alloc, text, block, &mut tally)?;
+    }
+    let Tally {
+        whole,
+        octets,
+        too_large,
+    } = tally;
+    Ok(format!(in alloc; "texts: {whole} of {octets} octets, {too_large} too large")?)
+}
+
+/// Reads one block, and gives the reader of the text that it ends in.
+fn read_block(
+    alloc: Global,
+    mut text: DotReader,
+    block: &[u8],
+    tally: &mut Tally,
+) -> Result<DotReader, Fail> {
+    let mut rest = block;
+    for _ in 0..=block.len() {
+        let cut = text.feed(rest)?;
+        rest = &rest[cut.used..];
+        if !text.is_done() {
+            break;
+        }
+        tally.add(text.finish());
+        text = DotReader::new(alloc, LIMIT);
+    }
+    Ok(text)
+}
+
+impl Tally {
+    /// Counts one text.
+    fn add(&mut self, gathered: Gathered) {
+        match gathered {
+            Gathered::Whole(content) => {
+                self.whole = self.whole.saturating_add(1);
+                self.octets = self.octets.saturating_add(content.len() as u64);
+            }
+            Gathered::TooLarge => self.too_large = self.too_large.saturating_add(1),
+        }
+    }
+}

@@ -1,0 +1,29 @@
+use relay_octets::Octets;
+use relay_server::{Config, Hop, Route, Table};
+use std::alloc::Global;
+use std::test::Fail;
+
+/// The host `relay.example`, which takes mail for `example.org` alone, and contents of up to 1,048,576 octets.
+pub fn configuration(alloc: Global) -> Result<Config, Fail> {
+    with_limit(alloc, 1_048_576)
+}
+
+/// The same host, with contents of up to 4 octets.
+pub fn small_configuration(alloc: Global) -> Result<Config, Fail> {
+    with_limit(alloc, 4)
+}
+
+fn with_limit(alloc: Global, max_content: usize) -> Result<Config, Fail> {
+    let mut routes = Table::new(alloc);
+    routes.add(Route {
+        domain: Octets::from_slice(alloc, b"example.org")?,
+        hop: Hop {
+            name: Octets::from_slice(alloc, b"next.example")?,
+        },
+    })?;
+    let host = Octets::from_slice(alloc, b"relay.example")?;
+    let Some(config) = Config::new(host, max_content, routes) else {
+        return Err(Fail::new("the configuration was refused"));
+    };
+    Ok(config)
+}

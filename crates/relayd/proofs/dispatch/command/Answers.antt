@@ -1,0 +1,25 @@
+-- Where the words have no fault, only want of memory can keep the session from its start.
+use Rattle.std.proofs.Common.{rules, ◌≡◌, inl, inr, [], subst, sym}
+use Rattle.clap.specs.Words.{HasKind, Kinds, kind_of}
+use Rattle.clap.specs.declared.error.Error.{Error}
+use Rattle.clap.specs.declared.error.kind.ErrorKind.TheVariants as kind
+use Rattle.relayd.specs.Served.{IsBegun}
+use Rattle.relayd.proofs.ServedLemmas.{begun_nothing}
+use Rattle.relayd.proofs.dispatch.command.Goals as goal
+
+-- an error of words without a fault is want of memory
+only_memory : (error : Error) (kinds : Kinds) → HasKind kinds error → kinds ≡ [] → kind_of error ≡ kind.OutOfMemory
+only_memory error kinds has none = by_kind (subst (λ (l : Kinds). HasKind l error) none has)
+  where
+    by_kind : HasKind [] error → kind_of error ≡ kind.OutOfMemory
+    by_kind (inl e) = e
+    by_kind (inr e) = absurd e
+
+pub returns-in-Err-clause-fault : goal.returns-in-Err-clause-fault
+returns-in-Err-clause-fault g c = λ none _.
+    let has : HasKind _ c.in-Err.error = search rules in
+    let out = only_memory c.in-Err.error _ has none in
+    let same = c.explain.ensures.writer (λ e. absurd (cc)) in (
+      c.explain.ensures.memory out,
+      subst (λ w. IsBegun (g.R.Read.remaining c.args.reader.now) (g.R.Read.remaining c.args.reader.now) (g.W.Write.contents c.args.writer.now) (g.W.Write.contents w)) (sym same) (begun_nothing _ _),
+    )

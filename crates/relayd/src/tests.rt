@@ -1,0 +1,257 @@
+// Runs of the program on readers and writers that give and take little, and fail in mid-stream.
+use crate::dispatch::command;
+use std::alloc::Global;
+use std::io::{self, ErrorKind, Read, Write};
+use std::test::Fail;
+
+/// The lines of a client's first dialogue.
+const COMMANDS: [&str; 6] = [
+    "HELO x",
+    "MAIL FROM:<a@example.org>",
+    "RCPT TO:<b@example.org>",
+    "DATA",
+    ".",
+    "QUIT",
+];
+
+/// The relay's lines in it.
+const REPLIES: [&str; 7] = [
+    "220 relay.example ESMTP relay ready",
+    "250 relay.example",
+    "250 sender OK",
+    "250 recipient OK",
+    "354 end with a line of one period",
+    "250 queued as 1",
+    "221 relay.example closing",
+];
+
+/// Gives its octets one at a time. Where `cut` of them are gone it fails once, by `kind`.
+#[derive(Drop)]
+struct Trickle<'a> {
+    octets: &'a [u8],
+    given: usize,
+    cut: Option<usize>,
+    kind: ErrorKind,
+}
+
+impl<'a> Read for Trickle<'a> {
+    fn read(&mut self, buf: &mut [u8]) -> io::Result<usize> {
+        if self.cut == Some(self.given) {
+            self.cut = None;
+            return Err(io::Error::from(self.kind));
+        }
+        match (self.octets.get(self.given), buf.first_mut()) {
+            (Some(octet), Some(place)) => {
+                *place = *octet;
+                self.given = self.given.saturating_add(1);
+                Ok(1)
+            }
+            _ => Ok(0),
+        }
+    }
+}
+
+/// Takes at most three octets at a call. Where it holds `cut` octets a write fails once, by `kind`, and so does the
+/// flush that is counted as `bad_flush`.
+#[derive(Drop)]
+struct Narrow {
+    held: Vec<u8>,
+    cut: Option<usize>,
+    kind: ErrorKind,
+    flushes: usize,
+    bad_flush: usize,
+}
+
+impl Write for Narrow {
+    fn write(&mut self, buf: &[u8]) -> io::Result<usize> {
+        if self.cut == Some(self.held.len()) {
+            self.cut = None;
+            return Err(io::Error::from(self.kind));
+        }
+        let before_cut = match self.cut {
+            Some(cut) => cut.saturating_sub(self.held.len()),
+            None => 3,
+        };
+        let count = buf.len().min(3).min(before_cut);
+        self.held.extend_from_slice(&buf[..count])?;
+        Ok(count)
+    }
+
+    fn flush(&mut self) -> io::Result<()> {
+        self.flushes = self.flushes.saturating_add(1);
+        if self.flushes == self.bad_flush {
+            return Err(io::Error::from(self.kind));
+        }
+        Ok(())
+    }
+}
+
+fn reader_of(octets: &[u8], cut: Option<usize>, kind: ErrorKind) -> Trickle<'_> {
+    Trickle {
+        octets,
+        given: 0,
+        cut,
+        kind,
+    }
+}
+
+fn writer_of(alloc: Global, cut: Option<usize>, kind: ErrorKind, bad_flush: usize) -> Narrow {
+    Narrow {
+        held: Vec::new(alloc),
+        cut,
+        kind,
+        flushes: 0,
+        bad_flush,
+    }
+}
+
+/// The lines, each with its CR LF.
+fn text_of(alloc: Global, lines: &[&str]) -> Result<Vec<u8>, Fail> {
+    let mut text = Vec::new(alloc);
+    for line in lines {
+        text.extend_from_slice(line.as_bytes())?;
+        text.extend_from_slice(b"\r\n")?;
+    }
+    Ok(text)
+}
+
+const SESSION: [&str; 2] = ["relayd", "session"];
+
+#[test]
+fn the_first_dialogue_octet_by_octet(rt: HostRuntime) -> Result<(), Fail> {
+    let input = text_of(rt.alloc(), &COMMANDS)?;
+    let wanted = text_of(rt.alloc(), &REPLIES)?;
+    let mut reader = reader_of(input.as_slice(), None, ErrorKind::Other);
+    let mut writer = writer_of(rt.alloc(), None, ErrorKind::Other, 0);
+    let mut errors: Vec<u8> = Vec::new(rt.alloc());
+    let status = command(rt.alloc(), &SESSION, &mut reader, &mut writer, &mut errors);
+    assert_eq!(rt; status, 0);
+    assert_eq!(rt; writer.held.as_slice(), wanted.as_slice());
+    assert!(rt; errors.is_empty());
+    Ok(())
+}
+
+#[test]
+fn interrupted_calls_are_done_again(rt: HostRuntime) -> Result<(), Fail> {
+    let input = text_of(rt.alloc(), &COMMANDS)?;
+    let wanted = text_of(rt.alloc(), &REPLIES)?;
+    let mut reader = reader_of(input.as_slice(), Some(9), ErrorKind::Interrupted);
+    let mut writer = writer_of(rt.alloc(), Some(40), ErrorKind::Interrupted, 0);
+    let mut errors: Vec<u8> = Vec::new(rt.alloc());
+    let status = command(rt.alloc(), &SESSION, &mut reader, &mut writer, &mut errors);
+    assert_eq!(rt; status, 0);
+    assert_eq!(rt; writer.held.as_slice(), wanted.as_slice());
+    Ok(())
+}
+
+#[test]
+fn a_reader_that_fails_ends_the_session(rt: HostRuntime) -> Result<(), Fail> {
+    let input = text_of(rt.alloc(), &COMMANDS)?;
+    let wanted = text_of(rt.alloc(), &REPLIES)?;
+    for cut in 0..input.len() {
+        let mut reader = reader_of(input.as_slice(), Some(cut), ErrorKind::BrokenPipe);
+        let mut writer = writer_of(rt.alloc(), None, ErrorKind::Other, 0);
+        let mut errors: Vec<u8> = Vec::new(rt.alloc());
+        let status = command(rt.alloc(), &SESSION, &mut reader, &mut writer, &mut errors);
+        assert_eq!(rt; status, 1, "cut behind {cut}");
+        assert_eq!(rt; reader.given, cut, "nothing is read behind the fault");
+        assert!(rt;
+            wanted.as_slice().starts_with(writer.held.as_slice()),
+            "cut behind {cut}"
+        );
+        assert_eq!(rt; errors.as_slice(), b"relayd: input\n".as_slice());
+    }
+    Ok(())
+}
+
+#[test]
+fn a_writer_that_fails_ends_the_session(rt: HostRuntime) -> Result<(), Fail> {
+    let input = text_of(rt.alloc(), &COMMANDS)?;
+    let wanted = text_of(rt.alloc(), &REPLIES)?;
+    for cut in 0..wanted.len() {
+        let mut reader = reader_of(input.as_slice(), None, ErrorKind::Other);
+        let mut writer = writer_of(rt.alloc(), Some(cut), ErrorKind::BrokenPipe, 0);
+        let mut errors: Vec<u8> = Vec::new(rt.alloc());
+        let status = command(rt.alloc(), &SESSION, &mut reader, &mut writer, &mut errors);
+        assert_eq!(rt; status, 1, "cut behind {cut}");
+        assert_eq!(rt;
+            writer.held.len(),
+            cut,
+            "nothing is written behind the fault"
+        );
+        assert!(rt;
+            wanted.as_slice().starts_with(writer.held.as_slice()),
+            "cut behind {cut}"
+        );
+        assert_eq!(rt; errors.as_slice(), b"relayd: output\n".as_slice());
+    }
+    Ok(())
+}
+
+#[test]
+fn a_flush_that_fails_ends_the_session(rt: HostRuntime) -> Result<(), Fail> {
+    let input = text_of(rt.alloc(), &COMMANDS)?;
+    let wanted = text_of(rt.alloc(), &REPLIES)?;
+    for bad_flush in 1..=REPLIES.len() {
+        let mut reader = reader_of(input.as_slice(), None, ErrorKind::Other);
+        let mut writer = writer_of(rt.alloc(), None, ErrorKind::BrokenPipe, bad_flush);
+        let mut errors: Vec<u8> = Vec::new(rt.alloc());
+        let status = command(rt.alloc(), &SESSION, &mut reader, &mut writer, &mut errors);
+        assert_eq!(rt; status, 1, "flush {bad_flush}");
+        assert_eq!(rt;
+            writer.flushes,
+            bad_flush,
+            "no flush comes behind the fault"
+        );
+        assert!(rt;
+            wanted.as_slice().starts_with(writer.held.as_slice()),
+            "flush {bad_flush}"
+        );
+        assert_eq!(rt; errors.as_slice(), b"relayd: output\n".as_slice());
+    }
+    Ok(())
+}
+
+#[test]
+fn wrong_words_have_status_2(rt: HostRuntime) -> Result<(), Fail> {
+    let wrong: [&[&str]; 5] = [
+        &["relayd"],
+        &["relayd", "serve"],
+        &["relayd", "help"],
+        &["relayd", "session", "more"],
+        &["relayd", "--verbose", "session"],
+    ];
+    for words in wrong {
+        let mut reader = reader_of(b"NOOP\r\n", None, ErrorKind::Other);
+        let mut writer = writer_of(rt.alloc(), None, ErrorKind::Other, 0);
+        let mut errors: Vec<u8> = Vec::new(rt.alloc());
+        let status = command(rt.alloc(), words, &mut reader, &mut writer, &mut errors);
+        assert_eq!(rt; status, 2);
+        assert_eq!(rt; reader.given, 0);
+        assert!(rt; writer.held.is_empty());
+        assert!(rt; !errors.is_empty());
+    }
+    Ok(())
+}
+
+#[test]
+fn help_is_written_and_done(rt: HostRuntime) -> Result<(), Fail> {
+    let mut reader = reader_of(b"NOOP\r\n", None, ErrorKind::Other);
+    let mut writer = writer_of(rt.alloc(), None, ErrorKind::Other, 0);
+    let mut errors: Vec<u8> = Vec::new(rt.alloc());
+    let words = ["relayd", "--help"];
+    let status = command(rt.alloc(), &words, &mut reader, &mut writer, &mut errors);
+    assert_eq!(rt; status, 0);
+    assert!(rt;
+        writer
+            .held
+            .as_slice()
+            .starts_with(b"A store-and-forward SMTP relay\n")
+    );
+    assert!(rt; errors.is_empty());
+    let mut full = writer_of(rt.alloc(), Some(0), ErrorKind::StorageFull, 0);
+    let status = command(rt.alloc(), &words, &mut reader, &mut full, &mut errors);
+    assert_eq!(rt; status, 1);
+    assert_eq!(rt; errors.as_slice(), b"relayd: output\n".as_slice());
+    Ok(())
+}
