@@ -9,7 +9,7 @@ use clap::error::ErrorKind;
 use std::alloc::Global;
 use std::convert::AsStr;
 use std::fmt::Display;
-use std::io::{Read, Write};
+use std::io::{self, Read, Write};
 
 /// The status of a run that did what it was asked for.
 const DONE: u8 = 0;
@@ -46,6 +46,19 @@ pub fn command<S: AsStr, R: Read, W: Write, E: Write>(
         },
         Err(error) => explain(&error, writer, errors),
     }
+}
+
+/// Answers the status where the system can't give the words: 1 where memory ran out, and else 2, since one isn't UTF-8.
+/// A line on `errors` says so.
+pub fn refuse_words<E: Write>(error: &io::Error, errors: &mut E) -> u8
+    ensures { (result ≡ 1) ⊎ (result ≡ 2) }
+{
+    if error.kind() == io::ErrorKind::OutOfMemory {
+        return fail(errors, "no memory");
+    }
+    // Nothing is left to do where this line can't be written either: the status tells of the fault.
+    let _ = writeln!(errors, "relayd: an argument is not UTF-8");
+    WRONG_ARGUMENTS
 }
 
 /// Writes the argument reader's text where it belongs, and answers the status.
