@@ -26,7 +26,8 @@ median() {
     sort -n | awk '{ at[NR] = $1 } END { print at[int((NR + 1) / 2)] }'
 }
 
-# measure NAME UNIT COUNT FILE WC-OPTION LINES COMMAND..: COUNT units of work in FILE, whose answer ends with LINES lines.
+# measure NAME UNIT COUNT FILE WC-OPTION LINES COMMAND..: COUNT units of work in FILE, whose answer has LINES lines. `wc`
+# reads the same file, or the one that `against` names.
 measure() {
     local name=$1 unit=$2 count=$3 file=$4 option=$5 lines=$6
     shift 6
@@ -39,7 +40,7 @@ measure() {
             echo "$name: $(wc -l < "$room/out") lines came out, and not $lines" >&2
             exit 1
         fi
-        micros "$file" wc "$option" >> "$theirs"
+        micros "${against:-$file}" wc "$option" >> "$theirs"
     done
     awk -v name="$name" -v unit="$unit" -v count="$count" -v ours="$(median < "$ours")" -v theirs="$(median < "$theirs")" \
         -v option="$option" 'BEGIN {
@@ -93,9 +94,24 @@ transaction() {
 
 yes $'RCPT TO:<somebody@example.org>\r' | head -n 2000000 > "$room/commands" || true
 
+# 4,369 replies are 65,535 octets.
+yes $'250 sender OK\r' | head -n 4369000 > "$room/replies" || true
+
+# A header section of 16 MB, which is looked through 20 times, and the same octets for `wc`.
+{
+    yes "X-Field: $(printf '%065d' 0)"$'\r' | head -n 210526 || true
+    printf '\r\n'
+} > "$room/header"
+for ((time = 0; time < 20; time++)); do
+    cat "$room/header"
+done > "$room/headers"
+
 measure "session: mail data that is refused" octets "$(stat -c %s "$room/refused")" "$room/refused" -l 7 "$relayd" session
 measure "session: 200 messages of 1 MiB that are kept" octets "$(stat -c %s "$room/kept")" "$room/kept" -l 803 "$relayd" session
 measure "session: 100,000 small messages" messages 100000 "$room/small" -l 400003 "$relayd" session
 measure "session: 1,000,000 pipelined NOOPs" commands 1000000 "$room/noops" -l 1000002 "$relayd" session
 measure "library: a dot text that is refused" octets "$(stat -c %s "$room/text")" "$room/text" -l 1 "$bench" texts
 measure "library: RCPT lines that are parsed" commands 2000000 "$room/commands" -l 1 "$bench" commands
+measure "library: short replies that are read" replies 4369000 "$room/replies" -l 1 "$bench" replies
+against=$room/headers
+measure "library: a header section, counted and cut" octets "$(stat -c %s "$room/headers")" "$room/header" -l 1 "$bench" header

@@ -1,5 +1,5 @@
 use crate::blocks::Blocks;
-use relay_lines::ReplyReader;
+use relay_lines::{ReplyCut, ReplyReader};
 use std::alloc::Global;
 use std::io::Read;
 use std::test::Fail;
@@ -34,13 +34,13 @@ pub fn count_replies<R: Read>(alloc: Global, reader: &mut R) -> Result<String, F
 fn read_block(replies: &mut ReplyReader, block: &[u8], tally: &mut Tally) -> Result<(), Fail> {
     let mut rest = block;
     for _ in 0..=block.len() {
-        let cut = replies.feed(rest)?;
-        let Some(reply) = cut.reply else {
+        let ReplyCut { used, reply } = replies.feed(rest)?;
+        let Some(reply) = reply else {
             break;
         };
         tally.replies = tally.replies.saturating_add(1);
         tally.lines = tally.lines.saturating_add(reply.lines().len() as u64);
-        rest = &rest[cut.used..];
+        rest = &rest[used..];
     }
     Ok(())
 }
