@@ -1,0 +1,5 @@
+pub mod RunLemmas
+pub mod ImageLemmas
+pub mod LinkLemmas
+pub mod WalkLemmas
+pub mod SpoolLemmas

@@ -1,0 +1,28 @@
+// Gates: single octets that say whether what stands behind them counts. Each is written by itself, between two syncs.
+ghost use Rattle.std.specs.Prelude.{◌≡◌, ◌≤◌, length, OnOk};
+ghost use Rattle.relay_disk.specs.Device.{written, Writes, Only, CountsFailure};
+ghost use Rattle.relay_spool.specs.Spool.{AtEachMoment, Calls};
+
+use relay_disk::{Disk, DiskFault};
+
+/// An open gate. Any other octet is a closed one.
+pub(crate) const OPEN: u8 = 1;
+
+/// A closed gate, as it is written.
+pub(crate) const CLOSED: u8 = 0;
+
+/// Writes these octets and syncs. Before it, a stop leaves what a read gives, and after it again.
+pub(crate) fn write_through<D: Disk>(disk: &mut D, place: usize, octets: &[u8]) -> Result<(), DiskFault>
+    requires { D.honest → place ≤ length (D.seen disk.old) }
+    ensures written { D.honest → OnOk result (D.seen disk.new ≡ written (D.seen disk.old) place octets.now) }
+    ensures settled { D.honest → OnOk result (Only (D.seen disk.new) (D.may_leave disk.new)) }
+    ensures stop { D.honest → Only (D.seen disk.old) (D.may_leave disk.old)
+        → AtEachMoment D.may_leave D.moment D.left_since disk.old disk.new
+            (Writes place (length octets.now) (D.seen disk.old)) }
+    ensures failures { CountsFailure (D.failed disk.old) (D.failed disk.new) result }
+    ensures calls { OnOk result (Calls 2 (D.calls_left disk.old) (D.calls_left disk.new)) }
+{
+    disk.write_at(place, octets)?;
+    disk.sync()?;
+    Ok(())
+}

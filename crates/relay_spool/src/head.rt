@@ -1,0 +1,43 @@
+// The head of a spool: the signature, the head gate and the generation.
+ghost use Rattle.std.specs.Prelude.{◌≡◌, [], OnOk, IfErr, MatchResult};
+ghost use Rattle.relay_disk.specs.Device.{Only, CountsFailure};
+ghost use Rattle.relay_spool.specs.Spool.{Calls, FailsBy, IsMade, Keeps, RefusesToCreate, created};
+
+use crate::gate::{OPEN, write_through};
+use crate::SpoolFault;
+use relay_disk::{Disk, DiskFault};
+
+/// Where the gate of the head stands.
+const HEAD_GATE: usize = 8;
+
+/// An empty spool of generation 1, whose gates are closed.
+const CLOSED_SPOOL: [u8; 18] = *b"RELAYQ01\0\0\0\0\0\0\0\0\x01\0";
+
+/// Makes an empty disk an empty spool.
+pub(crate) fn make_spool<D: Disk>(disk: &mut D) -> Result<(), SpoolFault>
+    ensures created { D.honest → OnOk result (IsMade D.seen D.may_leave disk.old disk.new) }
+    ensures refused { IfErr result (RefusesToCreate D.honest D.seen
+        (Keeps D.seen D.may_leave D.moment D.left_since) disk.old disk.new) }
+    ensures failures { MatchResult result (λ _. D.failed disk.new ≡ D.failed disk.old)
+        (FailsBy (D.failed disk.old) (D.failed disk.new)) }
+    ensures calls { OnOk result (Calls 5 (D.calls_left disk.old) (D.calls_left disk.new)) }
+{
+    if disk.size()? != 0 {
+        return Err(SpoolFault::NotEmpty);
+    }
+    write_head(disk)?;
+    Ok(())
+}
+
+/// Writes an empty spool to an empty disk, by four calls. The head's gate is opened last.
+fn write_head<D: Disk>(disk: &mut D) -> Result<(), DiskFault>
+    requires { D.honest → D.seen disk.old ≡ [] }
+    ensures written { D.honest → OnOk result (D.seen disk.new ≡ created) }
+    ensures settled { D.honest → OnOk result (Only (D.seen disk.new) (D.may_leave disk.new)) }
+    ensures failures { CountsFailure (D.failed disk.old) (D.failed disk.new) result }
+    ensures calls { OnOk result (Calls 4 (D.calls_left disk.old) (D.calls_left disk.new)) }
+{
+    write_through(disk, 0, &CLOSED_SPOOL)?;
+    write_through(disk, HEAD_GATE, &[OPEN])?;
+    Ok(())
+}

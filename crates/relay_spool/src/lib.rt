@@ -1,0 +1,11 @@
+//! The spool: a list of bodies on a disk. A body whose append was answered `Ok` is kept by every stop.
+#![tactic(auto)]
+
+mod chain;
+mod fault;
+mod gate;
+mod head;
+mod spool;
+
+pub use fault::{Refused, SpoolFault};
+pub use spool::Spool;

@@ -1,0 +1,135 @@
+// Spools: made on an empty disk, opened on one that holds a spool, and grown by one body at a time.
+ghost use Rattle.std.specs.Prelude.{◌≡◌, ◌↔◌, ◌+◌, ◌<◌, ◌^◌, true, false, Some, Err, length, IfOk, IfErr, OnOk, MatchResult, IsTrue};
+
+use crate::chain::{LINK, add_link, tail_of};
+use crate::head::make_spool;
+use crate::{Refused, SpoolFault};
+use relay_disk::{Disk, Reboot};
+use std::alloc::Global;
+use std::marker::Model;
+
+/// The size, in octets, that no spool passes.
+const MAX_SIZE: usize = 1 << 40;
+
+/// The size, in octets, of a spool without a body.
+const EMPTY_SIZE: usize = 18;
+
+/// A list of bodies on a disk. While it is live, every stop leaves just these; a spool whose device has failed is
+/// spent, and has to be opened again.
+#[derive(Drop)]
+pub struct Spool<D: Disk> {
+    alloc: Global,
+    disk: D,
+    /// The place of the last gate and 1, in octets.
+    size: usize,
+    live: bool,
+}
+
+impl<D: Disk> Model for Spool<D> {
+    ghost use Rattle.relay_spool.specs.Walk.{bodies_of};
+    ghost use Rattle.relay_spool.specs.Spool.{Stored, stored_code, IsSound};
+
+    ghost Value = { Stored D };
+
+    ghost coded = { stored_code D.code };
+
+    ghost view = { λ s. record { bodies = bodies_of (D.seen s.disk); size = s.size; live = s.live; disk = s.disk } };
+
+    ghost invariant = { λ s. IsSound D.honest D.seen D.may_leave s.size s.live s.disk };
+}
+
+impl<D: Disk> Spool<D> {
+    ghost use Rattle.std.specs.Prelude.{[], ◌∷◌, ◌++◌};
+    ghost use Rattle.relay_spool.specs.declared.fault.SpoolFault.TheVariants.{Full};
+    ghost use Rattle.relay_spool.specs.Image.{HasBodies};
+    ghost use Rattle.relay_spool.specs.Spool.{AtEachMoment, Calls, FailsBy, Grows, IsAppended, IsAtRest, IsBeforeOrWith, IsCreated, Keeps, RefusesToAppend, RefusesToCreate};
+
+    /// Makes an empty spool on a disk of size 0. A disk that isn't empty comes back unchanged, and one that failed
+    /// with any octets.
+    pub fn create(alloc: Global, disk: D) -> Result<Spool<D>, Refused<D>>
+        ensures created { D.honest → IfOk result (IsCreated D.seen D.may_leave disk) }
+        ensures live { IfOk result (λ spool. (spool.size ≡ 18) × (spool.live ≡ true)) }
+        ensures refused { IfErr result (λ refused. RefusesToCreate D.honest D.seen
+            (Keeps D.seen D.may_leave D.moment D.left_since) disk refused.disk refused.fault) }
+        ensures failures { MatchResult result (λ spool. D.failed spool.disk ≡ D.failed disk)
+            (λ refused. FailsBy (D.failed disk) (D.failed refused.disk) refused.fault) }
+        ensures calls { IfOk result (λ spool. Calls 5 (D.calls_left disk) (D.calls_left spool.disk)) }
+    {
+        let mut disk = disk;
+        match make_spool(&mut disk) {
+            Ok(()) => Ok(Spool {
+                alloc,
+                disk,
+                size: EMPTY_SIZE,
+                live: true,
+            }),
+            Err(fault) => Err(Refused { fault, disk }),
+        }
+    }
+
+    /// Adds a body, by four calls of the device: after `Ok` every stop leaves it. At `Device` the spool is spent,
+    /// and a stop leaves the list as it was or with the body; at `NoMemory` and `Full` nothing has changed.
+    pub fn append(&mut self, body: &[u8]) -> Result<(), SpoolFault>
+        requires live { IsTrue self.old.live }
+        requires short { length body.now < 2 ^ 32 }
+        ensures appended { D.honest → OnOk result (IsAppended D.seen D.may_leave self.old body.now self.new) }
+        ensures stop { D.honest → AtEachMoment D.may_leave D.moment D.left_since self.old.disk self.new.disk
+            (HasBodies (IsBeforeOrWith self.old.bodies body.now)) }
+        ensures grows { OnOk result (Grows self.old self.new body.now) }
+        ensures refused { IfErr result (RefusesToAppend self.old self.new) }
+        ensures full { (result ≡ Err Full) ↔ (2 ^ 40 < self.old.size + 5 + length body.now) }
+        ensures failures { MatchResult result (λ _. D.failed self.new.disk ≡ D.failed self.old.disk)
+            (FailsBy (D.failed self.old.disk) (D.failed self.new.disk)) }
+        ensures calls { OnOk result (Calls 4 (D.calls_left self.old.disk) (D.calls_left self.new.disk)) }
+    {
+        if MAX_SIZE.saturating_sub(self.size) < LINK + body.len() {
+            return Err(SpoolFault::Full);
+        }
+        let tail = tail_of(self.alloc, body)?;
+        self.live = false;
+        add_link(&mut self.disk, self.size - 1, &tail)?;
+        self.size += tail.len();
+        self.live = true;
+        Ok(())
+    }
+
+    /// How many octets the spool takes: the place of its last gate and 1.
+    pub fn size(&self) -> usize
+        ensures { result ≡ self.now.size }
+    {
+        self.size
+    }
+
+    /// Whether bodies can be added: no call of the device has failed.
+    pub fn is_live(&self) -> bool
+        ensures live { result ≡ self.now.live }
+        ensures rests { D.honest → IsTrue self.now.live → IsAtRest D.seen D.may_leave self.now }
+    {
+        self.live
+    }
+
+    /// The disk, of a live spool or of a spent one.
+    pub fn into_disk(self) -> D
+        ensures { result ≡ self.disk }
+    {
+        let Spool { alloc: _, disk, size: _, live: _ } = self;
+        disk
+    }
+}
+
+impl<D: Reboot> Spool<D> {
+    ghost use Rattle.std.specs.Prelude.{Some};
+    ghost use Rattle.relay_disk.specs.Device.{Stays};
+
+    /// Sets the fuse of the disk: so many calls pass, and each later one fails. Nothing else changes.
+    pub fn fuse(&mut self, calls: u64)
+        ensures same { (self.new.size ≡ self.old.size) × (self.new.live ≡ self.old.live) }
+        ensures bodies { D.Disk.honest → self.new.bodies ≡ self.old.bodies }
+        ensures stop { D.Disk.honest → Stays D.Disk.may_leave D.Disk.moment D.Disk.left_since
+            self.old.disk self.new.disk }
+        ensures failures { D.Disk.failed self.new.disk ≡ D.Disk.failed self.old.disk }
+        ensures fuse { D.Disk.calls_left self.new.disk ≡ Some calls }
+    {
+        self.disk.fuse(calls);
+    }
+}
