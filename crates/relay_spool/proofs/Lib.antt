@@ -3,3 +3,5 @@ pub mod ImageLemmas
 pub mod LinkLemmas
 pub mod WalkLemmas
 pub mod SpoolLemmas
+pub mod BlockLemmas
+pub mod ChainLemmas

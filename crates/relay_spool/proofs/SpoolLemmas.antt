@@ -50,3 +50,7 @@ module _ {D : Type 0} (seen : D → List ℕ) (may_leave : D → List ℕ → Ty
   -- the last gate stands on the disk
   pub gate_within : (size : ℕ) (disk : D) (bodies : List (List ℕ)) → 18 ≤ size → size ≡ size_of bodies → Rests seen may_leave disk bodies → size - 1 < length (seen disk)
   gate_within size disk bodies low place rests = (gate_of (seen disk) bodies (size - 1) (omega (arith, low, place)) rests.image).within
+
+-- a spool has its head and a gate
+pub big : (size : ℕ) (bodies : List (List ℕ)) → size ≡ size_of bodies → 18 ≤ size
+big size bodies place = omega (arith, place)

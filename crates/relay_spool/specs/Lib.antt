@@ -1,3 +1,4 @@
 pub mod Image
 pub mod Walk
 pub mod Spool
+pub mod Blocks

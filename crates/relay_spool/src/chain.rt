@@ -1,47 +1,164 @@
-// The chain of one disk: how a link is added.
-ghost use Rattle.std.specs.Prelude.{◌≡◌, ◌+◌, ◌<◌, ◌^◌, [], ◌∷◌, ◌++◌, List, ℕ, length, IfOk, OnOk};
-ghost use Rattle.relay_disk.specs.Device.{CountsFailure};
-ghost use Rattle.relay_spool.specs.Image.{HasBodies, size_of};
-ghost use Rattle.relay_spool.specs.Spool.{AtEachMoment, Calls, IsBeforeOrWith, IsTail, Rests};
+// The chain of one disk, read from gate to gate.
+ghost use Rattle.std.specs.Prelude.{◌≡◌, ◌+◌, ◌<◌, ◌≤◌, ℕ, List, [], ◌++◌, length, take, drop, IfOk, IfErr, OnOk, MatchResult};
+ghost use Rattle.relay_disk.specs.Device.{CountsFailure, Only};
+ghost use Rattle.relay_spool.specs.Blocks.{GoesTo, IsAt, Lies, PassesGate, RefusesBody, RefusesLink};
+ghost use Rattle.relay_spool.specs.Image.{IsHead, IsImageOf, number_of, size_of};
+ghost use Rattle.relay_spool.specs.Spool.{FailsBy, Keeps, RefusesToOpen, texts_of};
 
-use crate::gate::{CLOSED, OPEN, write_through};
-use relay_disk::laws::writes_leave_the_rest;
+use crate::SpoolFault;
+use crate::gate::OPEN;
+use crate::head::{HEAD_SIZE, read_head};
+use crate::reader::Reader;
 use relay_disk::{Disk, DiskFault};
-use std::alloc::{AllocError, Global};
+use std::alloc::Global;
 
-/// How many octets a link has beside its body: two gates' octet, and the length.
-pub(crate) const LINK: usize = 5;
-
-/// What stands behind an old gate once this body is added: its length, the body, and a closed gate.
-pub(crate) fn tail_of(alloc: Global, body: &[u8]) -> Result<Vec<u8>, AllocError>
-    requires { length body.now < 2 ^ 32 }
-    ensures tail { IfOk result (λ tail. IsTail tail.items body.now) }
-    ensures length { IfOk result (λ tail. length tail.items ≡ 5 + length body.now) }
-{
-    let mut tail = Vec::with_capacity(alloc, LINK + body.len())?;
-    tail.extend_from_slice(&(body.len() as u32).to_be_bytes())?;
-    tail.extend_from_slice(body)?;
-    tail.push(CLOSED)?;
-    Ok(tail)
+/// What a disk holds.
+#[derive(Drop)]
+pub(crate) struct Found {
+    pub(crate) bodies: Vec<Vec<u8>>,
+    /// The place of the last gate and 1.
+    pub(crate) size: usize,
 }
 
-/// Adds a link to the chain whose closed gate stands at this place, by four calls. The tail is on the disk,
-/// with a closed gate at its end, before the old gate is opened.
-pub(crate) fn add_link<D: Disk>(disk: &mut D, gate: usize, tail: &[u8]) -> Result<(), DiskFault>
-    requires range { gate + 1 < 2 ^ 64 }
-    requires gate { D.honest → gate < length (D.seen disk.old) }
-    ensures added { D.honest → (before : List (List ℕ)) (body : List ℕ) → gate + 1 ≡ size_of before
-        → IsTail tail.now body → Rests D.seen D.may_leave disk.old before
-        → OnOk result (Rests D.seen D.may_leave disk.new (before ++ body ∷ [])) }
-    ensures stop { D.honest → (before : List (List ℕ)) (body : List ℕ) → gate + 1 ≡ size_of before
-        → IsTail tail.now body → Rests D.seen D.may_leave disk.old before
-        → AtEachMoment D.may_leave D.moment D.left_since disk.old disk.new
-            (HasBodies (IsBeforeOrWith before body)) }
-    ensures failures { CountsFailure (D.failed disk.old) (D.failed disk.new) result }
-    ensures calls { OnOk result (Calls 4 (D.calls_left disk.old) (D.calls_left disk.new)) }
+/// Reads the image of a disk, behind a sync.
+pub(crate) fn read_image<D: Disk>(alloc: Global, disk: &mut D) -> Result<Found, SpoolFault>
+    ensures image { D.honest → IfOk result
+        (λ found. IsImageOf (D.seen disk.old) (texts_of found.bodies)) }
+    ensures settled { D.honest → OnOk result (Only (D.seen disk.old) (D.may_leave disk.new)) }
+    ensures size { IfOk result (λ found. found.size ≡ size_of (texts_of found.bodies)) }
+    ensures refused { IfErr result (RefusesToOpen D.honest (D.seen disk.old)) }
+    ensures keeps { D.honest → Keeps D.seen D.may_leave D.moment D.left_since disk.old disk.new }
+    ensures failures { MatchResult result (λ _. D.failed disk.new ≡ D.failed disk.old)
+        (FailsBy (D.failed disk.old) (D.failed disk.new)) }
 {
-    writes_leave_the_rest();
-    write_through(disk, gate + 1, tail)?;
-    write_through(disk, gate, &[OPEN])?;
-    Ok(())
+    disk.sync()?;
+    let size = disk.size()?;
+    if size <= HEAD_SIZE {
+        return Err(SpoolFault::NotASpool);
+    }
+    read_bodies(alloc, disk, size)
+}
+
+/// Reads the image of a disk of this size.
+fn read_bodies<D: Disk>(alloc: Global, disk: &mut D, size: usize) -> Result<Found, SpoolFault>
+    requires more { 17 < size }
+    requires size { D.honest → size ≡ length (D.seen disk.old) }
+    ensures image { D.honest → IfOk result
+        (λ found. IsImageOf (D.seen disk.old) (texts_of found.bodies)) }
+    ensures size { IfOk result (λ found. found.size ≡ size_of (texts_of found.bodies)) }
+    ensures refused { IfErr result (RefusesToOpen D.honest (D.seen disk.old)) }
+    ensures keeps { D.honest → Keeps D.seen D.may_leave D.moment D.left_since disk.old disk.new }
+    ensures failures { MatchResult result (λ _. D.failed disk.new ≡ D.failed disk.old)
+        (FailsBy (D.failed disk.old) (D.failed disk.new)) }
+{
+    let mut reader = Reader::new(alloc, size)?;
+    if !read_head(alloc, disk, &mut reader)? {
+        return Err(SpoolFault::NotASpool);
+    }
+    let bodies = read_chain(alloc, disk, &mut reader)?;
+    Ok(Found {
+        bodies,
+        size: reader.place,
+    })
+}
+
+/// Reads the chain up to its first gate that isn't open, and that gate.
+fn read_chain<D: Disk>(
+    alloc: Global,
+    disk: &mut D,
+    reader: &mut Reader,
+) -> Result<Vec<Vec<u8>>, SpoolFault>
+    requires start { reader.old.place ≡ 17 }
+    requires more { reader.old.place < reader.old.size }
+    requires at { D.honest → IsAt (D.seen disk.old) reader.old }
+    requires head { D.honest → IsHead (take 17 (D.seen disk.old)) }
+    ensures image { D.honest → IfOk result (λ bodies. IsImageOf (D.seen disk.old) (texts_of bodies)) }
+    ensures size { IfOk result (λ bodies. reader.new.place ≡ size_of (texts_of bodies)) }
+    ensures refused { IfErr result (RefusesToOpen D.honest (D.seen disk.old)) }
+    ensures keeps { D.honest → Keeps D.seen D.may_leave D.moment D.left_since disk.old disk.new }
+    ensures failures { MatchResult result (λ _. D.failed disk.new ≡ D.failed disk.old)
+        (FailsBy (D.failed disk.old) (D.failed disk.new)) }
+{
+    let mut bodies = Vec::new(alloc);
+    while let Some(body) = next_body(alloc, disk, reader)? {
+        bodies.push(body)?;
+    }
+    Ok(bodies)
+}
+
+/// Reads the next gate, and the body behind it where it is open.
+fn next_body<D: Disk>(
+    alloc: Global,
+    disk: &mut D,
+    reader: &mut Reader,
+) -> Result<Option<Vec<u8>>, SpoolFault>
+    requires more { reader.old.place < reader.old.size }
+    requires at { D.honest → IsAt (D.seen disk.old) reader.old }
+    ensures link { D.honest → IfOk result
+        (PassesGate (D.seen disk.old) reader.old.place reader.new.place) }
+    ensures place { (reader.new.size ≡ reader.old.size)
+        × IfOk result (GoesTo reader.old.size reader.old.place reader.new.place) }
+    ensures at { D.honest → OnOk result (IsAt (D.seen disk.old) reader.new) }
+    ensures refused { IfErr result (RefusesLink D.honest (D.seen disk.old) reader.old.place) }
+    ensures keeps { D.honest → Keeps D.seen D.may_leave D.moment D.left_since disk.old disk.new }
+    ensures failures { MatchResult result (λ _. D.failed disk.new ≡ D.failed disk.old)
+        (FailsBy (D.failed disk.old) (D.failed disk.new)) }
+{
+    if reader.next(disk)? != OPEN {
+        return Ok(None);
+    }
+    let body = read_body(alloc, disk, reader)?;
+    Ok(Some(body))
+}
+
+/// Reads the length of a body and the body. Behind it there is still an octet, the next gate.
+fn read_body<D: Disk>(
+    alloc: Global,
+    disk: &mut D,
+    reader: &mut Reader,
+) -> Result<Vec<u8>, SpoolFault>
+    requires behind { 0 < reader.old.place }
+    requires at { D.honest → IsAt (D.seen disk.old) reader.old }
+    ensures body { D.honest → IfOk result (λ body. (size : List ℕ) × (length size ≡ 4)
+        × (number_of size ≡ length body.items)
+        × Lies (D.seen disk.old) reader.old.place reader.new.place (size ++ body.items)) }
+    ensures place { (reader.new.size ≡ reader.old.size)
+        × IfOk result (λ body. (reader.new.place ≡ reader.old.place + 4 + length body.items)
+            × (reader.new.place < reader.new.size)) }
+    ensures at { D.honest → OnOk result (IsAt (D.seen disk.old) reader.new) }
+    ensures refused { IfErr result (RefusesBody D.honest (D.seen disk.old) reader.old.place) }
+    ensures keeps { D.honest → Keeps D.seen D.may_leave D.moment D.left_since disk.old disk.new }
+    ensures failures { MatchResult result (λ _. D.failed disk.new ≡ D.failed disk.old)
+        (FailsBy (D.failed disk.old) (D.failed disk.new)) }
+{
+    let gate = reader.place - 1;
+    if reader.size - reader.place < 4 {
+        return Err(SpoolFault::Damaged(gate));
+    }
+    let size = read_size(disk, reader)? as usize;
+    if reader.size - reader.place <= size {
+        return Err(SpoolFault::Damaged(gate));
+    }
+    let body = reader.take(alloc, disk, size)?;
+    Ok(body)
+}
+
+/// Reads the length of a body.
+fn read_size<D: Disk>(disk: &mut D, reader: &mut Reader) -> Result<u32, DiskFault>
+    requires more { reader.old.place + 4 ≤ reader.old.size }
+    requires at { D.honest → IsAt (D.seen disk.old) reader.old }
+    ensures number { D.honest → IfOk result (λ size. (octets : List ℕ) × (length octets ≡ 4)
+        × (number_of octets ≡ size)
+        × Lies (D.seen disk.old) reader.old.place reader.new.place octets) }
+    ensures place { (reader.new.size ≡ reader.old.size)
+        × OnOk result (reader.new.place ≡ reader.old.place + 4) }
+    ensures at { D.honest → OnOk result (IsAt (D.seen disk.old) reader.new) }
+    ensures keeps { D.honest → Keeps D.seen D.may_leave D.moment D.left_since disk.old disk.new }
+    ensures failures { CountsFailure (D.failed disk.old) (D.failed disk.new) result }
+{
+    let first = reader.next(disk)?;
+    let second = reader.next(disk)?;
+    let third = reader.next(disk)?;
+    let fourth = reader.next(disk)?;
+    Ok(u32::from_be_bytes([first, second, third, fourth]))
 }

@@ -5,7 +5,9 @@ mod chain;
 mod fault;
 mod gate;
 mod head;
+mod link;
+mod reader;
 mod spool;
 
 pub use fault::{Refused, SpoolFault};
-pub use spool::Spool;
+pub use spool::{Opened, Spool};

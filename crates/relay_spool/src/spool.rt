@@ -1,7 +1,8 @@
 // Spools: made on an empty disk, opened on one that holds a spool, and grown by one body at a time.
 ghost use Rattle.std.specs.Prelude.{◌≡◌, ◌↔◌, ◌+◌, ◌<◌, ◌^◌, true, false, Some, Err, length, IfOk, IfErr, OnOk, MatchResult, IsTrue};
 
-use crate::chain::{LINK, add_link, tail_of};
+use crate::link::{LINK, add_link, tail_of};
+use crate::chain::{Found, read_image};
 use crate::head::make_spool;
 use crate::{Refused, SpoolFault};
 use relay_disk::{Disk, Reboot};
@@ -25,6 +26,13 @@ pub struct Spool<D: Disk> {
     live: bool,
 }
 
+/// A spool that was opened, and its bodies in order.
+#[derive(Drop)]
+pub struct Opened<D: Disk> {
+    pub spool: Spool<D>,
+    pub bodies: Vec<Vec<u8>>,
+}
+
 impl<D: Disk> Model for Spool<D> {
     ghost use Rattle.relay_spool.specs.Walk.{bodies_of};
     ghost use Rattle.relay_spool.specs.Spool.{Stored, stored_code, IsSound};
@@ -41,8 +49,8 @@ impl<D: Disk> Model for Spool<D> {
 impl<D: Disk> Spool<D> {
     ghost use Rattle.std.specs.Prelude.{[], ◌∷◌, ◌++◌};
     ghost use Rattle.relay_spool.specs.declared.fault.SpoolFault.TheVariants.{Full};
-    ghost use Rattle.relay_spool.specs.Image.{HasBodies};
-    ghost use Rattle.relay_spool.specs.Spool.{AtEachMoment, Calls, FailsBy, Grows, IsAppended, IsAtRest, IsBeforeOrWith, IsCreated, Keeps, RefusesToAppend, RefusesToCreate};
+    ghost use Rattle.relay_spool.specs.Image.{HasBodies, size_of};
+    ghost use Rattle.relay_spool.specs.Spool.{AtEachMoment, Calls, FailsBy, Grows, IsAppended, IsAtRest, IsBeforeOrWith, IsCreated, IsOpened, Keeps, RefusesToAppend, RefusesToCreate, RefusesToOpen, texts_of};
 
     /// Makes an empty spool on a disk of size 0. A disk that isn't empty comes back unchanged, and one that failed
     /// with any octets.
@@ -62,6 +70,35 @@ impl<D: Disk> Spool<D> {
                 disk,
                 size: EMPTY_SIZE,
                 live: true,
+            }),
+            Err(fault) => Err(Refused { fault, disk }),
+        }
+    }
+
+    /// Opens the spool that this disk holds. It syncs the disk first, reads each octet once and writes none: at each
+    /// moment a stop leaves what it might have left before. A disk that is refused comes back.
+    pub fn open(alloc: Global, disk: D) -> Result<Opened<D>, Refused<D>>
+        ensures opened { D.honest → IfOk result
+            (λ opened. IsOpened D.seen D.may_leave disk (texts_of opened.bodies) opened.spool) }
+        ensures live { IfOk result (λ opened. (opened.spool.live ≡ true)
+            × (opened.spool.size ≡ size_of (texts_of opened.bodies))) }
+        ensures refused { IfErr result (λ refused. RefusesToOpen D.honest (D.seen disk) refused.fault) }
+        ensures keeps { D.honest → MatchResult result
+            (λ opened. Keeps D.seen D.may_leave D.moment D.left_since disk opened.spool.disk)
+            (λ refused. Keeps D.seen D.may_leave D.moment D.left_since disk refused.disk) }
+        ensures failures { MatchResult result (λ opened. D.failed opened.spool.disk ≡ D.failed disk)
+            (λ refused. FailsBy (D.failed disk) (D.failed refused.disk) refused.fault) }
+    {
+        let mut disk = disk;
+        match read_image(alloc, &mut disk) {
+            Ok(Found { bodies, size }) => Ok(Opened {
+                spool: Spool {
+                    alloc,
+                    disk,
+                    size,
+                    live: true,
+                },
+                bodies,
             }),
             Err(fault) => Err(Refused { fault, disk }),
         }

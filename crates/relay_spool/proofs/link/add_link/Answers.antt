@@ -4,7 +4,7 @@ use Rattle.relay_spool.specs.Image.{IsImageOf, HasBodies, size_of}
 use Rattle.relay_spool.specs.Spool.{AtEachMoment, IsBeforeOrWith, IsTail, Rests}
 use Rattle.relay_spool.proofs.RunLemmas.{joined}
 use Rattle.relay_spool.proofs.LinkLemmas.{Gate, gate_of, Ready, ready_of, opened, tail_run, gate_run}
-use Rattle.relay_spool.proofs.chain.add_link.Goals as goal
+use Rattle.relay_spool.proofs.link.add_link.Goals as goal
 
 -- what the disk reads once the tail is written
 ready : (image mid : List ℕ) (bodies : List (List ℕ)) (place : ℕ) (tail : List ℕ) → place + 1 ≡ size_of bodies → IsImageOf image bodies

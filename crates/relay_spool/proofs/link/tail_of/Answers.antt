@@ -3,7 +3,7 @@ use Rattle.std.specs.Int.{to_be_bytes}
 use Rattle.std.proofs.lemmas.Nat.{from_be_bytes-to_be_bytes_4}
 use Rattle.relay_spool.specs.Image.{number_of}
 use Rattle.relay_spool.specs.Spool.{IsTail}
-use Rattle.relay_spool.proofs.chain.tail_of.Goals as goal
+use Rattle.relay_spool.proofs.link.tail_of.Goals as goal
 
 tail_is : (tail body : List ℕ) → length body < 2 ^ 32 → tail ≡ (to_be_bytes w32 (length body) ++ body) ++ 0 ∷ [] → IsTail tail body
 unfolding number_of
