@@ -5,3 +5,4 @@ pub mod WalkLemmas
 pub mod SpoolLemmas
 pub mod BlockLemmas
 pub mod ChainLemmas
+pub mod ReadingLemmas

@@ -91,8 +91,7 @@ OneReading = (image : List ℕ) (first second : Reading) → Reads image first �
 abbrev pub EachReads : Type 0
 EachReads = (image : List ℕ) → (reading : Reading) × Reads image reading
 
--- what stands behind the closed gate doesn't matter
+-- Behind the front of an image any octet but 1, and then anything, gives the same bodies.
 abbrev pub BehindDoesNotMatter : Type 0
-BehindDoesNotMatter = (front : List ℕ) (gate other : ℕ) (behind more : List ℕ) (bodies : List (List ℕ))
-    → length front + 1 ≡ size_of bodies → gate ≢ 1 → other ≢ 1
-    → IsImageOf (front ++ gate ∷ behind) bodies → IsImageOf (front ++ other ∷ more) bodies
+BehindDoesNotMatter = (front behind more : List ℕ) (gate other : ℕ) (bodies : List (List ℕ))
+    → length front + 1 ≡ size_of bodies → IsImageOf (front ++ gate ∷ behind) bodies → other ≢ 1 → IsImageOf (front ++ other ∷ more) bodies

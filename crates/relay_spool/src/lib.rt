@@ -5,6 +5,7 @@ mod chain;
 mod fault;
 mod gate;
 mod head;
+pub mod laws;
 mod link;
 mod reader;
 mod spool;

@@ -161,7 +161,8 @@ impl<D: Reboot> Spool<D> {
     /// Sets the fuse of the disk: so many calls pass, and each later one fails. Nothing else changes.
     pub fn fuse(&mut self, calls: u64)
         ensures same { (self.new.size ≡ self.old.size) × (self.new.live ≡ self.old.live) }
-        ensures bodies { D.Disk.honest → self.new.bodies ≡ self.old.bodies }
+        ensures bodies { D.Disk.honest → (self.new.bodies ≡ self.old.bodies)
+            × (D.Disk.seen self.new.disk ≡ D.Disk.seen self.old.disk) }
         ensures stop { D.Disk.honest → Stays D.Disk.may_leave D.Disk.moment D.Disk.left_since
             self.old.disk self.new.disk }
         ensures failures { D.Disk.failed self.new.disk ≡ D.Disk.failed self.old.disk }
