@@ -1,12 +1,12 @@
 -- What a stop leaves while a link is added: its octets are written behind the closed gate, and then the gate is opened.
-use Rattle.std.proofs.Common.{◌≡◌, ◌≢◌, ◌⊎◌, ℕ, suc, ◌+◌, ◌-◌, ◌<◌, ◌≤◌, min, max, List, [], ◌∷◌, ◌++◌, length, take, drop, slice_index, refl, sym, subst, ap, ◌∙◌, inl, inr, ⊎_elim, arith, append_assoc, length-append, length-drop, length-take, take-append-drop, get_or-take}
-use Rattle.std.proofs.lemmas.List.{take_at, drop_at, take-take, take-append-le, get_or_at}
+use Rattle.std.proofs.Common.{◌≡◌, ◌≢◌, ℕ, suc, ◌+◌, ◌<◌, ◌≤◌, min, List, [], ◌∷◌, ◌++◌, length, take, drop, slice_index, refl, sym, ap, ◌∙◌, inl, inr, ⊎_elim, arith, append_assoc, length-append, length-take, get_or-take}
+use Rattle.std.proofs.lemmas.List.{take_at, drop_at, take-take, get_or_at}
 use Rattle.std.proofs.lemmas.Bool.{cases_eq}
 use Rattle.relay_disk.specs.Device.{written, Writes, WritesLeaveTheRest}
 use Rattle.relay_spool.specs.Image.{IsFront, IsImageOf, HasBodies, size_of}
-use Rattle.relay_spool.specs.Spool.{IsTail, IsBeforeOrWith, AtEachMoment}
+use Rattle.relay_spool.specs.Spool.{IsBeforeOrWith, AtEachMoment}
 use Rattle.relay_spool.proofs.RunLemmas.{weakened}
-use Rattle.relay_spool.proofs.ImageLemmas.{length-front, with_front, with_link}
+use Rattle.relay_spool.proofs.ImageLemmas.{IsTail, length-front, with_front, with_link}
 
 -- where the last gate of an image stands
 pub record Gate (image : List ℕ) (bodies : List (List ℕ)) (place : ℕ) : Type 0 where

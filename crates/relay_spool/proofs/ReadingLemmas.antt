@@ -1,18 +1,17 @@
 -- Each image reads as one thing, and as something.
-use Rattle.std.proofs.Common.{◌≡◌, ◌≢◌, ◌⊎◌, ℕ, zero, suc, ◌+◌, ◌-◌, ◌<◌, ◌≤◌, Bool, true, false, List, [], ◌∷◌, ◌++◌, length, take, drop, slice_index, refl, sym, subst, ap, ◌∙◌, inl, inr, ⊎_elim, arith, append_assoc, length-append, length-drop, length-take, take-append-drop}
-use Rattle.std.proofs.lemmas.List.{take_at, drop_at, get_or_at, drop_more, drop-drop, take-take, take_more, length-take-le}
+use Rattle.std.proofs.Common.{◌≡◌, ◌≢◌, ◌⊎◌, ℕ, zero, suc, ◌+◌, ◌-◌, ◌<◌, ◌≤◌, Bool, true, false, List, [], ◌∷◌, ◌++◌, length, take, drop, slice_index, refl, sym, subst, ap, ◌∙◌, inl, inr, ⊎_elim, arith, append_assoc, length-append, length-drop, take-append-drop}
+use Rattle.std.proofs.lemmas.List.{take_at, get_or_at, drop_more, drop-drop, take-take, take_more, length-take-le}
 use Rattle.std.proofs.lemmas.Bool.{cases_eq, cases_lt, false≢true}
 use Rattle.std.specs.Bool.{Decides}
 use Rattle.std.specs.Str.{bytes_eq}
 use Rattle.std.proofs.lemmas.Slice.Eq.{bytes_eq-Decides}
-use Rattle.relay_spool.specs.Image.{signature, number_of, IsCutShort, IsDamagedAt, IsFront, IsHead, IsImageOf, IsLink, IsNoSpool, Reading, Reads, size_of, OneReading, EachReads, BehindDoesNotMatter}
+use Rattle.relay_spool.specs.Image.{signature, number_of, IsDamagedAt, IsFront, IsHead, IsImageOf, IsLink, IsNoSpool, Reading, Reads, size_of, OneReading, EachReads, BehindDoesNotMatter}
 use Rattle.relay_spool.specs.Image.Reading.{Bodies, NoSpool, DamagedAt}
 use Rattle.relay_spool.specs.Blocks.{HasFront, Lies}
-use Rattle.relay_spool.specs.Walk.{bodies_of}
-use Rattle.relay_spool.proofs.ImageLemmas.{cut_at, length-front, length-head, size_of-push}
+use Rattle.relay_spool.proofs.ImageLemmas.{length-front, length-head, size_of-push}
 use Rattle.relay_spool.proofs.LinkLemmas.{gate_of}
 use Rattle.relay_spool.proofs.WalkLemmas.{bodies_of-image, bodies_of-damaged}
-use Rattle.relay_spool.proofs.ChainLemmas.{front_start, front_more, front_ends, front_cut, no_head}
+use Rattle.relay_spool.proofs.ChainLemmas.{front_start, front_more, front_ends, front_cut}
 
 -- an image with a front is a spool
 front_is_spool : (image front more : List ℕ) (bodies : List (List ℕ)) → IsFront front bodies → image ≡ front ++ more → 0 < length more → IsNoSpool image → ⊥
@@ -20,7 +19,7 @@ front_is_spool image front more bodies is text some none =
     let head = length-head is.head is.is_head in
     let all : image ≡ is.head ++ (is.chain ++ more) = text ∙ ap (λ (xs : List ℕ). xs ++ more) is.text ∙ append_assoc is.head is.chain more in
     let first : image ≡ signature ++ (1 ∷ (is.is_head.generation ++ (is.chain ++ more))) =
-        all ∙ ap (λ (xs : List ℕ). xs ++ (is.chain ++ more)) is.is_head.text ∙ append_assoc signature (1 ∷ is.is_head.generation) (is.chain ++ more) in
+    all ∙ ap (λ (xs : List ℕ). xs ++ (is.chain ++ more)) is.is_head.text ∙ append_assoc signature (1 ∷ is.is_head.generation) (is.chain ++ more) in
     let long : length image ≡ length is.head + (length is.chain + length more) = ap length all ∙ length-append is.head (is.chain ++ more) ∙ ap (λ n. length is.head + n) (length-append is.chain more) in
     ⊎_elim (λ short. omega (arith, short, long, head, some))
     (⊎_elim
@@ -82,11 +81,14 @@ whole_link image place count opens within is long =
     let gate : drop place image ≡ 1 ∷ behind = drop_more image place 0 within ∙ ap (λ (octet : ℕ). octet ∷ behind) opens in
     let first : behind ≡ size ++ drop 4 behind = sym (take-append-drop 4 behind) in
     let second : drop 4 behind ≡ body ++ drop (place + 5 + count) image =
-        sym (take-append-drop count (drop 4 behind))
-        ∙ ap (λ (xs : List ℕ). body ++ xs) (drop-drop count 4 behind ∙ drop-drop (4 + count) (place + 1) image ∙ ap (λ (n : ℕ). drop n image) (omega arith)) in
-    (body, 1 ∷ (size ++ body), record { size = size; width = width; number = sym is ∙ sym count_is; text = refl },
-    gate ∙ ap (λ (xs : List ℕ). 1 ∷ xs) (first ∙ ap (λ (xs : List ℕ). size ++ xs) second ∙ sym (append_assoc size body (drop (place + 5 + count) image))),
-    count_is)
+    sym (take-append-drop count (drop 4 behind))
+    ∙ ap (λ (xs : List ℕ). body ++ xs) (drop-drop count 4 behind ∙ drop-drop (4 + count) (place + 1) image ∙ ap (λ (n : ℕ). drop n image) (omega arith)) in (
+      body,
+      1 ∷ (size ++ body),
+      record { size = size; width = width; number = sym is ∙ sym count_is; text = refl },
+      gate ∙ ap (λ (xs : List ℕ). 1 ∷ xs) (first ∙ ap (λ (xs : List ℕ). size ++ xs) second ∙ sym (append_assoc size body (drop (place + 5 + count) image))),
+      count_is,
+    )
 
 -- from a gate on, with so many octets left at most
 reads_on : (most : ℕ) (image : List ℕ) (place : ℕ) (bodies : List (List ℕ)) → HasFront image place bodies → place + 1 ≡ size_of bodies → place < length image

@@ -1,7 +1,8 @@
 -- How a run of calls on a disk goes on: what a stop may leave at each moment, call by call.
-use Rattle.std.proofs.Common.{◌≡◌, ℕ, List, length, refl, sym, subst, ◌∙◌, arith, inl, inr, ⊎_elim}
-use Rattle.relay_disk.specs.Device.{Writes, Only, Elapses, ImagesWithin, EveryImage, Steps, Stays, EveryImageSince}
-use Rattle.relay_spool.specs.Spool.{AtEachMoment, Keeps}
+use Rattle.std.proofs.Common.{◌≡◌, ℕ, ◌+◌, ◌-◌, Option, Some, None, ap, List, refl, sym, subst, ◌∙◌, arith, inl, inr, ⊎_elim}
+use Rattle.std.specs.Option.{option_map}
+use Rattle.relay_disk.specs.Device.{Writes, Only, Elapses, EveryImage, Steps, Stays}
+use Rattle.relay_spool.specs.Spool.{AtEachMoment, Calls, CallsUpTo, Keeps}
 
 pub Writes-same : (old : List ℕ) (place count : ℕ) → Writes place count old old
 Writes-same old place count = record { stays = λ at within outside. refl; no_shorter = omega arith; no_longer = omega arith }
@@ -102,3 +103,19 @@ module _ {D : Type 0} (seen : D → List ℕ) (may_leave : D → List ℕ → Ty
     stop = joined may_leave moment left_since old mid new (may_leave old) one.stop
         (weakened may_leave moment left_since mid new (may_leave mid) (may_leave old) one.stop.now two.stop);
   }
+
+calls_join : (left : Option ℕ) (first second : ℕ) → option_map (λ calls. calls - second) (option_map (λ calls. calls - first) left) ≡ option_map (λ calls. calls - (first + second)) left
+calls_join None first second = refl
+calls_join (Some left) first second = ap (λ (n : ℕ). Some n) (omega arith)
+
+-- the calls of two runs
+pub calls_on : (first second : ℕ) (before mid now : Option ℕ) → CallsUpTo first before mid → CallsUpTo second mid now → CallsUpTo (first + second) before now
+calls_on first second before mid now one two =
+    let few = one.1 in
+    let others = two.1 in
+    (one.0 + two.0, omega (arith, few, others), two.2 ∙ ap (λ (left : Option ℕ). option_map (λ calls. calls - two.0) left) one.2 ∙ calls_join before one.0 two.0)
+
+-- the same, of runs that made all their calls
+pub all_calls_on : (first second : ℕ) (before mid now : Option ℕ) → Calls first before mid → Calls second mid now → Calls (first + second) before now
+all_calls_on first second before mid now one two =
+    two ∙ ap (λ (left : Option ℕ). option_map (λ calls. calls - second) left) one ∙ calls_join before first second

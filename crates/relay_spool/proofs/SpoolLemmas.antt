@@ -1,10 +1,9 @@
 -- A disk at rest: what a spool's value says of it.
-use Rattle.std.proofs.Common.{◌≡◌, ◌≢◌, ℕ, ◌+◌, ◌-◌, ◌<◌, ◌≤◌, Bool, true, List, [], ◌∷◌, ◌++◌, length, refl, sym, subst, ap, ◌∙◌, arith}
-use Rattle.relay_disk.specs.Device.{Only}
+use Rattle.std.proofs.Common.{◌≡◌, ℕ, ◌-◌, ◌<◌, ◌≤◌, true, List, [], ◌∷◌, ◌++◌, length, refl, sym, subst, ap, ◌∙◌, arith}
 use Rattle.relay_spool.specs.Image.{signature, IsImageOf, size_of}
 use Rattle.relay_spool.specs.Walk.{bodies_of}
 use Rattle.relay_spool.specs.Spool.{created, EveryImageHas, IsMade, IsSound, Rests}
-use Rattle.relay_spool.proofs.ImageLemmas.{size_of-push, zero_is_not_one}
+use Rattle.relay_spool.proofs.ImageLemmas.{zero_is_not_one}
 use Rattle.relay_spool.proofs.LinkLemmas.{gate_of}
 use Rattle.relay_spool.proofs.WalkLemmas.{bodies_of-image}
 

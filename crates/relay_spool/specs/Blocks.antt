@@ -1,5 +1,5 @@
 -- A disk read in order, block by block, and the chain that is found so.
-use Rattle.std.specs.Prelude.{◌≡◌, ◌≢◌, ℕ, ◌+◌, ◌-◌, ◌<◌, ◌≤◌, List, [], ◌∷◌, ◌++◌, length, take, drop, Option, None, Some, Vec}
+use Rattle.std.specs.Prelude.{◌≡◌, ◌≢◌, ℕ, ◌+◌, ◌-◌, ◌<◌, List, [], ◌∷◌, ◌++◌, length, drop, Option, None, Some, Vec}
 use Rattle.std.specs.declared.alloc.Global.{Global}
 use Rattle.relay_spool.specs.declared.reader.Reader.{Reader}
 use Rattle.relay_spool.specs.declared.fault.SpoolFault.{SpoolFault}

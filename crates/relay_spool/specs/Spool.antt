@@ -1,9 +1,9 @@
 -- A spool as its callers see it: the list of its bodies, and what a stop leaves of them.
-use Rattle.std.specs.Prelude.{◌≡◌, ◌≢◌, ◌⊎◌, ℕ, ◌+◌, ◌-◌, ◌<◌, ◌≤◌, Bool, true, false, List, [], ◌∷◌, ◌++◌, length, map, Option, Vec, refl}
+use Rattle.std.specs.Prelude.{◌≡◌, ◌≢◌, ◌⊎◌, ℕ, ◌+◌, ◌-◌, ◌≤◌, Bool, true, false, List, [], ◌∷◌, ◌++◌, length, map, Option, Vec, Result, OnOk, refl}
 use Rattle.std.specs.Option.{option_map}
 use Rattle.std.specs.Coded.{Coded, code_by, coded×, coded_ℕ, coded_bool, coded_list}
 use Rattle.std.specs.declared.alloc.Global.{Global}
-use Rattle.relay_disk.specs.Device.{Only, ImagesWithin, EveryImage, EveryImageSince, Rises}
+use Rattle.relay_disk.specs.Device.{Only, EveryImage, EveryImageSince, Rises}
 use Rattle.relay_spool.specs.declared.fault.SpoolFault.{SpoolFault}
 use Rattle.relay_spool.specs.declared.fault.SpoolFault.TheVariants.{Device, NotASpool, Damaged, NoMemory, NotEmpty, Full}
 use Rattle.relay_spool.specs.Image.{signature, number_of, IsImageOf, IsNoSpool, IsDamagedAt, HasBodies, size_of}
@@ -34,12 +34,12 @@ IsBeforeOrWith before body bodies = (bodies ≡ before) ⊎ (bodies ≡ before +
 abbrev pub created : List ℕ
 created = signature ++ 1 ∷ 0 ∷ 0 ∷ 0 ∷ 0 ∷ 0 ∷ 0 ∷ 0 ∷ 1 ∷ 0 ∷ []
 
--- what is written behind an old gate: the length of the body in four octets, the body, and a closed gate
-pub record IsTail (tail body : List ℕ) : Type 0 where
+-- what is written for a body: an open gate, the length of the body in four octets, the body, and a closed gate
+pub record IsAddition (octets body : List ℕ) : Type 0 where
   pub size : List ℕ
   pub width : length size ≡ 4
   pub number : number_of size ≡ length body
-  pub text : tail ≡ size ++ body ++ 0 ∷ []
+  pub text : octets ≡ 1 ∷ (size ++ body ++ 0 ∷ [])
 
 -- The words below take the ghost members of a disk type, and then the disk before and after.
 module _ {D : Type 0} (seen : D → List ℕ) where
@@ -79,6 +79,15 @@ pub record IsSound {D : Type 0} (honest : Type 0) (seen : D → List ℕ) (may_l
 -- so many calls went to the device
 abbrev pub Calls : ℕ → Option ℕ → Option ℕ → Type 0
 Calls count before now = now ≡ option_map (λ calls. calls - count) before
+
+-- so many at most
+abbrev pub CallsUpTo : ℕ → Option ℕ → Option ℕ → Type 0
+CallsUpTo most before now = (count : ℕ) × (count ≤ most) × Calls count before now
+
+-- so many, and fewer where the answer is a fault
+pub record Makes {T E : Type 0} (count : ℕ) (before now : Option ℕ) (result : Result T E) : Type 0 where
+  pub at_most : CallsUpTo count before now
+  pub ok : OnOk result (Calls count before now)
 
 -- only the answer `Device` comes of a failure that the disk has counted
 abbrev pub FailsBy : ℕ → ℕ → SpoolFault → Type 0

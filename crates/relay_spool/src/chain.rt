@@ -124,7 +124,7 @@ fn read_body<D: Disk>(
         × Lies (D.seen disk.old) reader.old.place reader.new.place (size ++ body.items)) }
     ensures place { (reader.new.size ≡ reader.old.size)
         × IfOk result (λ body. (reader.new.place ≡ reader.old.place + 4 + length body.items)
-            × (reader.new.place < reader.new.size)) }
+        × (reader.new.place < reader.new.size)) }
     ensures at { D.honest → OnOk result (IsAt (D.seen disk.old) reader.new) }
     ensures refused { IfErr result (RefusesBody D.honest (D.seen disk.old) reader.old.place) }
     ensures keeps { D.honest → Keeps D.seen D.may_leave D.moment D.left_since disk.old disk.new }

@@ -3,10 +3,10 @@ ghost use Rattle.std.specs.Prelude.{◌≡◌, ◌+◌, ◌≤◌, [], length, t
 ghost use Rattle.relay_disk.specs.Device.{Only, CountsFailure};
 ghost use Rattle.relay_spool.specs.Blocks.{IsAt, IsNoReading};
 ghost use Rattle.relay_spool.specs.Image.{IsHead, IsNoSpool};
-ghost use Rattle.relay_spool.specs.Spool.{Calls, FailsBy, IsMade, Keeps, RefusesToCreate, created};
+ghost use Rattle.relay_spool.specs.Spool.{FailsBy, IsMade, Keeps, Makes, RefusesToCreate, created};
 
-use crate::gate::{OPEN, write_through};
 use crate::SpoolFault;
+use crate::gate::{open_gate, write_through};
 use crate::reader::Reader;
 use relay_disk::{Disk, DiskFault};
 use std::alloc::Global;
@@ -30,7 +30,7 @@ pub(crate) fn make_spool<D: Disk>(disk: &mut D) -> Result<(), SpoolFault>
         (Keeps D.seen D.may_leave D.moment D.left_since) disk.old disk.new) }
     ensures failures { MatchResult result (λ _. D.failed disk.new ≡ D.failed disk.old)
         (FailsBy (D.failed disk.old) (D.failed disk.new)) }
-    ensures calls { OnOk result (Calls 5 (D.calls_left disk.old) (D.calls_left disk.new)) }
+    ensures calls { Makes 5 (D.calls_left disk.old) (D.calls_left disk.new) result }
 {
     if disk.size()? != 0 {
         return Err(SpoolFault::NotEmpty);
@@ -45,10 +45,10 @@ fn write_head<D: Disk>(disk: &mut D) -> Result<(), DiskFault>
     ensures written { D.honest → OnOk result (D.seen disk.new ≡ created) }
     ensures settled { D.honest → OnOk result (Only (D.seen disk.new) (D.may_leave disk.new)) }
     ensures failures { CountsFailure (D.failed disk.old) (D.failed disk.new) result }
-    ensures calls { OnOk result (Calls 4 (D.calls_left disk.old) (D.calls_left disk.new)) }
+    ensures calls { Makes 4 (D.calls_left disk.old) (D.calls_left disk.new) result }
 {
     write_through(disk, 0, &CLOSED_SPOOL)?;
-    write_through(disk, HEAD_GATE, &[OPEN])?;
+    open_gate(disk, HEAD_GATE)?;
     Ok(())
 }
 

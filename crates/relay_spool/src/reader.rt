@@ -94,7 +94,7 @@ impl Reader {
     fn give(&mut self, octets: &mut Vec<u8>, most: usize) -> Result<(), AllocError>
         ensures octets { OnOk result ((image : List ℕ) → IsAt image self.old
             → IsAt image self.new × (octets.new.items ++ drop self.new.place image
-                ≡ octets.old.items ++ drop self.old.place image)) }
+            ≡ octets.old.items ++ drop self.old.place image)) }
         ensures place { (self.new.size ≡ self.old.size) × OnOk result
             (self.new.place + length octets.old.items ≡ self.old.place + length octets.new.items) }
         ensures count { OnOk result (length octets.new.items ≤ length octets.old.items + most) }

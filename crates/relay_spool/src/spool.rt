@@ -1,9 +1,9 @@
 // Spools: made on an empty disk, opened on one that holds a spool, and grown by one body at a time.
 ghost use Rattle.std.specs.Prelude.{◌≡◌, ◌↔◌, ◌+◌, ◌<◌, ◌^◌, true, false, Some, Err, length, IfOk, IfErr, OnOk, MatchResult, IsTrue};
 
-use crate::link::{LINK, add_link, tail_of};
 use crate::chain::{Found, read_image};
 use crate::head::make_spool;
+use crate::link::{OVERHEAD, add_link, link_of};
 use crate::{Refused, SpoolFault};
 use relay_disk::{Disk, Reboot};
 use std::alloc::Global;
@@ -50,7 +50,7 @@ impl<D: Disk> Spool<D> {
     ghost use Rattle.std.specs.Prelude.{[], ◌∷◌, ◌++◌};
     ghost use Rattle.relay_spool.specs.declared.fault.SpoolFault.TheVariants.{Full};
     ghost use Rattle.relay_spool.specs.Image.{HasBodies, size_of};
-    ghost use Rattle.relay_spool.specs.Spool.{AtEachMoment, Calls, FailsBy, Grows, IsAppended, IsAtRest, IsBeforeOrWith, IsCreated, IsOpened, Keeps, RefusesToAppend, RefusesToCreate, RefusesToOpen, texts_of};
+    ghost use Rattle.relay_spool.specs.Spool.{AtEachMoment, Calls, CallsUpTo, FailsBy, Grows, IsAppended, IsAtRest, IsBeforeOrWith, IsCreated, IsOpened, Keeps, Makes, RefusesToAppend, RefusesToCreate, RefusesToOpen, texts_of};
 
     /// Makes an empty spool on a disk of size 0. A disk that isn't empty comes back unchanged, and one that failed
     /// with any octets.
@@ -61,7 +61,9 @@ impl<D: Disk> Spool<D> {
             (Keeps D.seen D.may_leave D.moment D.left_since) disk refused.disk refused.fault) }
         ensures failures { MatchResult result (λ spool. D.failed spool.disk ≡ D.failed disk)
             (λ refused. FailsBy (D.failed disk) (D.failed refused.disk) refused.fault) }
-        ensures calls { IfOk result (λ spool. Calls 5 (D.calls_left disk) (D.calls_left spool.disk)) }
+        ensures calls { MatchResult result
+            (λ spool. Calls 5 (D.calls_left disk) (D.calls_left spool.disk))
+            (λ refused. CallsUpTo 5 (D.calls_left disk) (D.calls_left refused.disk)) }
     {
         let mut disk = disk;
         match make_spool(&mut disk) {
@@ -117,15 +119,15 @@ impl<D: Disk> Spool<D> {
         ensures full { (result ≡ Err Full) ↔ (2 ^ 40 < self.old.size + 5 + length body.now) }
         ensures failures { MatchResult result (λ _. D.failed self.new.disk ≡ D.failed self.old.disk)
             (FailsBy (D.failed self.old.disk) (D.failed self.new.disk)) }
-        ensures calls { OnOk result (Calls 4 (D.calls_left self.old.disk) (D.calls_left self.new.disk)) }
+        ensures calls { Makes 4 (D.calls_left self.old.disk) (D.calls_left self.new.disk) result }
     {
-        if MAX_SIZE.saturating_sub(self.size) < LINK + body.len() {
+        if MAX_SIZE.saturating_sub(self.size) < OVERHEAD + body.len() {
             return Err(SpoolFault::Full);
         }
-        let tail = tail_of(self.alloc, body)?;
+        let link = link_of(self.alloc, body)?;
         self.live = false;
-        add_link(&mut self.disk, self.size - 1, &tail)?;
-        self.size += tail.len();
+        add_link(&mut self.disk, self.size - 1, &link)?;
+        self.size += OVERHEAD + body.len();
         self.live = true;
         Ok(())
     }
@@ -149,7 +151,12 @@ impl<D: Disk> Spool<D> {
     pub fn into_disk(self) -> D
         ensures { result ≡ self.disk }
     {
-        let Spool { alloc: _, disk, size: _, live: _ } = self;
+        let Spool {
+            alloc: _,
+            disk,
+            size: _,
+            live: _,
+        } = self;
         disk
     }
 }

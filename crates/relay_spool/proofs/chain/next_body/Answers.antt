@@ -1,4 +1,4 @@
-use Rattle.std.proofs.Common.{◌≡◌, ℕ, List, [], ◌∷◌, ◌++◌, length, rules, subst}
+use Rattle.std.proofs.Common.{◌≡◌, ℕ, [], ◌∷◌, ◌++◌, rules, subst}
 use Rattle.relay_spool.specs.Blocks.{Lies}
 use Rattle.relay_spool.proofs.ChainLemmas.{lies_in, link_is}
 use Rattle.relay_spool.proofs.chain.next_body.Goals as goal

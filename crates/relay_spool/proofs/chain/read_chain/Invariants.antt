@@ -1,4 +1,4 @@
-use Rattle.std.proofs.Common.{◌≡◌, ◌+◌, ◌-◌, ◌<◌, ◌≤◌, ℕ}
+use Rattle.std.proofs.Common.{◌≡◌, ◌+◌, ◌-◌, ◌<◌, ℕ}
 use Rattle.relay_spool.specs.Image.{size_of}
 use Rattle.relay_spool.specs.Blocks.{HasFront, IsAt}
 use Rattle.relay_spool.specs.Spool.{Keeps, texts_of}

@@ -1,7 +1,6 @@
-use Rattle.std.proofs.Common.{◌≡◌, ℕ, List, [], ◌∷◌, ◌++◌, length, w32, refl, sym, ◌∙◌}
+use Rattle.std.proofs.Common.{◌≡◌, ℕ, [], ◌∷◌, w32, refl, sym, ◌∙◌}
 use Rattle.std.specs.Int.{from_be_bytes}
 use Rattle.relay_spool.specs.Image.{number_of}
-use Rattle.relay_spool.specs.Blocks.{Lies}
 use Rattle.relay_spool.proofs.ChainLemmas.{lies_in, lies_on}
 use Rattle.relay_spool.proofs.chain.read_size.Goals as goal
 
@@ -26,9 +25,12 @@ returns-clause-number g c = λ honest.
     let same2 : seen c.next-2.new.disk ≡ image = (c.next-2.ensures.keeps honest).reads ∙ same1 in
     let same3 : seen c.next-3.new.disk ≡ image = (c.next-3.ensures.keeps honest).reads ∙ same2 in
     let two = lies_on image p0 p1 p2 (a ∷ []) (b ∷ []) (c.in_ok-first.ensures.octet honest)
-        (lies_in (seen c.next.new.disk) image p1 p2 (b ∷ []) same1 (c.in_ok-second.ensures.octet honest)) in
+    (lies_in (seen c.next.new.disk) image p1 p2 (b ∷ []) same1 (c.in_ok-second.ensures.octet honest)) in
     let three = lies_on image p0 p2 p3 (a ∷ b ∷ []) (d ∷ []) two
-        (lies_in (seen c.next-2.new.disk) image p2 p3 (d ∷ []) same2 (c.in_ok-third.ensures.octet honest)) in
-    (a ∷ b ∷ d ∷ e ∷ [], refl, four a b d e c.from_be_bytes.result c.from_be_bytes.ensures,
-    lies_on image p0 p3 p4 (a ∷ b ∷ d ∷ []) (e ∷ []) three
-    (lies_in (seen c.next-3.new.disk) image p3 p4 (e ∷ []) same3 (c.in_ok-fourth.ensures.octet honest)))
+    (lies_in (seen c.next-2.new.disk) image p2 p3 (d ∷ []) same2 (c.in_ok-third.ensures.octet honest)) in (
+      a ∷ b ∷ d ∷ e ∷ [],
+      refl,
+      four a b d e c.from_be_bytes.result c.from_be_bytes.ensures,
+      lies_on image p0 p3 p4 (a ∷ b ∷ d ∷ []) (e ∷ []) three
+          (lies_in (seen c.next-3.new.disk) image p3 p4 (e ∷ []) same3 (c.in_ok-fourth.ensures.octet honest)),
+    )

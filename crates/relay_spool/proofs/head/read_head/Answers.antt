@@ -1,8 +1,6 @@
-use Rattle.std.proofs.Common.{◌≡◌, ℕ, ◌+◌, ◌≤◌, List, [], ◌∷◌, ◌++◌, length, take, refl, subst, sym, ap, ◌∙◌, rules, arith}
-use Rattle.std.specs.Bool.{Decides}
+use Rattle.std.proofs.Common.{ℕ, List, take, sym, ap, ◌∙◌, rules, arith}
 use Rattle.std.proofs.lemmas.Bool.Decides.{Decides-eqb}
 use Rattle.std.proofs.lemmas.Slice.Eq.{slice_eq-Decides}
-use Rattle.relay_spool.specs.Image.{signature}
 use Rattle.relay_spool.specs.Blocks.{Lies}
 use Rattle.relay_spool.proofs.ChainLemmas.{head_of}
 use Rattle.relay_spool.proofs.head.read_head.Goals as goal

@@ -1,8 +1,7 @@
-use Rattle.std.proofs.Common.{◌≡◌, ◌+◌, ◌-◌, ◌≤◌, ℕ, List, ◌++◌, length, take, drop, sym, ap, ◌∙◌, arith, rules}
+use Rattle.std.proofs.Common.{◌≡◌, length, rules}
 use Rattle.std.specs.Vec.{with_items}
 use Rattle.std.proofs.lemmas.List.{with_items_is}
-use Rattle.relay_spool.specs.Blocks.{IsAt}
-use Rattle.relay_spool.proofs.BlockLemmas.{read_at}
+use Rattle.relay_spool.proofs.BlockLemmas.{read_into}
 use Rattle.relay_spool.proofs.reader.Reader.read.Goals as goal
 
 pub returns-clause-at : goal.returns-clause-at
@@ -15,6 +14,5 @@ returns-clause-at g c = λ honest.
     let all : (with_items c.truncate.new.self into).items ≡ into = with_items_is c.truncate.new.self into long in
     record {
       size = c.requires.size honest;
-      text = read_at image (with_items c.truncate.new.self into).items place
-          (all ∙ c.in_ok-read.ensures.read honest ∙ ap (λ (n : ℕ). take n (drop place image)) (sym same ∙ sym (ap length all)));
+      text = read_into image into (with_items c.truncate.new.self into).items place (length c.as_mut_slice.result.now) all (c.in_ok-read.ensures.read honest) same;
     }

@@ -1,4 +1,4 @@
-use Rattle.std.proofs.Common.{◌≡◌, ◌+◌, ◌-◌, ◌≤◌, ℕ, List, ◌++◌, length, drop}
+use Rattle.std.proofs.Common.{◌≡◌, ◌+◌, ◌-◌, ◌≤◌, ℕ, ◌++◌, length, drop}
 use Rattle.relay_spool.specs.Blocks.{IsAt}
 use Rattle.relay_spool.specs.Spool.{Keeps}
 use Rattle.relay_spool.proofs.reader.Reader.take.Given as goal

@@ -1,6 +1,6 @@
-use Rattle.std.proofs.Common.{◌≡◌, ◌+◌, ◌≤◌, ℕ, List, refl, sym, ◌∙◌, ap, subst, arith}
+use Rattle.std.proofs.Common.{ℕ, List, sym, ◌∙◌, subst}
 use Rattle.relay_disk.specs.Device.{Only}
-use Rattle.relay_spool.specs.Image.{IsImageOf, size_of}
+use Rattle.relay_spool.specs.Image.{IsImageOf}
 use Rattle.relay_spool.specs.Spool.{Keeps, Rests, texts_of}
 use Rattle.relay_spool.proofs.SpoolLemmas.{rests_found, every_image, sound_of, big}
 use Rattle.relay_spool.proofs.spool.Spool.open.Goals as goal
@@ -25,7 +25,7 @@ pub returns-in-Ok-clause-opened : goal.returns-in-Ok-clause-opened
 returns-in-Ok-clause-opened g c = λ honest.
     let found = c.in-Ok.field-0 in
     let now = rests g.D.Disk.seen g.D.Disk.may_leave g.D.Disk.moment g.D.Disk.left_since c.args.disk c.read_image.new.disk (texts_of found.bodies)
-        (c.in-Ok.ensures.image honest) (c.in-Ok.ensures.settled honest) (c.read_image.ensures.keeps honest) in
+    (c.in-Ok.ensures.image honest) (c.in-Ok.ensures.settled honest) (c.read_image.ensures.keeps honest) in
     record {
       reads = c.in-Ok.ensures.image honest;
       bodies_are = rests_found g.D.Disk.seen g.D.Disk.may_leave c.read_image.new.disk (texts_of found.bodies) now;
