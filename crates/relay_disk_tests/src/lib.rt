@@ -1,4 +1,4 @@
-//! Tests of the public calls of relay_disk: images and files written out by hand.
+//! Tests of the public calls of relay_disk and relay_spool: images and files written out by hand.
 #![tactic(auto)]
 
 #[cfg(test)]
@@ -7,3 +7,5 @@ mod file;
 mod memory;
 #[cfg(test)]
 mod picks;
+#[cfg(test)]
+mod spool;

@@ -147,16 +147,17 @@ RefusesToCreate honest seen keeps old new (Damaged place) = ⊥
 RefusesToCreate honest seen keeps old new NoMemory = ⊥
 RefusesToCreate honest seen keeps old new Full = ⊥
 
--- what a refused `append` leaves
-abbrev pub RefusesToAppend : {D : Type 0} → Stored D → Stored D → SpoolFault → Type 0
-RefusesToAppend old new Device = new.live ≡ false
-RefusesToAppend old new NoMemory = new ≡ old
-RefusesToAppend old new Full = new ≡ old
-RefusesToAppend old new NotASpool = ⊥
-RefusesToAppend old new (Damaged place) = ⊥
-RefusesToAppend old new NotEmpty = ⊥
+-- what a refused `append` leaves, by how many calls of the disk have failed
+abbrev pub RefusesToAppend : {D : Type 0} → (D → ℕ) → Stored D → Stored D → SpoolFault → Type 0
+RefusesToAppend failed old new Device = (new.live ≡ false) × Rises (failed old.disk) (failed new.disk)
+RefusesToAppend failed old new NoMemory = new ≡ old
+RefusesToAppend failed old new Full = new ≡ old
+RefusesToAppend failed old new NotASpool = ⊥
+RefusesToAppend failed old new (Damaged place) = ⊥
+RefusesToAppend failed old new NotEmpty = ⊥
 
--- the spool grew by a link for this body, and is live
-pub record Grows {D : Type 0} (old new : Stored D) (body : List ℕ) : Type 0 where
+-- the spool grew by a link for this body, is live, and no call of its disk has failed
+pub record Grows {D : Type 0} (failed : D → ℕ) (old new : Stored D) (body : List ℕ) : Type 0 where
   pub size : new.size ≡ old.size + 5 + length body
   pub live : new.live ≡ true
+  pub failures : failed new.disk ≡ failed old.disk

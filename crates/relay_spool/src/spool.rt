@@ -114,11 +114,9 @@ impl<D: Disk> Spool<D> {
         ensures appended { D.honest → OnOk result (IsAppended D.seen D.may_leave self.old body.now self.new) }
         ensures stop { D.honest → AtEachMoment D.may_leave D.moment D.left_since self.old.disk self.new.disk
             (HasBodies (IsBeforeOrWith self.old.bodies body.now)) }
-        ensures grows { OnOk result (Grows self.old self.new body.now) }
-        ensures refused { IfErr result (RefusesToAppend self.old self.new) }
+        ensures grows { OnOk result (Grows D.failed self.old self.new body.now) }
+        ensures refused { IfErr result (RefusesToAppend D.failed self.old self.new) }
         ensures full { (result ≡ Err Full) ↔ (2 ^ 40 < self.old.size + 5 + length body.now) }
-        ensures failures { MatchResult result (λ _. D.failed self.new.disk ≡ D.failed self.old.disk)
-            (FailsBy (D.failed self.old.disk) (D.failed self.new.disk)) }
         ensures calls { Makes 4 (D.calls_left self.old.disk) (D.calls_left self.new.disk) result }
     {
         if MAX_SIZE.saturating_sub(self.size) < OVERHEAD + body.len() {
