@@ -12,7 +12,8 @@ pub enum SpoolFault {
     /// The disk holds fewer than 18 octets, other first octets, or a head gate that isn't open.
     #[error("not a spool")]
     NotASpool,
-    /// The gate at this place, in octets from 0, is open, and its length, its body or the next gate passes the end.
+    /// The gate at this place, in octets from 0, is open, and its length, its body or the next gate
+    /// passes the end.
     #[error("damaged at {0}")]
     Damaged(usize),
     /// Memory ran out, and nothing has changed.

@@ -1,4 +1,5 @@
-// Gates: single octets that say whether what stands behind them counts. Each is written by itself, between two syncs.
+// Gates: single octets that say whether what stands behind them counts. Each is written by itself,
+// between two syncs.
 ghost use Rattle.std.specs.Prelude.{◌≡◌, ◌<◌, ◌≤◌, [], ◌∷◌, length, OnOk, MatchResult};
 ghost use Rattle.relay_disk.specs.Device.{written, Writes, Only, CountsFailure};
 ghost use Rattle.relay_spool.specs.Spool.{AtEachMoment, Makes};
@@ -11,14 +12,15 @@ pub(crate) const OPEN: u8 = 1;
 /// A closed gate, as it is written.
 pub(crate) const CLOSED: u8 = 0;
 
-/// Writes these octets and syncs. Before it, a stop leaves what a read gives, and after it again.
+/// Writes these octets and syncs. Where a stop left what a read gives before it, it does so after.
 pub(crate) fn write_through<D: Disk>(
     disk: &mut D,
     place: usize,
     octets: &[u8],
 ) -> Result<(), DiskFault>
     requires { D.honest → place ≤ length (D.seen disk.old) }
-    ensures written { D.honest → OnOk result (D.seen disk.new ≡ written (D.seen disk.old) place octets.now) }
+    ensures written { D.honest → OnOk result
+        (D.seen disk.new ≡ written (D.seen disk.old) place octets.now) }
     ensures settled { D.honest → OnOk result (Only (D.seen disk.new) (D.may_leave disk.new)) }
     ensures stop { D.honest → Only (D.seen disk.old) (D.may_leave disk.old)
         → AtEachMoment D.may_leave D.moment D.left_since disk.old disk.new
@@ -34,7 +36,8 @@ pub(crate) fn write_through<D: Disk>(
 /// Opens the gate at this place, and syncs.
 pub(crate) fn open_gate<D: Disk>(disk: &mut D, place: usize) -> Result<(), DiskFault>
     requires { D.honest → place ≤ length (D.seen disk.old) }
-    ensures written { D.honest → OnOk result (D.seen disk.new ≡ written (D.seen disk.old) place (1 ∷ [])) }
+    ensures written { D.honest → OnOk result
+        (D.seen disk.new ≡ written (D.seen disk.old) place (1 ∷ [])) }
     ensures settled { D.honest → OnOk result (Only (D.seen disk.new) (D.may_leave disk.new)) }
     ensures stop { D.honest → Only (D.seen disk.old) (D.may_leave disk.old)
         → AtEachMoment D.may_leave D.moment D.left_since disk.old disk.new

@@ -1,4 +1,4 @@
-//! The spool: a list of bodies on a disk. A body whose append was answered `Ok` is kept by every stop.
+//! The spool: a list of bodies on a disk. Every stop keeps a body whose append was answered `Ok`.
 #![tactic(auto)]
 
 mod chain;

@@ -25,8 +25,8 @@ pub(crate) fn link_of(alloc: Global, body: &[u8]) -> Result<Vec<u8>, AllocError>
     Ok(link)
 }
 
-/// Adds a link to the chain whose closed gate stands at this place, by four calls. All but the link's own gate is
-/// on the disk, with a closed gate at its end, before that gate is opened.
+/// Adds a link to the chain whose closed gate stands at this place, by four calls. All but the
+/// link's own gate is on the disk, with a closed gate at its end, before that gate is opened.
 pub(crate) fn add_link<D: Disk>(disk: &mut D, gate: usize, link: &[u8]) -> Result<(), DiskFault>
     requires range { gate + 1 < 2 ^ 64 }
     requires link { 0 < length link.now }

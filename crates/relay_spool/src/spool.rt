@@ -1,4 +1,4 @@
-// Spools: made on an empty disk, opened on one that holds a spool, and grown by one body at a time.
+// Spools: made on an empty disk, opened on one that holds a spool, grown by one body at a time.
 ghost use Rattle.std.specs.Prelude.{◌≡◌, ◌↔◌, ◌+◌, ◌<◌, ◌^◌, true, false, Some, Err, length, IfOk, IfErr, OnOk, MatchResult, IsTrue};
 
 use crate::chain::{Found, read_image};
@@ -15,8 +15,8 @@ const MAX_SIZE: usize = 1 << 40;
 /// The size, in octets, of a spool without a body.
 const EMPTY_SIZE: usize = 18;
 
-/// A list of bodies on a disk. While it is live, every stop leaves just these; a spool whose device has failed is
-/// spent, and has to be opened again.
+/// A list of bodies on a disk. While it is live, every stop leaves just these; a spool whose device
+/// has failed is spent, and has to be opened again.
 #[derive(Drop)]
 pub struct Spool<D: Disk> {
     alloc: Global,
@@ -52,8 +52,8 @@ impl<D: Disk> Spool<D> {
     ghost use Rattle.relay_spool.specs.Image.{HasBodies, size_of};
     ghost use Rattle.relay_spool.specs.Spool.{AtEachMoment, Calls, CallsUpTo, FailsBy, Grows, IsAppended, IsAtRest, IsBeforeOrWith, IsCreated, IsOpened, Keeps, Makes, RefusesToAppend, RefusesToCreate, RefusesToOpen, texts_of};
 
-    /// Makes an empty spool on a disk of size 0. A disk that isn't empty comes back unchanged, and one that failed
-    /// with any octets.
+    /// Makes an empty spool on a disk of size 0. A disk that isn't empty comes back unchanged, and one
+    /// that failed with any octets.
     pub fn create(alloc: Global, disk: D) -> Result<Spool<D>, Refused<D>>
         ensures created { D.honest → IfOk result (IsCreated D.seen D.may_leave disk) }
         ensures live { IfOk result (λ spool. (spool.size ≡ 18) × (spool.live ≡ true)) }
@@ -77,8 +77,9 @@ impl<D: Disk> Spool<D> {
         }
     }
 
-    /// Opens the spool that this disk holds. It syncs the disk first, reads each octet once and writes none: at each
-    /// moment a stop leaves what it might have left before. A disk that is refused comes back.
+    /// Opens the spool that this disk holds. It syncs the disk first, reads each octet once and writes
+    /// none: at each moment a stop leaves what it might have left before. A disk that is refused comes
+    /// back, as it was. It needs memory for the bodies, and for one block beside them.
     pub fn open(alloc: Global, disk: D) -> Result<Opened<D>, Refused<D>>
         ensures opened { D.honest → IfOk result
             (λ opened. IsOpened D.seen D.may_leave disk (texts_of opened.bodies) opened.spool) }
@@ -106,8 +107,9 @@ impl<D: Disk> Spool<D> {
         }
     }
 
-    /// Adds a body, by four calls of the device: after `Ok` every stop leaves it. At `Device` the spool is spent,
-    /// and a stop leaves the list as it was or with the body; at `NoMemory` and `Full` nothing has changed.
+    /// Adds a body of at most 4,294,967,295 octets, by four calls of the device: after `Ok` every stop
+    /// leaves it. At `Device` the spool is spent, and a stop leaves the list as it was or with the
+    /// body; at `NoMemory` and `Full` nothing has changed. It needs memory for one copy of the body.
     pub fn append(&mut self, body: &[u8]) -> Result<(), SpoolFault>
         requires live { IsTrue self.old.live }
         requires short { length body.now < 2 ^ 32 }
@@ -163,7 +165,8 @@ impl<D: Reboot> Spool<D> {
     ghost use Rattle.std.specs.Prelude.{Some};
     ghost use Rattle.relay_disk.specs.Device.{Stays};
 
-    /// Sets the fuse of the disk: so many calls pass, and each later one fails. Nothing else changes.
+    /// Sets the fuse of the disk: so many calls pass, and each later one fails. Nothing else
+    /// changes.
     pub fn fuse(&mut self, calls: u64)
         ensures same { (self.new.size ≡ self.old.size) × (self.new.live ≡ self.old.live) }
         ensures bodies { D.Disk.honest → (self.new.bodies ≡ self.old.bodies)
