@@ -3,6 +3,8 @@
 # the same run: one line a figure, the median of RUNS runs (5). It needs bash, coreutils, awk and yes.
 #
 #   bench/run.sh build/relayd build/relay_bench
+#
+# DISK (build) is the folder whose device the appends of a spool are measured on.
 set -euo pipefail
 export LC_ALL=C
 
@@ -10,7 +12,8 @@ relayd=$1
 bench=$2
 runs=${RUNS:-5}
 room=$(mktemp -d)
-trap 'rm -rf "$room"' EXIT
+disk=$(mktemp -d "${DISK:-build}/bench.XXXXXX")
+trap 'rm -rf "$room" "$disk"' EXIT
 
 # How many microseconds the command takes that reads the file through a pipe. Its output is kept for a look at it.
 micros() {
@@ -45,6 +48,29 @@ measure() {
     awk -v name="$name" -v unit="$unit" -v count="$count" -v ours="$(median < "$ours")" -v theirs="$(median < "$theirs")" \
         -v option="$option" 'BEGIN {
             printf "%-52s %12.0f %s/s   %.2f of wc %s\n", name, count / ours * 1000000, unit, theirs / ours, option }'
+}
+
+# How many microseconds the command takes, which is one word for the shell.
+micros_of() {
+    local begun ended
+    begun=${EPOCHREALTIME/./}
+    bash -c "$1" > "$room/out"
+    ended=${EPOCHREALTIME/./}
+    echo $((ended - begun))
+}
+
+# compare NAME UNIT COUNT OURS THEIRS LABEL: COUNT units of work by the command OURS, beside the command THEIRS.
+compare() {
+    local ours="$room/ours" theirs="$room/theirs"
+    : > "$ours"
+    : > "$theirs"
+    for ((run = 0; run < runs; run++)); do
+        micros_of "$4" >> "$ours"
+        micros_of "$5" >> "$theirs"
+    done
+    awk -v name="$1" -v unit="$2" -v count="$3" -v ours="$(median < "$ours")" -v theirs="$(median < "$theirs")" \
+        -v label="$6" 'BEGIN {
+            printf "%-52s %12.0f %s/s   %.2f of %s\n", name, count / ours * 1000000, unit, theirs / ours, label }'
 }
 
 # Lines of 76 octets with their CR LF.
@@ -115,3 +141,20 @@ measure "library: RCPT lines that are parsed" commands 2000000 "$room/commands" 
 measure "library: short replies that are read" replies 4369000 "$room/replies" -l 1 "$bench" replies
 against=$room/headers
 measure "library: a header section, counted and cut" octets "$(stat -c %s "$room/headers")" "$room/header" -l 1 "$bench" header
+
+# A spool of 62,430 bodies of 4,096 octets: its head, the links, and the last gate.
+printf '\x01\x00\x00\x10\x00%04096d' 0 > "$room/link"
+{
+    printf 'RELAYQ01\x01\x00\x00\x00\x00\x00\x00\x00\x01'
+    for ((time = 0; time < 30; time++)); do
+        cat "$room/link"
+    done > "$room/links"
+    for ((time = 0; time < 2081; time++)); do
+        cat "$room/links"
+    done
+    printf '\x00'
+} > "$room/spool"
+compare "library: a spool of 256 MB that is opened" octets "$(stat -c %s "$room/spool")" \
+    "$bench open $room/spool" "cat $room/spool | wc -c" "cat | wc -c"
+compare "library: appends to a spool on a file" appends 1000 \
+    "rm -f $disk/a; $bench append $disk/a 1000" "rm -f $disk/b; $bench syncs $disk/b 1000" "two bare syncs"

@@ -6,15 +6,17 @@ mod blocks;
 mod commands;
 mod header;
 mod replies;
+mod spools;
 mod texts;
 
 use commands::count_commands;
 use header::look_through_header;
 use replies::count_replies;
+use spools::{append_bodies, open_spool, sync_twice};
 use std::alloc::Global;
-use std::env;
 use std::io::Read;
 use std::test::Fail;
+use std::{env, fs};
 use texts::count_texts;
 
 /// Two commands and a fault for the run without a word.
@@ -33,7 +35,10 @@ fn main(rt: HostRuntime) -> Result<(), Fail> {
     let alloc = rt.alloc();
     let words: Vec<String> = env::args(&rt)?.collect(alloc)?;
     if let Some(word) = words.get(1) {
-        let line = measure(alloc, word.as_str(), &mut rt.stdin())?;
+        let line = match words.get(2) {
+            Some(path) => measure_file(&rt, word.as_str(), path.as_str(), count_of(words.get(3)))?,
+            None => measure(alloc, word.as_str(), &mut rt.stdin())?,
+        };
         println!(rt; "{}", line.as_str())?;
         return Ok(());
     }
@@ -47,7 +52,36 @@ fn main(rt: HostRuntime) -> Result<(), Fail> {
         let line = measure(alloc, name, &mut octets)?;
         println!(rt; "{}", line.as_str())?;
     }
+    let path = "relay_bench_spool";
+    // A run that was cut off may have left it.
+    let _ = fs::remove_file(&rt, path);
+    for name in ["append", "open"] {
+        let line = measure_file(&rt, name, path, 3)?;
+        println!(rt; "{}", line.as_str())?;
+    }
+    fs::remove_file(&rt, path)?;
     Ok(())
+}
+
+/// How many turns a word asks for: one, where it is none.
+fn count_of(word: Option<&String>) -> u64 {
+    match word {
+        Some(word) => word.as_str().parse().unwrap_or(1),
+        None => 1,
+    }
+}
+
+/// Runs the measurement of this name on a file, and gives the line of what it counted.
+fn measure_file(rt: &HostRuntime, name: &str, path: &str, count: u64) -> Result<String, Fail> {
+    if name == "open" {
+        open_spool(rt, path)
+    } else if name == "append" {
+        append_bodies(rt, path, count)
+    } else if name == "syncs" {
+        sync_twice(rt, path, count)
+    } else {
+        Err(Fail::new("the measurements of a file are: open, append, syncs"))
+    }
 }
 
 /// Runs the measurement of this name to the end of the input, and gives the line of what it counted.
