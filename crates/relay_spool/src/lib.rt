@@ -7,6 +7,7 @@ mod gate;
 mod head;
 pub mod laws;
 mod link;
+mod questions;
 mod reader;
 mod spool;
 

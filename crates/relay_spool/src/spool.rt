@@ -19,11 +19,11 @@ const EMPTY_SIZE: usize = 18;
 /// has failed is spent, and has to be opened again.
 #[derive(Drop)]
 pub struct Spool<D: Disk> {
-    alloc: Global,
-    disk: D,
+    pub(crate) alloc: Global,
+    pub(crate) disk: D,
     /// The place of the last gate and 1, in octets.
-    size: usize,
-    live: bool,
+    pub(crate) size: usize,
+    pub(crate) live: bool,
 }
 
 /// A spool that was opened, and its bodies in order.
@@ -50,7 +50,7 @@ impl<D: Disk> Spool<D> {
     ghost use Rattle.std.specs.Prelude.{[], ◌∷◌, ◌++◌};
     ghost use Rattle.relay_spool.specs.declared.fault.SpoolFault.TheVariants.{Full};
     ghost use Rattle.relay_spool.specs.Image.{HasBodies, size_of};
-    ghost use Rattle.relay_spool.specs.Spool.{AtEachMoment, Calls, CallsUpTo, FailsBy, Grows, IsAppended, IsAtRest, IsBeforeOrWith, IsCreated, IsOpened, Keeps, Makes, RefusesToAppend, RefusesToCreate, RefusesToOpen, texts_of};
+    ghost use Rattle.relay_spool.specs.Spool.{AtEachMoment, Calls, CallsUpTo, FailsBy, Grows, IsAppended, IsBeforeOrWith, IsCreated, IsOpened, Keeps, Makes, RefusesToAppend, RefusesToCreate, RefusesToOpen, texts_of};
 
     /// Makes an empty spool on a disk of size 0. A disk that isn't empty comes back unchanged, and one
     /// that failed with any octets.
@@ -130,34 +130,6 @@ impl<D: Disk> Spool<D> {
         self.size += OVERHEAD + body.len();
         self.live = true;
         Ok(())
-    }
-
-    /// How many octets the spool takes: the place of its last gate and 1.
-    pub fn size(&self) -> usize
-        ensures { result ≡ self.now.size }
-    {
-        self.size
-    }
-
-    /// Whether bodies can be added: no call of the device has failed.
-    pub fn is_live(&self) -> bool
-        ensures live { result ≡ self.now.live }
-        ensures rests { D.honest → IsTrue self.now.live → IsAtRest D.seen D.may_leave self.now }
-    {
-        self.live
-    }
-
-    /// The disk, of a live spool or of a spent one.
-    pub fn into_disk(self) -> D
-        ensures { result ≡ self.disk }
-    {
-        let Spool {
-            alloc: _,
-            disk,
-            size: _,
-            live: _,
-        } = self;
-        disk
     }
 }
 
