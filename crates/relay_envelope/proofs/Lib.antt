@@ -1,0 +1,3 @@
+pub mod XtextLemmas
+pub mod RowLemmas
+pub mod PathLemmas

@@ -1,0 +1,5 @@
+pub mod Xtext
+pub mod Row
+pub mod RowScan
+pub mod Mailbox
+pub mod Path

@@ -1,0 +1,128 @@
+//! Paths of MAIL and RCPT (RFC 5321, section 4.1.2).
+ghost use Rattle.std.specs.Prelude.{◌≡◌, ◌≢◌, ◌≤◌, ◌++◌, ◌∷◌, ℕ, List, length, drop, MatchOption};
+ghost use Rattle.std.specs.List.{prefix_len};
+ghost use Rattle.std.specs.Option.{option_copied};
+ghost use Rattle.relay_lines.specs.Word.{is_space};
+ghost use Rattle.relay_envelope.specs.Row.{IsRow};
+ghost use Rattle.relay_envelope.specs.Mailbox.{SplitsBehindBracket};
+ghost use Rattle.relay_envelope.specs.Path.{Path as PathText, BeginsWithPath, IsPath, domain_of, path_text, stands_apart, value_of};
+
+mod brackets;
+mod mailbox;
+mod postmaster;
+
+pub use mailbox::Mailbox;
+pub use postmaster::Postmaster;
+use crate::row::row_before;
+
+/// A path that a reader cut out of a text: slices of that text, which nothing else makes.
+#[derive(Clone, Copy, Debug)]
+pub enum Path<'a> {
+    /// `<>`, the reverse path of a report.
+    Null,
+    /// `<Postmaster>`, in any letter case.
+    Postmaster(Postmaster<'a>),
+    /// A mailbox in brackets.
+    Mailbox(Mailbox<'a>),
+}
+
+impl<'a> Path<'a> {
+    /// The path as it came, with its brackets.
+    pub fn text(&self) -> &'a [u8]
+        ensures value { result.now ≡ path_text (value_of self.now) }
+        ensures within { length result.now ≤ 256 }
+    {
+        match self {
+            Path::Null => b"<>",
+            Path::Postmaster(postmaster) => postmaster.text(),
+            Path::Mailbox(mailbox) => mailbox.text(),
+        }
+    }
+}
+
+/// The domain of a mailbox; `<>` and `<Postmaster>` have none.
+pub fn domain_of<'a>(path: &Path<'a>) -> Option<&'a [u8]>
+    ensures { option_copied result ≡ domain_of (value_of path.now) }
+{
+    match path {
+        Path::Null => None,
+        Path::Postmaster(_) => None,
+        Path::Mailbox(mailbox) => Some(mailbox.domain()),
+    }
+}
+
+/// The path that the text begins with behind spaces, and what follows it.
+pub(crate) fn begin_path(text: &[u8]) -> Option<(Path<'_>, &[u8])>
+    ensures { MatchOption result
+        ((path : PathText) (rest : List ℕ) → ¬ BeginsWithPath text.now path rest)
+        (λ parts. BeginsWithPath text.now (value_of parts.0) parts.1.now) }
+{
+    let (front, rest) = split_behind_bracket(skip_spaces(text))?;
+    let path = path_of(front)?;
+    if is_apart(rest) {
+        Some((path, rest))
+    } else {
+        None
+    }
+}
+
+/// The path that the whole text is.
+fn path_of(text: &[u8]) -> Option<Path<'_>>
+    ensures { MatchOption result
+        ((path : PathText) → IsPath path → text.now ≢ path_text path)
+        (λ path. IsPath (value_of path) × (text.now ≡ path_text (value_of path))) }
+{
+    match text {
+        b"<>" => Some(Path::Null),
+        _ => match Postmaster::read(text) {
+            Some(postmaster) => Some(Path::Postmaster(postmaster)),
+            None => Some(Path::Mailbox(Mailbox::read(text)?)),
+        },
+    }
+}
+
+/// The text to the first `>` outside a quoted string, and what follows that.
+fn split_behind_bracket(text: &[u8]) -> Option<(&[u8], &[u8])>
+    ensures { MatchOption result
+        ((row : List ℕ) (rest : List ℕ) → IsRow 62 row → text.now ≢ 60 ∷ row ++ 62 ∷ rest)
+        (λ parts. SplitsBehindBracket text.now parts.0.now parts.1.now) }
+{
+    let (first, behind) = text.split_first()?;
+    if *first == b'<' {
+        let len = row_before(b'>', behind)?;
+        Some(text.split_at(len + 2))
+    } else {
+        None
+    }
+}
+
+/// What follows the spaces that the text begins with.
+fn skip_spaces(text: &[u8]) -> &[u8]
+    ensures { result.now ≡ drop (prefix_len is_space text.now) text.now }
+{
+    let (_, rest) = text.split_at(space_len(text));
+    rest
+}
+
+/// How many spaces the text begins with.
+fn space_len(text: &[u8]) -> usize
+    ensures value { result ≡ prefix_len is_space text.now }
+    ensures within { result ≤ length text.now }
+{
+    for (i, octet) in text.iter().enumerate() {
+        if *octet != b' ' {
+            return i;
+        }
+    }
+    text.len()
+}
+
+/// Nothing follows, or a space does: a text that touches the path's `>` makes it no path.
+fn is_apart(rest: &[u8]) -> bool
+    ensures { result ≡ stands_apart rest.now }
+{
+    match rest {
+        [] => true,
+        [first, ..] => *first == b' ',
+    }
+}
