@@ -3,3 +3,6 @@ pub mod Row
 pub mod RowScan
 pub mod Mailbox
 pub mod Path
+pub mod Parameters
+pub mod Mail
+pub mod Envelope

@@ -64,6 +64,15 @@ impl Xtext {
         }
     }
 
+    /// A copy of an xtext as it was written. It fails where memory runs out.
+    pub(crate) fn written(alloc: Global, text: &[u8]) -> Result<Self, AllocError>
+        ensures { IfOk result (λ copy. copy ≡ text.now) }
+    {
+        Ok(Xtext {
+            text: Octets::from_slice(alloc, text)?,
+        })
+    }
+
     /// The encoded text.
     pub fn as_slice(&self) -> &[u8]
         ensures { result.now ≡ self.now }
@@ -98,7 +107,7 @@ fn push_encoded(text: &mut Vec<u8>, octet: u8) -> Result<(), AllocError>
 
 /// The octet that the text's first part stands for, and what follows that part.
 #[tactic(auto, using(crate::proofs::XtextLemmas::first_char, crate::proofs::XtextLemmas::no_char))]
-fn first_octet(text: &[u8]) -> Option<(u8, &[u8])>
+pub(crate) fn first_octet(text: &[u8]) -> Option<(u8, &[u8])>
     ensures { MatchOption result
         (text.now ≢ [] → decoded text.now ≡ None)
         (λ parts. FirstOctet text.now parts.0 parts.1.now) }

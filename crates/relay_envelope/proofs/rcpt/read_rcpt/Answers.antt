@@ -1,0 +1,14 @@
+-- Where no path begins the text, or it begins with one that may not stand there, which is its only one, none that may does.
+use Rattle.std.proofs.Common.{inl, refl, sym, ◌∙◌}
+use Rattle.relay_envelope.specs.Path.{is_forward, value_of}
+use Rattle.relay_envelope.proofs.MailLemmas.{none_allowed}
+use Rattle.relay_envelope.proofs.rcpt.read_rcpt.Goals as goal
+
+pub returns-in_default : goal.returns-in_default
+returns-in_default c =
+    inl (record { none_allowed = λ path rest begins. absurd (c.in_default.ensures path rest begins); result_is = refl })
+
+pub returns-then-not-is_forward : goal.returns-then-not-is_forward
+returns-then-not-is_forward c =
+    let refused = sym c.is_forward.ensures ∙ c.if-not-is_forward.true in
+    inl (record { none_allowed = none_allowed is_forward c.args.text.now (value_of c.in-Some.path) c.in-Some.rest.now c.in-Some.ensures refused; result_is = refl })

@@ -1,0 +1,79 @@
+ghost use Rattle.std.specs.Prelude.{◌≡◌};
+ghost use Rattle.std.specs.List.{list_all};
+ghost use Rattle.relay_lines.specs.Word.{is_printable as printable};
+ghost use Rattle.relay_envelope.specs.Parameters.{is_address_type, is_envid, is_orcpt, is_original_address, is_readable_xtext, is_type_octet};
+
+use crate::part::first_part;
+use crate::xtext::first_octet;
+
+/// The most octets of ENVID as it is written (RFC 3461, section 4.4).
+const ENVID_LIMIT: usize = 100;
+
+/// The most octets of ORCPT as it is written (RFC 3461, section 4.2).
+const ORCPT_LIMIT: usize = 500;
+
+/// The value is one of ENVID.
+#[tactic(auto, unfolding(crate::specs::Parameters::is_envid))]
+pub(crate) fn is_envid(value: &[u8]) -> bool
+    ensures { result ≡ is_envid value.now }
+{
+    1 <= value.len() && value.len() <= ENVID_LIMIT && is_readable_xtext(value)
+}
+
+/// The value is one of ORCPT: a type, `;` and an address.
+#[tactic(auto, unfolding(crate::specs::Parameters::is_orcpt, crate::specs::Parameters::is_original_address))]
+pub(crate) fn is_orcpt(value: &[u8]) -> bool
+    ensures { result ≡ is_orcpt value.now }
+{
+    match first_part(b';', value) {
+        Some((front, back)) => value.len() <= ORCPT_LIMIT && is_address_type(front) && is_original_address(back),
+        None => false,
+    }
+}
+
+#[tactic(auto, unfolding(crate::specs::Parameters::is_address_type))]
+fn is_address_type(text: &[u8]) -> bool
+    ensures { result ≡ is_address_type text.now }
+{
+    0 < text.len() && are_type_octets(text)
+}
+
+fn are_type_octets(text: &[u8]) -> bool
+    ensures { result ≡ list_all is_type_octet text.now }
+{
+    text.iter().all(|octet| is_type_octet(*octet))
+}
+
+#[tactic(auto, unfolding(crate::specs::Parameters::is_original_address))]
+fn is_original_address(text: &[u8]) -> bool
+    ensures { result ≡ is_original_address text.now }
+{
+    0 < text.len() && is_readable_xtext(text)
+}
+
+/// The text is xtext, and what it stands for is printable.
+#[tactic(auto, unfolding(crate::specs::Parameters::is_readable_xtext))]
+fn is_readable_xtext(text: &[u8]) -> bool
+    ensures { result ≡ is_readable_xtext text.now }
+{
+    let mut rest = text;
+    while let Some((octet, behind)) = first_octet(rest) {
+        if !is_printable(octet) {
+            return false;
+        }
+        rest = behind;
+    }
+    rest.is_empty()
+}
+
+fn is_type_octet(octet: u8) -> bool
+    ensures { result ≡ is_type_octet octet }
+{
+    octet.is_ascii_alphanumeric() || octet == b'-'
+}
+
+fn is_printable(octet: u8) -> bool
+    ensures { result ≡ printable octet }
+{
+    matches!(octet, b' '..=b'~')
+}
