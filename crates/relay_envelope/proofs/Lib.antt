@@ -4,3 +4,4 @@ pub mod PathLemmas
 pub mod PartLemmas
 pub mod ParameterLemmas
 pub mod MailLemmas
+pub mod WrittenLemmas

@@ -1,5 +1,5 @@
 -- Parts of a text round an octet.
-use Rattle.std.proofs.Common.{◌≡◌, ℕ, ◌+◌, ◌<◌, ◌≤◌, Bool, true, false, ◌==◌, List, [], ◌∷◌, ◌++◌, length, take, drop, get_or, Option, None, Some, MatchOption, Result, Ok, Err, refl, sym, ap, ◌∙◌, arith}
+use Rattle.std.proofs.Common.{◌≡◌, ℕ, ◌+◌, ◌<◌, false, ◌==◌, List, ◌∷◌, length, take, drop, get_or, Option, None, Some, MatchOption, sym, ap, ◌∙◌, arith}
 use Rattle.std.specs.List.{position_or_len, slice_split}
 use Rattle.std.proofs.lemmas.List.{get_or_default, length-drop, take_all, drop_all}
 use Rattle.std.proofs.lemmas.List.Sums.{position_or_len_is}

@@ -1,17 +1,17 @@
 -- Paths: where a text splits, and that it begins with one path.
-use Rattle.std.proofs.Common.{◌≡◌, ◌≢◌, ℕ, suc, ◌+◌, ◌<◌, ◌≤◌, Bool, true, false, cond, not, ◌&&◌, ◌||◌, ◌==◌, inl, inr, List, [], ◌∷◌, ◌++◌, codes, map, length, take, drop, get_or, Option, None, Some, MatchOption, refl, sym, subst, ap, ◌∙◌, arith, append_assoc, append-nil, length-append}
+use Rattle.std.proofs.Common.{◌≡◌, ◌≢◌, ℕ, suc, ◌+◌, ◌<◌, Bool, true, false, cond, ◌||◌, ◌==◌, inl, inr, List, [], ◌∷◌, ◌++◌, codes, map, length, take, drop, get_or, Option, None, Some, MatchOption, refl, sym, subst, ap, ◌∙◌, arith, append_assoc, length-append}
 use Rattle.std.specs.List.{AllPass, list_all, prefix_len}
 use Rattle.std.specs.Int.{is_in_range}
 use Rattle.std.specs.Char.{to_ascii_lowercase}
-use Rattle.std.proofs.lemmas.List.{get_or-take, get_or-drop, get_or_default, length-take, length-drop, take-append-drop, take_more, drop_more, same_from_push}
+use Rattle.std.proofs.lemmas.List.{get_or-take, get_or-drop, get_or_default, length-take, length-drop, take-append-drop, drop_more, same_from_push}
 use Rattle.std.proofs.lemmas.List.Sums.{list_all-from_AllPass, AllPass-from_list_all, prefix_len_passes}
 use Rattle.std.proofs.lemmas.List.Folds.{list_any-append, list_any_none}
-use Rattle.std.proofs.lemmas.Bool.{and_parts, and_from, eqb-true, eqb-false, eq-eqb, false≢true, true≢false}
+use Rattle.std.proofs.lemmas.Bool.{and_parts, and_from, eqb-true, eq-eqb, false≢true, true≢false}
 use Rattle.std.proofs.lemmas.Bool.Decides.{nat_tests}
-use Rattle.memchr.specs.Find.{NoneBefore, NoneAfter, Passes, IsFirstByte, IsLastByte, is_byte}
-use Rattle.relay_lines.specs.Word.{is_space, is_domain_octet, is_literal_octet, are_domain_octets, IsAddressLiteral}
+use Rattle.memchr.specs.Find.{NoneAfter, Passes, IsLastByte, is_byte}
+use Rattle.relay_lines.specs.Word.{is_space, is_domain_octet, is_literal_octet, are_domain_octets}
 use Rattle.relay_envelope.specs.Row.{IsRow, is_plain}
-use Rattle.relay_envelope.specs.Mailbox.{IsDomain, IsDomainName, IsLocalPart, IsMailbox, IsPostmaster, IsRoute, IsSourceRoute, SplitsAtLast, SplitsBehindBracket, SplitsRoute, address_text, begins_with_at, in_brackets, mailbox_text, stands_in}
+use Rattle.relay_envelope.specs.Mailbox.{IsDomain, IsLocalPart, IsMailbox, IsPostmaster, IsSourceRoute, SplitsAtLast, SplitsBehindBracket, SplitsRoute, address_text, begins_with_at, in_brackets, mailbox_text, stands_in}
 use Rattle.relay_envelope.specs.Path.{Path, BeginsWithPath, IsPath, PathIsOne, body_of, path_text, stands_apart}
 use Rattle.relay_envelope.specs.Path.Path.{Null, Postmaster, Mailbox}
 use Rattle.relay_envelope.proofs.RowLemmas.{row_is_one, row_joined, row_weaker, plain_octets, plain_row, empty_row}

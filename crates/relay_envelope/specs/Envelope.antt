@@ -1,9 +1,9 @@
 -- Envelopes (RFC 5321, section 2.3.1; RFC 3461, section 4), and how MAIL and RCPT are written.
-use Rattle.std.specs.Prelude.{◌≡◌, ℕ, ◌≤◌, Bool, true, false, ◌||◌, List, [], ◌∷◌, ◌++◌, codes, length, Option, Some, None, if◌then◌else◌}
+use Rattle.std.specs.Prelude.{◌≡◌, ℕ, ◌≤◌, Bool, true, ◌||◌, List, [], ◌∷◌, ◌++◌, codes, length, Option, Some, None, Ok, if◌then◌else◌}
 use Rattle.std.specs.List.{AllByRecursion, join_with_byte}
 use Rattle.relay_envelope.specs.Path.{Path, IsPath, is_forward, is_reverse, path_text}
 use Rattle.relay_envelope.specs.Parameters.{is_envid, is_orcpt}
-use Rattle.relay_envelope.specs.Mail.{Mail, Rcpt}
+use Rattle.relay_envelope.specs.Mail.{Mail, Rcpt, ReadsMail, ReadsRcpt}
 use Rattle.relay_envelope.specs.declared.parameters.Ret.{Ret}
 use Rattle.relay_envelope.specs.declared.parameters.Ret.TheVariants.{Full, Hdrs}
 use Rattle.relay_envelope.specs.declared.parameters.Outcomes.{Outcomes}
@@ -110,3 +110,15 @@ pub record IsEnvelope (envelope : Envelope) : Type 0 where
   pub some : 1 ≤ length envelope.recipients
   pub within : length envelope.recipients ≤ 100
   pub recipients : AllByRecursion IsRecipient envelope.recipients
+
+-- What is written of an envelope that may be stored is read again as the same.
+abbrev pub MailIsReadAgain : Type 0
+MailIsReadAgain =
+    (envelope : Envelope) → IsEnvelope envelope
+    → (mail : Mail) × ReadsMail (mail_text envelope) (Ok mail) × (envelope_from mail ≡ record envelope { recipients = [] })
+
+-- What is written of a recipient that may be stored is read again as the same.
+abbrev pub RcptIsReadAgain : Type 0
+RcptIsReadAgain =
+    (recipient : Recipient) → IsRecipient recipient
+    → (rcpt : Rcpt) × ReadsRcpt (rcpt_text recipient) (Ok rcpt) × (recipient_from rcpt ≡ recipient)

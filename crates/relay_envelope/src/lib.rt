@@ -2,6 +2,7 @@
 #![tactic(auto)]
 
 mod envelope;
+pub mod envelope_laws;
 mod fault;
 mod mail;
 pub mod mail_laws;

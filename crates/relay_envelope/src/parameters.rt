@@ -88,7 +88,10 @@ pub(crate) fn read_rcpt_parameters(text: &[u8]) -> Result<RcptParameters<'_>, En
 
 /// The parameters of MAIL with a further one.
 #[tactic(auto, unfolding(crate::specs::Parameters::with_mail_parameter))]
-fn with_mail_parameter<'a>(old: MailParameters<'a>, word: &'a [u8]) -> Result<MailParameters<'a>, EnvelopeFault>
+fn with_mail_parameter<'a>(
+    old: MailParameters<'a>,
+    word: &'a [u8],
+) -> Result<MailParameters<'a>, EnvelopeFault>
     ensures { mail_answer result ≡ with_mail_parameter word.now (mail_value old.entry) }
 {
     if word.is_empty() {
@@ -106,7 +109,10 @@ fn with_mail_parameter<'a>(old: MailParameters<'a>, word: &'a [u8]) -> Result<Ma
 
 /// The parameters of RCPT with a further one.
 #[tactic(auto, unfolding(crate::specs::Parameters::with_rcpt_parameter))]
-fn with_rcpt_parameter<'a>(old: RcptParameters<'a>, word: &'a [u8]) -> Result<RcptParameters<'a>, EnvelopeFault>
+fn with_rcpt_parameter<'a>(
+    old: RcptParameters<'a>,
+    word: &'a [u8],
+) -> Result<RcptParameters<'a>, EnvelopeFault>
     ensures { rcpt_answer result ≡ with_rcpt_parameter word.now (rcpt_value old.entry) }
 {
     if word.is_empty() {
@@ -137,7 +143,10 @@ fn with_ret<'a>(old: MailParameters<'a>, value: &[u8]) -> Result<MailParameters<
     }
 }
 
-fn with_envid<'a>(old: MailParameters<'a>, value: &'a [u8]) -> Result<MailParameters<'a>, EnvelopeFault>
+fn with_envid<'a>(
+    old: MailParameters<'a>,
+    value: &'a [u8],
+) -> Result<MailParameters<'a>, EnvelopeFault>
     ensures { mail_answer result ≡ with_envid value.now (mail_value old.entry) }
 {
     if old.envid.is_some() {
@@ -152,7 +161,10 @@ fn with_envid<'a>(old: MailParameters<'a>, value: &'a [u8]) -> Result<MailParame
     }
 }
 
-fn with_notify<'a>(old: RcptParameters<'a>, value: &[u8]) -> Result<RcptParameters<'a>, EnvelopeFault>
+fn with_notify<'a>(
+    old: RcptParameters<'a>,
+    value: &[u8],
+) -> Result<RcptParameters<'a>, EnvelopeFault>
     ensures { rcpt_answer result ≡ with_notify value.now (rcpt_value old.entry) }
 {
     if old.notify.is_some() {
@@ -167,7 +179,10 @@ fn with_notify<'a>(old: RcptParameters<'a>, value: &[u8]) -> Result<RcptParamete
     }
 }
 
-fn with_orcpt<'a>(old: RcptParameters<'a>, value: &'a [u8]) -> Result<RcptParameters<'a>, EnvelopeFault>
+fn with_orcpt<'a>(
+    old: RcptParameters<'a>,
+    value: &'a [u8],
+) -> Result<RcptParameters<'a>, EnvelopeFault>
     ensures { rcpt_answer result ≡ with_orcpt value.now (rcpt_value old.entry) }
 {
     if old.orcpt.is_some() {
@@ -233,11 +248,35 @@ fn with_outcome(old: Outcomes, word: &[u8]) -> Option<Outcomes>
     ensures { result ≡ with_outcome word.now old }
 {
     if is_word(word, b"SUCCESS") {
-        if old.success { None } else { Some(Outcomes { success: true, failure: old.failure, delay: old.delay }) }
+        if old.success {
+            None
+        } else {
+            Some(Outcomes {
+                success: true,
+                failure: old.failure,
+                delay: old.delay,
+            })
+        }
     } else if is_word(word, b"FAILURE") {
-        if old.failure { None } else { Some(Outcomes { success: old.success, failure: true, delay: old.delay }) }
+        if old.failure {
+            None
+        } else {
+            Some(Outcomes {
+                success: old.success,
+                failure: true,
+                delay: old.delay,
+            })
+        }
     } else if is_word(word, b"DELAY") {
-        if old.delay { None } else { Some(Outcomes { success: old.success, failure: old.failure, delay: true }) }
+        if old.delay {
+            None
+        } else {
+            Some(Outcomes {
+                success: old.success,
+                failure: old.failure,
+                delay: true,
+            })
+        }
     } else {
         None
     }

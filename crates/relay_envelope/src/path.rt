@@ -11,9 +11,9 @@ mod brackets;
 mod mailbox;
 mod postmaster;
 
+use crate::row::row_before;
 pub use mailbox::Mailbox;
 pub use postmaster::Postmaster;
-use crate::row::row_before;
 
 /// A path that a reader cut out of a text: slices of that text, which nothing else makes.
 #[derive(Clone, Copy, Debug)]

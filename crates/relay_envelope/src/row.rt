@@ -49,7 +49,11 @@ fn row_len(stop: u8, text: &[u8]) -> Option<usize>
         }
         place = place_after(place, octet)?;
     }
-    if is_outside(place) { Some(text.len()) } else { None }
+    if is_outside(place) {
+        Some(text.len())
+    } else {
+        None
+    }
 }
 
 /// The octet ends a row.

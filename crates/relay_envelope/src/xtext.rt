@@ -176,9 +176,5 @@ fn digit_of(value: u8) -> u8
     requires { value < 16 }
     ensures { result ≡ digit value }
 {
-    if value < 10 {
-        b'0' + value
-    } else {
-        55 + value
-    }
+    if value < 10 { b'0' + value } else { 55 + value }
 }

@@ -26,7 +26,9 @@ pub(crate) fn is_orcpt(value: &[u8]) -> bool
     ensures { result ≡ is_orcpt value.now }
 {
     match first_part(b';', value) {
-        Some((front, back)) => value.len() <= ORCPT_LIMIT && is_address_type(front) && is_original_address(back),
+        Some((front, back)) => value.len() <= ORCPT_LIMIT
+            && is_address_type(front)
+            && is_original_address(back),
         None => false,
     }
 }

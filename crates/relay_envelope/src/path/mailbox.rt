@@ -25,9 +25,9 @@ impl<'a> Mailbox<'a> {
     pub(super) fn read(text: &'a [u8]) -> Option<Self>
         ensures { MatchOption result
             ((route : List ℕ) (local : List ℕ) (domain : List ℕ) → text.now ≡ mailbox_text route local domain
-                → IsMailbox route local domain → 256 < length text.now)
+            → IsMailbox route local domain → 256 < length text.now)
             (λ mailbox. (mailbox.text.now ≡ text.now)
-                × IsMailbox mailbox.route.now mailbox.local.now mailbox.domain.now) }
+            × IsMailbox mailbox.route.now mailbox.local.now mailbox.domain.now) }
     {
         let body = inside_brackets(text)?;
         let (route, address) = split_route(body)?;

@@ -1,5 +1,5 @@
 -- A length says that the text is a row exactly where it is the text's.
-use Rattle.std.proofs.Common.{◌≡◌, ◌≢◌, ℕ, arith}
+use Rattle.std.proofs.Common.{◌≢◌, ℕ, arith}
 use Rattle.std.proofs.lemmas.Bool.{false≢true}
 use Rattle.relay_envelope.proofs.RowLemmas.{whole_row, no_row}
 use Rattle.relay_envelope.proofs.row.is_row.Goals as goal

@@ -1,5 +1,5 @@
 -- Each step keeps what the rest adds to the row.
-use Rattle.std.proofs.Common.{◌≡◌, ◌<◌, length, sym, ap, ◌∙◌, arith, cond}
+use Rattle.std.proofs.Common.{sym, ◌∙◌, arith}
 use Rattle.std.proofs.lemmas.Bool.{cond-true, cond-false}
 use Rattle.relay_envelope.proofs.RowLemmas.{row_len-passed, row_len-ended, row_len-broken, row_len-end}
 use Rattle.relay_envelope.proofs.row.row_len.Goals as goal

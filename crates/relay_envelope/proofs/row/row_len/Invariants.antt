@@ -1,5 +1,5 @@
 -- what was passed, and the row of the rest, are the row of the text
-use Rattle.std.proofs.Common.{◌≡◌, ◌+◌, drop}
+use Rattle.std.proofs.Common.{◌≡◌, drop}
 use Rattle.relay_envelope.specs.RowScan.{counted, row_len_from}
 use Rattle.relay_envelope.specs.declared.row.Place.TheVariants.{Outside}
 use Rattle.relay_envelope.proofs.row.row_len.Given as goal
