@@ -5,3 +5,5 @@ pub mod PartLemmas
 pub mod ParameterLemmas
 pub mod MailLemmas
 pub mod WrittenLemmas
+pub mod ValidLemmas
+pub mod FitLemmas

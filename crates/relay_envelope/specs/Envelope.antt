@@ -1,5 +1,5 @@
 -- Envelopes (RFC 5321, section 2.3.1; RFC 3461, section 4), and how MAIL and RCPT are written.
-use Rattle.std.specs.Prelude.{◌≡◌, ℕ, ◌≤◌, Bool, true, ◌||◌, List, [], ◌∷◌, ◌++◌, codes, length, Option, Some, None, Ok, if◌then◌else◌}
+use Rattle.std.specs.Prelude.{◌≡◌, ℕ, ◌+◌, ◌≤◌, Bool, true, ◌||◌, List, [], ◌∷◌, ◌++◌, codes, length, Option, Some, None, Ok, if◌then◌else◌}
 use Rattle.std.specs.List.{AllByRecursion, join_with_byte}
 use Rattle.relay_envelope.specs.Path.{Path, IsPath, is_forward, is_reverse, path_text}
 use Rattle.relay_envelope.specs.Parameters.{is_envid, is_orcpt}
@@ -122,3 +122,21 @@ abbrev pub RcptIsReadAgain : Type 0
 RcptIsReadAgain =
     (recipient : Recipient) → IsRecipient recipient
     → (rcpt : Rcpt) × ReadsRcpt (rcpt_text recipient) (Ok rcpt) × (recipient_from rcpt ≡ recipient)
+
+-- What a MAIL said may be stored.
+abbrev pub ReadMailIsValid : Type 0
+ReadMailIsValid =
+    (text : List ℕ) (mail : Mail) → ReadsMail text (Ok mail)
+    → IsWrittenPath is_reverse (path_text mail.reverse_path) × (may_be_envid mail.parameters.envid ≡ true)
+
+-- What a RCPT said may be stored.
+abbrev pub ReadRcptIsValid : Type 0
+ReadRcptIsValid = (text : List ℕ) (rcpt : Rcpt) → ReadsRcpt text (Ok rcpt) → IsRecipient (recipient_from rcpt)
+
+-- A MAIL that is written of what may be stored has at most 2,048 octets with its CR LF.
+abbrev pub MailFits : Type 0
+MailFits = (envelope : Envelope) → IsEnvelope envelope → length (codes "MAIL FROM:" ++ mail_text envelope) + 2 ≤ 2048
+
+-- A RCPT that is written of what may be stored has at most 2,048 octets with its CR LF.
+abbrev pub RcptFits : Type 0
+RcptFits = (recipient : Recipient) → IsRecipient recipient → length (codes "RCPT TO:" ++ rcpt_text recipient) + 2 ≤ 2048

@@ -69,8 +69,8 @@ impl Model for Orcpt {
 }
 
 impl Orcpt {
-    /// A copy of a text.
-    fn new(alloc: Global, text: &[u8]) -> Result<Self, AllocError>
+    /// A copy of an ORCPT as it was written. It fails where memory runs out.
+    pub fn new(alloc: Global, text: &[u8]) -> Result<Self, AllocError>
         ensures { IfOk result (λ copy. copy ≡ text.now) }
     {
         Ok(Orcpt {

@@ -19,7 +19,7 @@ pub mod xtext_laws;
 pub use envelope::{Envelope, Orcpt, PathBuf, Recipient, Recipients};
 pub use fault::EnvelopeFault;
 pub use mail::{Mail, read_mail};
-pub use parameters::{Notify, Outcomes, Ret};
+pub use parameters::{Notify, Outcomes, Ret, is_envid, is_orcpt};
 pub use path::{Mailbox, Path, Postmaster, domain_of};
 pub use rcpt::{Rcpt, read_rcpt};
 pub use write::{write_mail, write_rcpt};

@@ -7,7 +7,7 @@ mod value;
 
 use crate::fault::EnvelopeFault;
 use crate::part::{first_part, is_word, keyword_and_value};
-use value::{is_envid, is_orcpt};
+pub use value::{is_envid, is_orcpt};
 
 /// How much of a message a report returns (RFC 3461, section 4.3).
 #[derive(Clone, Copy, Debug, PartialEq, Eq)]

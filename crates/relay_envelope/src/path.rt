@@ -27,6 +27,15 @@ pub enum Path<'a> {
 }
 
 impl<'a> Path<'a> {
+    /// The path that the whole text is. It takes no memory.
+    pub fn read(text: &'a [u8]) -> Option<Self>
+        ensures { MatchOption result
+            ((path : PathText) → IsPath path → text.now ≢ path_text path)
+            (λ path. IsPath (value_of path) × (text.now ≡ path_text (value_of path))) }
+    {
+        path_of(text)
+    }
+
     /// The path as it came, with its brackets.
     pub fn text(&self) -> &'a [u8]
         ensures value { result.now ≡ path_text (value_of self.now) }

@@ -65,7 +65,7 @@ impl Xtext {
     }
 
     /// A copy of an xtext as it was written. It fails where memory runs out.
-    pub(crate) fn written(alloc: Global, text: &[u8]) -> Result<Self, AllocError>
+    pub fn written(alloc: Global, text: &[u8]) -> Result<Self, AllocError>
         ensures { IfOk result (λ copy. copy ≡ text.now) }
     {
         Ok(Xtext {

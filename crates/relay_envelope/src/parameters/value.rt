@@ -12,17 +12,17 @@ const ENVID_LIMIT: usize = 100;
 /// The most octets of ORCPT as it is written (RFC 3461, section 4.2).
 const ORCPT_LIMIT: usize = 500;
 
-/// The value is one of ENVID.
+/// Whether the value is one of ENVID (RFC 3461, section 4.4). It takes no memory.
 #[tactic(auto, unfolding(crate::specs::Parameters::is_envid))]
-pub(crate) fn is_envid(value: &[u8]) -> bool
+pub fn is_envid(value: &[u8]) -> bool
     ensures { result ≡ is_envid value.now }
 {
     1 <= value.len() && value.len() <= ENVID_LIMIT && is_readable_xtext(value)
 }
 
-/// The value is one of ORCPT: a type, `;` and an address.
+/// Whether the value is one of ORCPT (RFC 3461, section 4.2): a type, `;` and an address. It takes no memory.
 #[tactic(auto, unfolding(crate::specs::Parameters::is_orcpt, crate::specs::Parameters::is_original_address))]
-pub(crate) fn is_orcpt(value: &[u8]) -> bool
+pub fn is_orcpt(value: &[u8]) -> bool
     ensures { result ≡ is_orcpt value.now }
 {
     match first_part(b';', value) {
