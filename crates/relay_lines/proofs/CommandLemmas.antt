@@ -1,5 +1,5 @@
 -- Command lines: a line's reading is that of its words, and each command has one spelling.
-use Rattle.std.proofs.Common.{◌≡◌, ℕ, ◌+◌, ◌≤◌, nat_le, not, ◌==◌, Bool, true, false, cond, ◌&&◌, List, [], ◌∷◌, ◌++◌, map, reverse, length, codes, Option, None, Some, Ok, Err, option_map, ok_or, find, ◌⊎◌, inl, inr, sym, ap, subst, refl, ◌∙◌, arith, length-append}
+use Rattle.std.proofs.Common.{◌≡◌, ℕ, ◌+◌, ◌≤◌, nat_le, not, ◌==◌, Bool, true, false, cond, ◌&&◌, List, [], ◌∷◌, ◌++◌, map, reverse, length, codes, Option, None, Some, Result, Ok, Err, option_map, ok_or, find, ◌⊎◌, inl, inr, sym, ap, subst, refl, ◌∙◌, arith, length-append}
 use Rattle.std.proofs.lemmas.List.{append-nil, map-append, reverse-append, length-reverse, nil_from_length}
 use Rattle.std.proofs.lemmas.List.Sums.{list_all-from_AllPass, AllPass-from_list_all}
 use Rattle.std.proofs.lemmas.List.Folds.{list_all-append}
@@ -9,11 +9,12 @@ use Rattle.std.specs.List.{list_all, prefix_len, suffix_len, AllPass}
 use Rattle.std.specs.Char.{to_ascii_lowercase, is_ascii_graphic}
 use Rattle.std.specs.Str.{bytes_eq}
 use Rattle.relay_octets.specs.LetterCase.{IsSameWord}
-use Rattle.relay_lines.specs.Word.{is_space, is_no_space, is_blank, is_printable, are_printable, is_word, without_trailing_blanks, first_word, argument_of, behind_keyword, is_host_word, SplitsLine}
-use Rattle.relay_lines.specs.declared.command.LineFault.TheVariants.{Unknown, BadByte, BadArgument}
+use Rattle.relay_lines.specs.Word.{is_space, is_no_space, is_blank, is_printable, are_printable, is_word, without_trailing_blanks, first_word, argument_of, behind_keyword, is_host_word, IsHostWord, SplitsLine}
+use Rattle.relay_lines.specs.declared.command.LineFault.{LineFault}
+use Rattle.relay_lines.specs.declared.command.LineFault.TheVariants.{Unknown, BadByte, BadArgument, NotOffered}
 use Rattle.relay_lines.specs.declared.command.Verb.{Verb}
 use Rattle.relay_lines.specs.declared.command.Verb.TheVariants as verb
-use Rattle.relay_lines.specs.Command.{Command, Helo, Mail, Rcpt, Data, Rset, Noop, Quit, word_of, verbs, verb_of, command_if, command_of, reading_of_verb, reading_of_words, reading_of_text, reading_of, IsSpelled, ReadsCommand, EveryLineSplits, SplitIsOne, ReadingIsOfWords, ReadingIsOfSpelling, BadByteIsFound, UnknownIsFound, BadArgumentIsFound, LetterCaseIsFree, MailIsRead, RcptIsRead, HeloIsRead, BareVerbsAreRead}
+use Rattle.relay_lines.specs.Command.{Command, Helo, Ehlo, Mail, Rcpt, Data, Rset, Noop, Vrfy, Help, Quit, word_of, verbs, is_offered, IsVerb, verb_of, command_if, command_of, reading_of_verb, reading_of_words, reading_of_text, reading_of, IsSpelled, ReadsCommand, EveryLineSplits, SplitIsOne, ReadingIsOfWords, ReadingIsOfSpelling, BadByteIsFound, UnknownIsFound, BadArgumentIsFound, NotOfferedIsFound, LetterCaseIsFree, MailIsRead, RcptIsRead, HeloIsRead, EhloIsRead, BareVerbsAreRead}
 use Rattle.relay_lines.proofs.WordLemmas.{length-same_word, AllPass-reverse, AllPass-weaker, text-split, first_word-split, argument_of-split, line-splits, same_word, behind_keyword-found, begins-behind_keyword, host-from_test, host-test, host-graphic, graphic-printable, graphic-no_space, graphic-no_blank}
 
 pub every_line_splits : EveryLineSplits
@@ -55,11 +56,16 @@ verb_of-same word again same = ap (λ l. find (λ v. bytes_eq l (map to_ascii_lo
 verb_of-word_of : (v : Verb) → verb_of (word_of v) ≡ Some v
 unfolding verb_of is_word
 verb_of-word_of verb.Helo = refl
+verb_of-word_of verb.Ehlo = refl
 verb_of-word_of verb.Mail = refl
 verb_of-word_of verb.Rcpt = refl
 verb_of-word_of verb.Data = refl
 verb_of-word_of verb.Rset = refl
 verb_of-word_of verb.Noop = refl
+verb_of-word_of verb.Vrfy = refl
+verb_of-word_of verb.Help = refl
+verb_of-word_of verb.Expn = refl
+verb_of-word_of verb.Turn = refl
 verb_of-word_of verb.Quit = refl
 
 pub verb_of-spelled : (word : List ℕ) (v : Verb) → IsSameWord word (word_of v) → verb_of word ≡ Some v
@@ -96,6 +102,9 @@ unfolding command_of
 spelled-command_of verb.Helo word argument command same e =
     let p = command_if-ok (is_host_word argument) (Helo argument) command e in
     subst (λ c. IsSpelled c word argument) p.1 (same, host-from_test argument p.0, refl)
+spelled-command_of verb.Ehlo word argument command same e =
+    let p = command_if-ok (is_host_word argument) (Ehlo argument) command e in
+    subst (λ c. IsSpelled c word argument) p.1 (same, host-from_test argument p.0, refl)
 spelled-command_of verb.Mail word argument command same e =
     let p = ok_or-ok Mail (behind_keyword (codes "FROM:") argument) command e in
     subst (λ c. IsSpelled c word argument) p.2 (same, begins-behind_keyword (codes "FROM:") argument p.0 p.1)
@@ -111,6 +120,14 @@ spelled-command_of verb.Rset word argument command same e =
 spelled-command_of verb.Noop word argument command same e =
     let is : Noop ≡ command = cc in
     subst (λ c. IsSpelled c word argument) is same
+spelled-command_of verb.Vrfy word argument command same e =
+    let is : Vrfy ≡ command = cc in
+    subst (λ c. IsSpelled c word argument) is same
+spelled-command_of verb.Help word argument command same e =
+    let is : Help ≡ command = cc in
+    subst (λ c. IsSpelled c word argument) is same
+spelled-command_of verb.Expn word argument command same e = absurd (cc)
+spelled-command_of verb.Turn word argument command same e = absurd (cc)
 spelled-command_of verb.Quit word argument command same e =
     let p = command_if-ok (length argument == 0) Quit command e in
     subst (λ c. IsSpelled c word argument) p.1 (same, nil_from_length argument (eqb-true (length argument) 0 p.0))
@@ -136,6 +153,10 @@ words-spelled (Helo host) word argument spelled =
     reading_of_words-verb word argument verb.Helo spelled.0
     ∙ ap (λ a. command_if (is_host_word a) (Helo a)) spelled.2
     ∙ ap (λ b. command_if b (Helo host)) (host-test host spelled.1)
+words-spelled (Ehlo host) word argument spelled =
+    reading_of_words-verb word argument verb.Ehlo spelled.0
+    ∙ ap (λ a. command_if (is_host_word a) (Ehlo a)) spelled.2
+    ∙ ap (λ b. command_if b (Ehlo host)) (host-test host spelled.1)
 words-spelled (Mail path) word argument spelled =
     reading_of_words-verb word argument verb.Mail spelled.0
     ∙ ap (λ found. ok_or (option_map Mail found) BadArgument) (behind_keyword-found (codes "FROM:") argument path spelled.1)
@@ -147,6 +168,8 @@ words-spelled Data word argument spelled =
 words-spelled Rset word argument spelled =
     reading_of_words-verb word argument verb.Rset spelled.0 ∙ ap (λ a. command_if (length a == 0) Rset) spelled.1
 words-spelled Noop word argument spelled = reading_of_words-verb word argument verb.Noop spelled
+words-spelled Vrfy word argument spelled = reading_of_words-verb word argument verb.Vrfy spelled
+words-spelled Help word argument spelled = reading_of_words-verb word argument verb.Help spelled
 words-spelled Quit word argument spelled =
     reading_of_words-verb word argument verb.Quit spelled.0 ∙ ap (λ a. command_if (length a == 0) Quit) spelled.1
 
@@ -195,25 +218,50 @@ reading-from_reads line command reads =
 pub reading_is_of_spelling : ReadingIsOfSpelling
 reading_is_of_spelling line command = (reads-from_reading line command, reading-from_reads line command)
 
--- a test and a part give the command or the fault
-command_if-cases : (b : Bool) (made : Command) → ((command : Command) × (command_if b made ≡ Ok command)) ⊎ (command_if b made ≡ Err BadArgument)
-command_if-cases true made = inl (made, refl)
-command_if-cases false made = inr refl
+-- what comes of a verb and its argument: a command, a bad argument of a verb that is offered, or a verb that isn't
+abbrev Comes : Bool → Result Command LineFault → Type 0
+Comes offered reading =
+    ((command : Command) × (reading ≡ Ok command)) ⊎ ((reading ≡ Err BadArgument) × (offered ≡ true))
+    ⊎ ((reading ≡ Err NotOffered) × (offered ≡ false))
 
-ok_or-cases : (make : List ℕ → Command) (found : Option (List ℕ)) → ((command : Command) × (ok_or (option_map make found) BadArgument ≡ Ok command)) ⊎ (ok_or (option_map make found) BadArgument ≡ Err BadArgument)
-ok_or-cases make None = inr refl
+command_if-cases : (b : Bool) (made : Command) → Comes true (command_if b made)
+command_if-cases true made = inl (made, refl)
+command_if-cases false made = inr (inl (refl, refl))
+
+ok_or-cases : (make : List ℕ → Command) (found : Option (List ℕ)) → Comes true (ok_or (option_map make found) BadArgument)
+ok_or-cases make None = inr (inl (refl, refl))
 ok_or-cases make (Some part) = inl (make part, refl)
 
--- a verb takes its argument, or the argument is bad
-command_of-cases : (v : Verb) (argument : List ℕ) → ((command : Command) × (command_of v argument ≡ Ok command)) ⊎ (command_of v argument ≡ Err BadArgument)
+command_of-cases : (v : Verb) (argument : List ℕ) → Comes (is_offered v) (command_of v argument)
 unfolding command_of
 command_of-cases verb.Helo argument = command_if-cases (is_host_word argument) (Helo argument)
+command_of-cases verb.Ehlo argument = command_if-cases (is_host_word argument) (Ehlo argument)
 command_of-cases verb.Mail argument = ok_or-cases Mail (behind_keyword (codes "FROM:") argument)
 command_of-cases verb.Rcpt argument = ok_or-cases Rcpt (behind_keyword (codes "TO:") argument)
 command_of-cases verb.Data argument = command_if-cases (length argument == 0) Data
 command_of-cases verb.Rset argument = command_if-cases (length argument == 0) Rset
 command_of-cases verb.Noop argument = inl (Noop, refl)
+command_of-cases verb.Vrfy argument = inl (Vrfy, refl)
+command_of-cases verb.Help argument = inl (Help, refl)
+command_of-cases verb.Expn argument = inr (inr (refl, refl))
+command_of-cases verb.Turn argument = inr (inr (refl, refl))
 command_of-cases verb.Quit argument = command_if-cases (length argument == 0) Quit
+
+-- a verb that isn't offered says nothing else
+not_offered-verb : (v : Verb) (argument : List ℕ) → is_offered v ≡ false → command_of v argument ≡ Err NotOffered
+unfolding command_of
+not_offered-verb verb.Helo argument lacks = absurd (cc)
+not_offered-verb verb.Ehlo argument lacks = absurd (cc)
+not_offered-verb verb.Mail argument lacks = absurd (cc)
+not_offered-verb verb.Rcpt argument lacks = absurd (cc)
+not_offered-verb verb.Data argument lacks = absurd (cc)
+not_offered-verb verb.Rset argument lacks = absurd (cc)
+not_offered-verb verb.Noop argument lacks = absurd (cc)
+not_offered-verb verb.Vrfy argument lacks = absurd (cc)
+not_offered-verb verb.Help argument lacks = absurd (cc)
+not_offered-verb verb.Expn argument lacks = refl
+not_offered-verb verb.Turn argument lacks = refl
+not_offered-verb verb.Quit argument lacks = absurd (cc)
 
 -- the verb of a word and its reading, or none
 found_faults : (found : Option Verb) (word argument : List ℕ) → verb_of word ≡ found → ((v : Verb) × (verb_of word ≡ Some v) × (reading_of_verb found argument ≡ command_of v argument)) ⊎ ((verb_of word ≡ None) × (reading_of_verb found argument ≡ Err Unknown))
@@ -231,7 +279,8 @@ never_bad_byte word argument e =
     elim (words-faults word argument) [
       | inl found ↦ elim (command_of-cases found.0 argument) [
         | inl taken ↦ let clash = sym e ∙ found.2 ∙ taken.1 in cc
-        | inr bad ↦ let clash = sym e ∙ found.2 ∙ bad in cc
+        | inr (inl bad) ↦ let clash = sym e ∙ found.2 ∙ bad.0 in cc
+        | inr (inr lacks) ↦ let clash = sym e ∙ found.2 ∙ lacks.0 in cc
       ]
       | inr none ↦ let clash = sym e ∙ none.1 in cc
     ]
@@ -242,7 +291,8 @@ unknown_verb v word argument same e =
     let known = reading_of_words-verb word argument v same in
     elim (command_of-cases v argument) [
       | inl taken ↦ let clash = sym e ∙ known ∙ taken.1 in cc
-      | inr bad ↦ let clash = sym e ∙ known ∙ bad in cc
+      | inr (inl bad) ↦ let clash = sym e ∙ known ∙ bad.0 in cc
+      | inr (inr lacks) ↦ let clash = sym e ∙ known ∙ lacks.0 in cc
     ]
 
 unknown-words : (word argument : List ℕ) → ((v : Verb) → ¬ IsSameWord word (word_of v)) → reading_of_words word argument ≡ Err Unknown
@@ -252,20 +302,37 @@ unknown-words word argument none =
       | inr unknown ↦ unknown.1
     ]
 
--- a bad argument stands behind a verb, and what spells no command is one
-bad_argument-verb : (word argument : List ℕ) → reading_of_words word argument ≡ Err BadArgument → (v : Verb) × IsSameWord word (word_of v)
+-- a bad argument stands behind a verb that is offered, and what spells no command is one
+bad_argument-verb : (word argument : List ℕ) → reading_of_words word argument ≡ Err BadArgument → IsVerb true word
 bad_argument-verb word argument e =
     elim (words-faults word argument) [
-      | inl found ↦ (found.0, verb_of-is word found.0 found.1)
+      | inl found ↦ elim (command_of-cases found.0 argument) [
+        | inl taken ↦ absurd (let clash = sym e ∙ found.2 ∙ taken.1 in cc)
+        | inr (inl bad) ↦ (found.0, verb_of-is word found.0 found.1, bad.1)
+        | inr (inr lacks) ↦ absurd (let clash = sym e ∙ found.2 ∙ lacks.0 in cc)
+      ]
       | inr none ↦ absurd (let clash = sym e ∙ none.1 in cc)
     ]
 
-bad_argument-words : (word argument : List ℕ) → (v : Verb) × IsSameWord word (word_of v) → ((command : Command) → ¬ IsSpelled command word argument) → reading_of_words word argument ≡ Err BadArgument
+bad_argument-words : (word argument : List ℕ) → IsVerb true word → ((command : Command) → ¬ IsSpelled command word argument) → reading_of_words word argument ≡ Err BadArgument
 bad_argument-words word argument known none =
     let reading = reading_of_words-verb word argument known.0 known.1 in
     elim (command_of-cases known.0 argument) [
       | inl taken ↦ absurd (none taken.0 (spelled-command_of known.0 word argument taken.0 known.1 taken.1))
-      | inr bad ↦ reading ∙ bad
+      | inr (inl bad) ↦ reading ∙ bad.0
+      | inr (inr lacks) ↦ absurd (let clash = sym known.2 ∙ lacks.1 in cc)
+    ]
+
+-- what isn't offered is a verb that isn't
+not_offered-word : (word argument : List ℕ) → reading_of_words word argument ≡ Err NotOffered → IsVerb false word
+not_offered-word word argument e =
+    elim (words-faults word argument) [
+      | inl found ↦ elim (command_of-cases found.0 argument) [
+        | inl taken ↦ absurd (let clash = sym e ∙ found.2 ∙ taken.1 in cc)
+        | inr (inl bad) ↦ absurd (let clash = sym e ∙ found.2 ∙ bad.0 in cc)
+        | inr (inr lacks) ↦ (found.0, verb_of-is word found.0 found.1, lacks.1)
+      ]
+      | inr none ↦ absurd (let clash = sym e ∙ none.1 in cc)
     ]
 
 pub bad_byte_is_found : BadByteIsFound
@@ -292,6 +359,15 @@ bad_argument_is_found line word argument split = (
     | inr bad ↦ absurd (let clash = sym bad ∙ e in cc)
   ],
   λ h. reading-printable line word argument split h.0 ∙ bad_argument-words word argument h.1 h.2,
+)
+
+pub not_offered_is_found : NotOfferedIsFound
+not_offered_is_found line word argument split = (
+  λ e. elim (cases-printable line word argument split) [
+    | inl all ↦ (all, not_offered-word word argument (sym (reading-printable line word argument split all) ∙ e))
+    | inr bad ↦ absurd (let clash = sym bad ∙ e in cc)
+  ],
+  λ h. reading-printable line word argument split h.0 ∙ reading_of_words-verb word argument h.1.0 h.1.1 ∙ not_offered-verb h.1.0 argument h.1.2,
 )
 
 -- a test that doesn't heed the letter case of a letter
@@ -471,20 +547,28 @@ prefix_len-graphic p [] other all = refl
 prefix_len-graphic p (octet ∷ text) other all =
     cond-false (p octet) (1 + prefix_len p text) 0 (other octet (all 0 0 (omega arith)))
 
-pub helo_is_read : HeloIsRead
-helo_is_read verb host same is =
-    let plain_verb = plain-same verb (codes "HELO") refl refl refl refl refl same in
+-- a verb and a host word are read as what they spell
+host-reads : (verb host : List ℕ) (command : Command) → IsPlainWord verb → IsHostWord host → IsSpelled command verb host → reading_of (verb ++ codes " " ++ host) ≡ Ok command
+host-reads verb host command plain is spelled =
     let graphic = host-graphic host is in
     let begins = prefix_len-graphic is_space host (λ octet h. not-true (is_space octet) (graphic-no_space octet h)) graphic in
     let ends = prefix_len-graphic is_blank (reverse host) graphic-no_blank (AllPass-reverse is_ascii_graphic host graphic) in
     let printable = list_all-from_AllPass is_printable host (AllPass-weaker is_ascii_graphic is_printable host graphic-printable graphic) in
-    reading-from_reads (verb ++ codes " " ++ host) (Helo host) (record {
+    reading-from_reads (verb ++ codes " " ++ host) command (record {
       word = verb;
       argument = host;
-      splits = spaced-splits verb host (AllPass-from_list_all is_no_space verb plain_verb.no_space) is.not_empty begins ends;
-      printable = AllPass-from_list_all is_printable (verb ++ host) (list_all-append is_printable verb host ∙ and_from (list_all is_printable verb) (list_all is_printable host) plain_verb.printable printable);
-      spelled = (same, is, refl);
+      splits = spaced-splits verb host (AllPass-from_list_all is_no_space verb plain.no_space) is.not_empty begins ends;
+      printable = AllPass-from_list_all is_printable (verb ++ host) (list_all-append is_printable verb host ∙ and_from (list_all is_printable verb) (list_all is_printable host) plain.printable printable);
+      spelled = spelled;
     })
+
+pub helo_is_read : HeloIsRead
+helo_is_read verb host same is =
+    host-reads verb host (Helo host) (plain-same verb (codes "HELO") refl refl refl refl refl same) is (same, is, refl)
+
+pub ehlo_is_read : EhloIsRead
+ehlo_is_read verb host same is =
+    host-reads verb host (Ehlo host) (plain-same verb (codes "EHLO") refl refl refl refl refl same) is (same, is, refl)
 
 -- a verb alone is read as what it spells
 bare-reads : (verb : List ℕ) (command : Command) → IsPlainWord verb → IsSpelled command verb [] → reading_of verb ≡ Ok command
@@ -502,5 +586,7 @@ bare_verbs_are_read = record {
   data_is = λ verb same. bare-reads verb Data (plain-same verb (codes "DATA") refl refl refl refl refl same) (same, refl);
   rset_is = λ verb same. bare-reads verb Rset (plain-same verb (codes "RSET") refl refl refl refl refl same) (same, refl);
   noop_is = λ verb same. bare-reads verb Noop (plain-same verb (codes "NOOP") refl refl refl refl refl same) same;
+  vrfy_is = λ verb same. bare-reads verb Vrfy (plain-same verb (codes "VRFY") refl refl refl refl refl same) same;
+  help_is = λ verb same. bare-reads verb Help (plain-same verb (codes "HELP") refl refl refl refl refl same) same;
   quit_is = λ verb same. bare-reads verb Quit (plain-same verb (codes "QUIT") refl refl refl refl refl same) (same, refl);
 }

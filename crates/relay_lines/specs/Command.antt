@@ -4,7 +4,7 @@ use Rattle.std.specs.List.{AllPass, suffix_len}
 use Rattle.relay_octets.specs.LetterCase.{IsSameWord}
 use Rattle.relay_lines.specs.Word.{is_printable, is_blank, is_word, are_printable, without_trailing_blanks, first_word, argument_of, behind_keyword, is_host_word, SplitsLine, BeginsWithKeyword, IsHostWord}
 use Rattle.relay_lines.specs.declared.command.LineFault.{LineFault}
-use Rattle.relay_lines.specs.declared.command.LineFault.TheVariants.{Unknown, BadByte, BadArgument}
+use Rattle.relay_lines.specs.declared.command.LineFault.TheVariants.{Unknown, BadByte, BadArgument, NotOffered}
 use Rattle.relay_lines.specs.declared.command.Verb.{Verb}
 use Rattle.relay_lines.specs.declared.command.Verb.TheVariants as verb
 use Rattle.relay_lines.specs.declared.command.Command.{Command as Parsed}
@@ -13,26 +13,42 @@ use Rattle.relay_lines.specs.declared.command.Command.TheVariants as parsed
 -- a command with its octets
 pub data Command : Type 0 where
   Helo : List ℕ → Command
+  Ehlo : List ℕ → Command
   Mail : List ℕ → Command
   Rcpt : List ℕ → Command
   Data : Command
   Rset : Command
   Noop : Command
+  Vrfy : Command
+  Help : Command
   Quit : Command
 
 -- the word of each verb
 abbrev pub word_of : Verb → List ℕ
 word_of verb.Helo = codes "HELO"
+word_of verb.Ehlo = codes "EHLO"
 word_of verb.Mail = codes "MAIL"
 word_of verb.Rcpt = codes "RCPT"
 word_of verb.Data = codes "DATA"
 word_of verb.Rset = codes "RSET"
 word_of verb.Noop = codes "NOOP"
+word_of verb.Vrfy = codes "VRFY"
+word_of verb.Help = codes "HELP"
+word_of verb.Expn = codes "EXPN"
+word_of verb.Turn = codes "TURN"
 word_of verb.Quit = codes "QUIT"
 
 -- the verbs
 abbrev pub verbs : List Verb
-verbs = verb.Helo ∷ verb.Mail ∷ verb.Rcpt ∷ verb.Data ∷ verb.Rset ∷ verb.Noop ∷ verb.Quit ∷ []
+verbs =
+    verb.Helo ∷ verb.Ehlo ∷ verb.Mail ∷ verb.Rcpt ∷ verb.Data ∷ verb.Rset ∷ verb.Noop ∷ verb.Vrfy ∷ verb.Help
+    ∷ verb.Expn ∷ verb.Turn ∷ verb.Quit ∷ []
+
+-- profile: EXPN and TURN aren't offered
+abbrev pub is_offered : Verb → Bool
+is_offered verb.Expn = false
+is_offered verb.Turn = false
+is_offered _ = true
 
 -- the verb that a word is, in any letter case
 unfoldable pub verb_of : List ℕ → Option Verb
@@ -43,14 +59,19 @@ abbrev pub command_if : Bool → Command → Result Command LineFault
 command_if true command = Ok command
 command_if false command = Err BadArgument
 
--- what each verb says with an argument (sections 4.1.1.1 to 4.1.1.5, 4.1.1.9 and 4.1.1.10)
+-- what each verb says with an argument (section 4.1.1)
 unfoldable pub command_of : Verb → List ℕ → Result Command LineFault
 command_of verb.Helo argument = command_if (is_host_word argument) (Helo argument)
+command_of verb.Ehlo argument = command_if (is_host_word argument) (Ehlo argument)
 command_of verb.Mail argument = ok_or (option_map Mail (behind_keyword (codes "FROM:") argument)) BadArgument
 command_of verb.Rcpt argument = ok_or (option_map Rcpt (behind_keyword (codes "TO:") argument)) BadArgument
 command_of verb.Data argument = command_if (length argument == 0) Data
 command_of verb.Rset argument = command_if (length argument == 0) Rset
 command_of verb.Noop argument = Ok Noop
+command_of verb.Vrfy argument = Ok Vrfy
+command_of verb.Help argument = Ok Help
+command_of verb.Expn argument = Err NotOffered
+command_of verb.Turn argument = Err NotOffered
 command_of verb.Quit argument = command_if (length argument == 0) Quit
 
 -- the command of a verb, or the fault that there is none
@@ -73,11 +94,14 @@ reading_of line = reading_of_text (without_trailing_blanks line)
 -- the octets of a command that the code answers
 abbrev pub value_of : Parsed → Command
 value_of (parsed.Helo word) = Helo word.now
+value_of (parsed.Ehlo word) = Ehlo word.now
 value_of (parsed.Mail path) = Mail path.now
 value_of (parsed.Rcpt path) = Rcpt path.now
 value_of parsed.Data = Data
 value_of parsed.Rset = Rset
 value_of parsed.Noop = Noop
+value_of parsed.Vrfy = Vrfy
+value_of parsed.Help = Help
 value_of parsed.Quit = Quit
 
 -- what the code answers, with octets in place of slices
@@ -88,11 +112,14 @@ answer_of (Err fault) = Err fault
 -- how each command is spelled: its verb, in any letter case, and its argument
 abbrev pub IsSpelled : Command → List ℕ → List ℕ → Type 0
 IsSpelled (Helo host) word argument = IsSameWord word (codes "HELO") × IsHostWord host × (argument ≡ host)
+IsSpelled (Ehlo host) word argument = IsSameWord word (codes "EHLO") × IsHostWord host × (argument ≡ host)
 IsSpelled (Mail path) word argument = IsSameWord word (codes "MAIL") × BeginsWithKeyword argument (codes "FROM:") path
 IsSpelled (Rcpt path) word argument = IsSameWord word (codes "RCPT") × BeginsWithKeyword argument (codes "TO:") path
 IsSpelled Data word argument = IsSameWord word (codes "DATA") × (argument ≡ [])
 IsSpelled Rset word argument = IsSameWord word (codes "RSET") × (argument ≡ [])
 IsSpelled Noop word argument = IsSameWord word (codes "NOOP")
+IsSpelled Vrfy word argument = IsSameWord word (codes "VRFY")
+IsSpelled Help word argument = IsSameWord word (codes "HELP")
 IsSpelled Quit word argument = IsSameWord word (codes "QUIT") × (argument ≡ [])
 
 -- the line gives this command: its word and its argument are printable, and they spell it
@@ -136,13 +163,24 @@ UnknownIsFound =
     → (reading_of line ≡ Err Unknown)
     ↔ (AllPass is_printable (word ++ argument) × ((verb : Verb) → ¬ IsSameWord word (word_of verb)))
 
--- An argument is bad exactly where the line is printable, its word is a verb, and the two spell no command.
+-- the word is a verb that is offered, or one that isn't, as this says
+abbrev pub IsVerb : Bool → List ℕ → Type 0
+IsVerb offered word = (verb : Verb) × IsSameWord word (word_of verb) × (is_offered verb ≡ offered)
+
+-- An argument is bad exactly where the line is printable, its word is a verb that is offered, and the two spell no
+-- command.
 abbrev pub BadArgumentIsFound : Type 0
 BadArgumentIsFound =
     (line word argument : List ℕ) → SplitsLine line word argument
     → (reading_of line ≡ Err BadArgument)
-    ↔ (AllPass is_printable (word ++ argument) × ((verb : Verb) × IsSameWord word (word_of verb))
+    ↔ (AllPass is_printable (word ++ argument) × IsVerb true word
     × ((command : Command) → ¬ IsSpelled command word argument))
+
+-- A verb isn't offered exactly where the line is printable, and its word is such a verb.
+abbrev pub NotOfferedIsFound : Type 0
+NotOfferedIsFound =
+    (line word argument : List ℕ) → SplitsLine line word argument
+    → (reading_of line ≡ Err NotOffered) ↔ (AllPass is_printable (word ++ argument) × IsVerb false word)
 
 -- The letter case of a verb says nothing.
 abbrev pub LetterCaseIsFree : Type 0
@@ -170,9 +208,17 @@ HeloIsRead =
     (verb host : List ℕ) → IsSameWord verb (codes "HELO") → IsHostWord host
     → reading_of (verb ++ codes " " ++ host) ≡ Ok (Helo host)
 
+-- A client's EHLO is read as it was written, in any letter case.
+abbrev pub EhloIsRead : Type 0
+EhloIsRead =
+    (verb host : List ℕ) → IsSameWord verb (codes "EHLO") → IsHostWord host
+    → reading_of (verb ++ codes " " ++ host) ≡ Ok (Ehlo host)
+
 -- A client's line of a verb alone is read, in any letter case.
 pub record BareVerbsAreRead : Type 0 where
   pub data_is : (verb : List ℕ) → IsSameWord verb (codes "DATA") → reading_of verb ≡ Ok Data
   pub rset_is : (verb : List ℕ) → IsSameWord verb (codes "RSET") → reading_of verb ≡ Ok Rset
   pub noop_is : (verb : List ℕ) → IsSameWord verb (codes "NOOP") → reading_of verb ≡ Ok Noop
+  pub vrfy_is : (verb : List ℕ) → IsSameWord verb (codes "VRFY") → reading_of verb ≡ Ok Vrfy
+  pub help_is : (verb : List ℕ) → IsSameWord verb (codes "HELP") → reading_of verb ≡ Ok Help
   pub quit_is : (verb : List ℕ) → IsSameWord verb (codes "QUIT") → reading_of verb ≡ Ok Quit

@@ -12,6 +12,8 @@ use thiserror::Error;
 pub enum Command<'a> {
     /// The word of the client: 1 to 255 octets.
     Helo(&'a [u8]),
+    /// The same, of a client that asks for the service extensions.
+    Ehlo(&'a [u8]),
     /// What stands behind the colon of `FROM:`.
     Mail(&'a [u8]),
     /// What stands behind the colon of `TO:`.
@@ -22,12 +24,16 @@ pub enum Command<'a> {
     Rset,
     /// Nothing is done, whatever its argument.
     Noop,
+    /// A mailbox is asked for, whatever its argument.
+    Vrfy,
+    /// Help is asked for, whatever its argument.
+    Help,
     /// The client ends the session.
     Quit,
 }
 
-/// Why a line is no command. Faults are looked for in the order BadByte, Unknown, BadArgument, and the first one is
-/// answered.
+/// Why a line is no command. Faults are looked for in the order BadByte, Unknown, and then that of the verb, and the
+/// first one is answered.
 #[derive(Clone, Copy, Debug, PartialEq, Eq, Error)]
 pub enum LineFault {
     /// The line begins with no verb.
@@ -39,17 +45,25 @@ pub enum LineFault {
     /// The verb doesn't take this argument.
     #[error("bad argument")]
     BadArgument,
+    /// The verb is EXPN or TURN, whatever its argument.
+    #[error("not implemented")]
+    NotOffered,
 }
 
 /// What a command line begins with.
 #[derive(Clone, Copy, Debug, PartialEq, Eq)]
 enum Verb {
     Helo,
+    Ehlo,
     Mail,
     Rcpt,
     Data,
     Rset,
     Noop,
+    Vrfy,
+    Help,
+    Expn,
+    Turn,
     Quit,
 }
 
@@ -60,6 +74,8 @@ fn verb_of(word: &[u8]) -> Option<Verb>
 {
     if is_word(word, b"HELO") {
         Some(Verb::Helo)
+    } else if is_word(word, b"EHLO") {
+        Some(Verb::Ehlo)
     } else if is_word(word, b"MAIL") {
         Some(Verb::Mail)
     } else if is_word(word, b"RCPT") {
@@ -70,6 +86,14 @@ fn verb_of(word: &[u8]) -> Option<Verb>
         Some(Verb::Rset)
     } else if is_word(word, b"NOOP") {
         Some(Verb::Noop)
+    } else if is_word(word, b"VRFY") {
+        Some(Verb::Vrfy)
+    } else if is_word(word, b"HELP") {
+        Some(Verb::Help)
+    } else if is_word(word, b"EXPN") {
+        Some(Verb::Expn)
+    } else if is_word(word, b"TURN") {
+        Some(Verb::Turn)
     } else if is_word(word, b"QUIT") {
         Some(Verb::Quit)
     } else {
@@ -104,6 +128,7 @@ impl<'a> Command<'a> {
     {
         match verb {
             Verb::Helo if is_host_word(argument) => Ok(Command::Helo(argument)),
+            Verb::Ehlo if is_host_word(argument) => Ok(Command::Ehlo(argument)),
             Verb::Mail => match behind_keyword(b"FROM:", argument) {
                 Some(path) => Ok(Command::Mail(path)),
                 None => Err(LineFault::BadArgument),
@@ -115,8 +140,13 @@ impl<'a> Command<'a> {
             Verb::Data if argument.is_empty() => Ok(Command::Data),
             Verb::Rset if argument.is_empty() => Ok(Command::Rset),
             Verb::Noop => Ok(Command::Noop),
+            Verb::Vrfy => Ok(Command::Vrfy),
+            Verb::Help => Ok(Command::Help),
+            Verb::Expn | Verb::Turn => Err(LineFault::NotOffered),
             Verb::Quit if argument.is_empty() => Ok(Command::Quit),
-            Verb::Helo | Verb::Data | Verb::Rset | Verb::Quit => Err(LineFault::BadArgument),
+            Verb::Helo | Verb::Ehlo | Verb::Data | Verb::Rset | Verb::Quit => {
+                Err(LineFault::BadArgument)
+            }
         }
     }
 }

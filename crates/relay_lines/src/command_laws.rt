@@ -1,6 +1,6 @@
 //! What is true of command lines, whoever reads them.
 ghost use Rattle.relay_lines.specs.Word.{AddressLiteralIsTested, HostWordIsTested};
-ghost use Rattle.relay_lines.specs.Command.{EveryLineSplits, SplitIsOne, ReadingIsOfWords, ReadingIsOfSpelling, BadByteIsFound, UnknownIsFound, BadArgumentIsFound, LetterCaseIsFree, MailIsRead, RcptIsRead, HeloIsRead, BareVerbsAreRead};
+ghost use Rattle.relay_lines.specs.Command.{EveryLineSplits, SplitIsOne, ReadingIsOfWords, ReadingIsOfSpelling, BadByteIsFound, UnknownIsFound, BadArgumentIsFound, NotOfferedIsFound, LetterCaseIsFree, MailIsRead, RcptIsRead, HeloIsRead, EhloIsRead, BareVerbsAreRead};
 
 /// A line has a word and an argument.
 pub fn every_line_splits()
@@ -32,9 +32,15 @@ pub fn unknown_is_found()
     ensures { UnknownIsFound }
 {}
 
-/// An argument is bad exactly where the line is printable, its word is a verb, and the two spell no command.
+/// An argument is bad exactly where the line is printable, its word is a verb that is offered, and the two spell no
+/// command.
 pub fn bad_argument_is_found()
     ensures { BadArgumentIsFound }
+{}
+
+/// A verb isn't offered exactly where the line is printable, and its word is EXPN or TURN.
+pub fn not_offered_is_found()
+    ensures { NotOfferedIsFound }
 {}
 
 /// The letter case of a verb says nothing.
@@ -55,6 +61,11 @@ pub fn rcpt_is_read()
 /// A client's HELO is read as it was written, in any letter case.
 pub fn helo_is_read()
     ensures { HeloIsRead }
+{}
+
+/// A client's EHLO is read as it was written, in any letter case.
+pub fn ehlo_is_read()
+    ensures { EhloIsRead }
 {}
 
 /// A client's line of a verb alone is read, in any letter case.

@@ -13,5 +13,5 @@ pub mod word;
 pub use command::{Command, LineFault};
 pub use line::{LineCut, next_line};
 pub use line_buffer::{LINE_LIMIT, LineBuffer};
-pub use reply::{REPLY_LINES, Reply, write_line};
+pub use reply::{REPLY_LINES, Reply, write_line, write_middle_line};
 pub use reply_reader::{ReplyCut, ReplyFault, ReplyReader};

@@ -1,7 +1,7 @@
 ghost use Rattle.std.specs.Prelude.{◌≡◌, ◌<◌, ◌↔◌, ◌++◌, IsTrue, OnOk, OnErr};
 ghost use Rattle.std.specs.List.{AllByRecursion};
 ghost use Rattle.relay_octets.specs.Line.{crlf};
-ghost use Rattle.relay_lines.specs.Reply.{IsReplyLine, Begins, code_digits, last_line, lines_of_reply, one_line, reply_text};
+ghost use Rattle.relay_lines.specs.Reply.{IsReplyLine, Begins, code_digits, last_line, lines_of_reply, middle_line, one_line, reply_text};
 
 use crate::line_buffer::LINE_LIMIT;
 use relay_octets::{Octets, find_crlf};
@@ -106,6 +106,21 @@ pub fn write_line(out: &mut Vec<u8>, code: u16, text: &[u8], more: &[u8]) -> Res
 {
     let start = out.len();
     let written = push_last(out, code, text, more);
+    if written.is_err() {
+        out.truncate(start);
+    }
+    written
+}
+
+/// Writes a line of a reply that another follows at the end of `out`: the code, a hyphen, and the text. Where memory
+/// runs out, nothing is written.
+pub fn write_middle_line(out: &mut Vec<u8>, code: u16, text: &[u8]) -> Result<(), AllocError>
+    requires { code < 1000 }
+    ensures ok { OnOk result (out.new.items ≡ out.old.items ++ middle_line code text.now) }
+    ensures err { OnErr result (out.new.items ≡ out.old.items) }
+{
+    let start = out.len();
+    let written = push_line(out, code, b"-", text, b"");
     if written.is_err() {
         out.truncate(start);
     }

@@ -2,7 +2,7 @@
 use relay_lines::{Command, LineFault, word};
 use std::test::Fail;
 
-const COMMANDS: [(&[u8], Command<'static>); 26] = [
+const COMMANDS: [(&[u8], Command<'static>); 32] = [
     (b"HELO client.example", Command::Helo(b"client.example")),
     (b"MAIL FROM:<a@b.example>", Command::Mail(b"<a@b.example>")),
     (b"RCPT TO:<c@d.example>", Command::Rcpt(b"<c@d.example>")),
@@ -32,15 +32,21 @@ const COMMANDS: [(&[u8], Command<'static>); 26] = [
     (b"HELO []", Command::Helo(b"[]")),
     (b"HELO a_b-c.1", Command::Helo(b"a_b-c.1")),
     (b"HELO -", Command::Helo(b"-")),
+    (b"EHLO client.example", Command::Ehlo(b"client.example")),
+    (b"ehlo [::1]", Command::Ehlo(b"[::1]")),
+    (b"VRFY a b", Command::Vrfy),
+    (b"vrfy", Command::Vrfy),
+    (b"HELP", Command::Help),
+    (b"help me", Command::Help),
 ];
 
-const FAULTS: [(&[u8], LineFault); 46] = [
+const FAULTS: [(&[u8], LineFault); 53] = [
     (b"", LineFault::Unknown),
     (b" \t", LineFault::Unknown),
     (b" NOOP", LineFault::Unknown),
-    (b"EHLO client.example", LineFault::Unknown),
     (b"BDAT 5 LAST", LineFault::Unknown),
-    (b"VRFY a", LineFault::Unknown),
+    (b"EHL x", LineFault::Unknown),
+    (b"TURNS", LineFault::Unknown),
     (b"STARTTLS", LineFault::Unknown),
     (b"NOO", LineFault::Unknown),
     (b"NOOPS", LineFault::Unknown),
@@ -81,6 +87,13 @@ const FAULTS: [(&[u8], LineFault); 46] = [
     (b"DATA x", LineFault::BadArgument),
     (b"RSET x", LineFault::BadArgument),
     (b"QUIT now", LineFault::BadArgument),
+    (b"EHLO", LineFault::BadArgument),
+    (b"EHLO a b", LineFault::BadArgument),
+    (b"EXPN", LineFault::NotOffered),
+    (b"expn list", LineFault::NotOffered),
+    (b"TURN", LineFault::NotOffered),
+    (b"Turn x", LineFault::NotOffered),
+    (b"EXPN \x80", LineFault::BadByte),
 ];
 
 #[test]
@@ -143,6 +156,7 @@ fn a_line_fault_has_a_text(rt: HostRuntime) -> Result<(), Fail> {
         (LineFault::Unknown, "unknown command"),
         (LineFault::BadByte, "bad octet in line"),
         (LineFault::BadArgument, "bad argument"),
+        (LineFault::NotOffered, "not implemented"),
     ];
     for (fault, text) in rows {
         assert_eq!(rt; format!(in rt.alloc(); "{fault}")?.as_str(), text);
