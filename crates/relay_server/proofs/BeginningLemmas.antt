@@ -7,10 +7,12 @@ use Rattle.relay_body.specs.declared.gathered.Gathered.{Gathered}
 use Rattle.relay_body.specs.declared.gathered.Gathered.TheVariants.{Whole, TooLarge}
 use Rattle.relay_body.proofs.DotTextLemmas.{no_text_begins_another}
 use Rattle.relay_lines.specs.Reply.{reply_text}
-use Rattle.relay_server.specs.declared.envelope.Envelope.{Envelope}
+use Rattle.relay_envelope.specs.declared.envelope.Envelope.{Envelope}
+use Rattle.relay_server.specs.declared.client.Client.{Client}
 use Rattle.relay_server.specs.declared.offer.Answer.{Answer}
 use Rattle.relay_server.specs.declared.reply_table.Row.TheVariants.{Greeting}
-use Rattle.relay_server.specs.Dialogue.{Setup, Offered, Turn, Answers, Turns, IsLeft, IsOutcome, read_by, written_by, offered_by, answered_by, answers_in, offers_in}
+use Rattle.relay_server.specs.Dialogue.{Offered, Turn, Answers, Turns, IsLeft, IsOutcome, read_by, written_by, offered_by, answered_by, answers_in, offers_in}
+use Rattle.relay_server.specs.Setup.{Setup}
 use Rattle.relay_server.specs.DialogueLaws.{Begins, AreNumbered, BeginningsHaveBeginnings}
 use Rattle.relay_server.specs.Reply.{reply_of}
 use Rattle.relay_server.specs.State.{State, Command, Receiving, Closed, start}
@@ -51,7 +53,7 @@ numbered_parts (answer ∷ front) back h =
     ((h.0, later.0), later.1)
 
 -- the reply to a text tells the answer
-outcome_tells : (setup : Setup) (client : List ℕ) (envelope : Envelope) (gathered : Gathered) (turn other : Turn) (behind more : List ℕ) → IsOutcome setup client envelope gathered turn → IsOutcome setup client envelope gathered other → AreNumbered (answers_in other.offer) → reply_text turn.reply ++ behind ≡ reply_text other.reply ++ more → answers_in turn.offer ≡ answers_in other.offer
+outcome_tells : (setup : Setup) (client : Client) (envelope : Envelope) (gathered : Gathered) (turn other : Turn) (behind more : List ℕ) → IsOutcome setup client envelope gathered turn → IsOutcome setup client envelope gathered other → AreNumbered (answers_in other.offer) → reply_text turn.reply ++ behind ≡ reply_text other.reply ++ more → answers_in turn.offer ≡ answers_in other.offer
 outcome_tells setup client envelope TooLarge turn other behind more one two h e = ap answers_in (one.1 ∙ sym two.1)
 outcome_tells setup client envelope (Whole content) turn other behind more one two h e =
     let number = subst (λ o. AreNumbered (answers_in o)) two.2 h in

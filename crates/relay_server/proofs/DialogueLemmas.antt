@@ -10,7 +10,8 @@ use Rattle.relay_server.specs.declared.offer.Answer.{Answer}
 use Rattle.relay_server.specs.declared.reply_table.Row.TheVariants.{Greeting}
 use Rattle.relay_server.specs.declared.stage.Stage.{Stage}
 use Rattle.relay_server.specs.declared.stage.Stage.TheVariants as stage
-use Rattle.relay_server.specs.Dialogue.{Setup, Offered, Turn, Answers, Turns, IsLeft, read_by, written_by, offered_by, answered_by, answers_in, row_of_answer}
+use Rattle.relay_server.specs.Dialogue.{Offered, Turn, Answers, Turns, IsLeft, read_by, written_by, offered_by, answered_by, answers_in, row_of_answer}
+use Rattle.relay_server.specs.Setup.{Setup}
 use Rattle.relay_server.specs.DialogueLaws.{RunsCompose, WhatStandsIsADialogue, OutputIsFixed}
 use Rattle.relay_server.specs.Reply.{reply_of}
 use Rattle.relay_server.specs.Session.{Keeps, state_at, offers_at}

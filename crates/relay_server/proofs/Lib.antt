@@ -1,4 +1,4 @@
-pub mod PathLemmas
+pub mod OctetLemmas
 pub mod SessionLemmas
 pub mod StandsLemmas
 pub mod UnitLemmas
@@ -7,3 +7,4 @@ pub mod DialogueLemmas
 pub mod ReplyTextLemmas
 pub mod BeginningLemmas
 pub mod ReplyLemmas
+pub mod StoredLemmas

@@ -13,9 +13,9 @@ use Rattle.relay_server.specs.declared.offer.Answer.{Answer}
 use Rattle.relay_server.specs.declared.offer.Answer.TheVariants.{Queued, Full}
 use Rattle.relay_server.specs.Dialogue.{row_of_answer}
 use Rattle.relay_server.specs.DialogueLaws.{IsNumbered}
-use Rattle.relay_server.specs.Mailbox.{stands_in}
+use Rattle.relay_envelope.specs.Mailbox.{stands_in}
 use Rattle.relay_server.specs.Reply.{reply_of}
-use Rattle.relay_server.proofs.PathLemmas.{stands_between}
+use Rattle.relay_server.proofs.OctetLemmas.{stands_between}
 
 -- without a CR there is no CR LF
 pub no_crlf_without_cr : (octets : List ℕ) → stands_in 13 octets ≡ false → HasNoCrlf octets

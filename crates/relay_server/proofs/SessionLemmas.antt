@@ -13,7 +13,8 @@ use Rattle.relay_server.specs.declared.state.Transaction.{Transaction}
 use Rattle.relay_server.specs.declared.state.CommandState.TheVariants as held
 use Rattle.relay_server.specs.declared.stage.Stage.{Stage}
 use Rattle.relay_server.specs.declared.stage.Stage.TheVariants as stage
-use Rattle.relay_server.specs.Dialogue.{Setup, Turn, IsOutcome}
+use Rattle.relay_server.specs.Dialogue.{Turn, IsOutcome}
+use Rattle.relay_server.specs.Setup.{Setup}
 use Rattle.relay_server.specs.Reply.{reply_of}
 use Rattle.relay_server.specs.ReplyTable.{Step, step, step_of}
 use Rattle.relay_server.specs.Session.{EndsText, EntersBy, GoesOn, Moves, TakesTurn}
@@ -22,7 +23,7 @@ use Rattle.relay_server.specs.Unit.{Asked, LongLine, Asks}
 use Rattle.relay_server.specs.Values.{IsJudged, state_of}
 
 -- a row of the table for what the line asks is a turn
-pub line_turn : (setup : Setup) (state : CommandState) (asked : Asked) (line : List ℕ) (new : Stage) (row : Row) (next : State) (before after : List ℕ) → HasNoCrlf line → Asks line asked → step_of setup.routes asked state ≡ step row next → EntersBy setup row next new before after → TakesTurn setup (Command state) new (line ++ crlf) before after
+pub line_turn : (setup : Setup) (state : CommandState) (asked : Asked) (line : List ℕ) (new : Stage) (row : Row) (next : State) (before after : List ℕ) → HasNoCrlf line → Asks line asked → step_of setup asked state ≡ step row next → EntersBy setup row next new before after → TakesTurn setup (Command state) new (line ++ crlf) before after
 line_turn setup state asked line new row next before after is_line asks table enters =
     let row_is = ap (λ (s : Step). s.row) table in
     let next_is = ap (λ (s : Step). s.next) table in
@@ -51,7 +52,7 @@ long_turn setup state line new before after is_line long enters =
     line_turn setup state LongLine line new LineTooLong (Command state) before after is_line (inl (long, refl)) refl enters
 
 -- a line that is judged is answered so
-pub judged_turn : (setup : Setup) (state : CommandState) (line : List ℕ) (new : Stage) (judged : Row × Next) (before after : List ℕ) → HasNoCrlf line → length line ≤ 2046 → IsJudged setup.routes (reading_of line) state judged → EntersBy setup judged.0 (state_of judged.1) new before after → TakesTurn setup (Command state) new (line ++ crlf) before after
+pub judged_turn : (setup : Setup) (state : CommandState) (line : List ℕ) (new : Stage) (judged : Row × Next) (before after : List ℕ) → HasNoCrlf line → length line ≤ 2046 → IsJudged setup (reading_of line) state judged → EntersBy setup judged.0 (state_of judged.1) new before after → TakesTurn setup (Command state) new (line ++ crlf) before after
 judged_turn setup state line new judged before after is_line short is enters =
     line_turn setup state is.0 line new judged.0 (state_of judged.1) before after is_line (inr (short, is.1)) is.2 enters
 

@@ -18,9 +18,10 @@ use Rattle.relay_server.specs.declared.stage.Stage.{Stage}
 use Rattle.relay_server.specs.declared.stage.Stage.TheVariants as stage
 use Rattle.relay_server.specs.declared.state.CommandState.TheVariants as held
 use Rattle.relay_server.specs.declared.state.Transaction.{Transaction}
-use Rattle.relay_server.specs.Dialogue.{Setup, Offered, Turn, IsOutcome, Answers, Turns, Said, more_said, read_by, written_by, offered_by, offers_in, answers_in, row_of_answer}
+use Rattle.relay_server.specs.Dialogue.{Offered, Turn, IsOutcome, Answers, Turns, Said, more_said, read_by, written_by, offered_by, offers_in, answers_in, row_of_answer}
+use Rattle.relay_server.specs.Setup.{Setup, setup_of}
 use Rattle.relay_server.specs.Reply.{reply_of}
-use Rattle.relay_server.specs.Session.{Advances, IsGiven, Keeps, KeepsText, Stands, Steps, is_reading, new_offers, offers_at, setup_of, state_at}
+use Rattle.relay_server.specs.Session.{Advances, IsGiven, Keeps, KeepsText, Stands, Steps, is_reading, new_offers, offers_at, state_at}
 use Rattle.relay_server.specs.State.{State, Command, Receiving, Greeted, start}
 
 -- one more turn at the end of a run

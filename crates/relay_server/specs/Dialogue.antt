@@ -7,26 +7,21 @@ use Rattle.relay_body.specs.DotText.{ReadsDotText, gathered_of}
 use Rattle.relay_body.specs.declared.gathered.Gathered.{Gathered}
 use Rattle.relay_body.specs.declared.gathered.Gathered.TheVariants.{Whole, TooLarge}
 use Rattle.relay_lines.specs.Reply.{Reply, reply_text}
-use Rattle.relay_server.specs.declared.envelope.Envelope.{Envelope}
+use Rattle.relay_envelope.specs.declared.envelope.Envelope.{Envelope}
+use Rattle.relay_server.specs.declared.client.Client.{Client}
 use Rattle.relay_server.specs.declared.offer.Answer.{Answer}
 use Rattle.relay_server.specs.declared.offer.Answer.TheVariants as answer
 use Rattle.relay_server.specs.declared.reply_table.Row.{Row}
 use Rattle.relay_server.specs.declared.reply_table.Row.TheVariants.{Greeting, ContentTooLarge, Queued, SpoolFull}
-use Rattle.relay_server.specs.declared.routes.Route.{Route}
 use Rattle.relay_server.specs.Reply.{reply_of}
 use Rattle.relay_server.specs.ReplyTable.{step_of}
+use Rattle.relay_server.specs.Setup.{Setup}
 use Rattle.relay_server.specs.State.{CommandState, Greeted, State, Command, Receiving, Closed, start}
 use Rattle.relay_server.specs.Unit.{HasNoUnit, Asked, Asks}
 
--- the server's name, the most octets of a content, and its routes
-pub record Setup : Type 0 where
-  pub host : List ℕ
-  pub max_content : ℕ
-  pub routes : List Route
-
--- a message that is offered for keeping: the client's word, the envelope, and the content
+-- a message that is offered for keeping: who offers it, the envelope, and the content
 pub record Offered : Type 0 where
-  pub client : List ℕ
+  pub client : Client
   pub envelope : Envelope
   pub content : List ℕ
 
@@ -48,19 +43,19 @@ pub record AnswersLine (setup : Setup) (old : CommandState) (turn : Turn) (new :
   pub unit : turn.asked ≡ text ++ crlf
   pub line : HasNoCrlf text
   pub asks : Asks text what
-  pub reply : turn.reply ≡ reply_of setup.host (step_of setup.routes what old).row
-  pub next : new ≡ (step_of setup.routes what old).next
+  pub reply : turn.reply ≡ reply_of setup.host (step_of setup what old).row
+  pub next : new ≡ (step_of setup what old).next
   pub no_offer : turn.offer ≡ None
 
 -- a content that is too large is refused, and another is offered and answered
-abbrev pub IsOutcome : Setup → List ℕ → Envelope → Gathered → Turn → Type 0
+abbrev pub IsOutcome : Setup → Client → Envelope → Gathered → Turn → Type 0
 IsOutcome setup client envelope TooLarge turn = (turn.reply ≡ reply_of setup.host ContentTooLarge) × (turn.offer ≡ None)
 IsOutcome setup client envelope (Whole content) turn =
     (given : Answer) × (turn.reply ≡ reply_of setup.host (row_of_answer given))
     × (turn.offer ≡ Some (record { client = client; envelope = envelope; content = content }, given))
 
 -- behind a dot text the transaction is over, whatever became of it
-pub record AnswersText (setup : Setup) (client : List ℕ) (envelope : Envelope) (turn : Turn) (new : State) : Type 0 where
+pub record AnswersText (setup : Setup) (client : Client) (envelope : Envelope) (turn : Turn) (new : State) : Type 0 where
   pub content : List ℕ
   pub unit : ReadsDotText turn.asked content
   pub outcome : IsOutcome setup client envelope (gathered_of setup.max_content content) turn

@@ -1,16 +1,20 @@
 -- What is true of units, turns and dialogues, whatever the pieces that the input comes in.
-use Rattle.std.specs.Prelude.{◌≡◌, ◌≢◌, ℕ, ◌^◌, ◌<◌, ◌≤◌, List, [], ◌∷◌, ◌++◌}
+use Rattle.std.specs.Prelude.{◌≡◌, ◌≢◌, ℕ, ◌^◌, ◌<◌, ◌≤◌, List, [], ◌∷◌, ◌++◌, length}
 use Rattle.std.specs.List.{AllByRecursion}
 use Rattle.relay_lines.specs.Reply.{IsReply}
-use Rattle.relay_server.specs.declared.envelope.Envelope.{Envelope}
+use Rattle.relay_lines.specs.Word.{IsHostWord}
+use Rattle.relay_envelope.specs.declared.envelope.Envelope.{Envelope}
+use Rattle.relay_envelope.specs.Envelope.{IsEnvelope}
+use Rattle.relay_server.specs.declared.client.Client.{Client}
 use Rattle.relay_server.specs.declared.offer.Answer.{Answer}
 use Rattle.relay_server.specs.declared.offer.Answer.TheVariants.{Queued, Full}
 use Rattle.relay_server.specs.declared.reply_table.Row.TheVariants.{Greeting}
 use Rattle.relay_server.specs.declared.session.Session.{Session}
 use Rattle.relay_server.specs.Config.{IsHostName}
-use Rattle.relay_server.specs.Dialogue.{Setup, Turn, Answers, Turns, Said, IsDialogue, answers_in, answered_by}
+use Rattle.relay_server.specs.Dialogue.{Offered, Turn, Answers, Turns, Said, IsDialogue, answers_in, answered_by}
 use Rattle.relay_server.specs.Reply.{reply_of}
 use Rattle.relay_server.specs.Session.{Stands}
+use Rattle.relay_server.specs.Setup.{Setup}
 use Rattle.relay_server.specs.State.{State, Receiving}
 use Rattle.relay_server.specs.Unit.{IsUnit}
 
@@ -70,7 +74,7 @@ BeginningsHaveBeginnings =
 -- of all replies to a text only the one to a queued offer is positive
 abbrev pub OnlyQueuedIsPositive : Type 0
 OnlyQueuedIsPositive =
-    (setup : Setup) (client : List ℕ) (envelope : Envelope) (turn : Turn) (new : State)
+    (setup : Setup) (client : Client) (envelope : Envelope) (turn : Turn) (new : State)
     → Answers setup (Receiving client envelope) turn new → 200 ≤ turn.reply.code → turn.reply.code < 300
     → (number : ℕ) × (answers_in turn.offer ≡ Queued number ∷ [])
 
@@ -81,3 +85,13 @@ RepliesAreWellFormed =
     → IsReply (reply_of setup.host Greeting)
     × ((old new : State) (turns : List Turn) → Turns setup old turns new → AreNumbered (answered_by turns)
     → AllByRecursion (λ turn. IsReply turn.reply) turns)
+
+-- an offer as it may be stored: the client's word is one of HELO's, the envelope is whole, and the content within the limit
+pub record MayBeStored (setup : Setup) (offer : Offered) : Type 0 where
+  pub client : IsHostWord offer.client.word
+  pub envelope : IsEnvelope offer.envelope
+  pub content : length offer.content ≤ setup.max_content
+
+-- each offer of a dialogue may be stored
+abbrev pub OffersMayBeStored : Type 0
+OffersMayBeStored = (setup : Setup) (said : Said) → IsDialogue setup said → AllByRecursion (MayBeStored setup) said.offers

@@ -1,8 +1,6 @@
-pub mod Mailbox
-pub mod Path
-pub mod Envelope
 pub mod Routes
 pub mod Config
+pub mod Setup
 pub mod State
 pub mod Unit
 pub mod Reply

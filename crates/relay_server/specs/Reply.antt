@@ -1,13 +1,14 @@
 -- The text of every reply of the server (RFC 5321, section 4.2.3).
-use Rattle.std.specs.Prelude.{ℕ, List, ◌++◌, codes, decimal}
-use Rattle.relay_lines.specs.Reply.{Reply, one_line}
+use Rattle.std.specs.Prelude.{ℕ, List, [], ◌∷◌, ◌++◌, codes, decimal}
+use Rattle.relay_lines.specs.Reply.{Reply, made_of, one_line}
 use Rattle.relay_server.specs.declared.reply_table.Row.{Row}
-use Rattle.relay_server.specs.declared.reply_table.Row.TheVariants.{Greeting, Hello, SenderOk, RecipientOk, TooManyRecipients, NoRoute, BadSequence, NoValidRecipients, StartMailInput, ContentTooLarge, Queued, SpoolFull, Done, Closing, UnknownCommand, BadOctet, LineTooLong, BadArgument, BadPath, UnknownParameter}
+use Rattle.relay_server.specs.declared.reply_table.Row.TheVariants.{Greeting, Hello, Extensions, SenderOk, RecipientOk, TooManyRecipients, NoRoute, BadSequence, NoValidRecipients, StartMailInput, ContentTooLarge, Queued, SpoolFull, Done, NotVerified, SeeStandard, Closing, UnknownCommand, BadOctet, LineTooLong, BadArgument, BadPath, BadValue, Repeated, UnknownParameter, NotOffered}
 
 -- what each row answers, at a server with this host name
 unfoldable pub reply_of : List ℕ → Row → Reply
 reply_of host Greeting = one_line 220 (host ++ codes " ESMTP relay ready")
 reply_of host Hello = one_line 250 host
+reply_of host Extensions = made_of 250 (host ∷ codes "DSN" ∷ [])
 reply_of host SenderOk = one_line 250 (codes "sender OK")
 reply_of host RecipientOk = one_line 250 (codes "recipient OK")
 reply_of host TooManyRecipients = one_line 452 (codes "too many recipients")
@@ -19,10 +20,15 @@ reply_of host ContentTooLarge = one_line 552 (codes "content too large")
 reply_of host (Queued number) = one_line 250 (codes "queued as " ++ decimal number)
 reply_of host SpoolFull = one_line 452 (codes "spool full")
 reply_of host Done = one_line 250 (codes "OK")
+reply_of host NotVerified = one_line 252 (codes "not verified")
+reply_of host SeeStandard = one_line 214 (codes "see RFC 5321")
 reply_of host Closing = one_line 221 (host ++ codes " closing")
 reply_of host UnknownCommand = one_line 500 (codes "unknown command")
 reply_of host BadOctet = one_line 500 (codes "bad octet in line")
 reply_of host LineTooLong = one_line 500 (codes "line too long")
 reply_of host BadArgument = one_line 501 (codes "bad argument")
 reply_of host BadPath = one_line 501 (codes "bad path")
+reply_of host BadValue = one_line 501 (codes "bad parameter value")
+reply_of host Repeated = one_line 501 (codes "parameter given twice")
 reply_of host UnknownParameter = one_line 555 (codes "unknown parameter")
+reply_of host NotOffered = one_line 502 (codes "not implemented")

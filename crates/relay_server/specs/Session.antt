@@ -9,22 +9,18 @@ use Rattle.relay_lines.specs.Reply.{reply_text}
 use Rattle.relay_lines.specs.HeldLine.{HeldLine, Holds}
 use Rattle.relay_server.specs.declared.stage.Stage.{Stage}
 use Rattle.relay_server.specs.declared.stage.Stage.TheVariants as stage
-use Rattle.relay_server.specs.declared.server.Server.{Server}
 use Rattle.relay_server.specs.declared.session.Session.{Session}
 use Rattle.relay_server.specs.declared.offer.Offer.{Offer}
 use Rattle.relay_server.specs.declared.session.Next.{Next}
 use Rattle.relay_server.specs.declared.session.Next.TheVariants as next
 use Rattle.relay_server.specs.declared.routes.Route.{Route}
-use Rattle.relay_server.specs.Dialogue.{Setup, Offered, Turn, Answers, Turns, Said, read_by, written_by, offered_by, answered_by}
+use Rattle.relay_server.specs.Dialogue.{Offered, Turn, Answers, Turns, Said, read_by, written_by, offered_by, answered_by}
 use Rattle.relay_server.specs.Reply.{reply_of}
 use Rattle.relay_server.specs.declared.reply_table.Row.{Row}
 use Rattle.relay_server.specs.declared.reply_table.Row.TheVariants.{Greeting, ContentTooLarge}
+use Rattle.relay_server.specs.Setup.{Setup, setup_of}
 use Rattle.relay_server.specs.State.{State, Command, Receiving, Closed, start}
 use Rattle.relay_server.specs.Values.{command_state_of}
-
--- the name, the limit and the routes that a server works with
-abbrev pub setup_of : Server → List Route → Setup
-setup_of server routes = record { host = server.host; max_content = server.max_content; routes = routes }
 
 -- the state of the dialogue, by the stage; while an offer is unanswered its text isn't
 abbrev pub state_at : Stage → State

@@ -1,9 +1,9 @@
 -- The plain values of what the code holds: texts in place of memory, and no reader.
-use Rattle.std.specs.Prelude.{◌≡◌, List, Result}
+use Rattle.std.specs.Prelude.{◌≡◌, Result}
 use Rattle.relay_lines.specs.declared.command.LineFault.{LineFault}
 use Rattle.relay_lines.specs.Command as line
 use Rattle.relay_server.specs.declared.reply_table.Row.{Row}
-use Rattle.relay_server.specs.declared.routes.Route.{Route}
+use Rattle.relay_server.specs.Setup.{Setup}
 use Rattle.relay_server.specs.ReplyTable.{step, step_of}
 use Rattle.relay_server.specs.Unit.{Asked, AsksBy}
 use Rattle.relay_server.specs.declared.state.CommandState.{CommandState as Held}
@@ -25,6 +25,6 @@ state_of (next.Receiving transaction) = Receiving transaction.client transaction
 state_of next.Closed = Closed
 
 -- the row and the state are those of the table for what the line asks
-abbrev pub IsJudged : List Route → Result line.Command LineFault → CommandState → Row × Next → Type 0
-IsJudged routes reading old judged =
-    (asked : Asked) × AsksBy reading asked × (step_of routes asked old ≡ step judged.0 (state_of judged.1))
+abbrev pub IsJudged : Setup → Result line.Command LineFault → CommandState → Row × Next → Type 0
+IsJudged setup reading old judged =
+    (asked : Asked) × AsksBy reading asked × (step_of setup asked old ≡ step judged.0 (state_of judged.1))

@@ -1,21 +1,23 @@
 //! Command lines judged by the reply table. No octet is written here.
-ghost use Rattle.std.specs.Prelude.{◌≡◌, [], Ok, IfOk};
+ghost use Rattle.std.specs.Prelude.{◌≡◌, Ok, IfOk};
 ghost use Rattle.relay_lines.specs.Command as line;
 ghost use Rattle.relay_lines.specs.Command.{reading_of};
-ghost use Rattle.relay_server.specs.Path.{answer_of, value_of};
-ghost use Rattle.relay_server.specs.ReplyTable.{step, step_of, step_of_data, step_of_mail, step_of_rcpt, row_of_fault, row_of_path_fault, without_transaction};
-ghost use Rattle.relay_server.specs.Unit.{Mail, Rcpt};
-ghost use Rattle.relay_server.specs.Values.{IsJudged, command_state_of, state_of};
+ghost use Rattle.relay_envelope.specs.Mail.{mail_reading, rcpt_reading, rcpt_value};
+ghost use Rattle.relay_server.specs.ReplyTable.{step, step_of_data, step_of_mail, step_of_rcpt, row_of_envelope_fault, row_of_fault, row_of_hello, without_transaction};
+ghost use Rattle.relay_server.specs.Setup.{setup_of};
 ghost use Rattle.relay_server.specs.State as standing;
+ghost use Rattle.relay_server.specs.State.{client_of};
+ghost use Rattle.relay_server.specs.Values.{IsJudged, command_state_of, state_of};
 
-use crate::envelope::{Envelope, PathBuf, Recipient, Recipients};
-use crate::path::{Path, PathFault, read_mail, read_rcpt};
+use crate::client::Client;
 use crate::reply_table::Row;
 use crate::routes::Table;
+use crate::server::Server;
 use crate::state::{CommandState, State, Transaction};
+use relay_envelope::{Envelope, EnvelopeFault, Mail, Rcpt, Recipient, read_mail, read_rcpt};
 use relay_lines::{Command, LineFault};
-use relay_octets::Octets;
-use std::alloc::{AllocError, Global};
+use relay_trace::Protocol;
+use std::alloc::AllocError;
 
 /// The most recipients of a transaction. RFC 5321, 4.5.3.1.8, asks for at least as many.
 const RECIPIENT_LIMIT: usize = 100;
@@ -23,71 +25,70 @@ const RECIPIENT_LIMIT: usize = 100;
 /// The row that answers a command line, and the state behind it. Faults of a line come before its place in the order
 /// of commands is looked at.
 pub(crate) fn judge(
-    alloc: Global,
+    server: &Server,
     table: &Table,
     text: &[u8],
     state: CommandState,
 ) -> Result<(Row, State), AllocError>
-    ensures { IfOk result (IsJudged table.now (reading_of text.now) (command_state_of state)) }
+    ensures { IfOk result (IsJudged (setup_of server.now table.now) (reading_of text.now) (command_state_of state)) }
 {
     match Command::parse(text) {
         Err(fault) => Ok((row_of_fault(fault), State::Command(state))),
-        Ok(command) => judge_command(alloc, table, command, state),
+        Ok(command) => judge_command(server, table, command, state),
     }
 }
 
 /// The row that answers a command, and the state behind it.
 fn judge_command(
-    alloc: Global,
+    server: &Server,
     table: &Table,
     command: Command<'_>,
     state: CommandState,
 ) -> Result<(Row, State), AllocError>
-    ensures { IfOk result (IsJudged table.now (Ok (line.value_of command.entry)) (command_state_of state)) }
+    ensures { IfOk result (IsJudged (setup_of server.now table.now) (Ok (line.value_of command.entry)) (command_state_of state)) }
 {
     match command {
-        Command::Helo(client) => judge_helo(alloc, client),
-        Command::Mail(path) => judge_mail(alloc, read_mail(path), state),
-        Command::Rcpt(path) => judge_rcpt(alloc, table, read_rcpt(path), state),
+        Command::Helo(word) => greet(server, word, Protocol::Smtp),
+        Command::Ehlo(word) => greet(server, word, Protocol::Esmtp),
+        Command::Mail(text) => judge_mail(server, read_mail(text), state),
+        Command::Rcpt(text) => judge_rcpt(server, table, read_rcpt(text), state),
         Command::Data => Ok(judge_data(state)),
         Command::Rset => Ok((Row::Done, State::Command(reset(state)))),
         Command::Noop => Ok((Row::Done, State::Command(state))),
+        Command::Vrfy => Ok((Row::NotVerified, State::Command(state))),
+        Command::Help => Ok((Row::SeeStandard, State::Command(state))),
         Command::Quit => Ok((Row::Closing, State::Closed)),
     }
 }
 
-/// HELO greets the client, and gives an open transaction up (RFC 5321, 4.1.4).
-fn judge_helo(alloc: Global, client: &[u8]) -> Result<(Row, State), AllocError>
-    ensures { IfOk result (λ judged. step Row.Hello (standing.Command (standing.Greeted client.now)) ≡ step judged.0 (state_of judged.1)) }
+/// HELO and EHLO greet the client, and give an open transaction up (RFC 5321, section 4.1.4).
+fn greet(server: &Server, word: &[u8], protocol: Protocol) -> Result<(Row, State), AllocError>
+    ensures { IfOk result (λ judged. step (row_of_hello protocol) (standing.Command (standing.Greeted (client_of word.now protocol)))
+        ≡ step judged.0 (state_of judged.1)) }
 {
-    let client = Octets::from_slice(alloc, client)?;
-    Ok((Row::Hello, State::Command(CommandState::Greeted(client))))
+    let client = Client::new(server.alloc, word, protocol)?;
+    let row = match protocol {
+        Protocol::Smtp => Row::Hello,
+        Protocol::Esmtp => Row::Extensions,
+    };
+    Ok((row, State::Command(CommandState::Greeted(client))))
 }
 
-/// MAIL opens a transaction.
+/// MAIL opens a transaction where the client is greeted and none is open.
 fn judge_mail(
-    alloc: Global,
-    path: Result<Path<'_>, PathFault>,
+    server: &Server,
+    mail: Result<Mail<'_>, EnvelopeFault>,
     state: CommandState,
 ) -> Result<(Row, State), AllocError>
-    ensures { IfOk result (λ judged. step_of [] (Mail (answer_of path.entry)) (command_state_of state) ≡ step judged.0 (state_of judged.1)) }
+    ensures { IfOk result (λ judged. step_of_mail (mail_reading mail.entry) (command_state_of state) ≡ step judged.0 (state_of judged.1)) }
 {
-    match path {
-        Err(fault) => Ok((row_of_path_fault(fault), State::Command(state))),
-        Ok(path) => open(alloc, path, state),
-    }
-}
-
-/// A transaction opens where the client is greeted and none is open.
-fn open(alloc: Global, path: Path<'_>, state: CommandState) -> Result<(Row, State), AllocError>
-    ensures { IfOk result (λ judged. step_of_mail (value_of path.entry) (command_state_of state) ≡ step judged.0 (state_of judged.1)) }
-{
+    let mail = match mail {
+        Err(fault) => return Ok((row_of_envelope_fault(fault), State::Command(state))),
+        Ok(mail) => mail,
+    };
     match state {
         CommandState::Greeted(client) => {
-            let envelope = Envelope {
-                reverse_path: PathBuf::new(alloc, path)?,
-                recipients: Recipients::new(alloc),
-            };
+            let envelope = Envelope::new(server.alloc, mail)?;
             let transaction = Transaction { client, envelope };
             Ok((
                 Row::SenderOk,
@@ -106,36 +107,39 @@ fn open(alloc: Global, path: Path<'_>, state: CommandState) -> Result<(Row, Stat
 
 /// RCPT adds a recipient.
 fn judge_rcpt(
-    alloc: Global,
+    server: &Server,
     table: &Table,
-    path: Result<Path<'_>, PathFault>,
+    rcpt: Result<Rcpt<'_>, EnvelopeFault>,
     state: CommandState,
 ) -> Result<(Row, State), AllocError>
-    ensures { IfOk result (λ judged. step_of table.now (Rcpt (answer_of path.entry)) (command_state_of state) ≡ step judged.0 (state_of judged.1)) }
+    ensures { IfOk result (λ judged. step_of_rcpt (setup_of server.now table.now) (rcpt_reading rcpt.entry) (command_state_of state)
+        ≡ step judged.0 (state_of judged.1)) }
 {
-    match path {
-        Err(fault) => Ok((row_of_path_fault(fault), State::Command(state))),
-        Ok(path) => match state {
-            CommandState::Open(transaction) => add(alloc, table, path, transaction),
-            CommandState::Fresh => Ok((Row::BadSequence, State::Command(CommandState::Fresh))),
-            CommandState::Greeted(client) => {
-                Ok((
-                    Row::BadSequence,
-                    State::Command(CommandState::Greeted(client)),
-                ))
-            }
-        },
+    let rcpt = match rcpt {
+        Err(fault) => return Ok((row_of_envelope_fault(fault), State::Command(state))),
+        Ok(rcpt) => rcpt,
+    };
+    match state {
+        CommandState::Open(transaction) => add(server, table, rcpt, transaction),
+        CommandState::Fresh => Ok((Row::BadSequence, State::Command(CommandState::Fresh))),
+        CommandState::Greeted(client) => {
+            Ok((
+                Row::BadSequence,
+                State::Command(CommandState::Greeted(client)),
+            ))
+        }
     }
 }
 
 /// A recipient is added where there is room and a hop takes its domain.
 fn add(
-    alloc: Global,
+    server: &Server,
     table: &Table,
-    path: Path<'_>,
+    rcpt: Rcpt<'_>,
     mut transaction: Transaction,
 ) -> Result<(Row, State), AllocError>
-    ensures { IfOk result (λ judged. step_of_rcpt table.now (value_of path.entry) (standing.Open transaction.client transaction.envelope) ≡ step judged.0 (state_of judged.1)) }
+    ensures { IfOk result (λ judged. step_of_rcpt (setup_of server.now table.now) (Ok (rcpt_value rcpt.entry)) (standing.Open transaction.client transaction.envelope)
+        ≡ step judged.0 (state_of judged.1)) }
 {
     if transaction.envelope.recipients.len() >= RECIPIENT_LIMIT {
         return Ok((
@@ -143,15 +147,13 @@ fn add(
             State::Command(CommandState::Open(transaction)),
         ));
     }
-    if table.hop(&path).is_none() {
+    if table.hop(server.host.as_slice(), &rcpt.path).is_none() {
         return Ok((
             Row::NoRoute,
             State::Command(CommandState::Open(transaction)),
         ));
     }
-    let recipient = Recipient {
-        path: PathBuf::new(alloc, path)?,
-    };
+    let recipient = Recipient::new(server.alloc, rcpt)?;
     transaction.envelope.recipients.push(recipient)?;
     Ok((
         Row::RecipientOk,
@@ -203,15 +205,18 @@ fn row_of_fault(fault: LineFault) -> Row
         LineFault::Unknown => Row::UnknownCommand,
         LineFault::BadByte => Row::BadOctet,
         LineFault::BadArgument => Row::BadArgument,
+        LineFault::NotOffered => Row::NotOffered,
     }
 }
 
 /// The row of a fault behind a colon.
-fn row_of_path_fault(fault: PathFault) -> Row
-    ensures { result ≡ row_of_path_fault fault }
+fn row_of_envelope_fault(fault: EnvelopeFault) -> Row
+    ensures { result ≡ row_of_envelope_fault fault }
 {
     match fault {
-        PathFault::BadPath => Row::BadPath,
-        PathFault::UnknownParameter => Row::UnknownParameter,
+        EnvelopeFault::BadPath => Row::BadPath,
+        EnvelopeFault::BadValue => Row::BadValue,
+        EnvelopeFault::Repeated => Row::Repeated,
+        EnvelopeFault::UnknownParameter => Row::UnknownParameter,
     }
 }

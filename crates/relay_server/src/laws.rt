@@ -1,5 +1,5 @@
 //! What is true of dialogues, whatever session holds them.
-ghost use Rattle.relay_server.specs.DialogueLaws.{NoUnitIsEmpty, NoUnitBeginsAnother, RunsCompose, WhatStandsIsADialogue, RowIsFixed, OutputIsFixed, BeginningsHaveBeginnings, OnlyQueuedIsPositive, RepliesAreWellFormed};
+ghost use Rattle.relay_server.specs.DialogueLaws.{NoUnitIsEmpty, NoUnitBeginsAnother, RunsCompose, WhatStandsIsADialogue, RowIsFixed, OutputIsFixed, BeginningsHaveBeginnings, OnlyQueuedIsPositive, RepliesAreWellFormed, OffersMayBeStored};
 
 /// No unit is empty.
 pub fn no_unit_is_empty()
@@ -44,4 +44,9 @@ pub fn only_queued_is_positive()
 /// The greeting and every reply are well formed, for a host name and numbers of 64 bits.
 pub fn replies_are_well_formed()
     ensures { RepliesAreWellFormed }
+{}
+
+/// Whatever is offered may be stored: a host word, a whole envelope of 1 to 100 recipients, a content within the limit.
+pub fn offers_may_be_stored()
+    ensures { OffersMayBeStored }
 {}

@@ -1,11 +1,12 @@
-use crate::envelope::Envelope;
+use crate::client::Client;
+use relay_envelope::Envelope;
 
 /// A message that the session offers, with its mail data whole: who keeps it answers for it from then on.
 #[derive(Clone, Copy, Debug)]
 pub struct Offer<'a> {
-    /// The word that the client gave with HELO.
-    pub client: &'a [u8],
-    /// Its reverse path and its recipients, at least one.
+    /// Who offers it.
+    pub client: &'a Client,
+    /// What MAIL and the RCPTs that were accepted said: 1 to 100 recipients.
     pub envelope: &'a Envelope,
     /// The mail data as it came, without transparency.
     pub content: &'a [u8],

@@ -3,7 +3,7 @@ ghost use Rattle.relay_lines.specs.Reply.{reply_text};
 ghost use Rattle.relay_server.specs.Reply.{reply_of};
 
 use itoa::Buffer;
-use relay_lines::write_line;
+use relay_lines::{write_line, write_middle_line};
 use std::alloc::AllocError;
 
 /// What the server answers: one row for each reply.
@@ -13,6 +13,8 @@ pub(crate) enum Row {
     Greeting,
     /// HELO.
     Hello,
+    /// EHLO: what is offered beside what the standard asks for.
+    Extensions,
     /// MAIL has opened a transaction.
     SenderOk,
     /// RCPT has added a recipient.
@@ -35,6 +37,10 @@ pub(crate) enum Row {
     SpoolFull,
     /// RSET and NOOP.
     Done,
+    /// VRFY (RFC 5321, section 3.5.3).
+    NotVerified,
+    /// HELP.
+    SeeStandard,
     /// QUIT.
     Closing,
     /// The verb is none of ours.
@@ -47,8 +53,14 @@ pub(crate) enum Row {
     BadArgument,
     /// No path stands where one must.
     BadPath,
+    /// A parameter's value is none of its keyword.
+    BadValue,
+    /// A parameter is given twice.
+    Repeated,
     /// A parameter that isn't offered.
     UnknownParameter,
+    /// A command that isn't offered.
+    NotOffered,
 }
 
 impl Row {
@@ -61,6 +73,7 @@ impl Row {
         match self {
             Row::Greeting => write_line(out, 220, host, b" ESMTP relay ready"),
             Row::Hello => write_line(out, 250, host, b""),
+            Row::Extensions => write_extensions(host, out),
             Row::SenderOk => write_line(out, 250, b"sender OK", b""),
             Row::RecipientOk => write_line(out, 250, b"recipient OK", b""),
             Row::TooManyRecipients => write_line(out, 452, b"too many recipients", b""),
@@ -79,13 +92,34 @@ impl Row {
             }
             Row::SpoolFull => write_line(out, 452, b"spool full", b""),
             Row::Done => write_line(out, 250, b"OK", b""),
+            Row::NotVerified => write_line(out, 252, b"not verified", b""),
+            Row::SeeStandard => write_line(out, 214, b"see RFC 5321", b""),
             Row::Closing => write_line(out, 221, host, b" closing"),
             Row::UnknownCommand => write_line(out, 500, b"unknown command", b""),
             Row::BadOctet => write_line(out, 500, b"bad octet in line", b""),
             Row::LineTooLong => write_line(out, 500, b"line too long", b""),
             Row::BadArgument => write_line(out, 501, b"bad argument", b""),
             Row::BadPath => write_line(out, 501, b"bad path", b""),
+            Row::BadValue => write_line(out, 501, b"bad parameter value", b""),
+            Row::Repeated => write_line(out, 501, b"parameter given twice", b""),
             Row::UnknownParameter => write_line(out, 555, b"unknown parameter", b""),
+            Row::NotOffered => write_line(out, 502, b"not implemented", b""),
         }
     }
+}
+
+/// Writes the reply to EHLO (RFC 5321, section 4.1.1.1): the name of the host, and a keyword a line. Where memory runs
+/// out, nothing is written.
+#[tactic(auto, unfolding(crate::specs::Reply::reply_of))]
+fn write_extensions(host: &[u8], out: &mut Vec<u8>) -> Result<(), AllocError>
+    ensures ok { OnOk result (out.new.items ≡ out.old.items ++ reply_text (reply_of host.now Row.Extensions)) }
+    ensures err { OnErr result (out.new.items ≡ out.old.items) }
+{
+    let start = out.len();
+    write_middle_line(out, 250, host)?;
+    let written = write_line(out, 250, b"DSN", b"");
+    if written.is_err() {
+        out.truncate(start);
+    }
+    written
 }

@@ -1,9 +1,9 @@
 ghost use Rattle.std.specs.Prelude.{◌≡◌, [], ◌∷◌, ◌++◌, OnOk, OnErr};
 ghost use Rattle.std.specs.Option.{option_copied};
-ghost use Rattle.relay_server.specs.Path.{value_of};
+ghost use Rattle.relay_envelope.specs.Path.{value_of};
 ghost use Rattle.relay_server.specs.Routes.{entry_of, hop_of, is_for};
 
-use crate::path::Path;
+use relay_envelope::{Path, domain_of};
 use relay_octets::Octets;
 use std::alloc::{AllocError, Global};
 use std::marker::Model;
@@ -67,12 +67,15 @@ impl Table {
         Ok(())
     }
 
-    /// The next hop of a path: the entry of its domain, in any letter case, else the entry `*`. `<>` has none.
-    /// It takes no memory.
-    pub fn hop(&self, path: &Path<'_>) -> Option<&Hop>
-        ensures { option_copied result ≡ hop_of self.now (value_of path.now) }
+    /// The next hop of a path at this host: the entry of its domain, in any letter case, else the entry `*`. `<>` has
+    /// none, and `<Postmaster>` (RFC 5321, section 4.5.1) is at the host itself. It takes no memory.
+    pub fn hop(&self, host: &[u8], path: &Path<'_>) -> Option<&Hop>
+        ensures { option_copied result ≡ hop_of host.now self.now (value_of path.now) }
     {
-        let domain = path.domain()?;
+        let domain = match path {
+            Path::Postmaster(_) => host,
+            Path::Null | Path::Mailbox(_) => domain_of(path)?,
+        };
         match self.entry(domain) {
             Some(hop) => Some(hop),
             None => self.entry(b"*"),

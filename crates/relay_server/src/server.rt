@@ -3,7 +3,8 @@ ghost use Rattle.std.specs.Prelude.{◌≡◌, ℕ, List, [], ◌++◌, ◌≤�
 ghost use Rattle.relay_octets.specs.Line.{HasNoCrlf, crlf};
 ghost use Rattle.relay_body.specs.DotText.{IsReading};
 ghost use Rattle.relay_server.specs.Dialogue.{row_of_answer};
-ghost use Rattle.relay_server.specs.Session.{EndsText, EntersBy, IsGiven, KeepsText, Moves, TakesTurn, offers_at, setup_of, state_at};
+ghost use Rattle.relay_server.specs.Session.{EndsText, EntersBy, IsGiven, KeepsText, Moves, TakesTurn, offers_at, state_at};
+ghost use Rattle.relay_server.specs.Setup.{setup_of};
 ghost use Rattle.relay_server.specs.State as standing;
 ghost use Rattle.relay_server.specs.Values.{command_state_of, state_of};
 ghost use Rattle.relay_server.specs.declared.routes.Route.{Route};
@@ -44,7 +45,7 @@ impl Server {
         if is_long {
             return self.reply(Row::LineTooLong, State::Command(state), out);
         }
-        let (row, next) = judge(self.alloc, table, text, state)?;
+        let (row, next) = judge(self, table, text, state)?;
         self.reply(row, next, out)
     }
 

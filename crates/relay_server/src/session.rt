@@ -1,6 +1,7 @@
 ghost use Rattle.std.specs.Prelude.{◌≡◌, ℕ, List, [], ◌∷◌, ◌++◌, ◌≤◌, ◌<◌, length, take, true, false, IfOk, OnErr, IsErr, MatchOption};
-ghost use Rattle.relay_server.specs.Dialogue.{Said, Setup, more_said};
-ghost use Rattle.relay_server.specs.Session.{Advances, HasFailed, HasOffer, Stands, Steps, Waits, is_reading, new_offers, next_of, offered, offers_since, open_offers, setup_of};
+ghost use Rattle.relay_server.specs.Dialogue.{Said, more_said};
+ghost use Rattle.relay_server.specs.Session.{Advances, HasFailed, HasOffer, Stands, Steps, Waits, is_reading, new_offers, next_of, offered, offers_since, open_offers};
+ghost use Rattle.relay_server.specs.Setup.{Setup, setup_of};
 ghost use Rattle.relay_server.specs.State as standing;
 ghost use Rattle.relay_server.specs.Values.{command_state_of};
 ghost use Rattle.relay_lines.specs.HeldLine.{Holds};
@@ -102,7 +103,7 @@ impl Session {
     {
         match &self.stage {
             Stage::Offering(transaction, content) => Some(Offer {
-                client: transaction.client.as_slice(),
+                client: &transaction.client,
                 envelope: &transaction.envelope,
                 content: content.as_slice(),
             }),

@@ -1,11 +1,10 @@
-use crate::envelope::Envelope;
-use relay_octets::Octets;
+use crate::client::Client;
+use relay_envelope::Envelope;
 
-/// A mail transaction (RFC 5321, 3.3) of a client that has said who it is.
+/// A mail transaction (RFC 5321, section 3.3) of a client that has said who it is.
 #[derive(Debug, Drop)]
 pub(crate) struct Transaction {
-    /// The word that the client gave with HELO.
-    pub(crate) client: Octets,
+    pub(crate) client: Client,
     pub(crate) envelope: Envelope,
 }
 
@@ -14,8 +13,8 @@ pub(crate) struct Transaction {
 pub(crate) enum CommandState {
     /// The client hasn't said who it is.
     Fresh,
-    /// It has, with this word, and no transaction is open.
-    Greeted(Octets),
+    /// It has, and no transaction is open.
+    Greeted(Client),
     /// A transaction is open.
     Open(Transaction),
 }

@@ -1,6 +1,6 @@
 -- What `relayd session` is told before it serves.
 use Rattle.std.specs.Prelude.{[], ◌∷◌, codes}
-use Rattle.relay_server.specs.Dialogue.{Setup}
+use Rattle.relay_server.specs.Setup.{Setup}
 
 -- profile: the host `relay.example` takes contents of up to 1,048,576 octets, for `example.org` alone, which the hop
 -- `next.example` takes on

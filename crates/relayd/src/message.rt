@@ -3,16 +3,17 @@ ghost use Rattle.relay_server.specs.Session.{offered};
 ghost use Rattle.relayd.specs.Kept.{offer_of};
 
 use relay_octets::Octets;
-use relay_server::{Envelope, Offer};
+use relay_envelope::Envelope;
+use relay_server::{Client, Offer};
 use std::alloc::{AllocError, Global};
 use std::marker::Model;
 
 /// A message that the relay keeps.
 #[derive(Debug, Drop)]
 pub struct Message {
-    /// The word that the client gave with HELO.
-    pub client: Octets,
-    /// Its reverse path and its recipients, at least one.
+    /// Who offered it.
+    pub client: Client,
+    /// What MAIL and the RCPTs that were accepted said: 1 to 100 recipients.
     pub envelope: Envelope,
     /// The mail data as it came, without transparency (RFC 5321, 4.5.2).
     pub content: Octets,
@@ -24,7 +25,7 @@ impl Message {
         ensures { IfOk result (λ message. offer_of message ≡ offered offer.now) }
     {
         Ok(Message {
-            client: Octets::from_slice(alloc, offer.client)?,
+            client: offer.client.copy(alloc)?,
             envelope: offer.envelope.copy(alloc)?,
             content: Octets::from_slice(alloc, offer.content)?,
         })

@@ -1,8 +1,8 @@
-ghost use Rattle.std.specs.Prelude.{◌≡◌, ℕ, List, ◌++◌, ◌<◌, length, IfOk, OnOk, OnErr};
+ghost use Rattle.std.specs.Prelude.{◌≡◌, ℕ, List, ◌++◌, ◌<◌, length, Option, IfOk, OnOk, OnErr};
 ghost use Rattle.std.specs.Io.KnownBytes.{Appends};
 ghost use Rattle.relay_server.specs.Dialogue.{Said};
 ghost use Rattle.relayd.specs.Exchange.{Rests};
-ghost use Rattle.relayd.specs.Served.{BreaksOff, GoesRound, IsBegun, IsServed};
+ghost use Rattle.relayd.specs.Served.{BreaksOff, GoesOn, GoesRound, IsBegun, IsServed};
 ghost use Rattle.relayd.specs.Setup.{session_setup};
 
 use crate::exchange::Exchange;
@@ -54,22 +54,37 @@ pub fn session<R: Read, W: Write>(
 {
     let config = configuration(alloc)?;
     let (session, greeting) = Session::new(alloc, &config)?;
-    let mut block: Vec<u8> = vec![in alloc; 0; BLOCK]?;
     let mut exchange = Exchange {
         session,
         messages: Messages::new(alloc),
     };
     send(writer, greeting.as_slice())?;
+    converse(alloc, &config.routes, &mut exchange, reader, writer)?;
+    Ok(exchange.messages)
+}
+
+/// Goes on behind what was said, up to a close or the end of the input. After a fault a beginning of the replies was
+/// written.
+fn converse<R: Read, W: Write>(
+    alloc: Global,
+    table: &Table,
+    exchange: &mut Exchange,
+    reader: &mut R,
+    writer: &mut W,
+) -> Result<(), SessionFault>
+    requires routes { session_setup.routes ≡ table.now }
+    requires rests { (said : Said) × Rests exchange.old said }
+    ensures served { IfOk result (λ _. (left held : Option (List ℕ))
+        → GoesOn left (R.remaining reader.old) held (W.contents writer.old) exchange.old
+        → IsServed left (R.remaining reader.new) held (W.contents writer.new) exchange.new.messages) }
+    ensures begun { OnErr result ((left held : Option (List ℕ))
+        → GoesOn left (R.remaining reader.old) held (W.contents writer.old) exchange.old
+        → IsBegun left (R.remaining reader.new) held (W.contents writer.new)) }
+{
+    let mut block: Vec<u8> = vec![in alloc; 0; BLOCK]?;
     for _ in 0..READS {
-        if exchange_block(
-            alloc,
-            &config.routes,
-            &mut exchange,
-            block.as_mut_slice(),
-            reader,
-            writer,
-        )? {
-            return Ok(exchange.messages);
+        if exchange_block(alloc, table, exchange, block.as_mut_slice(), reader, writer)? {
+            return Ok(());
         }
     }
     Err(SessionFault::Input)

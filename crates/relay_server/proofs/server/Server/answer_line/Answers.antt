@@ -4,7 +4,7 @@ use Rattle.relay_lines.specs.Command.{reading_of}
 use Rattle.std.proofs.lemmas.Result.{IfOk-weaker}
 use Rattle.relay_server.specs.declared.reply_table.Row.{Row}
 use Rattle.relay_server.specs.declared.state.State.{State as Next}
-use Rattle.relay_server.specs.Session.{setup_of}
+use Rattle.relay_server.specs.Setup.{setup_of}
 use Rattle.relay_server.specs.Values.{IsJudged, command_state_of}
 use Rattle.relay_server.proofs.SessionLemmas.{long_turn, judged_turn}
 use Rattle.relay_server.proofs.server.Server.answer_line.Goals as goal
@@ -27,6 +27,6 @@ returns c =
     (λ stage enters line is_line given.
     let short = rw c.if-is_long.false at given in
     judged_turn setup state line stage judged _ _ is_line short.0
-    (subst (λ (text : List ℕ). IsJudged setup.routes (reading_of text) state judged) short.1 c.in_ok-row.ensures)
+    (subst (λ (text : List ℕ). IsJudged setup (reading_of text) state judged) short.1 c.in_ok-row.ensures)
     (record { state = enters.state; written = enters.written; nothing_kept = enters.nothing_kept; none_unanswered = enters.none_unanswered }))
     c.reply-2.ensures

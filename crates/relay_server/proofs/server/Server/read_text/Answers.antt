@@ -1,6 +1,6 @@
 -- Where the text ends, it has been read whole.
 use Rattle.std.proofs.Common.{◌++◌, take}
-use Rattle.relay_server.specs.Session.{setup_of}
+use Rattle.relay_server.specs.Setup.{setup_of}
 use Rattle.relay_server.proofs.SessionLemmas.{text_ends}
 use Rattle.relay_server.proofs.server.Server.read_text.Goals as goal
 

@@ -1,6 +1,7 @@
 -- what has been used so far is what the session stands behind
 use Rattle.std.proofs.Common.{◌≡◌, ◌≤◌, ◌-◌, ◌++◌, ℕ, List, [], true, false, length, take}
-use Rattle.relay_server.specs.Dialogue.{Said, Setup, more_said}
+use Rattle.relay_server.specs.Dialogue.{Said, more_said}
+use Rattle.relay_server.specs.Setup.{Setup}
 use Rattle.relay_server.specs.Session.{Stands, is_reading, new_offers}
 use Rattle.relay_server.proofs.session.Session.read.Given as goal
 

@@ -1,6 +1,7 @@
 -- The line that ends in the buffer is answered.
 use Rattle.std.proofs.Common.{List, ℕ, sym, subst, inr}
-use Rattle.relay_server.specs.Session.{IsGiven, TakesTurn, setup_of}
+use Rattle.relay_server.specs.Session.{IsGiven, TakesTurn}
+use Rattle.relay_server.specs.Setup.{setup_of}
 use Rattle.relay_server.specs.State.{Command}
 use Rattle.relay_server.specs.Values.{command_state_of}
 use Rattle.relay_server.proofs.StandsLemmas.{given_line, line_is_unit}

@@ -1,0 +1,15 @@
+-- so far the exchange has gone on with what was read and written
+use Rattle.std.proofs.Common.{◌<◌, ℕ, List, Option, length}
+use Rattle.relay_server.specs.Dialogue.{Said}
+use Rattle.relayd.specs.Exchange.{Rests}
+use Rattle.relayd.specs.Served.{GoesOn}
+use Rattle.relayd.proofs.streams.converse.Given as goal
+
+abbrev pub invariant-loop : goal.invariant-loop
+invariant-loop g l = record {
+  room : 0 < length l.block.items;
+  rests : (said : Said) × Rests l.exchange said;
+  so_far : (left held : Option (List ℕ))
+      → GoesOn left (g.R.Read.remaining l.fn.reader) held (g.W.Write.contents l.fn.writer) l.initial.exchange
+      → GoesOn left (g.R.Read.remaining l.reader) held (g.W.Write.contents l.writer) l.exchange;
+}
