@@ -1,3 +1,7 @@
+ghost use Rattle.std.specs.Prelude.{◌≡◌, ◌≤◌, ◌↔◌, IfOk, IsTrue, length};
+ghost use Rattle.relay_dialogues.specs.Played.{Plays};
+ghost use Rattle.relay_dialogues.specs.Transcript.{IsTranscript, setup_from};
+
 use crate::play::Play;
 use relay_server::Config;
 use std::alloc::{AllocError, Global};
@@ -11,8 +15,10 @@ use std::test::Fail;
 pub struct Dialogue {
     /// The octets of the client.
     input: Vec<u8>,
-    /// What comes out of the session.
-    wanted: Vec<u8>,
+    /// The replies that are to come.
+    replies: Vec<u8>,
+    /// The offers that are to come.
+    offers: Vec<u8>,
 }
 
 /// What a dialogue came to.
@@ -20,9 +26,9 @@ pub struct Dialogue {
 pub enum Verdict {
     /// Each cutting gave what is written down.
     Equal,
-    /// Cut into two pieces behind this many octets, another text came out.
+    /// Cut into two pieces behind this many octets, something else came out.
     DiffersAt(usize),
-    /// In pieces of one octet, another text came out.
+    /// In pieces of one octet, something else came out.
     DiffersOctetByOctet,
 }
 
@@ -37,8 +43,8 @@ impl Display for Verdict {
 }
 
 impl Dialogue {
-    /// Reads the dialogue of this name: the client's octets from `NAME.in` of the folder, and what comes out from
-    /// `NAME.ref`.
+    /// Reads the dialogue of this name: the client's octets from `NAME.in` of the folder, the replies from `NAME.ref`,
+    /// and the offers from `NAME.offers`.
     pub fn read<R: Files + Alloc<A = Global>>(
         rt: &R,
         folder: &str,
@@ -47,28 +53,63 @@ impl Dialogue {
         let alloc = rt.alloc();
         Ok(Dialogue {
             input: fs::read(rt, format!(in alloc; "{folder}/{name}.in")?.as_str())?,
-            wanted: fs::read(rt, format!(in alloc; "{folder}/{name}.ref")?.as_str())?,
+            replies: fs::read(rt, format!(in alloc; "{folder}/{name}.ref")?.as_str())?,
+            offers: fs::read(rt, format!(in alloc; "{folder}/{name}.offers")?.as_str())?,
         })
     }
 
-    /// Holds the dialogue once for each cutting.
-    pub fn verdict(&self, alloc: Global, config: &Config) -> Result<Verdict, AllocError> {
+    /// Holds the dialogue once for each cutting. It fails where memory runs out.
+    pub fn verdict(&self, alloc: Global, config: &Config) -> Result<Verdict, AllocError>
+        ensures { IfOk result (λ verdict. verdict ≡ Verdict.Equal
+            → IsTranscript (setup_from config.now) self.now.input.items self.now.replies.items self.now.offers.items) }
+    {
         for place in 0..=self.input.len() {
-            let (front, rest) = self.input.as_slice().split_at(place);
-            let mut play = Play::new(alloc, config)?;
-            play.give(front)?;
-            play.give(rest)?;
-            if play.text() != self.wanted.as_slice() {
+            let play = self.cut_at(alloc, config, place)?;
+            if !self.is_as_written(&play) {
                 return Ok(Verdict::DiffersAt(place));
             }
         }
+        let play = self.octet_by_octet(alloc, config)?;
+        if self.is_as_written(&play) {
+            Ok(Verdict::Equal)
+        } else {
+            Ok(Verdict::DiffersOctetByOctet)
+        }
+    }
+
+    /// A play of the dialogue, cut into two pieces.
+    fn cut_at<'a>(
+        &self,
+        alloc: Global,
+        config: &'a Config,
+        place: usize,
+    ) -> Result<Play<'a>, AllocError>
+        requires { place ≤ length self.now.input.items }
+        ensures { IfOk result (λ play. Plays (setup_from config.now) play self.now.input.items) }
+    {
+        let (front, rest) = self.input.as_slice().split_at(place);
         let mut play = Play::new(alloc, config)?;
-        for octet in self.input.as_slice().chunks(1) {
-            play.give(octet)?;
+        play.give(front)?;
+        play.give(rest)?;
+        Ok(play)
+    }
+
+    /// A play of the dialogue in pieces of one octet.
+    fn octet_by_octet<'a>(&self, alloc: Global, config: &'a Config) -> Result<Play<'a>, AllocError>
+        ensures { IfOk result (λ play. Plays (setup_from config.now) play self.now.input.items) }
+    {
+        let mut play = Play::new(alloc, config)?;
+        for octet in self.input.as_slice() {
+            play.give(&[*octet])?;
         }
-        if play.text() != self.wanted.as_slice() {
-            return Ok(Verdict::DiffersOctetByOctet);
-        }
-        Ok(Verdict::Equal)
+        Ok(play)
+    }
+
+    /// Whether the replies and the offers of the play are those that are written down.
+    fn is_as_written(&self, play: &Play<'_>) -> bool
+        ensures { IsTrue result
+            ↔ ((play.now.replies ≡ self.now.replies.items) × (play.now.offers ≡ self.now.offers.items)) }
+    {
+        play.replies() == self.replies.as_slice() && play.offers() == self.offers.as_slice()
     }
 }

@@ -3,6 +3,7 @@
 #![tactic(auto)]
 
 mod dialogue;
+mod offer_text;
 mod play;
 mod setup;
 
@@ -28,6 +29,9 @@ const DIALOGUES: [&str; 9] = [
 /// The dialogues at a host that takes contents of up to 4 octets.
 const SMALL_DIALOGUES: [&str; 1] = ["small_contents"];
 
+/// Dialogues that are written down wrong on purpose, one reply or one offer each: they must differ.
+const WRONG_DIALOGUES: [&str; 2] = ["another_reply", "another_offer"];
+
 /// The word is the folder of the dialogues. Without one they lie where the program runs.
 fn main(rt: HostRuntime) -> Result<(), Fail> {
     let alloc = rt.alloc();
@@ -36,8 +40,10 @@ fn main(rt: HostRuntime) -> Result<(), Fail> {
         Some(word) => word.as_str(),
         None => ".",
     };
-    hold(&rt, folder, &DIALOGUES, &configuration(alloc)?)?;
-    hold(&rt, folder, &SMALL_DIALOGUES, &small_configuration(alloc)?)
+    let config = configuration(alloc)?;
+    hold(&rt, folder, &DIALOGUES, &config)?;
+    hold(&rt, folder, &SMALL_DIALOGUES, &small_configuration(alloc)?)?;
+    hold(&rt, folder, &WRONG_DIALOGUES, &config)
 }
 
 /// Holds the dialogues of these names, and prints a line for each.

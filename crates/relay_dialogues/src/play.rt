@@ -1,92 +1,145 @@
-use relay_server::{Answer, Config, Next, Offer, Session, Table};
+ghost use Rattle.std.specs.Prelude.{◌≡◌, ◌≤◌, ℕ, List, [], ◌++◌, false, length, take, IfOk, OnOk};
+ghost use Rattle.relay_server.specs.Dialogue.{Said, Setup};
+ghost use Rattle.relay_server.specs.Session.{HasOffer, next_of, open_offers};
+ghost use Rattle.relay_dialogues.specs.Played.{HasPlayed, IsAnswered, Plays, Uses};
+ghost use Rattle.relay_dialogues.specs.Transcript.{setup_from};
+
+use crate::offer_text::written_offer;
+use relay_octets::Octets;
+use relay_server::{Answer, Config, Next, Session, Table};
 use std::alloc::{AllocError, Global};
 
 /// A content that this caller has no room for.
 const UNWANTED: &[u8] = b"no room\r\n";
 
-/// A session, and the text of what has come out of it.
+/// A session, and what has come out of it.
 #[derive(Drop)]
 pub struct Play<'a> {
     alloc: Global,
     table: &'a Table,
     session: Session,
-    /// The replies as they came. Behind the reply to an offer stands what was offered.
-    text: Vec<u8>,
+    /// The replies as they came.
+    replies: Octets,
+    /// The offers that were answered, each written down.
+    offers: Octets,
     queued: u64,
     is_closed: bool,
 }
 
 impl<'a> Play<'a> {
-    /// A play that has begun: its text is the greeting.
-    pub fn new(alloc: Global, config: &'a Config) -> Result<Self, AllocError> {
-        let (session, text) = Session::new(alloc, config)?;
+    /// A play that has begun: its replies are the greeting. It fails where memory runs out.
+    pub fn new(alloc: Global, config: &'a Config) -> Result<Self, AllocError>
+        ensures { IfOk result (λ play. Plays (setup_from config.now) play []) }
+    {
+        let (session, greeting) = Session::new(alloc, config)?;
         Ok(Play {
             alloc,
             table: &config.routes,
             session,
-            text,
+            replies: Octets::new(greeting),
+            offers: Octets::from_slice(alloc, b"")?,
             queued: 0,
             is_closed: false,
         })
     }
 
-    /// What has come out.
-    pub fn text(&self) -> &[u8] {
-        self.text.as_slice()
+    /// The replies that have come out.
+    pub fn replies(&self) -> &[u8]
+        ensures { result.now ≡ self.now.replies }
+    {
+        self.replies.as_slice()
     }
 
-    /// Feeds a piece of the client's octets, up to a close.
-    pub fn give(&mut self, piece: &[u8]) -> Result<(), AllocError> {
-        let mut rest = piece;
-        for _ in 0..=piece.len() {
-            if self.is_closed {
-                break;
-            }
-            let fed = self.session.feed(self.table, rest)?;
-            self.text.extend_from_slice(fed.out.as_slice())?;
-            rest = &rest[fed.used..];
-            match fed.next {
-                Next::More => break,
+    /// The offers that have come out.
+    pub fn offers(&self) -> &[u8]
+        ensures { result.now ≡ self.now.offers }
+    {
+        self.offers.as_slice()
+    }
+
+    /// Gives the client's next octets. Those behind a close nobody reads. It fails where memory runs out.
+    pub fn give(&mut self, piece: &[u8]) -> Result<(), AllocError>
+        requires { (setup : Setup) × (octets : List ℕ) × Plays setup self.old octets }
+        ensures { OnOk result ((setup : Setup) (octets : List ℕ) → Plays setup self.old octets
+            → Plays setup self.new (octets ++ piece.now)) }
+    {
+        if self.is_closed {
+            Ok(())
+        } else {
+            self.give_open(piece)
+        }
+    }
+
+    /// Gives octets before a close.
+    fn give_open(&mut self, piece: &[u8]) -> Result<(), AllocError>
+        requires open { self.old.is_closed ≡ false }
+        requires plays { (setup : Setup) × (octets : List ℕ) × Plays setup self.old octets }
+        ensures { OnOk result ((setup : Setup) (octets : List ℕ) → Plays setup self.old octets
+            → Plays setup self.new (octets ++ piece.now)) }
+    {
+        let mut used = 0;
+        while used <= piece.len() {
+            let (count, next) = self.feed(&piece[used..])?;
+            used += count;
+            match next {
+                Next::More => return Ok(()),
+                Next::Close => {
+                    self.is_closed = true;
+                    return Ok(());
+                }
                 Next::Offer => self.answer()?,
-                Next::Close => self.is_closed = true,
             }
         }
+        unreachable!()
+    }
+
+    /// Feeds octets up to an offer or a close, or all of them. It answers how many, and what comes next.
+    fn feed(&mut self, rest: &[u8]) -> Result<(usize, Next), AllocError>
+        ensures uses { IfOk result (λ fed. (setup : Setup) (said : Said) → HasPlayed setup self.old said
+            → open_offers self.old.session ≡ [] → Uses setup self.new said (take fed.0 rest.now)) }
+        ensures within { IfOk result (λ fed. fed.0 ≤ length rest.now) }
+        ensures whole { IfOk result (λ fed. fed.1 ≡ Next.More → fed.0 ≡ length rest.now) }
+        ensures next { IfOk result (λ fed. fed.1 ≡ next_of self.new.session) }
+        ensures closed { self.new.is_closed ≡ self.old.is_closed }
+    {
+        let fed = self.session.feed(self.table, rest)?;
+        self.replies.push_slice(fed.out.as_slice())?;
+        Ok((fed.used, fed.next))
+    }
+
+    /// Answers the offer that is open, and writes it down.
+    fn answer(&mut self) -> Result<(), AllocError>
+        requires { HasOffer self.old.session }
+        ensures answered { OnOk result ((setup : Setup) (said : Said) → HasPlayed setup self.old said
+            → IsAnswered setup self.new said) }
+        ensures closed { self.new.is_closed ≡ self.old.is_closed }
+    {
+        let Some(offer) = self.session.offer() else {
+            unreachable!()
+        };
+        let text = written_offer(self.alloc, &offer)?;
+        let answer = self.answer_to(offer.content);
+        self.queued = self.queued_with(answer);
+        let reply = self.session.answer(answer)?;
+        self.replies.push_slice(reply.as_slice())?;
+        self.offers.push_slice(text.as_slice())?;
         Ok(())
     }
 
-    /// Answers the offer that is open, and writes down what was offered.
-    fn answer(&mut self) -> Result<(), AllocError> {
-        let Some(offer) = self.session.offer() else {
-            return Ok(());
-        };
-        let note = describe(self.alloc, &offer)?;
-        let answer = if offer.content == UNWANTED {
+    /// The answer to an offer of this content: the next number, or that there is no room.
+    fn answer_to(&self, content: &[u8]) -> Answer {
+        if content == UNWANTED {
             Answer::Full
         } else {
-            self.queued = self.queued.saturating_add(1);
-            Answer::Queued(self.queued)
-        };
-        let reply = self.session.answer(answer)?;
-        self.text.extend_from_slice(reply.as_slice())?;
-        self.text.extend_from_slice(note.as_slice())?;
-        Ok(())
+            Answer::Queued(self.queued.saturating_add(1))
+        }
     }
-}
 
-/// The lines of an offer: from whom, of which reverse path, to which recipients, and then its content.
-fn describe(alloc: Global, offer: &Offer<'_>) -> Result<Vec<u8>, AllocError> {
-    let mut text = Vec::new(alloc);
-    text.extend_from_slice(b"[offer of ")?;
-    text.extend_from_slice(offer.client)?;
-    text.extend_from_slice(b" from ")?;
-    text.extend_from_slice(offer.envelope.reverse_path.as_slice())?;
-    text.extend_from_slice(b" to")?;
-    for recipient in offer.envelope.recipients.as_slice() {
-        text.push(b' ')?;
-        text.extend_from_slice(recipient.path.as_slice())?;
+    /// The number of the last message that was queued, with this answer.
+    fn queued_with(&self, answer: Answer) -> u64 {
+        match answer {
+            Answer::Queued(number) => number,
+            Answer::Full => self.queued,
+        }
     }
-    text.extend_from_slice(b"]\r\n")?;
-    text.extend_from_slice(offer.content)?;
-    text.extend_from_slice(b"[end of offer]\r\n")?;
-    Ok(text)
 }

@@ -1,0 +1,3 @@
+pub mod OfferText
+pub mod Transcript
+pub mod Played
