@@ -7,3 +7,6 @@ pub mod MailLemmas
 pub mod WrittenLemmas
 pub mod ValidLemmas
 pub mod FitLemmas
+pub mod RowOfWordsLemmas
+pub mod MailRowLemmas
+pub mod RcptRowLemmas

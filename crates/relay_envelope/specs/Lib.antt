@@ -4,5 +4,6 @@ pub mod RowScan
 pub mod Mailbox
 pub mod Path
 pub mod Parameters
+pub mod ParameterRow
 pub mod Mail
 pub mod Envelope

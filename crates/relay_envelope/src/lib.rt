@@ -6,6 +6,7 @@ pub mod envelope_laws;
 mod fault;
 mod mail;
 pub mod mail_laws;
+pub mod parameter_laws;
 mod parameters;
 mod part;
 mod path;

@@ -1,0 +1,18 @@
+//! What is true of the parameters of MAIL and RCPT, whoever reads them: nothing here speaks of an order of reading.
+ghost use Rattle.relay_envelope.specs.ParameterRow.{MailRowIsRead, RcptRowIsRead, TextIsRow};
+
+/// Behind a path of MAIL each keyword stands once at most, with the value that is read of it, or the first faulty word
+/// fixes the fault.
+pub fn mail_row_is_read()
+    ensures { MailRowIsRead }
+{}
+
+/// The same behind a path of RCPT.
+pub fn rcpt_row_is_read()
+    ensures { RcptRowIsRead }
+{}
+
+/// Each text is a row of words with a space between each two.
+pub fn text_is_row()
+    ensures { TextIsRow }
+{}
