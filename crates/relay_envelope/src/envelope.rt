@@ -49,7 +49,7 @@ impl PathBuf {
         ensures { IfOk result (λ copy. copy ≡ self.now) }
     {
         Ok(PathBuf {
-            text: Octets::from_slice(alloc, self.text.as_slice())?,
+            text: Octets::from_slice(alloc, self.as_slice())?,
         })
     }
 }
@@ -57,7 +57,7 @@ impl PathBuf {
 /// ORCPT as it was written (RFC 3461, section 4.2): a type, `;` and xtext.
 #[derive(Debug, Drop)]
 pub struct Orcpt {
-    text: Octets,
+    written: Octets,
 }
 
 impl Model for Orcpt {
@@ -65,7 +65,7 @@ impl Model for Orcpt {
 
     ghost Value = { List ℕ };
 
-    ghost view = { λ orcpt. orcpt.text };
+    ghost view = { λ orcpt. orcpt.written };
 }
 
 impl Orcpt {
@@ -74,7 +74,7 @@ impl Orcpt {
         ensures { IfOk result (λ copy. copy ≡ text.now) }
     {
         Ok(Orcpt {
-            text: Octets::from_slice(alloc, text)?,
+            written: Octets::from_slice(alloc, text)?,
         })
     }
 
@@ -82,7 +82,7 @@ impl Orcpt {
     pub fn as_slice(&self) -> &[u8]
         ensures { result.now ≡ self.now }
     {
-        self.text.as_slice()
+        self.written.as_slice()
     }
 }
 
