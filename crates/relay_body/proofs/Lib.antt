@@ -1,3 +1,4 @@
 pub mod DotTextLemmas
 pub mod ReadingLemmas
 pub mod WritingLemmas
+pub mod ChunkLemmas

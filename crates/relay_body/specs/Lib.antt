@@ -1,2 +1,3 @@
 pub mod DotText
 pub mod DotSteps
+pub mod ChunkText

@@ -44,7 +44,7 @@ pub(crate) struct Gathering {
 }
 
 impl Gathering {
-    ghost use Rattle.std.specs.Prelude.{◌≡◌, ℕ, List, [], ◌++◌, OnOk};
+    ghost use Rattle.std.specs.Prelude.{◌≡◌, ℕ, List, [], ◌++◌, nat_lt, OnOk};
     ghost use Rattle.relay_body.specs.DotText.{KeepsContent, gathered_of};
 
     /// Nothing of a content yet. It takes no memory.
@@ -76,6 +76,14 @@ impl Gathering {
                 }
             }
         }
+    }
+
+    /// Whether the content so far passes the limit.
+    pub(crate) fn is_too_large(&self) -> bool
+        ensures { (limit : ℕ) (content : List ℕ)
+            → KeepsContent self.now limit content → result ≡ nat_lt limit (length content) }
+    {
+        self.kept.is_none()
     }
 
     /// The content, once it has come whole. It takes no memory.

@@ -1,0 +1,127 @@
+ghost use Rattle.std.specs.Prelude.{◌≡◌, ◌<◌, ◌≤◌, ◌↔◌, ℕ, List, [], true, length, nat_lt, Ok, IfOk, OnErr, IsErr, IsTrue};
+ghost use Rattle.relay_body.specs.ChunkText.{Chunk, BeginsChunk, FeedsChunk, Gathers, HasChunks, HasNoMemory, IsBetweenChunks, chunk_limit_of, content_of_chunks};
+ghost use Rattle.relay_body.specs.DotText.{gathered_of};
+
+use crate::gathered::{BodyFault, Gathered, Gathering};
+use std::alloc::Global;
+
+/// What a reader of chunks waits for.
+#[derive(Clone, Copy, Debug, PartialEq, Eq)]
+enum Stage {
+    /// So many octets of the chunk in hand. At 0 it has come whole.
+    Awaits(u32),
+    /// Memory ran out.
+    Failed,
+}
+
+/// What a feed has done.
+#[derive(Clone, Copy, Debug, PartialEq, Eq)]
+pub struct ChunkCut {
+    /// How many octets of the piece belong to the chunk.
+    pub used: usize,
+    /// Whether the chunk ends with them.
+    pub done: bool,
+}
+
+/// A reader of the chunks of one message, which may come in any pieces (RFC 3030, section 2).
+#[derive(Debug, Drop)]
+pub struct ChunkReader {
+    stage: Stage,
+    gathering: Gathering,
+}
+
+impl ChunkReader {
+    /// A reader that awaits no chunk yet. The limit is the greatest length of the content in octets, all chunks
+    /// together. It takes no memory.
+    pub fn new(alloc: Global, limit: usize) -> Self
+        ensures { HasChunks result limit [] }
+    {
+        ChunkReader {
+            stage: Stage::Awaits(0),
+            gathering: Gathering::new(alloc, limit),
+        }
+    }
+
+    /// Whether each chunk that was begun has come whole.
+    pub fn is_done(&self) -> bool
+        ensures { IsTrue result ↔ IsBetweenChunks self.now }
+    {
+        self.stage == Stage::Awaits(0)
+    }
+
+    /// Whether the octets that have come pass the limit.
+    pub fn is_too_large(&self) -> bool
+        ensures { (limit : ℕ) (content : List ℕ)
+            → Gathers self.now limit content → result ≡ nat_lt limit (length content) }
+    {
+        self.gathering.is_too_large()
+    }
+
+    /// Begins a chunk of this many octets. It takes no memory, whatever the size.
+    pub fn begin(&mut self, size: u32)
+        requires { IsBetweenChunks self.old }
+        ensures begins { BeginsChunk self.old self.new size }
+        ensures limit { chunk_limit_of self.new ≡ chunk_limit_of self.old }
+    {
+        self.stage = Stage::Awaits(size);
+    }
+
+    /// Uses the next piece up to the end of the chunk, and nothing where no chunk is awaited. Where the content passes
+    /// the limit, what was kept is dropped, and the chunk is read on all the same. Where memory runs out, the reader
+    /// fails and answers that from then on.
+    pub fn feed(&mut self, piece: &[u8]) -> Result<ChunkCut, BodyFault>
+        ensures feeds { IfOk result (FeedsChunk self.old self.new piece.now) }
+        ensures within { IfOk result (λ cut. cut.used ≤ length piece.now) }
+        ensures progress { 0 < length piece.now → ¬ IsBetweenChunks self.old → IfOk result (λ cut. 0 < cut.used) }
+        ensures behind { IsBetweenChunks self.old
+            → (result ≡ Ok (record { used = 0; done = true })) × (self.new ≡ self.old) }
+        ensures failed { OnErr result (HasNoMemory self.new) }
+        ensures again { HasNoMemory self.old → IsErr result }
+        ensures limit { chunk_limit_of self.new ≡ chunk_limit_of self.old }
+    {
+        match self.stage {
+            Stage::Failed => Err(BodyFault::NoMemory),
+            Stage::Awaits(0) => Ok(ChunkCut {
+                used: 0,
+                done: true,
+            }),
+            Stage::Awaits(missing) => self.take(missing, piece),
+        }
+    }
+
+    /// The content of the chunks, or that it was too large. It takes no memory.
+    pub fn finish(self) -> Gathered
+        requires { IsBetweenChunks self }
+        ensures { (limit : ℕ) (chunks : List Chunk)
+            → HasChunks self limit chunks → result ≡ gathered_of limit (content_of_chunks chunks) }
+    {
+        self.gathering.finish()
+    }
+
+    /// Uses the piece as far as octets are missing.
+    fn take(&mut self, missing: u32, piece: &[u8]) -> Result<ChunkCut, BodyFault>
+        requires stage { self.old.stage ≡ Stage.Awaits missing }
+        requires some { 0 < missing }
+        ensures feeds { IfOk result (FeedsChunk self.old self.new piece.now) }
+        ensures within { IfOk result (λ cut. cut.used ≤ length piece.now) }
+        ensures progress { 0 < length piece.now → IfOk result (λ cut. 0 < cut.used) }
+        ensures failed { OnErr result (HasNoMemory self.new) }
+        ensures limit { chunk_limit_of self.new ≡ chunk_limit_of self.old }
+    {
+        let used = piece.len().min(missing as usize);
+        match self.gathering.keep(&piece[..used]) {
+            Ok(()) => {
+                let left = missing - used as u32;
+                self.stage = Stage::Awaits(left);
+                Ok(ChunkCut {
+                    used,
+                    done: left == 0,
+                })
+            }
+            Err(_) => {
+                self.stage = Stage::Failed;
+                Err(BodyFault::NoMemory)
+            }
+        }
+    }
+}
