@@ -5,3 +5,4 @@ pub mod ReplyLemmas
 pub mod ReplyReadingLemmas
 pub mod ReplyLawLemmas
 pub mod ReplyFaultLemmas
+pub mod ChunkArgumentLemmas

@@ -4,3 +4,4 @@ pub mod Word
 pub mod Command
 pub mod Reply
 pub mod ReplyReading
+pub mod ChunkArgument
