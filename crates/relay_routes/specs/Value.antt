@@ -1,0 +1,60 @@
+-- Values of a configuration: names of hosts, addresses, and sizes.
+use Rattle.std.specs.Prelude.{◌≡◌, ◌≢◌, ℕ, ◌<◌, ◌≤◌, ◌^◌, Bool, false, ◌||◌, ◌==◌, List, [], ◌∷◌, ◌++◌, codes, decimal, length, pos}
+use Rattle.std.specs.List.{AllPass, AllByRecursion}
+use Rattle.std.specs.Char.{is_ascii_alphanumeric}
+use Rattle.std.specs.Net.Addr.{ipv4_octets}
+use Rattle.std.specs.Net.Socket.{v4_ip, v4_port}
+use Rattle.std.specs.Net.Text.{ipv4_text}
+use Rattle.std.specs.declared.net.socket_addr.SocketAddrV4.{SocketAddrV4}
+use Rattle.toml.specs.Data.{Data, integer, string}
+
+-- profile: a letter, a digit, `-` or `.`
+abbrev pub is_host_octet : ℕ → Bool
+is_host_octet octet = is_ascii_alphanumeric octet || octet == 45 || octet == 46
+
+-- the name of a host has at most 255 octets (RFC 5321, section 4.5.3.1.2); profile: each is one of these
+pub record IsHostName (host : List ℕ) : Type 0 where
+  pub some_octet : 0 < length host
+  pub few_octets : length host ≤ 255
+  pub octets : AllPass is_host_octet host
+
+-- four numbers with "." between them, ":" and a port, each written without leading zeros
+abbrev pub address_text : SocketAddrV4 → List ℕ
+address_text address = ipv4_text (ipv4_octets (v4_ip address)) ++ codes ":" ++ decimal (v4_port address)
+
+-- an address has four octets, and a port from 1
+pub record IsAddress (address : SocketAddrV4) : Type 0 where
+  pub four : length (ipv4_octets (v4_ip address)) ≡ 4
+  pub octets : AllByRecursion (λ octet. octet < 2 ^ 8) (ipv4_octets (v4_ip address))
+  pub some_port : 0 < v4_port address
+  pub port_fits : v4_port address < 2 ^ 16
+
+-- the text is how this address is written
+pub record IsAddressText (text : List ℕ) (address : SocketAddrV4) : Type 0 where
+  pub valid : IsAddress address
+  pub text_is : text ≡ address_text address
+
+-- the value is a text that names this host
+abbrev pub GivesHost : Data → List ℕ → Type 0
+GivesHost value host = (value ≡ string host) × IsHostName host
+
+-- the value is a text that writes this address
+abbrev pub GivesAddress : Data → SocketAddrV4 → Type 0
+GivesAddress value address = (value ≡ string (address_text address)) × IsAddress address
+
+-- the value is this text, which isn't empty
+abbrev pub GivesPath : Data → List ℕ → Type 0
+GivesPath value path = (value ≡ string path) × (path ≢ [])
+
+-- the value is this number, from 1 to a limit
+abbrev pub GivesSize : ℕ → Data → ℕ → Type 0
+GivesSize limit value size = (value ≡ integer (pos size)) × (1 ≤ size) × (size ≤ limit)
+
+-- the octet is ":"
+abbrev pub is_colon : ℕ → Bool
+is_colon octet = octet == 58
+
+-- the text begins with the digit 0
+abbrev pub begins_with_zero : List ℕ → Bool
+begins_with_zero [] = false
+begins_with_zero (octet ∷ octets) = octet == 48

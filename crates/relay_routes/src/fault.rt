@@ -1,0 +1,30 @@
+ghost use Rattle.std.specs.Prelude.{◌≡◌};
+ghost use Rattle.relay_routes.specs.declared.fault.RouteFault.TheVariants.{NoMemory};
+
+use std::alloc::AllocError;
+use thiserror::Error;
+
+/// Why a route is not added. The table stays as it was.
+#[derive(Clone, Copy, Debug, Drop, PartialEq, Eq, Error)]
+pub enum RouteFault {
+    /// It is for something that is neither a domain nor `*`.
+    #[error("bad domain")]
+    BadDomain,
+    /// There is a route for this domain already, in some letter case.
+    #[error("domain given twice")]
+    Repeated,
+    /// There is a route to this name at another place already.
+    #[error("one name with two places")]
+    SecondPlace,
+    /// Memory ran out.
+    #[error("no memory")]
+    NoMemory,
+}
+
+impl From<AllocError> for RouteFault {
+    ghost from_gives = { λ _ fault. fault ≡ NoMemory };
+
+    fn from(_fault: AllocError) -> Self {
+        RouteFault::NoMemory
+    }
+}

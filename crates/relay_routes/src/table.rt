@@ -1,0 +1,162 @@
+ghost use Rattle.std.specs.Prelude.{◌≡◌, ◌≢◌, ◌↔◌, ◌≤◌, ◌<◌, [], None, Some, IsTrue, IsErrOf, IsSome, IfErr, OnOk, OnErr, MatchBool, length, option_copied};
+ghost use Rattle.relay_envelope.specs.Mailbox.{IsDomain, IsDomainName};
+ghost use Rattle.relay_envelope.specs.Path.{value_of};
+ghost use Rattle.relay_routes.specs.Routes.{HasNoOtherPlace, HasOtherPlace, IsRouteDomain, MayBeAdded, RefusesRoute, entry_of, hop_for, hop_of, with_lowered, with_route};
+
+use crate::fault::RouteFault;
+use crate::hop::Hop;
+use crate::host_name::HostName;
+use indexmap::IndexMap;
+use relay_envelope::{Path, domain_of};
+use relay_lines::word::{are_domain_octets, is_address_literal};
+use std::alloc::{AllocError, Global};
+use std::marker::Model;
+use std::net::SocketAddrV4;
+
+/// The most octets of a path (RFC 5321, 4.5.3.1.3), and so of its domain.
+const PATH_LIMIT: usize = 256;
+
+/// The routes of a relay.
+#[derive(Debug, Drop)]
+pub struct Table {
+    host: HostName,
+    /// By domain in lower case, or `*`.
+    hops: IndexMap<Vec<u8>, Hop>,
+    /// Where each name is, which `hops` say too: a name has one place.
+    places: IndexMap<Vec<u8>, SocketAddrV4>,
+}
+
+impl Model for Table {
+    ghost use Rattle.relay_routes.specs.Routes.{RouteTable};
+    ghost use Rattle.relay_routes.specs.Indexed.{IsIndexed, routes_of};
+
+    ghost Value = { RouteTable };
+
+    ghost view = { λ table. record { host = table.host; routes = routes_of table.hops.entries } };
+
+    ghost invariant = { λ table. IsIndexed (routes_of table.hops.entries) table.places.entries };
+}
+
+impl Table {
+    /// A table without routes, for the relay of this name. It takes no memory.
+    pub fn new(alloc: Global, host: HostName) -> Self
+        ensures host { result.host ≡ host }
+        ensures empty { result.routes ≡ [] }
+    {
+        Table {
+            host,
+            hops: IndexMap::new(alloc),
+            places: IndexMap::new(alloc),
+        }
+    }
+
+    /// The relay's name.
+    pub fn host(&self) -> &HostName
+        ensures { result.now ≡ self.now.host }
+    {
+        &self.host
+    }
+
+    /// Adds a route for a domain, which is compared without letter case, or for each that has none of its own (`*`).
+    /// The first fault in the order of [`RouteFault`] is answered, and nothing is added then.
+    pub fn add(&mut self, alloc: Global, domain: &[u8], hop: Hop) -> Result<(), RouteFault>
+        ensures added { OnOk result (MayBeAdded self.old.routes domain.now hop
+            × (self.new ≡ with_route self.old domain.now hop)) }
+        ensures unchanged { OnErr result (self.new ≡ self.old) }
+        ensures refused { IfErr result (λ fault. RefusesRoute fault self.old.routes domain.now hop) }
+    {
+        if !is_route_domain(domain) {
+            return Err(RouteFault::BadDomain);
+        }
+        let mut key = Vec::from_slice(alloc, domain)?;
+        key.as_mut_slice().make_ascii_lowercase();
+        if self.entry(key.as_slice()).is_some() {
+            return Err(RouteFault::Repeated);
+        }
+        if self.has_other_place(&hop) {
+            return Err(RouteFault::SecondPlace);
+        }
+        self.insert(alloc, key, hop)?;
+        Ok(())
+    }
+
+    /// The next hop of a path: the route of its domain, in any letter case, else that of `*`. `<>` has none, and
+    /// `<Postmaster>` is routed as the relay's own name. It takes no memory.
+    pub fn hop(&self, path: &Path<'_>) -> Option<&Hop>
+        ensures { option_copied result ≡ hop_of self.now (value_of path.now) }
+    {
+        match path {
+            Path::Null => None,
+            Path::Postmaster(_) => self.hop_for(self.host.as_slice()),
+            Path::Mailbox(_) => self.hop_for(domain_of(path)?),
+        }
+    }
+
+    /// Adds a route that agrees with the others. Where memory runs out, none is added.
+    fn insert(&mut self, alloc: Global, domain: Vec<u8>, hop: Hop) -> Result<(), AllocError>
+        requires domain { entry_of self.old.routes domain.items ≡ None }
+        requires place { HasNoOtherPlace self.old.routes hop }
+        ensures added { OnOk result (self.new ≡ with_lowered self.old domain.items hop) }
+        ensures unchanged { OnErr result (self.new ≡ self.old) }
+    {
+        let name = Vec::from_slice(alloc, hop.name.as_slice())?;
+        let at = hop.at;
+        self.places.reserve(1)?;
+        self.hops.insert(domain, hop)?;
+        self.places.insert(name, at)?;
+        Ok(())
+    }
+
+    /// Whether there is a route to this hop's name at another place.
+    fn has_other_place(&self, hop: &Hop) -> bool
+        ensures { MatchBool result (HasOtherPlace self.now.routes hop.now) (HasNoOtherPlace self.now.routes hop.now) }
+    {
+        match self.places.get(hop.name.as_slice()) {
+            Some(place) => *place != hop.at,
+            None => false,
+        }
+    }
+
+    /// The hop of a domain in any letter case, else that of `*`.
+    fn hop_for(&self, domain: &[u8]) -> Option<&Hop>
+        requires { length domain.now ≤ 256 }
+        ensures { option_copied result ≡ hop_for self.now.routes domain.now }
+    {
+        let mut octets = [0; PATH_LIMIT];
+        let lowered = &mut octets[..domain.len()];
+        lowered.copy_from_slice(domain);
+        lowered.make_ascii_lowercase();
+        match self.entry(lowered) {
+            Some(hop) => Some(hop),
+            None => self.entry(b"*"),
+        }
+    }
+
+    /// The hop of the route of this domain, which is in lower case.
+    fn entry(&self, domain: &[u8]) -> Option<&Hop>
+        ensures { option_copied result ≡ entry_of self.now.routes domain.now }
+    {
+        self.hops.get(domain)
+    }
+}
+
+/// Whether a route may be for this: `*`, or a domain.
+pub(crate) fn is_route_domain(domain: &[u8]) -> bool
+    ensures { IsTrue result ↔ IsRouteDomain domain.now }
+{
+    domain == b"*".as_slice() || is_domain(domain)
+}
+
+/// A domain, or an address literal.
+fn is_domain(domain: &[u8]) -> bool
+    ensures { IsTrue result ↔ IsDomain domain.now }
+{
+    is_domain_name(domain) || is_address_literal(domain)
+}
+
+/// A domain is not empty, and has letters, digits, `-`, `.` and `_` alone.
+fn is_domain_name(domain: &[u8]) -> bool
+    ensures { IsTrue result ↔ IsDomainName domain.now }
+{
+    !domain.is_empty() && are_domain_octets(domain)
+}
