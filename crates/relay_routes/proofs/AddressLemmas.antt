@@ -178,8 +178,7 @@ address_is_plain text address is =
     let dotted : IsDotted (dotted_text p.a p.b p.c p.d) (ipv4_octets (v4_ip address)) = record { a = p.a; b = p.b; c = p.c; d = p.d; fit = p.fit; value = p.octets_are; spelled = refl } in
     let whole : text ≡ dotted_text p.a p.b p.c p.d ++ 58 ∷ decimal (v4_port address) = is.text_is ∙ text_of_parts address p in
     let fits = is.valid.port_fits in
-    let behind : after_first is_colon text ≡ decimal (v4_port address) = ap (after_first is_colon) whole ∙ after_colon _ (decimal (v4_port address)) (no_colon_in_parts address p) in
-    (
+    let behind : after_first is_colon text ≡ decimal (v4_port address) = ap (after_first is_colon) whole ∙ after_colon _ (decimal (v4_port address)) (no_colon_in_parts address p) in (
       (dotted_text p.a p.b p.c p.d, 58 ∷ decimal (v4_port address), whole, dotted, (decimal (v4_port address), refl, decimal_is_IsNumeral (v4_port address) (omega arith), fits)),
       ap begins_with_zero behind ∙ no_zero_first (decimal (v4_port address)) (first_decimal (v4_port address) is.valid.some_port (omega arith)),
     )

@@ -34,7 +34,7 @@ all_agree-push [] route agree each = (tt, tt)
 all_agree-push (one ∷ routes) route agree each =
     (all-push (Agrees one) routes route agree.0 each.0, all_agree-push routes route agree.1 each.1)
 
-bytes_same : (xs ys : List ℕ) → bytes_eq xs ys ≡ true → xs ≡ ys
+pub bytes_same : (xs ys : List ℕ) → bytes_eq xs ys ≡ true → xs ≡ ys
 bytes_same xs ys = (bytes_eq-Decides xs ys).0
 
 bytes_differ : (xs ys : List ℕ) → bytes_eq xs ys ≡ false → xs ≢ ys
@@ -55,10 +55,10 @@ entry_absent route routes domain absent =
     ]
 
 -- the place of the first name that is this one
-place_here : (route : Route) (routes : List Route) (name : List ℕ) → bytes_eq name route.hop.name ≡ true → place_of (route ∷ routes) name ≡ Some route.hop.at
+pub place_here : (route : Route) (routes : List Route) (name : List ℕ) → bytes_eq name route.hop.name ≡ true → place_of (route ∷ routes) name ≡ Some route.hop.at
 place_here route routes name here = rw here
 
-place_behind : (route : Route) (routes : List Route) (name : List ℕ) → bytes_eq name route.hop.name ≡ false → place_of (route ∷ routes) name ≡ place_of routes name
+pub place_behind : (route : Route) (routes : List Route) (name : List ℕ) → bytes_eq name route.hop.name ≡ false → place_of (route ∷ routes) name ≡ place_of routes name
 place_behind route routes name elsewhere = rw elsewhere
 
 -- each route to this name goes to this place
@@ -93,8 +93,7 @@ goes_to (route ∷ routes) name place agree known =
 each_agrees : (routes : List Route) (domain : List ℕ) (hop : Hop) → entry_of routes domain ≡ None → AllByRecursion (GoesTo hop.name hop.at) routes → AllByRecursion (λ one. Agrees one (record { domain = domain; hop = hop })) routes
 each_agrees [] domain hop absent goes = tt
 each_agrees (route ∷ routes) domain hop absent goes =
-    let (elsewhere, behind) = entry_absent route routes domain absent in
-    (
+    let (elsewhere, behind) = entry_absent route routes domain absent in (
       record { domains = λ same. bytes_differ domain route.domain elsewhere (sym same); places = goes.0 },
       each_agrees routes domain hop behind goes.1,
     )

@@ -1,3 +1,6 @@
 pub mod Value
 pub mod Routes
 pub mod Indexed
+pub mod Document
+pub mod Settings
+pub mod Config

@@ -1,6 +1,7 @@
 ghost use Rattle.std.specs.Prelude.{◌≡◌};
 ghost use Rattle.relay_routes.specs.declared.fault.RouteFault.TheVariants.{NoMemory};
 
+use crate::key::Key;
 use std::alloc::AllocError;
 use thiserror::Error;
 
@@ -26,5 +27,32 @@ impl From<AllocError> for RouteFault {
 
     fn from(_fault: AllocError) -> Self {
         RouteFault::NoMemory
+    }
+}
+
+/// Why a configuration is refused, in this order; of the keys the first in the order of [`Key`].
+#[derive(Clone, Copy, Debug, Drop, PartialEq, Eq, Error)]
+pub enum ConfigFault {
+    /// The text is no TOML.
+    #[error("NotToml")]
+    NotToml,
+    /// A key that has to be there is missing.
+    #[error("Missing {0}")]
+    Missing(Key),
+    /// A key has a value that it may not have.
+    #[error("BadValue {0}")]
+    BadValue(Key),
+    /// Memory ran out.
+    #[error("no memory")]
+    NoMemory,
+}
+
+impl From<AllocError> for ConfigFault {
+    ghost use Rattle.relay_routes.specs.declared.fault.ConfigFault.TheVariants.{NoMemory as OutOfMemory};
+
+    ghost from_gives = { λ _ fault. fault ≡ OutOfMemory };
+
+    fn from(_fault: AllocError) -> Self {
+        ConfigFault::NoMemory
     }
 }

@@ -37,6 +37,18 @@ impl HostName {
         }
     }
 
+    /// The name that a text is, where it is one. It fails where memory runs out.
+    pub fn read(alloc: Global, text: &[u8]) -> Result<Option<Self>, AllocError>
+        ensures { IfOk result (λ found. MatchOption found (¬ IsHostName text.now)
+            (λ name. (name ≡ text.now) × IsHostName text.now)) }
+    {
+        if !is_host_name(text) {
+            return Ok(None);
+        }
+        let octets = Octets::from_slice(alloc, text)?;
+        Ok(Some(HostName { octets }))
+    }
+
     /// The octets.
     pub fn as_slice(&self) -> &[u8]
         ensures value { result.now ≡ self.now }

@@ -2,12 +2,19 @@
 #![tactic(auto)]
 
 mod address;
+mod config;
+mod document;
 mod fault;
 mod hop;
 mod host_name;
+mod key;
+mod spool_path;
 mod table;
 
-pub use fault::RouteFault;
+pub use config::Config;
+pub use fault::{ConfigFault, RouteFault};
 pub use hop::Hop;
 pub use host_name::HostName;
+pub use key::Key;
+pub use spool_path::SpoolPath;
 pub use table::Table;

@@ -1,0 +1,108 @@
+ghost use Rattle.std.specs.Prelude.{◌≡◌, Ok, Err, IfOk, IfErr, IsTrue, MatchOption, ◌⊎◌, ◌↔◌};
+ghost use Rattle.relay_routes.specs.Settings.{IsConfig};
+
+use crate::document::{
+    CONTENT_LIMIT, SPOOL_LIMIT, read_host, read_listen, read_max_content, read_routes, read_spool,
+    read_spool_limit,
+};
+use crate::fault::ConfigFault;
+use crate::host_name::HostName;
+use crate::spool_path::SpoolPath;
+use crate::table::Table;
+use std::alloc::Global;
+use std::net::SocketAddrV4;
+
+/// What a relay is told before it runs.
+#[derive(Debug, Drop)]
+pub struct Config {
+    /// The name of this host, as replies give it.
+    pub host: HostName,
+    /// Where it listens.
+    pub listen: SocketAddrV4,
+    /// The file of its spool.
+    pub spool: SpoolPath,
+    /// The most octets of a message's content, 1 to 16,777,216.
+    pub max_content: usize,
+    /// The most octets of the spool, 1 to 549,755,813,888.
+    pub spool_limit: u64,
+    /// Where mail goes.
+    pub routes: Table,
+    pub ghost valid: { IsConfig host max_content spool_limit routes },
+}
+
+impl Config {
+    ghost use Rattle.toml.specs.View.{table_view};
+    ghost use Rattle.relay_routes.specs.Config.{ReadsConfig, ReadsDocument};
+
+    /// A configuration of these values, where `max_content` and `spool_limit` lie in their ranges and the routes are
+    /// those of this host. It takes no memory.
+    pub fn new(
+        host: HostName,
+        listen: SocketAddrV4,
+        spool: SpoolPath,
+        max_content: usize,
+        spool_limit: u64,
+        routes: Table,
+    ) -> Option<Self>
+        ensures { MatchOption result (¬ IsConfig host max_content spool_limit routes) (λ config.
+            (config.host ≡ host) × (config.listen ≡ listen) × (config.spool ≡ spool)
+            × (config.max_content ≡ max_content) × (config.spool_limit ≡ spool_limit) × (config.routes ≡ routes)) }
+    {
+        if is_config(&host, max_content, spool_limit, &routes) {
+            Some(Config {
+                host,
+                listen,
+                spool,
+                max_content,
+                spool_limit,
+                routes,
+            })
+        } else {
+            None
+        }
+    }
+
+    /// The configuration that a text in TOML says. Keys are looked at in the order of [`Key`](crate::Key), and the
+    /// first fault is answered; other keys are ignored. `max_content` is 1,048,576 and `spool_limit` 67,108,864 where
+    /// they are missing.
+    pub fn read(alloc: Global, text: &str) -> Result<Self, ConfigFault>
+        ensures ok { IfOk result (λ config. ReadsConfig text.now (Ok config)) }
+        ensures err { IfErr result (λ fault. (fault ≡ ConfigFault.NoMemory) ⊎ ReadsConfig text.now (Err fault)) }
+    {
+        match toml::table_from_str(alloc, text) {
+            Ok(document) => Config::of_document(alloc, &document),
+            Err(fault) if fault.is_memory() => Err(ConfigFault::NoMemory),
+            Err(_) => Err(ConfigFault::NotToml),
+        }
+    }
+
+    /// The configuration that a document says, as [`Config::read`].
+    pub fn of_document(alloc: Global, document: &toml::Table) -> Result<Self, ConfigFault>
+        ensures ok { IfOk result (λ config. ReadsDocument (table_view document.now) (Ok config)) }
+        ensures err { IfErr result (λ fault. (fault ≡ ConfigFault.NoMemory) ⊎ ReadsDocument (table_view document.now) (Err fault)) }
+    {
+        let host = read_host(alloc, document)?;
+        let listen = read_listen(document)?;
+        let spool = read_spool(alloc, document)?;
+        let max_content = read_max_content(document)?;
+        let spool_limit = read_spool_limit(document)?;
+        let routes = read_routes(alloc, document, host.copy(alloc)?)?;
+        Ok(Config {
+            host,
+            listen,
+            spool,
+            max_content,
+            spool_limit,
+            routes,
+        })
+    }
+}
+
+/// Whether the sizes lie in their ranges, and the routes are those of this host.
+fn is_config(host: &HostName, max_content: usize, spool_limit: u64, routes: &Table) -> bool
+    ensures { IsTrue result ↔ IsConfig host.now max_content spool_limit routes.now }
+{
+    (1..=CONTENT_LIMIT as usize).contains(&max_content)
+        && (1..=SPOOL_LIMIT).contains(&spool_limit)
+        && routes.host().as_slice() == host.as_slice()
+}

@@ -1,0 +1,47 @@
+ghost use Rattle.std.specs.Prelude.{◌≡◌};
+ghost use Rattle.relay_routes.specs.Document.{key_text};
+
+use std::fmt;
+
+/// A key of a configuration, in the order in which they are looked at.
+#[derive(Clone, Copy, Debug, Drop, PartialEq, Eq)]
+pub enum Key {
+    /// The name of the relay.
+    Host,
+    /// Where it listens.
+    Listen,
+    /// The file of its spool.
+    Spool,
+    /// The most octets of a content.
+    MaxContent,
+    /// The most octets of the spool.
+    SpoolLimit,
+    /// Where mail goes.
+    Routes,
+}
+
+impl Key {
+    /// The key as a document has it.
+    pub fn text(self) -> &'static str
+        ensures { result.now ≡ key_text self }
+    {
+        match self {
+            Key::Host => "host",
+            Key::Listen => "listen",
+            Key::Spool => "spool",
+            Key::MaxContent => "max_content",
+            Key::SpoolLimit => "spool_limit",
+            Key::Routes => "routes",
+        }
+    }
+}
+
+impl fmt::Display for Key {
+    ghost use Rattle.std.specs.Prelude.{Some};
+
+    ghost output = { λ key. Some (key_text key) };
+
+    fn fmt<W: fmt::Write>(&self, f: &mut fmt::Formatter<W>) -> fmt::Result {
+        f.write_str(self.text())
+    }
+}
