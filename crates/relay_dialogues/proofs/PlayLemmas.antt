@@ -5,7 +5,8 @@ use Rattle.relay_server.specs.declared.offer.Answer.{Answer}
 use Rattle.relay_server.specs.declared.session.Session.{Session}
 use Rattle.relay_server.specs.declared.stage.Stage.{Stage}
 use Rattle.relay_server.specs.declared.stage.Stage.TheVariants as stage
-use Rattle.relay_server.specs.Dialogue.{IsDialogue, Offered, Said, Setup, Turns, more_said, offered_by, read_by}
+use Rattle.relay_server.specs.Dialogue.{IsDialogue, Offered, Said, Turns, more_said, offered_by, read_by}
+use Rattle.relay_server.specs.Setup.{Setup}
 use Rattle.relay_server.specs.Session.{IsOffering, Stands, new_offers, offers_at, state_at}
 use Rattle.relay_server.specs.State.{Closed, State, start}
 use Rattle.relay_server.proofs.DialogueLemmas.{output_is_fixed, what_stands_is_a_dialogue}

@@ -5,7 +5,8 @@ use Rattle.relay_server.specs.declared.session.Session.{Session}
 use Rattle.relay_server.specs.declared.session.Next.TheVariants as next
 use Rattle.relay_server.specs.declared.stage.Stage.{Stage}
 use Rattle.relay_server.specs.declared.stage.Stage.TheVariants as stage
-use Rattle.relay_server.specs.Dialogue.{Offered, Said, Setup, Turn, answered_by, answers_in, offered_by, offers_in}
+use Rattle.relay_server.specs.Dialogue.{Offered, Said, Turn, answered_by, answers_in, offered_by, offers_in}
+use Rattle.relay_server.specs.Setup.{Setup}
 use Rattle.relay_server.specs.Session.{IsOffering, Keeps, Stands, new_offers, next_at, offers_at}
 
 -- as many offers as answers

@@ -2,17 +2,20 @@
 use Rattle.std.specs.Prelude.{ℕ, List, ◌∷◌, ◌++◌, codes}
 use Rattle.std.specs.List.{flat_map}
 use Rattle.relay_octets.specs.Line.{crlf}
-use Rattle.relay_server.specs.declared.envelope.Recipient.{Recipient}
+use Rattle.relay_envelope.specs.declared.envelope.Recipient.{Recipient}
+use Rattle.relay_envelope.specs.Envelope.{mail_text, rcpt_text}
+use Rattle.relay_trace.specs.TimeStamp.{protocol_word}
 use Rattle.relay_server.specs.Dialogue.{Offered}
 
--- a forward path behind a space
+-- what a RCPT said, as it is written again, behind a space
 abbrev pub recipient_text : Recipient → List ℕ
-recipient_text recipient = codes " " ++ recipient.path
+recipient_text recipient = codes " " ++ rcpt_text recipient
 
--- the client's word, the reverse path and the forward paths in a line, the content, and a line behind it
+-- the client, and what MAIL and the RCPTs said, in a line, the content, and a line behind it
 abbrev pub offer_text : Offered → List ℕ
 offer_text offer =
-    codes "[offer of " ++ offer.client ++ codes " from " ++ offer.envelope.reverse_path
+    codes "[offer of " ++ offer.client.word ++ codes " by " ++ protocol_word offer.client.protocol
+    ++ codes " from " ++ mail_text offer.envelope
     ++ codes " to" ++ flat_map recipient_text offer.envelope.recipients ++ (93 ∷ crlf)
     ++ offer.content ++ (codes "[end of offer]" ++ crlf)
 

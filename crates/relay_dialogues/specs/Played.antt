@@ -1,6 +1,7 @@
 -- A session that is played, in the dialogue that it has held.
 use Rattle.std.specs.Prelude.{◌≡◌, ℕ, true, false, List, [], ◌++◌}
-use Rattle.relay_server.specs.Dialogue.{Said, Setup}
+use Rattle.relay_server.specs.Dialogue.{Said}
+use Rattle.relay_server.specs.Setup.{Setup}
 use Rattle.relay_server.specs.Session.{HasOffer, IsClosed, Stands, open_offers}
 use Rattle.relay_dialogues.specs.declared.play.Play.{Play}
 use Rattle.relay_dialogues.specs.OfferText.{offers_text}

@@ -9,12 +9,12 @@ mod setup;
 
 use dialogue::Dialogue;
 use relay_server::Config;
-use setup::{configuration, small_configuration};
+use setup::{configuration, open_configuration, small_configuration};
 use std::env;
 use std::test::Fail;
 
 /// The dialogues at a host that takes contents of up to 1,048,576 octets.
-const DIALOGUES: [&str; 9] = [
+const DIALOGUES: [&str; 17] = [
     "first",
     "periods",
     "bare_line_feeds",
@@ -24,10 +24,21 @@ const DIALOGUES: [&str; 9] = [
     "paths",
     "recipients",
     "cut_off",
+    "extensions",
+    "parameters",
+    "written_parameters",
+    "parameter_faults",
+    "parameters_after_helo",
+    "postmaster",
+    "quoted_paths",
+    "longest_paths",
 ];
 
 /// The dialogues at a host that takes contents of up to 4 octets.
 const SMALL_DIALOGUES: [&str; 1] = ["small_contents"];
+
+/// The dialogues at a host that takes mail for every domain.
+const OPEN_DIALOGUES: [&str; 2] = ["postmaster_routed", "standard_paths"];
 
 /// Dialogues that are written down wrong on purpose, one reply or one offer each: they must differ.
 const WRONG_DIALOGUES: [&str; 2] = ["another_reply", "another_offer"];
@@ -43,6 +54,7 @@ fn main(rt: HostRuntime) -> Result<(), Fail> {
     let config = configuration(alloc)?;
     hold(&rt, folder, &DIALOGUES, &config)?;
     hold(&rt, folder, &SMALL_DIALOGUES, &small_configuration(alloc)?)?;
+    hold(&rt, folder, &OPEN_DIALOGUES, &open_configuration(alloc)?)?;
     hold(&rt, folder, &WRONG_DIALOGUES, &config)
 }
 

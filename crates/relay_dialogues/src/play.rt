@@ -1,5 +1,6 @@
 ghost use Rattle.std.specs.Prelude.{◌≡◌, ◌≤◌, ℕ, List, [], ◌++◌, false, length, take, IfOk, OnOk};
-ghost use Rattle.relay_server.specs.Dialogue.{Said, Setup};
+ghost use Rattle.relay_server.specs.Dialogue.{Said};
+ghost use Rattle.relay_server.specs.Setup.{Setup};
 ghost use Rattle.relay_server.specs.Session.{HasOffer, next_of, open_offers};
 ghost use Rattle.relay_dialogues.specs.Played.{HasPlayed, IsAnswered, Plays, Uses};
 ghost use Rattle.relay_dialogues.specs.Transcript.{setup_from};

@@ -1,6 +1,6 @@
 -- what has been used so far was given
 use Rattle.std.proofs.Common.{◌≡◌, ◌≤◌, ◌-◌, ◌++◌, ℕ, List, false, length, take}
-use Rattle.relay_server.specs.Dialogue.{Setup}
+use Rattle.relay_server.specs.Setup.{Setup}
 use Rattle.relay_dialogues.specs.Played.{Plays}
 use Rattle.relay_dialogues.proofs.play.Play.give_open.Given as goal
 
