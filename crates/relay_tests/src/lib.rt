@@ -2,9 +2,9 @@
 #![tactic(auto)]
 
 #[cfg(test)]
-mod commands;
+mod bodies;
 #[cfg(test)]
-mod dot_texts;
+mod commands;
 #[cfg(test)]
 mod lines;
 #[cfg(test)]

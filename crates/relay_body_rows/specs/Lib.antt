@@ -1,0 +1,4 @@
+pub mod Cutting
+pub mod Row
+pub mod Comparison
+pub mod Player

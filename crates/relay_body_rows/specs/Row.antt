@@ -1,0 +1,12 @@
+-- Rows: how octets are written in them.
+use Rattle.std.specs.Prelude.{ℕ, ◌==◌, if◌then◌else◌, List, [], ◌∷◌}
+
+-- the octet that a letter behind a backslash stands for: CR and LF by `r` and `n`, another octet by itself
+abbrev pub escaped : ℕ → ℕ
+escaped letter = if letter == 114 then 13 else if letter == 110 then 10 else letter
+
+-- the octets that a text of a row stands for
+abbrev pub octets_of : List ℕ → List ℕ
+octets_of [] = []
+octets_of (octet ∷ []) = octet ∷ []
+octets_of (octet ∷ letter ∷ rest) = if octet == 92 then escaped letter ∷ octets_of rest else octet ∷ octets_of (letter ∷ rest)
