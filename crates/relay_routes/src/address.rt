@@ -8,7 +8,8 @@ use std::net::SocketAddrV4;
 
 /// The address that the text writes: four numbers with `.` between them, `:` and a port from 1, without leading zeros.
 pub(crate) fn read_address(text: &str) -> Option<SocketAddrV4>
-    ensures { MatchOption result ((address : SocketAddrV4) → ¬ IsAddressText text.now address) (IsAddressText text.now) }
+    ensures { MatchOption result
+        ((address : SocketAddrV4) → ¬ IsAddressText text.now address) (IsAddressText text.now) }
 {
     match text.parse::<SocketAddrV4>() {
         Ok(address) if has_plain_port(text.as_bytes()) => Some(address),

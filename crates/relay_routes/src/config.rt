@@ -67,7 +67,8 @@ impl Config {
     /// they are missing.
     pub fn read(alloc: Global, text: &str) -> Result<Self, ConfigFault>
         ensures ok { IfOk result (λ config. ReadsConfig text.now (Ok config)) }
-        ensures err { IfErr result (λ fault. (fault ≡ ConfigFault.NoMemory) ⊎ ReadsConfig text.now (Err fault)) }
+        ensures err { IfErr result (λ fault. (fault ≡ ConfigFault.NoMemory)
+            ⊎ ReadsConfig text.now (Err fault)) }
     {
         match toml::table_from_str(alloc, text) {
             Ok(document) => Config::of_document(alloc, &document),
@@ -79,7 +80,8 @@ impl Config {
     /// The configuration that a document says, as [`Config::read`].
     pub fn of_document(alloc: Global, document: &toml::Table) -> Result<Self, ConfigFault>
         ensures ok { IfOk result (λ config. ReadsDocument (table_view document.now) (Ok config)) }
-        ensures err { IfErr result (λ fault. (fault ≡ ConfigFault.NoMemory) ⊎ ReadsDocument (table_view document.now) (Err fault)) }
+        ensures err { IfErr result (λ fault. (fault ≡ ConfigFault.NoMemory)
+            ⊎ ReadsDocument (table_view document.now) (Err fault)) }
     {
         let host = read_host(alloc, document)?;
         let listen = read_listen(document)?;

@@ -32,7 +32,8 @@ const SPOOL_DEFAULT: u64 = 67_108_864;
 /// `host`: the name of the relay.
 pub(crate) fn read_host(alloc: Global, document: &toml::Table) -> Result<HostName, ConfigFault>
     ensures ok { IfOk result (λ host. ReadsHost (table_view document.now) (Ok host)) }
-    ensures err { IfErr result (λ fault. (fault ≡ ConfigFault.NoMemory) ⊎ ReadsHost (table_view document.now) (Err fault)) }
+    ensures err { IfErr result (λ fault. (fault ≡ ConfigFault.NoMemory)
+        ⊎ ReadsHost (table_view document.now) (Err fault)) }
 {
     let Some(text) = required(document, Key::Host)?.as_str() else {
         return Err(ConfigFault::BadValue(Key::Host));
@@ -59,7 +60,8 @@ pub(crate) fn read_listen(document: &toml::Table) -> Result<SocketAddrV4, Config
 /// `spool`: the file of the spool.
 pub(crate) fn read_spool(alloc: Global, document: &toml::Table) -> Result<SpoolPath, ConfigFault>
     ensures ok { IfOk result (λ spool. ReadsSpool (table_view document.now) (Ok spool)) }
-    ensures err { IfErr result (λ fault. (fault ≡ ConfigFault.NoMemory) ⊎ ReadsSpool (table_view document.now) (Err fault)) }
+    ensures err { IfErr result (λ fault. (fault ≡ ConfigFault.NoMemory)
+        ⊎ ReadsSpool (table_view document.now) (Err fault)) }
 {
     let Some(text) = required(document, Key::Spool)?.as_str() else {
         return Err(ConfigFault::BadValue(Key::Spool));
@@ -104,8 +106,10 @@ pub(crate) fn read_routes(
     document: &toml::Table,
     host: HostName,
 ) -> Result<Table, ConfigFault>
-    ensures ok { IfOk result (λ table. ReadsRoutes (table_view document.now) (Ok table.routes) × (table.host ≡ host)) }
-    ensures err { IfErr result (λ fault. (fault ≡ ConfigFault.NoMemory) ⊎ ReadsRoutes (table_view document.now) (Err fault)) }
+    ensures ok { IfOk result (λ table. ReadsRoutes (table_view document.now) (Ok table.routes)
+        × (table.host ≡ host)) }
+    ensures err { IfErr result (λ fault. (fault ≡ ConfigFault.NoMemory)
+        ⊎ ReadsRoutes (table_view document.now) (Err fault)) }
 {
     match required(document, Key::Routes)? {
         Value::Table(members) => table_of(alloc, host, members),
@@ -115,7 +119,8 @@ pub(crate) fn read_routes(
 
 /// The routes that the members say.
 fn table_of(alloc: Global, host: HostName, members: &toml::Table) -> Result<Table, ConfigFault>
-    ensures ok { IfOk result (λ table. AreRoutes (table_view members.now) table.routes × AllAgree table.routes × (table.host ≡ host)) }
+    ensures ok { IfOk result (λ table. AreRoutes (table_view members.now) table.routes
+        × AllAgree table.routes × (table.host ≡ host)) }
     ensures err { IfErr result (λ fault. (fault ≡ ConfigFault.NoMemory)
         ⊎ ((fault ≡ ConfigFault.BadValue Key.Routes)
         × ((routes : List Route) → AreRoutes (table_view members.now) routes → ¬ AllAgree routes))) }
@@ -187,7 +192,8 @@ fn member(document: &toml::Table, key: Key) -> Option<&Value>
 
 /// The text at a key.
 fn text_at<'a>(members: &'a toml::Table, key: &str) -> Option<&'a str>
-    ensures { option_and_then as_str (get_member key.now (table_view members.now)) ≡ option_map (λ text. text.now) result }
+    ensures { option_and_then as_str (get_member key.now (table_view members.now))
+        ≡ option_map (λ text. text.now) result }
 {
     match members.get(key) {
         Some(value) => value.as_str(),

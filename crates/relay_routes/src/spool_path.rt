@@ -22,7 +22,8 @@ impl Model for SpoolPath {
 impl SpoolPath {
     /// A copy of the text, where it isn't empty. It fails where memory runs out.
     pub fn new(alloc: Global, text: &str) -> Result<Option<Self>, AllocError>
-        ensures { IfOk result (λ found. MatchOption found (text.now ≡ []) (λ path. (path ≡ text.now) × (text.now ≢ []))) }
+        ensures { IfOk result (λ found. MatchOption found (text.now ≡ [])
+            (λ path. (path ≡ text.now) × (text.now ≢ []))) }
     {
         if text.is_empty() {
             return Ok(None);
