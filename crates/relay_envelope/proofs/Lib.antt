@@ -10,3 +10,4 @@ pub mod FitLemmas
 pub mod RowOfWordsLemmas
 pub mod MailRowLemmas
 pub mod RcptRowLemmas
+pub mod RowIsOneLemmas

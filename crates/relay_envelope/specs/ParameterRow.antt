@@ -102,6 +102,14 @@ MailRowIsRead = (text : List ℕ) (words : List (List ℕ)) → IsRowOf text wor
 abbrev pub RcptRowIsRead : Type 0
 RcptRowIsRead = (text : List ℕ) (words : List (List ℕ)) → IsRowOf text words → SaysRcpt words (rcpt_parameters_of text)
 
+-- A row of MAIL says one thing: its values, or one fault.
+abbrev pub MailRowSaysOne : Type 0
+MailRowSaysOne = (words : List (List ℕ)) (one two : Result MailParameters EnvelopeFault) → SaysMail words one → SaysMail words two → one ≡ two
+
+-- A row of RCPT says one thing.
+abbrev pub RcptRowSaysOne : Type 0
+RcptRowSaysOne = (words : List (List ℕ)) (one two : Result RcptParameters EnvelopeFault) → SaysRcpt words one → SaysRcpt words two → one ≡ two
+
 -- Each text is a row of words.
 abbrev pub TextIsRow : Type 0
 TextIsRow = (text : List ℕ) → (words : List (List ℕ)) × IsRowOf text words
