@@ -2,33 +2,41 @@
 //! What comes of it is printed behind the row, and where another outcome is written down, that too.
 #![tactic(auto)]
 
+mod fault;
 mod line;
 mod outcome;
 
+use fault::RowsFault;
 use line::line_of;
 use std::test::Fail;
 use std::{env, fs, str};
 
 /// The word is the folder of the rows. Without one they lie where the program runs.
 fn main(rt: HostRuntime) -> Result<(), Fail> {
+    match show_rows(&rt) {
+        Ok(()) => Ok(()),
+        Err(fault) => Err(Fail::new(fault.text())),
+    }
+}
+
+/// Prints the line of each row.
+fn show_rows(rt: &HostRuntime) -> Result<(), RowsFault> {
     let alloc = rt.alloc();
-    let words: Vec<String> = env::args(&rt)?.collect(alloc)?;
+    let words: Vec<String> = env::args(rt)?.collect(alloc)?;
     let folder = match words.get(1) {
         Some(word) => word.as_str(),
         None => ".",
     };
-    let rows = fs::read_to_string(&rt, format!(in alloc; "{folder}/rows.in")?.as_str())?;
-    let outcomes = fs::read_to_string(&rt, format!(in alloc; "{folder}/rows.ref")?.as_str())?;
+    let rows = fs::read_to_string(rt, format!(in alloc; "{folder}/rows.in")?.as_str())?;
+    let outcomes = fs::read_to_string(rt, format!(in alloc; "{folder}/rows.ref")?.as_str())?;
     let mut rest = outcomes.as_str().lines();
     for row in rows.as_str().lines() {
-        let Some(wanted) = rest.next() else {
-            return Err(Fail::new("a row has no outcome"));
-        };
+        let wanted = rest.next().ok_or(RowsFault::Count)?;
         let line = line_of(alloc, row, wanted)?;
         println!(rt; "{}", str::from_utf8(line.as_slice())?)?;
     }
     match rest.next() {
-        Some(_) => Err(Fail::new("an outcome has no row")),
+        Some(_) => Err(RowsFault::Count),
         None => Ok(()),
     }
 }
