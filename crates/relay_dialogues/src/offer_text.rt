@@ -5,8 +5,8 @@ ghost use Rattle.relay_server.specs.Session.{offered};
 ghost use Rattle.relay_trace.specs.TimeStamp.{protocol_word};
 ghost use Rattle.relay_dialogues.specs.OfferText.{offer_text, recipient_text};
 
-use relay_octets::Octets;
 use relay_envelope::{Recipient, write_mail, write_rcpt};
+use relay_octets::Octets;
 use relay_server::{Offer, Protocol};
 use std::alloc::{AllocError, Global};
 

@@ -1,5 +1,5 @@
 -- What a dialogue offers may be stored, since each state that it stands in holds nothing else.
-use Rattle.std.proofs.Common.{◌≡◌, ℕ, ◌≤◌, Bool, true, false, if◌then◌else◌, nat_le, is_some, List, [], ◌∷◌, ◌++◌, length, Result, Ok, Err, inl, inr, refl, sym, subst, ap, ◌∙◌, arith, length-append}
+use Rattle.std.proofs.Common.{◌≡◌, ℕ, ◌≤◌, Bool, true, false, if◌then◌else◌, nat_le, is_some, List, [], ◌∷◌, ◌++◌, length, Result, Ok, Err, inl, inr, refl, sym, subst, arith, length-append}
 use Rattle.std.specs.List.{AllByRecursion}
 use Rattle.std.proofs.lemmas.Bool.{leb-true, leb-false}
 use Rattle.relay_body.specs.DotText.{gathered_of}
@@ -11,14 +11,13 @@ use Rattle.relay_lines.specs.Word.{IsHostWord}
 use Rattle.relay_lines.specs.declared.command.LineFault.{LineFault}
 use Rattle.relay_lines.proofs.CommandLemmas.{reading_is_of_spelling}
 use Rattle.relay_envelope.specs.declared.envelope.Envelope.{Envelope}
-use Rattle.relay_envelope.specs.declared.envelope.Recipient.{Recipient}
 use Rattle.relay_envelope.specs.declared.fault.EnvelopeFault.{EnvelopeFault}
 use Rattle.relay_envelope.specs.Envelope.{IsEnvelope, IsRecipient, IsWrittenPath, may_be_envid, recipient_from}
 use Rattle.relay_envelope.specs.Mail.{Mail as MailSaid, Rcpt as RcptSaid, ReadsMail, ReadsRcpt}
 use Rattle.relay_envelope.specs.Path.{is_reverse}
 use Rattle.relay_envelope.proofs.ValidLemmas.{read_mail_is_valid, read_rcpt_is_valid}
 use Rattle.relay_server.specs.declared.client.Client.{Client}
-use Rattle.relay_server.specs.Dialogue.{Offered, Turn, Answers, AnswersLine, AnswersText, Turns, IsLeft, IsOutcome, offered_by, offers_in}
+use Rattle.relay_server.specs.Dialogue.{Offered, Turn, Answers, Turns, IsLeft, IsOutcome, offered_by, offers_in}
 use Rattle.relay_server.specs.DialogueLaws.{MayBeStored, OffersMayBeStored}
 use Rattle.relay_server.specs.ReplyTable.{Step, step_of, step_of_data, step_of_mail, step_of_rcpt}
 use Rattle.relay_server.specs.Routes.{hop_of}

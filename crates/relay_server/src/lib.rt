@@ -16,6 +16,6 @@ mod state;
 pub use client::Client;
 pub use config::Config;
 pub use offer::{Answer, Offer};
-pub use routes::{Hop, Route, Table};
 pub use relay_trace::Protocol;
+pub use routes::{Hop, Route, Table};
 pub use session::{Fed, Next, Session};

@@ -2,8 +2,8 @@ ghost use Rattle.std.specs.Prelude.{◌≡◌, [], ◌∷◌, ◌++◌, length, 
 ghost use Rattle.relay_server.specs.Session.{offered};
 ghost use Rattle.relayd.specs.Kept.{offer_of};
 
-use relay_octets::Octets;
 use relay_envelope::Envelope;
+use relay_octets::Octets;
 use relay_server::{Client, Offer};
 use std::alloc::{AllocError, Global};
 use std::marker::Model;

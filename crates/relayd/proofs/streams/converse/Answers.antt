@@ -30,9 +30,9 @@ returns-in_err-block-clause-begun g c =
 pub returns-in_err-exchange_block-clause-begun : goal.returns-in_err-exchange_block-clause-begun
 returns-in_err-exchange_block-clause-begun g c =
     let begun : (left held : Option (List ℕ)) → GoesOn left (g.R.Read.remaining c.args.reader.now) held (g.W.Write.contents c.args.writer.now) c.args.exchange.now → IsBegun left (g.R.Read.remaining c.exchange_block.new.reader) held (g.W.Write.contents c.exchange_block.new.writer) =
-        λ left held before.
-        let so_far = c.loop.invariant.so_far left held before in
-        broken _ _ _ _ _ _ c.loop.exchange c.loop.exchange so_far (c.in_err-exchange_block.ensures.err so_far.said so_far.rests) in
+    λ left held before.
+    let so_far = c.loop.invariant.so_far left held before in
+    broken _ _ _ _ _ _ c.loop.exchange c.loop.exchange so_far (c.in_err-exchange_block.ensures.err so_far.said so_far.rests) in
     on_err _ _ begun
 
 pub returns-then-branch-clause-served : goal.returns-then-branch-clause-served
