@@ -1,14 +1,14 @@
 -- The routes of a table's members, one member after another.
-use Rattle.std.proofs.Common.{◌≡◌, ◌≢◌, ◌⊎◌, inl, inr, ℕ, Bool, true, false, cond, List, [], ◌∷◌, ◌++◌, ◌≤◌, Option, None, Some, Ok, IsSome, bytes_eq, refl, sym, ap, subst, ◌∙◌, append_assoc, append-nil, arith}
+use Rattle.std.proofs.Common.{◌≡◌, ◌⊎◌, inl, inr, ℕ, List, [], ◌∷◌, ◌++◌, ◌≤◌, Option, None, Some, Ok, IsSome, bytes_eq, refl, sym, ap, ◌∙◌, append_assoc, append-nil, arith}
 use Rattle.std.specs.List.{AllByRecursion}
 use Rattle.std.specs.declared.net.socket_addr.SocketAddrV4.{SocketAddrV4}
 use Rattle.std.proofs.lemmas.Bool.{cases_Bool, false≢true}
 use Rattle.std.proofs.lemmas.Option.{none-some, same_Some}
-use Rattle.toml.specs.Data.{Data, Members, no_members, member, string, table}
+use Rattle.toml.specs.Data.{Data, Members, no_members, member, string}
 use Rattle.relay_routes.specs.declared.hop.Hop.{Hop}
-use Rattle.relay_routes.specs.Value.{GivesSize, IsAddress, address_text}
+use Rattle.relay_routes.specs.Value.{GivesSize, address_text}
 use Rattle.relay_routes.specs.Routes.{Agrees, AllAgree, HasOtherPlace, MayBeAdded, RefusesRoute, Route, RouteTable, entry_of, in_lower_case, place_of, with_route}
-use Rattle.relay_routes.specs.Document.{AreRoutes, GivesHop, GivesRoute, GivesRoutes, fault_of_routes}
+use Rattle.relay_routes.specs.Document.{AreRoutes, GivesHop, GivesRoute, fault_of_routes}
 use Rattle.relay_routes.specs.Config.{ReadsOptional}
 use Rattle.relay_routes.specs.declared.fault.ConfigFault.TheVariants.{BadValue, NoMemory}
 use Rattle.relay_routes.specs.declared.fault.RouteFault.{RouteFault}

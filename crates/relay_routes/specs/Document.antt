@@ -1,5 +1,5 @@
 -- What the values of a configuration's document say.
-use Rattle.std.specs.Prelude.{◌≡◌, ℕ, List, [], ◌∷◌, codes, Option, Some, None}
+use Rattle.std.specs.Prelude.{◌≡◌, ℕ, List, [], ◌∷◌, codes, Option, Some}
 use Rattle.toml.specs.Data.{Data, Members, no_members, member, string, table, get_member}
 use Rattle.relay_routes.specs.Value.{IsAddress, IsHostName, address_text}
 use Rattle.relay_routes.specs.Routes.{AllAgree, IsRouteDomain, Route, in_lower_case}

@@ -1,8 +1,7 @@
 -- A search for the colon finds what stands behind it.
-use Rattle.std.proofs.Common.{◌≡◌, not, ap, sym, ◌∙◌}
-use Rattle.std.specs.List.{after_first}
+use Rattle.std.proofs.Common.{not, ap, sym}
 use Rattle.std.proofs.lemmas.List.{take_rest}
-use Rattle.relay_routes.specs.Value.{begins_with_zero, is_colon}
+use Rattle.relay_routes.specs.Value.{begins_with_zero}
 use Rattle.relay_routes.proofs.AddressLemmas.{behind_found, behind_none}
 use Rattle.relay_routes.proofs.address.has_plain_port.Goals as goal
 

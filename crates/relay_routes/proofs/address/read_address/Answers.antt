@@ -1,8 +1,6 @@
 -- What std reads is an address exactly where no zero leads its port.
-use Rattle.std.proofs.Common.{◌≡◌, sym, ◌∙◌}
+use Rattle.std.proofs.Common.{sym, ◌∙◌}
 use Rattle.std.proofs.lemmas.Bool.{false≢true}
-use Rattle.std.specs.List.{after_first}
-use Rattle.relay_routes.specs.Value.{begins_with_zero, is_colon}
 use Rattle.relay_routes.proofs.AddressLemmas.{plain_address, address_is_plain, leads_where_false, plain_where_true}
 use Rattle.relay_routes.proofs.address.read_address.Goals as goal
 

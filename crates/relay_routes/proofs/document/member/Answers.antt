@@ -1,4 +1,4 @@
-use Rattle.std.proofs.Common.{◌≡◌, sym, ◌∙◌}
+use Rattle.std.proofs.Common.{sym}
 use Rattle.toml.proofs.Views.{table_get}
 use Rattle.relay_routes.proofs.document.member.Goals as goal
 

@@ -1,13 +1,11 @@
 -- The routes so far are those of the members so far, and a member that is refused leaves none.
-use Rattle.std.proofs.Common.{◌≡◌, ◌∷◌, [], List, None, Some, MatchOption, refl, inr, sym, ap, subst, ◌∙◌, arith}
+use Rattle.std.proofs.Common.{◌≡◌, ◌∷◌, [], refl, inr, ap, ◌∙◌, arith}
 use Rattle.std.proofs.lemmas.Grind.{common_steps}
 use Rattle.std.proofs.lemmas.Option.{MatchOption-at_some, MatchOption-at_none}
-use Rattle.toml.specs.Data.{member, no_members}
-use Rattle.toml.specs.View.{members_view, view}
+use Rattle.toml.specs.View.{members_view}
 use Rattle.toml.proofs.Views.{Entry}
-use Rattle.relay_routes.specs.Routes.{Route, RouteTable}
-use Rattle.relay_routes.specs.Document.{GivesHop}
-use Rattle.relay_routes.proofs.MemberLemmas.{Walked, no_route, walked_added, walked_all, walked_refused}
+use Rattle.relay_routes.specs.Routes.{RouteTable}
+use Rattle.relay_routes.proofs.MemberLemmas.{no_route, walked_added, walked_all, walked_refused}
 use Rattle.relay_routes.proofs.document.table_of.Goals as goal
 
 pub returns-in-None-2-clause-err : goal.returns-in-None-2-clause-err

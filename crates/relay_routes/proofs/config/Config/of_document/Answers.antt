@@ -1,5 +1,5 @@
 -- What was read lies in its range, and the routes are those of the relay of this name.
-use Rattle.std.proofs.Common.{◌≡◌, ◌∙◌, lit≤}
+use Rattle.std.proofs.Common.{◌∙◌, lit≤}
 use Rattle.relay_routes.specs.declared.key.Key.TheVariants.{MaxContent, SpoolLimit}
 use Rattle.relay_routes.proofs.MemberLemmas.{size_in_range}
 use Rattle.relay_routes.proofs.config.Config.of_document.Goals as goal

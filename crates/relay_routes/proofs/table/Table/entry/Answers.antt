@@ -1,6 +1,5 @@
 -- What the map has is what the routes say.
-use Rattle.std.proofs.Common.{◌≡◌, ap, sym, ◌∙◌}
-use Rattle.relay_routes.specs.Routes.{entry_of}
+use Rattle.std.proofs.Common.{◌∙◌}
 use Rattle.relay_routes.proofs.RouteLemmas.{entry_is}
 use Rattle.relay_routes.proofs.table.Table.entry.Goals as goal
 

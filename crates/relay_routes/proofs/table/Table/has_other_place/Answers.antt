@@ -1,6 +1,5 @@
 -- A name without a place in the map has none in the routes.
-use Rattle.std.proofs.Common.{◌≡◌, inl, None, ap, sym, ◌∙◌}
-use Rattle.relay_routes.specs.Routes.{HasNoOtherPlace}
+use Rattle.std.proofs.Common.{inl, None}
 use Rattle.relay_routes.proofs.RouteLemmas.{place_known}
 use Rattle.relay_routes.proofs.table.Table.has_other_place.Goals as goal
 

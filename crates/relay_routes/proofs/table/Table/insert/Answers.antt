@@ -1,9 +1,8 @@
 -- Both maps have the route behind the others.
-use Rattle.std.proofs.Common.{◌≡◌, ◌++◌, ◌∷◌, [], None, Vec, Global, bytes_eq, ap, subst, sym, ◌∙◌}
+use Rattle.std.proofs.Common.{◌≡◌, ◌++◌, ◌∷◌, [], None, bytes_eq, ap, ◌∙◌}
 use Rattle.indexmap.specs.IndexMap.{insert_entry}
 use Rattle.indexmap.proofs.CallerLemmas.{insert_entry-new}
-use Rattle.relay_routes.specs.Routes.{RouteTable}
-use Rattle.relay_routes.specs.Indexed.{IsIndexed, routes_of, value_at}
+use Rattle.relay_routes.specs.Indexed.{value_at}
 use Rattle.relay_routes.proofs.RouteLemmas.{entry_is, indexed_with_one_more, routes_of-push}
 use Rattle.relay_routes.proofs.table.Table.insert.Goals as goal
 
