@@ -113,6 +113,21 @@ transaction() {
     printf 'QUIT\r\n'
 } > "$room/noops"
 
+# 5,000 transactions of 100 recipients, each RCPT with all its parameters.
+recipients() {
+    printf 'MAIL FROM:<a@example.org> RET=HDRS ENVID=q+2B1\r\n'
+    for ((recipient = 0; recipient < 100; recipient++)); do
+        printf 'RCPT TO:<somebody@example.org> NOTIFY=SUCCESS,FAILURE,DELAY ORCPT=rfc822;some+2Bbody@example.org\r\n'
+    done
+    printf 'RSET\r'
+}
+
+{
+    printf 'EHLO x\r\n'
+    yes "$(recipients)" | head -n 510000 || true
+    printf 'QUIT\r\n'
+} > "$room/recipients"
+
 {
     mail_lines 2631579
     printf '.\r\n'
@@ -136,6 +151,7 @@ measure "session: mail data that is refused" octets "$(stat -c %s "$room/refused
 measure "session: 200 messages of 1 MiB that are kept" octets "$(stat -c %s "$room/kept")" "$room/kept" -l 803 "$relayd" session
 measure "session: 100,000 small messages" messages 100000 "$room/small" -l 400003 "$relayd" session
 measure "session: 1,000,000 pipelined NOOPs" commands 1000000 "$room/noops" -l 1000002 "$relayd" session
+measure "session: 500,000 RCPTs with all parameters" commands 500000 "$room/recipients" -l 510004 "$relayd" session
 measure "library: a dot text that is refused" octets "$(stat -c %s "$room/text")" "$room/text" -l 1 "$bench" texts
 measure "library: RCPT lines that are parsed" commands 2000000 "$room/commands" -l 1 "$bench" commands
 measure "library: short replies that are read" replies 4369000 "$room/replies" -l 1 "$bench" replies
