@@ -4,7 +4,7 @@
 # The whole gate: the sample configuration beside its tested copy, the program over two pipes and short of memory first,
 # and then every proof from nothing, the edits that must fail and the tests. Its closing line is the last.
 test: relayd
-	cmp relayd.toml crates/relay_routes_rows/data/relayd.toml
+	cmp relayd.toml crates/relay_routes_tests/data/relayd.toml
 	tests/one_line_at_a_time.sh build/relayd
 	tests/each_allocation_refused.sh build/relayd
 	rt ci
