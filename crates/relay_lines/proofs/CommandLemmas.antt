@@ -1,20 +1,23 @@
 -- Command lines: a line's reading is that of its words, and each command has one spelling.
-use Rattle.std.proofs.Common.{◌≡◌, ℕ, ◌+◌, ◌≤◌, nat_le, not, ◌==◌, Bool, true, false, cond, ◌&&◌, List, [], ◌∷◌, ◌++◌, map, reverse, length, codes, Option, None, Some, Result, Ok, Err, option_map, ok_or, find, ◌⊎◌, inl, inr, sym, ap, subst, refl, ◌∙◌, arith, length-append}
+use Rattle.std.proofs.Common.{◌≡◌, ℕ, ◌+◌, ◌≤◌, nat_le, not, ◌==◌, Bool, true, false, cond, ◌&&◌, ◌||◌, List, [], ◌∷◌, ◌++◌, map, reverse, length, codes, Option, None, Some, Result, Ok, Err, option_map, ok_or, find, ◌⊎◌, inl, inr, sym, ap, subst, refl, ◌∙◌, arith, length-append}
 use Rattle.std.proofs.lemmas.List.{append-nil, map-append, reverse-append, length-reverse, nil_from_length}
 use Rattle.std.proofs.lemmas.List.Sums.{list_all-from_AllPass, AllPass-from_list_all}
 use Rattle.std.proofs.lemmas.List.Folds.{list_all-append}
 use Rattle.std.proofs.lemmas.Bool.{cases_Bool, cond-true, cond-false, eqb-true, not-true, and_from, leb-true}
 use Rattle.std.proofs.lemmas.Bool.Decides.{nat_tests}
 use Rattle.std.specs.List.{list_all, prefix_len, suffix_len, AllPass}
-use Rattle.std.specs.Char.{to_ascii_lowercase, is_ascii_graphic}
+use Rattle.std.specs.Char.{to_ascii_lowercase, is_ascii_digit, is_ascii_graphic}
 use Rattle.std.specs.Str.{bytes_eq}
 use Rattle.relay_octets.specs.LetterCase.{IsSameWord}
 use Rattle.relay_lines.specs.Word.{is_space, is_no_space, is_blank, is_printable, are_printable, is_word, without_trailing_blanks, first_word, argument_of, behind_keyword, is_host_word, IsHostWord, SplitsLine}
 use Rattle.relay_lines.specs.declared.command.LineFault.{LineFault}
-use Rattle.relay_lines.specs.declared.command.LineFault.TheVariants.{Unknown, BadByte, BadArgument, NotOffered}
+use Rattle.relay_lines.specs.declared.command.LineFault.TheVariants.{Unknown, BadByte, BadArgument, NotOffered, BadChunkSize}
+use Rattle.relay_lines.specs.declared.chunk_argument.BdatArgument.{BdatArgument}
+use Rattle.relay_lines.specs.ChunkArgument.{SpellsBdat, StandsBehindSize, bdat_argument_of}
+use Rattle.relay_lines.proofs.ChunkArgumentLemmas.{bdat_argument_is_of_spelling}
 use Rattle.relay_lines.specs.declared.command.Verb.{Verb}
 use Rattle.relay_lines.specs.declared.command.Verb.TheVariants as verb
-use Rattle.relay_lines.specs.Command.{Command, Helo, Ehlo, Mail, Rcpt, Data, Rset, Noop, Vrfy, Help, Quit, word_of, verbs, is_offered, IsVerb, verb_of, command_if, command_of, reading_of_verb, reading_of_words, reading_of_text, reading_of, IsSpelled, ReadsCommand, EveryLineSplits, SplitIsOne, ReadingIsOfWords, ReadingIsOfSpelling, BadByteIsFound, UnknownIsFound, BadArgumentIsFound, NotOfferedIsFound, LetterCaseIsFree, MailIsRead, RcptIsRead, HeloIsRead, EhloIsRead, BareVerbsAreRead}
+use Rattle.relay_lines.specs.Command.{Command, Helo, Ehlo, Mail, Rcpt, Data, Bdat, Rset, Noop, Vrfy, Help, Quit, word_of, verbs, is_offered, IsVerb, verb_of, bdat_if, is_bdat, command_if, command_of, reading_of_verb, reading_of_words, reading_of_text, reading_of, IsSpelled, ReadsCommand, EveryLineSplits, SplitIsOne, ReadingIsOfWords, ReadingIsOfSpelling, BadByteIsFound, UnknownIsFound, BadArgumentIsFound, NotOfferedIsFound, BadChunkSizeIsFound, LetterCaseIsFree, MailIsRead, RcptIsRead, HeloIsRead, EhloIsRead, BdatIsRead, BareVerbsAreRead}
 use Rattle.relay_lines.proofs.WordLemmas.{length-same_word, AllPass-reverse, AllPass-weaker, text-split, first_word-split, argument_of-split, line-splits, same_word, behind_keyword-found, begins-behind_keyword, host-from_test, host-test, host-graphic, graphic-printable, graphic-no_space, graphic-no_blank}
 
 pub every_line_splits : EveryLineSplits
@@ -44,9 +47,9 @@ unfolding reading_of reading_of_text
 reading_is_of_words line word argument split =
     let text = without_trailing_blanks line in
     let printable = are_printable-split line word argument split in
-    ap (λ b. cond b (reading_of_words (first_word text) (argument_of text)) (Err BadByte)) printable
-    ∙ ap (λ w. cond (are_printable (word ++ argument)) (reading_of_words w (argument_of text)) (Err BadByte)) (first_word-split line word argument split)
-    ∙ ap (λ a. cond (are_printable (word ++ argument)) (reading_of_words word a) (Err BadByte)) (argument_of-split line word argument split)
+    ap (λ b. cond (b || is_bdat (first_word text)) (reading_of_words (first_word text) (argument_of text)) (Err BadByte)) printable
+    ∙ ap (λ w. cond (are_printable (word ++ argument) || is_bdat w) (reading_of_words w (argument_of text)) (Err BadByte)) (first_word-split line word argument split)
+    ∙ ap (λ a. cond (are_printable (word ++ argument) || is_bdat word) (reading_of_words word a) (Err BadByte)) (argument_of-split line word argument split)
 
 -- the verb of a word doesn't depend on its letter case
 pub verb_of-same : (word again : List ℕ) → IsSameWord word again → verb_of word ≡ verb_of again
@@ -60,6 +63,7 @@ verb_of-word_of verb.Ehlo = refl
 verb_of-word_of verb.Mail = refl
 verb_of-word_of verb.Rcpt = refl
 verb_of-word_of verb.Data = refl
+verb_of-word_of verb.Bdat = refl
 verb_of-word_of verb.Rset = refl
 verb_of-word_of verb.Noop = refl
 verb_of-word_of verb.Vrfy = refl
@@ -96,6 +100,10 @@ ok_or-ok : (make : List ℕ → Command) (found : Option (List ℕ)) (command : 
 ok_or-ok make None command e = absurd (cc)
 ok_or-ok make (Some part) command e = (part, refl, cc)
 
+bdat_if-ok : (found : Option BdatArgument) (command : Command) → bdat_if found ≡ Ok command → (chunk : BdatArgument) × (found ≡ Some chunk) × (Bdat chunk ≡ command)
+bdat_if-ok None command e = absurd (cc)
+bdat_if-ok (Some chunk) command e = (chunk, refl, cc)
+
 -- a verb whose argument was taken spells the command
 pub spelled-command_of : (v : Verb) (word argument : List ℕ) (command : Command) → IsSameWord word (word_of v) → command_of v argument ≡ Ok command → IsSpelled command word argument
 unfolding command_of
@@ -114,6 +122,9 @@ spelled-command_of verb.Rcpt word argument command same e =
 spelled-command_of verb.Data word argument command same e =
     let p = command_if-ok (length argument == 0) Data command e in
     subst (λ c. IsSpelled c word argument) p.1 (same, nil_from_length argument (eqb-true (length argument) 0 p.0))
+spelled-command_of verb.Bdat word argument command same e =
+    let p = bdat_if-ok (bdat_argument_of argument) command e in
+    subst (λ c. IsSpelled c word argument) p.2 (same, (bdat_argument_is_of_spelling argument p.0).0 p.1)
 spelled-command_of verb.Rset word argument command same e =
     let p = command_if-ok (length argument == 0) Rset command e in
     subst (λ c. IsSpelled c word argument) p.1 (same, nil_from_length argument (eqb-true (length argument) 0 p.0))
@@ -165,6 +176,9 @@ words-spelled (Rcpt path) word argument spelled =
     ∙ ap (λ found. ok_or (option_map Rcpt found) BadArgument) (behind_keyword-found (codes "TO:") argument path spelled.1)
 words-spelled Data word argument spelled =
     reading_of_words-verb word argument verb.Data spelled.0 ∙ ap (λ a. command_if (length a == 0) Data) spelled.1
+words-spelled (Bdat chunk) word argument spelled =
+    reading_of_words-verb word argument verb.Bdat spelled.0
+    ∙ ap bdat_if ((bdat_argument_is_of_spelling argument chunk).1 spelled.1)
 words-spelled Rset word argument spelled =
     reading_of_words-verb word argument verb.Rset spelled.0 ∙ ap (λ a. command_if (length a == 0) Rset) spelled.1
 words-spelled Noop word argument spelled = reading_of_words-verb word argument verb.Noop spelled
@@ -173,41 +187,48 @@ words-spelled Help word argument spelled = reading_of_words-verb word argument v
 words-spelled Quit word argument spelled =
     reading_of_words-verb word argument verb.Quit spelled.0 ∙ ap (λ a. command_if (length a == 0) Quit) spelled.1
 
--- whether the words are printable decides the reading
+-- the word of BDAT is found in any letter case
+is_bdat-same : (word again : List ℕ) → IsSameWord word again → is_bdat word ≡ is_bdat again
+unfolding is_word
+is_bdat-same word again same = ap (λ l. bytes_eq l (map to_ascii_lowercase (codes "BDAT"))) same
+
+is_bdat-true : (word : List ℕ) → IsSameWord word (codes "BDAT") → is_bdat word ≡ true
+unfolding is_word
+is_bdat-true word same = is_bdat-same word (codes "BDAT") same
+
+or-true : (b c : Bool) → c ≡ true → b || c ≡ true
+or-true true c h = refl
+or-true false c h = h
+
+-- whether the words are printable, or the word is BDAT, decides the reading
 reading-printable : (line word argument : List ℕ) → SplitsLine line word argument → AllPass is_printable (word ++ argument) → reading_of line ≡ reading_of_words word argument
 unfolding are_printable
 reading-printable line word argument split all =
     reading_is_of_words line word argument split
-    ∙ cond-true (are_printable (word ++ argument)) (reading_of_words word argument) (Err BadByte) (list_all-from_AllPass is_printable (word ++ argument) all)
+    ∙ cond-true (are_printable (word ++ argument) || is_bdat word) (reading_of_words word argument) (Err BadByte) (ap (λ b. b || is_bdat word) (list_all-from_AllPass is_printable (word ++ argument) all))
 
-reading-bad : (line word argument : List ℕ) → SplitsLine line word argument → are_printable (word ++ argument) ≡ false → reading_of line ≡ Err BadByte
-reading-bad line word argument split bad =
+reading-bdat : (line word argument : List ℕ) → SplitsLine line word argument → IsSameWord word (codes "BDAT") → reading_of line ≡ bdat_if (bdat_argument_of argument)
+unfolding command_of
+reading-bdat line word argument split same =
     reading_is_of_words line word argument split
-    ∙ cond-false (are_printable (word ++ argument)) (reading_of_words word argument) (Err BadByte) bad
+    ∙ cond-true (are_printable (word ++ argument) || is_bdat word) (reading_of_words word argument) (Err BadByte) (or-true (are_printable (word ++ argument)) (is_bdat word) (is_bdat-true word same))
+    ∙ reading_of_words-verb word argument verb.Bdat same
 
--- words that are printable, or a bad octet
-cases-printable : (line word argument : List ℕ) → SplitsLine line word argument → (AllPass is_printable (word ++ argument)) ⊎ (reading_of line ≡ Err BadByte)
+reading-bad : (line word argument : List ℕ) → SplitsLine line word argument → are_printable (word ++ argument) ≡ false → is_bdat word ≡ false → reading_of line ≡ Err BadByte
+reading-bad line word argument split bad other =
+    reading_is_of_words line word argument split
+    ∙ cond-false (are_printable (word ++ argument) || is_bdat word) (reading_of_words word argument) (Err BadByte) (ap (λ b. b || is_bdat word) bad ∙ other)
+
+-- words that are printable, or BDAT, or a bad octet
+cases-printable : (line word argument : List ℕ) → SplitsLine line word argument → (AllPass is_printable (word ++ argument)) ⊎ (IsSameWord word (codes "BDAT")) ⊎ (reading_of line ≡ Err BadByte)
 unfolding are_printable
 cases-printable line word argument split =
     elim (cases_Bool (are_printable (word ++ argument))) [
       | inl all ↦ inl (AllPass-from_list_all is_printable (word ++ argument) all)
-      | inr bad ↦ inr (reading-bad line word argument split bad)
-    ]
-
-reads-from_reading : (line : List ℕ) (command : Command) → reading_of line ≡ Ok command → ReadsCommand line command
-reads-from_reading line command e =
-    let word = first_word (without_trailing_blanks line) in
-    let argument = argument_of (without_trailing_blanks line) in
-    let split = line-splits line in
-    elim (cases-printable line word argument split) [
-      | inl all ↦ record {
-        word = word;
-        argument = argument;
-        splits = split;
-        printable = all;
-        spelled = spelled-words word argument command (sym (reading-printable line word argument split all) ∙ e);
-      }
-      | inr bad ↦ absurd (let clash = sym bad ∙ e in cc)
+      | inr bad ↦ elim (cases_Bool (is_bdat word)) [
+        | inl bdat ↦ inr (inl (same_word word (codes "BDAT") bdat))
+        | inr other ↦ inr (inr (reading-bad line word argument split bad other))
+      ]
     ]
 
 pub reading-from_reads : (line : List ℕ) (command : Command) → ReadsCommand line command → reading_of line ≡ Ok command
@@ -215,36 +236,46 @@ reading-from_reads line command reads =
     reading-printable line reads.word reads.argument reads.splits reads.printable
     ∙ words-spelled command reads.word reads.argument reads.spelled
 
-pub reading_is_of_spelling : ReadingIsOfSpelling
-reading_is_of_spelling line command = (reads-from_reading line command, reading-from_reads line command)
+-- BDAT takes a chunk
+takes_chunk : Verb → Bool
+takes_chunk verb.Bdat = true
+takes_chunk _ = false
 
--- what comes of a verb and its argument: a command, a bad argument of a verb that is offered, or a verb that isn't
-abbrev Comes : Bool → Result Command LineFault → Type 0
-Comes offered reading =
-    ((command : Command) × (reading ≡ Ok command)) ⊎ ((reading ≡ Err BadArgument) × (offered ≡ true))
+-- what comes of a verb and its argument: a command, a bad argument of a verb that is offered, a verb that isn't, or a bad
+-- chunk size
+abbrev Comes : Bool → Bool → Result Command LineFault → Type 0
+Comes offered chunked reading =
+    ((command : Command) × (reading ≡ Ok command))
+    ⊎ ((reading ≡ Err BadArgument) × (offered ≡ true) × (chunked ≡ false))
     ⊎ ((reading ≡ Err NotOffered) × (offered ≡ false))
+    ⊎ ((reading ≡ Err BadChunkSize) × (chunked ≡ true))
 
-command_if-cases : (b : Bool) (made : Command) → Comes true (command_if b made)
+command_if-cases : (b : Bool) (made : Command) → Comes true false (command_if b made)
 command_if-cases true made = inl (made, refl)
-command_if-cases false made = inr (inl (refl, refl))
+command_if-cases false made = inr (inl (refl, refl, refl))
 
-ok_or-cases : (make : List ℕ → Command) (found : Option (List ℕ)) → Comes true (ok_or (option_map make found) BadArgument)
-ok_or-cases make None = inr (inl (refl, refl))
+ok_or-cases : (make : List ℕ → Command) (found : Option (List ℕ)) → Comes true false (ok_or (option_map make found) BadArgument)
+ok_or-cases make None = inr (inl (refl, refl, refl))
 ok_or-cases make (Some part) = inl (make part, refl)
 
-command_of-cases : (v : Verb) (argument : List ℕ) → Comes (is_offered v) (command_of v argument)
-unfolding command_of
+bdat_if-cases : (found : Option BdatArgument) → Comes true true (bdat_if found)
+bdat_if-cases None = inr (inr (inr (refl, refl)))
+bdat_if-cases (Some chunk) = inl (Bdat chunk, refl)
+
+command_of-cases : (v : Verb) (argument : List ℕ) → Comes (is_offered v) (takes_chunk v) (command_of v argument)
+unfolding command_of takes_chunk
 command_of-cases verb.Helo argument = command_if-cases (is_host_word argument) (Helo argument)
 command_of-cases verb.Ehlo argument = command_if-cases (is_host_word argument) (Ehlo argument)
 command_of-cases verb.Mail argument = ok_or-cases Mail (behind_keyword (codes "FROM:") argument)
 command_of-cases verb.Rcpt argument = ok_or-cases Rcpt (behind_keyword (codes "TO:") argument)
 command_of-cases verb.Data argument = command_if-cases (length argument == 0) Data
+command_of-cases verb.Bdat argument = bdat_if-cases (bdat_argument_of argument)
 command_of-cases verb.Rset argument = command_if-cases (length argument == 0) Rset
 command_of-cases verb.Noop argument = inl (Noop, refl)
 command_of-cases verb.Vrfy argument = inl (Vrfy, refl)
 command_of-cases verb.Help argument = inl (Help, refl)
-command_of-cases verb.Expn argument = inr (inr (refl, refl))
-command_of-cases verb.Turn argument = inr (inr (refl, refl))
+command_of-cases verb.Expn argument = inr (inr (inl (refl, refl)))
+command_of-cases verb.Turn argument = inr (inr (inl (refl, refl)))
 command_of-cases verb.Quit argument = command_if-cases (length argument == 0) Quit
 
 -- a verb that isn't offered says nothing else
@@ -255,6 +286,7 @@ not_offered-verb verb.Ehlo argument lacks = absurd (cc)
 not_offered-verb verb.Mail argument lacks = absurd (cc)
 not_offered-verb verb.Rcpt argument lacks = absurd (cc)
 not_offered-verb verb.Data argument lacks = absurd (cc)
+not_offered-verb verb.Bdat argument lacks = absurd (cc)
 not_offered-verb verb.Rset argument lacks = absurd (cc)
 not_offered-verb verb.Noop argument lacks = absurd (cc)
 not_offered-verb verb.Vrfy argument lacks = absurd (cc)
@@ -262,6 +294,36 @@ not_offered-verb verb.Help argument lacks = absurd (cc)
 not_offered-verb verb.Expn argument lacks = refl
 not_offered-verb verb.Turn argument lacks = refl
 not_offered-verb verb.Quit argument lacks = absurd (cc)
+
+-- the verb that takes a chunk is BDAT
+chunk-verb : (v : Verb) → takes_chunk v ≡ true → v ≡ verb.Bdat
+unfolding takes_chunk
+chunk-verb verb.Helo e = absurd (cc)
+chunk-verb verb.Ehlo e = absurd (cc)
+chunk-verb verb.Mail e = absurd (cc)
+chunk-verb verb.Rcpt e = absurd (cc)
+chunk-verb verb.Data e = absurd (cc)
+chunk-verb verb.Bdat e = refl
+chunk-verb verb.Rset e = absurd (cc)
+chunk-verb verb.Noop e = absurd (cc)
+chunk-verb verb.Vrfy e = absurd (cc)
+chunk-verb verb.Help e = absurd (cc)
+chunk-verb verb.Expn e = absurd (cc)
+chunk-verb verb.Turn e = absurd (cc)
+chunk-verb verb.Quit e = absurd (cc)
+
+-- a word is one verb
+one_verb : (word : List ℕ) (v other : Verb) → IsSameWord word (word_of v) → IsSameWord word (word_of other) → v ≡ other
+one_verb word v other same too =
+    let found = sym (verb_of-spelled word v same) ∙ verb_of-spelled word other too in
+    cc
+
+chunk-word : (word : List ℕ) (v : Verb) → IsSameWord word (word_of v) → takes_chunk v ≡ false → IsSameWord word (codes "BDAT") → ⊥
+unfolding takes_chunk
+chunk-word word v same other bdat =
+    let is = ap takes_chunk (one_verb word v verb.Bdat same bdat) in
+    let clash = sym other ∙ is in
+    cc
 
 -- the verb of a word and its reading, or none
 found_faults : (found : Option Verb) (word argument : List ℕ) → verb_of word ≡ found → ((v : Verb) × (verb_of word ≡ Some v) × (reading_of_verb found argument ≡ command_of v argument)) ⊎ ((verb_of word ≡ None) × (reading_of_verb found argument ≡ Err Unknown))
@@ -280,7 +342,8 @@ never_bad_byte word argument e =
       | inl found ↦ elim (command_of-cases found.0 argument) [
         | inl taken ↦ let clash = sym e ∙ found.2 ∙ taken.1 in cc
         | inr (inl bad) ↦ let clash = sym e ∙ found.2 ∙ bad.0 in cc
-        | inr (inr lacks) ↦ let clash = sym e ∙ found.2 ∙ lacks.0 in cc
+        | inr (inr (inl lacks)) ↦ let clash = sym e ∙ found.2 ∙ lacks.0 in cc
+        | inr (inr (inr chunk)) ↦ let clash = sym e ∙ found.2 ∙ chunk.0 in cc
       ]
       | inr none ↦ let clash = sym e ∙ none.1 in cc
     ]
@@ -292,7 +355,8 @@ unknown_verb v word argument same e =
     elim (command_of-cases v argument) [
       | inl taken ↦ let clash = sym e ∙ known ∙ taken.1 in cc
       | inr (inl bad) ↦ let clash = sym e ∙ known ∙ bad.0 in cc
-      | inr (inr lacks) ↦ let clash = sym e ∙ known ∙ lacks.0 in cc
+      | inr (inr (inl lacks)) ↦ let clash = sym e ∙ known ∙ lacks.0 in cc
+      | inr (inr (inr chunk)) ↦ let clash = sym e ∙ known ∙ chunk.0 in cc
     ]
 
 unknown-words : (word argument : List ℕ) → ((v : Verb) → ¬ IsSameWord word (word_of v)) → reading_of_words word argument ≡ Err Unknown
@@ -302,25 +366,29 @@ unknown-words word argument none =
       | inr unknown ↦ unknown.1
     ]
 
--- a bad argument stands behind a verb that is offered, and what spells no command is one
-bad_argument-verb : (word argument : List ℕ) → reading_of_words word argument ≡ Err BadArgument → IsVerb true word
+-- a bad argument stands behind a verb that is offered and isn't BDAT, and what spells no command is one
+bad_argument-verb : (word argument : List ℕ) → reading_of_words word argument ≡ Err BadArgument → IsVerb true word × (¬ IsSameWord word (codes "BDAT"))
 bad_argument-verb word argument e =
     elim (words-faults word argument) [
       | inl found ↦ elim (command_of-cases found.0 argument) [
         | inl taken ↦ absurd (let clash = sym e ∙ found.2 ∙ taken.1 in cc)
-        | inr (inl bad) ↦ (found.0, verb_of-is word found.0 found.1, bad.1)
-        | inr (inr lacks) ↦ absurd (let clash = sym e ∙ found.2 ∙ lacks.0 in cc)
+        | inr (inl bad) ↦
+            let same = verb_of-is word found.0 found.1 in
+            ((found.0, same, bad.1), λ bdat. chunk-word word found.0 same bad.2 bdat)
+        | inr (inr (inl lacks)) ↦ absurd (let clash = sym e ∙ found.2 ∙ lacks.0 in cc)
+        | inr (inr (inr chunk)) ↦ absurd (let clash = sym e ∙ found.2 ∙ chunk.0 in cc)
       ]
       | inr none ↦ absurd (let clash = sym e ∙ none.1 in cc)
     ]
 
-bad_argument-words : (word argument : List ℕ) → IsVerb true word → ((command : Command) → ¬ IsSpelled command word argument) → reading_of_words word argument ≡ Err BadArgument
-bad_argument-words word argument known none =
+bad_argument-words : (word argument : List ℕ) → IsVerb true word → (¬ IsSameWord word (codes "BDAT")) → ((command : Command) → ¬ IsSpelled command word argument) → reading_of_words word argument ≡ Err BadArgument
+bad_argument-words word argument known other none =
     let reading = reading_of_words-verb word argument known.0 known.1 in
     elim (command_of-cases known.0 argument) [
       | inl taken ↦ absurd (none taken.0 (spelled-command_of known.0 word argument taken.0 known.1 taken.1))
       | inr (inl bad) ↦ reading ∙ bad.0
-      | inr (inr lacks) ↦ absurd (let clash = sym known.2 ∙ lacks.1 in cc)
+      | inr (inr (inl lacks)) ↦ absurd (let clash = sym known.2 ∙ lacks.1 in cc)
+      | inr (inr (inr chunk)) ↦ absurd (other (subst (λ (v : Verb). IsSameWord word (word_of v)) (chunk-verb known.0 chunk.1) known.1))
     ]
 
 -- what isn't offered is a verb that isn't
@@ -330,22 +398,58 @@ not_offered-word word argument e =
       | inl found ↦ elim (command_of-cases found.0 argument) [
         | inl taken ↦ absurd (let clash = sym e ∙ found.2 ∙ taken.1 in cc)
         | inr (inl bad) ↦ absurd (let clash = sym e ∙ found.2 ∙ bad.0 in cc)
-        | inr (inr lacks) ↦ (found.0, verb_of-is word found.0 found.1, lacks.1)
+        | inr (inr (inl lacks)) ↦ (found.0, verb_of-is word found.0 found.1, lacks.1)
+        | inr (inr (inr chunk)) ↦ absurd (let clash = sym e ∙ found.2 ∙ chunk.0 in cc)
       ]
       | inr none ↦ absurd (let clash = sym e ∙ none.1 in cc)
     ]
 
+-- a bad chunk size stands behind BDAT
+bad_chunk_size-word : (word argument : List ℕ) → reading_of_words word argument ≡ Err BadChunkSize → IsSameWord word (codes "BDAT")
+bad_chunk_size-word word argument e =
+    elim (words-faults word argument) [
+      | inl found ↦ elim (command_of-cases found.0 argument) [
+        | inl taken ↦ absurd (let clash = sym e ∙ found.2 ∙ taken.1 in cc)
+        | inr (inl bad) ↦ absurd (let clash = sym e ∙ found.2 ∙ bad.0 in cc)
+        | inr (inr (inl lacks)) ↦ absurd (let clash = sym e ∙ found.2 ∙ lacks.0 in cc)
+        | inr (inr (inr chunk)) ↦ subst (λ (v : Verb). IsSameWord word (word_of v)) (chunk-verb found.0 chunk.1) (verb_of-is word found.0 found.1)
+      ]
+      | inr none ↦ absurd (let clash = sym e ∙ none.1 in cc)
+    ]
+
+-- of BDAT nothing comes but a chunk, or a bad chunk size
+bdat-comes : (fault : LineFault) (found : Option BdatArgument) → bdat_if found ≡ Err fault → fault ≡ BadChunkSize
+bdat-comes fault None e = cc
+bdat-comes fault (Some chunk) e = absurd (cc)
+
+bdat-none : (found : Option BdatArgument) (argument : List ℕ) → bdat_argument_of argument ≡ found → ((chunk : BdatArgument) → ¬ SpellsBdat argument chunk) → bdat_if found ≡ Err BadChunkSize
+bdat-none None argument is none = refl
+bdat-none (Some chunk) argument is none = absurd (none chunk ((bdat_argument_is_of_spelling argument chunk).0 is))
+
+-- a line of BDAT has no other fault
+bdat-fault : (line word argument : List ℕ) (fault : LineFault) → SplitsLine line word argument → IsSameWord word (codes "BDAT") → reading_of line ≡ Err fault → fault ≡ BadChunkSize
+bdat-fault line word argument fault split same e =
+    bdat-comes fault (bdat_argument_of argument) (sym (reading-bdat line word argument split same) ∙ e)
+
 pub bad_byte_is_found : BadByteIsFound
 bad_byte_is_found line word argument split = (
-  λ e. λ all. never_bad_byte word argument (sym (reading-printable line word argument split all) ∙ e),
-  λ bad. elim (cases-printable line word argument split) [ inl all ↦ absurd (bad all) | inr is ↦ is ],
+  λ e. (
+    λ all. never_bad_byte word argument (sym (reading-printable line word argument split all) ∙ e),
+    λ bdat. let clash = bdat-fault line word argument BadByte split bdat e in cc,
+  ),
+  λ bad. elim (cases-printable line word argument split) [
+    | inl all ↦ absurd (bad.0 all)
+    | inr (inl bdat) ↦ absurd (bad.1 bdat)
+    | inr (inr is) ↦ is
+  ],
 )
 
 pub unknown_is_found : UnknownIsFound
 unknown_is_found line word argument split = (
   λ e. elim (cases-printable line word argument split) [
     | inl all ↦ (all, λ v same. unknown_verb v word argument same (sym (reading-printable line word argument split all) ∙ e))
-    | inr bad ↦ absurd (let clash = sym bad ∙ e in cc)
+    | inr (inl bdat) ↦ absurd (let clash = bdat-fault line word argument Unknown split bdat e in cc)
+    | inr (inr bad) ↦ absurd (let clash = sym bad ∙ e in cc)
   ],
   λ h. reading-printable line word argument split h.0 ∙ unknown-words word argument h.1,
 )
@@ -355,19 +459,41 @@ bad_argument_is_found line word argument split = (
   λ e. elim (cases-printable line word argument split) [
     | inl all ↦
         let words = sym (reading-printable line word argument split all) ∙ e in
-        (all, bad_argument-verb word argument words, λ command spelled. absurd (let clash = sym (words-spelled command word argument spelled) ∙ words in cc))
-    | inr bad ↦ absurd (let clash = sym bad ∙ e in cc)
+        let verb = bad_argument-verb word argument words in
+        (all, verb.0, verb.1, λ command spelled. absurd (let clash = sym (words-spelled command word argument spelled) ∙ words in cc))
+    | inr (inl bdat) ↦ absurd (let clash = bdat-fault line word argument BadArgument split bdat e in cc)
+    | inr (inr bad) ↦ absurd (let clash = sym bad ∙ e in cc)
   ],
-  λ h. reading-printable line word argument split h.0 ∙ bad_argument-words word argument h.1 h.2,
+  λ h. reading-printable line word argument split h.0 ∙ bad_argument-words word argument h.1 h.2 h.3,
 )
 
 pub not_offered_is_found : NotOfferedIsFound
 not_offered_is_found line word argument split = (
   λ e. elim (cases-printable line word argument split) [
     | inl all ↦ (all, not_offered-word word argument (sym (reading-printable line word argument split all) ∙ e))
-    | inr bad ↦ absurd (let clash = sym bad ∙ e in cc)
+    | inr (inl bdat) ↦ absurd (let clash = bdat-fault line word argument NotOffered split bdat e in cc)
+    | inr (inr bad) ↦ absurd (let clash = sym bad ∙ e in cc)
   ],
   λ h. reading-printable line word argument split h.0 ∙ reading_of_words-verb word argument h.1.0 h.1.1 ∙ not_offered-verb h.1.0 argument h.1.2,
+)
+
+-- a line of BDAT that spells a chunk has no fault
+bdat-spelled : (line word argument : List ℕ) → SplitsLine line word argument → IsSameWord word (codes "BDAT") → reading_of line ≡ Err BadChunkSize → (chunk : BdatArgument) → SpellsBdat argument chunk → ⊥
+bdat-spelled line word argument split same e chunk spelled =
+    let found = (bdat_argument_is_of_spelling argument chunk).1 spelled in
+    let clash = sym e ∙ reading-bdat line word argument split same ∙ ap bdat_if found in
+    cc
+
+pub bad_chunk_size_is_found : BadChunkSizeIsFound
+bad_chunk_size_is_found line word argument split = (
+  λ e. elim (cases-printable line word argument split) [
+    | inl all ↦
+        let same = bad_chunk_size-word word argument (sym (reading-printable line word argument split all) ∙ e) in
+        (same, bdat-spelled line word argument split same e)
+    | inr (inl bdat) ↦ (bdat, bdat-spelled line word argument split bdat e)
+    | inr (inr bad) ↦ absurd (let clash = sym bad ∙ e in cc)
+  ],
+  λ h. reading-bdat line word argument split h.0 ∙ bdat-none (bdat_argument_of argument) argument refl h.1,
 )
 
 -- a test that doesn't heed the letter case of a letter
@@ -427,8 +553,9 @@ words-same word again argument same = ap (λ found. reading_of_verb found argume
 pub letter_case_is_free : LetterCaseIsFree
 letter_case_is_free line other word again argument one two same =
     reading_is_of_words line word argument one
-    ∙ ap (λ b. cond b (reading_of_words word argument) (Err BadByte)) (printable-same word again argument same)
-    ∙ ap (λ r. cond (are_printable (again ++ argument)) r (Err BadByte)) (words-same word again argument same)
+    ∙ ap (λ b. cond (b || is_bdat word) (reading_of_words word argument) (Err BadByte)) (printable-same word again argument same)
+    ∙ ap (λ b. cond (are_printable (again ++ argument) || b) (reading_of_words word argument) (Err BadByte)) (is_bdat-same word again same)
+    ∙ ap (λ r. cond (are_printable (again ++ argument) || is_bdat again) r (Err BadByte)) (words-same word again argument same)
     ∙ sym (reading_is_of_words other again argument two)
 
 -- an octet that isn't counted ends the count
@@ -590,3 +717,91 @@ bare_verbs_are_read = record {
   help_is = λ verb same. bare-reads verb Help (plain-same verb (codes "HELP") refl refl refl refl refl same) same;
   quit_is = λ verb same. bare-reads verb Quit (plain-same verb (codes "QUIT") refl refl refl refl refl same) (same, refl);
 }
+
+-- a digit is printable
+digit-printable : (octet : ℕ) → is_ascii_digit octet ≡ true → is_printable octet ≡ true
+digit-printable octet digit = grind (arith, nat_tests)
+
+-- what stands behind a chunk-size is printable, and ends in no blank
+behind-printable : (last : Bool) (behind : List ℕ) → StandsBehindSize last behind → list_all is_printable behind ≡ true
+behind-printable false behind none = ap (list_all is_printable) none
+behind-printable true behind marker =
+    let word = plain-same marker.word (codes "LAST") refl refl refl refl refl marker.is_last in
+    let spaces = list_all-from_AllPass is_printable marker.spaces (AllPass-weaker is_space is_printable marker.spaces space-printable marker.are_spaces) in
+    ap (list_all is_printable) marker.text_is ∙ list_all-append is_printable marker.spaces marker.word
+    ∙ and_from (list_all is_printable marker.spaces) (list_all is_printable marker.word) spaces word.printable
+
+chunk-printable : (argument : List ℕ) (chunk : BdatArgument) → SpellsBdat argument chunk → list_all is_printable argument ≡ true
+chunk-printable argument chunk spelled =
+    let digits = list_all-from_AllPass is_printable spelled.digits (AllPass-weaker is_ascii_digit is_printable spelled.digits digit-printable spelled.size_is.digits) in
+    ap (list_all is_printable) spelled.text_is ∙ list_all-append is_printable spelled.digits spelled.behind
+    ∙ and_from (list_all is_printable spelled.digits) (list_all is_printable spelled.behind) digits (behind-printable chunk.last spelled.behind spelled.last_is)
+
+bdat-printable : (word argument : List ℕ) (chunk : BdatArgument) → IsSameWord word (codes "BDAT") → SpellsBdat argument chunk → AllPass is_printable (word ++ argument)
+bdat-printable word argument chunk same spelled =
+    let plain = plain-same word (codes "BDAT") refl refl refl refl refl same in
+    AllPass-from_list_all is_printable (word ++ argument)
+    (list_all-append is_printable word argument ∙ and_from (list_all is_printable word) (list_all is_printable argument) plain.printable (chunk-printable argument chunk spelled))
+
+reads-from_reading : (line : List ℕ) (command : Command) → reading_of line ≡ Ok command → ReadsCommand line command
+reads-from_reading line command e =
+    let word = first_word (without_trailing_blanks line) in
+    let argument = argument_of (without_trailing_blanks line) in
+    let split = line-splits line in
+    elim (cases-printable line word argument split) [
+      | inl all ↦ record {
+        word = word;
+        argument = argument;
+        splits = split;
+        printable = all;
+        spelled = spelled-words word argument command (sym (reading-printable line word argument split all) ∙ e);
+      }
+      | inr (inl bdat) ↦
+          let chunk = bdat_if-ok (bdat_argument_of argument) command (sym (reading-bdat line word argument split bdat) ∙ e) in
+          let spelled = (bdat_argument_is_of_spelling argument chunk.0).0 chunk.1 in
+          record {
+            word = word;
+            argument = argument;
+            splits = split;
+            printable = bdat-printable word argument chunk.0 bdat spelled;
+            spelled = subst (λ c. IsSpelled c word argument) chunk.2 (bdat, spelled);
+          }
+      | inr (inr bad) ↦ absurd (let clash = sym bad ∙ e in cc)
+    ]
+
+pub reading_is_of_spelling : ReadingIsOfSpelling
+reading_is_of_spelling line command = (reads-from_reading line command, reading-from_reads line command)
+
+-- a chunk-size begins with no space, and no blank ends it, nor what stands behind it
+digit-no_space : (octet : ℕ) → is_ascii_digit octet ≡ true → is_space octet ≡ false
+digit-no_space octet digit = grind (arith, nat_tests)
+
+digit-no_blank : (octet : ℕ) → is_ascii_digit octet ≡ true → is_blank octet ≡ false
+digit-no_blank octet digit = grind (arith, nat_tests)
+
+prefix_len-digits : (p : ℕ → Bool) (text : List ℕ) → ((octet : ℕ) → is_ascii_digit octet ≡ true → p octet ≡ false) → AllPass is_ascii_digit text → prefix_len p text ≡ 0
+prefix_len-digits p [] other all = refl
+prefix_len-digits p (octet ∷ text) other all =
+    cond-false (p octet) (1 + prefix_len p text) 0 (other octet (all 0 0 (omega arith)))
+
+behind-ends : (last : Bool) (digits behind : List ℕ) → suffix_len is_blank digits ≡ 0 → StandsBehindSize last behind → suffix_len is_blank (digits ++ behind) ≡ 0
+behind-ends false digits behind ends none = ap (suffix_len is_blank) (ap (λ l. digits ++ l) none ∙ append-nil digits) ∙ ends
+behind-ends true digits behind ends marker =
+    let word = plain-same marker.word (codes "LAST") refl refl refl refl refl marker.is_last in
+    let whole = suffix_len-back_none marker.spaces marker.word word.not_empty word.ends in
+    suffix_len-both_none digits behind ends (ap (suffix_len is_blank) marker.text_is ∙ whole)
+
+pub bdat_is_read : BdatIsRead
+bdat_is_read verb text chunk same spelled =
+    let plain = plain-same verb (codes "BDAT") refl refl refl refl refl same in
+    let size = spelled.size_is in
+    let many = ap length spelled.text_is ∙ length-append spelled.digits spelled.behind in
+    let begins = prefix_len-front_none is_space spelled.digits spelled.behind size.some (prefix_len-digits is_space spelled.digits digit-no_space size.digits) in
+    let ends = behind-ends chunk.last spelled.digits spelled.behind (prefix_len-digits is_blank (reverse spelled.digits) digit-no_blank (AllPass-reverse is_ascii_digit spelled.digits size.digits)) spelled.last_is in
+    reading-from_reads (verb ++ codes " " ++ text) (Bdat chunk) (record {
+      word = verb;
+      argument = text;
+      splits = spaced-splits verb text (AllPass-from_list_all is_no_space verb plain.no_space) (omega (arith, size.some, many)) (ap (prefix_len is_space) spelled.text_is ∙ begins) (ap (suffix_len is_blank) spelled.text_is ∙ ends);
+      printable = bdat-printable verb text chunk same spelled;
+      spelled = (same, spelled);
+    })

@@ -1,10 +1,12 @@
 -- Command lines (RFC 5321, section 4.1.1): the command that a line, without its CR LF, gives, or its first fault.
-use Rattle.std.specs.Prelude.{◌≡◌, ◌↔◌, ◌==◌, List, [], ◌∷◌, ◌++◌, ℕ, Bool, true, false, length, codes, Option, Some, None, option_map, ok_or, find, Result, Ok, Err, if◌then◌else◌}
+use Rattle.std.specs.Prelude.{◌≡◌, ◌↔◌, ◌==◌, List, [], ◌∷◌, ◌++◌, ℕ, Bool, true, false, ◌||◌, length, codes, Option, Some, None, option_map, ok_or, find, Result, Ok, Err, if◌then◌else◌}
 use Rattle.std.specs.List.{AllPass, suffix_len}
 use Rattle.relay_octets.specs.LetterCase.{IsSameWord}
 use Rattle.relay_lines.specs.Word.{is_printable, is_blank, is_word, are_printable, without_trailing_blanks, first_word, argument_of, behind_keyword, is_host_word, SplitsLine, BeginsWithKeyword, IsHostWord}
 use Rattle.relay_lines.specs.declared.command.LineFault.{LineFault}
-use Rattle.relay_lines.specs.declared.command.LineFault.TheVariants.{Unknown, BadByte, BadArgument, NotOffered}
+use Rattle.relay_lines.specs.declared.command.LineFault.TheVariants.{Unknown, BadByte, BadArgument, NotOffered, BadChunkSize}
+use Rattle.relay_lines.specs.declared.chunk_argument.BdatArgument.{BdatArgument}
+use Rattle.relay_lines.specs.ChunkArgument.{SpellsBdat, bdat_argument_of}
 use Rattle.relay_lines.specs.declared.command.Verb.{Verb}
 use Rattle.relay_lines.specs.declared.command.Verb.TheVariants as verb
 use Rattle.relay_lines.specs.declared.command.Command.{Command as Parsed}
@@ -17,6 +19,7 @@ pub data Command : Type 0 where
   Mail : List ℕ → Command
   Rcpt : List ℕ → Command
   Data : Command
+  Bdat : BdatArgument → Command
   Rset : Command
   Noop : Command
   Vrfy : Command
@@ -30,6 +33,7 @@ word_of verb.Ehlo = codes "EHLO"
 word_of verb.Mail = codes "MAIL"
 word_of verb.Rcpt = codes "RCPT"
 word_of verb.Data = codes "DATA"
+word_of verb.Bdat = codes "BDAT"
 word_of verb.Rset = codes "RSET"
 word_of verb.Noop = codes "NOOP"
 word_of verb.Vrfy = codes "VRFY"
@@ -41,7 +45,7 @@ word_of verb.Quit = codes "QUIT"
 -- the verbs
 abbrev pub verbs : List Verb
 verbs =
-    verb.Helo ∷ verb.Ehlo ∷ verb.Mail ∷ verb.Rcpt ∷ verb.Data ∷ verb.Rset ∷ verb.Noop ∷ verb.Vrfy ∷ verb.Help
+    verb.Helo ∷ verb.Ehlo ∷ verb.Mail ∷ verb.Rcpt ∷ verb.Data ∷ verb.Bdat ∷ verb.Rset ∷ verb.Noop ∷ verb.Vrfy ∷ verb.Help
     ∷ verb.Expn ∷ verb.Turn ∷ verb.Quit ∷ []
 
 -- profile: EXPN and TURN aren't offered
@@ -59,6 +63,11 @@ abbrev pub command_if : Bool → Command → Result Command LineFault
 command_if true command = Ok command
 command_if false command = Err BadArgument
 
+-- a chunk, where the argument of BDAT can be read (RFC 3030, section 2)
+abbrev pub bdat_if : Option BdatArgument → Result Command LineFault
+bdat_if None = Err BadChunkSize
+bdat_if (Some argument) = Ok (Bdat argument)
+
 -- what each verb says with an argument (section 4.1.1)
 unfoldable pub command_of : Verb → List ℕ → Result Command LineFault
 command_of verb.Helo argument = command_if (is_host_word argument) (Helo argument)
@@ -66,6 +75,7 @@ command_of verb.Ehlo argument = command_if (is_host_word argument) (Ehlo argumen
 command_of verb.Mail argument = ok_or (option_map Mail (behind_keyword (codes "FROM:") argument)) BadArgument
 command_of verb.Rcpt argument = ok_or (option_map Rcpt (behind_keyword (codes "TO:") argument)) BadArgument
 command_of verb.Data argument = command_if (length argument == 0) Data
+command_of verb.Bdat argument = bdat_if (bdat_argument_of argument)
 command_of verb.Rset argument = command_if (length argument == 0) Rset
 command_of verb.Noop argument = Ok Noop
 command_of verb.Vrfy argument = Ok Vrfy
@@ -83,9 +93,16 @@ reading_of_verb (Some verb) argument = command_of verb argument
 unfoldable pub reading_of_words : List ℕ → List ℕ → Result Command LineFault
 reading_of_words word argument = reading_of_verb (verb_of word) argument
 
--- the reading of a text without blanks at its end: a bad octet is found before the verb, the verb before its argument
+-- the word is BDAT
+abbrev pub is_bdat : List ℕ → Bool
+is_bdat word = is_word word (codes "BDAT")
+
+-- the reading of a text without blanks at its end: a bad octet is found before the verb, but behind BDAT, where it makes a
+-- bad chunk size; the verb is found before its argument
 unfoldable pub reading_of_text : List ℕ → Result Command LineFault
-reading_of_text text = if are_printable text then reading_of_words (first_word text) (argument_of text) else Err BadByte
+reading_of_text text =
+    if are_printable text || is_bdat (first_word text) then reading_of_words (first_word text) (argument_of text)
+    else Err BadByte
 
 -- the reading of a line
 unfoldable pub reading_of : List ℕ → Result Command LineFault
@@ -98,6 +115,7 @@ value_of (parsed.Ehlo word) = Ehlo word.now
 value_of (parsed.Mail path) = Mail path.now
 value_of (parsed.Rcpt path) = Rcpt path.now
 value_of parsed.Data = Data
+value_of (parsed.Bdat argument) = Bdat argument
 value_of parsed.Rset = Rset
 value_of parsed.Noop = Noop
 value_of parsed.Vrfy = Vrfy
@@ -116,6 +134,7 @@ IsSpelled (Ehlo host) word argument = IsSameWord word (codes "EHLO") × IsHostWo
 IsSpelled (Mail path) word argument = IsSameWord word (codes "MAIL") × BeginsWithKeyword argument (codes "FROM:") path
 IsSpelled (Rcpt path) word argument = IsSameWord word (codes "RCPT") × BeginsWithKeyword argument (codes "TO:") path
 IsSpelled Data word argument = IsSameWord word (codes "DATA") × (argument ≡ [])
+IsSpelled (Bdat chunk) word argument = IsSameWord word (codes "BDAT") × SpellsBdat argument chunk
 IsSpelled Rset word argument = IsSameWord word (codes "RSET") × (argument ≡ [])
 IsSpelled Noop word argument = IsSameWord word (codes "NOOP")
 IsSpelled Vrfy word argument = IsSameWord word (codes "VRFY")
@@ -144,17 +163,19 @@ SplitIsOne =
 abbrev pub ReadingIsOfWords : Type 0
 ReadingIsOfWords =
     (line word argument : List ℕ) → SplitsLine line word argument
-    → reading_of line ≡ (if are_printable (word ++ argument) then reading_of_words word argument else Err BadByte)
+    → reading_of line
+    ≡ (if are_printable (word ++ argument) || is_bdat word then reading_of_words word argument else Err BadByte)
 
 -- What is read is spelled so, and what is spelled so is read.
 abbrev pub ReadingIsOfSpelling : Type 0
 ReadingIsOfSpelling = (line : List ℕ) (command : Command) → (reading_of line ≡ Ok command) ↔ ReadsCommand line command
 
--- A bad octet is found exactly where the word or the argument holds one.
+-- A bad octet is found exactly where the word isn't BDAT, and it or the argument holds one.
 abbrev pub BadByteIsFound : Type 0
 BadByteIsFound =
     (line word argument : List ℕ) → SplitsLine line word argument
-    → (reading_of line ≡ Err BadByte) ↔ (¬ AllPass is_printable (word ++ argument))
+    → (reading_of line ≡ Err BadByte)
+    ↔ ((¬ AllPass is_printable (word ++ argument)) × (¬ IsSameWord word (codes "BDAT")))
 
 -- A line is unknown exactly where it is printable and its word is no verb.
 abbrev pub UnknownIsFound : Type 0
@@ -167,13 +188,13 @@ UnknownIsFound =
 abbrev pub IsVerb : Bool → List ℕ → Type 0
 IsVerb offered word = (verb : Verb) × IsSameWord word (word_of verb) × (is_offered verb ≡ offered)
 
--- An argument is bad exactly where the line is printable, its word is a verb that is offered, and the two spell no
--- command.
+-- An argument is bad exactly where the line is printable, its word is a verb that is offered but not BDAT, and the two
+-- spell no command.
 abbrev pub BadArgumentIsFound : Type 0
 BadArgumentIsFound =
     (line word argument : List ℕ) → SplitsLine line word argument
     → (reading_of line ≡ Err BadArgument)
-    ↔ (AllPass is_printable (word ++ argument) × IsVerb true word
+    ↔ (AllPass is_printable (word ++ argument) × IsVerb true word × (¬ IsSameWord word (codes "BDAT"))
     × ((command : Command) → ¬ IsSpelled command word argument))
 
 -- A verb isn't offered exactly where the line is printable, and its word is such a verb.
@@ -187,6 +208,19 @@ abbrev pub LetterCaseIsFree : Type 0
 LetterCaseIsFree =
     (line other word again argument : List ℕ) → SplitsLine line word argument → SplitsLine other again argument
     → IsSameWord word again → reading_of line ≡ reading_of other
+
+-- A bad chunk size is found exactly where the word is BDAT, and the argument spells no chunk, whatever octets it holds.
+abbrev pub BadChunkSizeIsFound : Type 0
+BadChunkSizeIsFound =
+    (line word argument : List ℕ) → SplitsLine line word argument
+    → (reading_of line ≡ Err BadChunkSize)
+    ↔ (IsSameWord word (codes "BDAT") × ((chunk : BdatArgument) → ¬ SpellsBdat argument chunk))
+
+-- A client's BDAT is read as it was written, in any letter case.
+abbrev pub BdatIsRead : Type 0
+BdatIsRead =
+    (verb text : List ℕ) (chunk : BdatArgument) → IsSameWord verb (codes "BDAT") → SpellsBdat text chunk
+    → reading_of (verb ++ codes " " ++ text) ≡ Ok (Bdat chunk)
 
 -- A client's MAIL is read as it was written, in any letter case.
 abbrev pub MailIsRead : Type 0

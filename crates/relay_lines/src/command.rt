@@ -1,6 +1,7 @@
 ghost use Rattle.std.specs.Prelude.{◌≡◌};
 ghost use Rattle.relay_lines.specs.Command.{verb_of, command_of, reading_of, answer_of};
 
+use crate::chunk_argument::{BadChunkSize, BdatArgument};
 use crate::word::{
     are_printable, argument_of, behind_keyword, first_word, is_host_word, is_word,
     without_trailing_blanks,
@@ -20,6 +21,8 @@ pub enum Command<'a> {
     Rcpt(&'a [u8]),
     /// The mail data comes next.
     Data,
+    /// A chunk of the content follows at once (RFC 3030, section 2).
+    Bdat(BdatArgument),
     /// The mail transaction is dropped.
     Rset,
     /// Nothing is done, whatever its argument.
@@ -33,7 +36,7 @@ pub enum Command<'a> {
 }
 
 /// Why a line is no command. Faults are looked for in the order BadByte, Unknown, and then that of the verb, and the
-/// first one is answered.
+/// first one is answered. Behind BDAT any octet is a bad chunk size.
 #[derive(Clone, Copy, Debug, PartialEq, Eq, Error)]
 pub enum LineFault {
     /// The line begins with no verb.
@@ -48,6 +51,9 @@ pub enum LineFault {
     /// The verb is EXPN or TURN, whatever its argument.
     #[error("not implemented")]
     NotOffered,
+    /// What stands behind BDAT is no size, nor a size and LAST, so that nobody knows what follows the line.
+    #[error("bad chunk size")]
+    BadChunkSize,
 }
 
 /// What a command line begins with.
@@ -58,6 +64,7 @@ enum Verb {
     Mail,
     Rcpt,
     Data,
+    Bdat,
     Rset,
     Noop,
     Vrfy,
@@ -82,6 +89,8 @@ fn verb_of(word: &[u8]) -> Option<Verb>
         Some(Verb::Rcpt)
     } else if is_word(word, b"DATA") {
         Some(Verb::Data)
+    } else if is_word(word, b"BDAT") {
+        Some(Verb::Bdat)
     } else if is_word(word, b"RSET") {
         Some(Verb::Rset)
     } else if is_word(word, b"NOOP") {
@@ -112,10 +121,11 @@ impl<'a> Command<'a> {
         ensures { answer_of result ≡ reading_of line.now }
     {
         let text = without_trailing_blanks(line);
-        if !are_printable(text) {
+        let word = first_word(text);
+        if !are_printable(text) && !is_word(word, b"BDAT") {
             return Err(LineFault::BadByte);
         }
-        match verb_of(first_word(text)) {
+        match verb_of(word) {
             Some(verb) => Command::of_verb(verb, argument_of(text)),
             None => Err(LineFault::Unknown),
         }
@@ -138,6 +148,10 @@ impl<'a> Command<'a> {
                 None => Err(LineFault::BadArgument),
             },
             Verb::Data if argument.is_empty() => Ok(Command::Data),
+            Verb::Bdat => match BdatArgument::parse(argument) {
+                Ok(argument) => Ok(Command::Bdat(argument)),
+                Err(BadChunkSize) => Err(LineFault::BadChunkSize),
+            },
             Verb::Rset if argument.is_empty() => Ok(Command::Rset),
             Verb::Noop => Ok(Command::Noop),
             Verb::Vrfy => Ok(Command::Vrfy),

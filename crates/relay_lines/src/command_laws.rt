@@ -1,6 +1,6 @@
 //! What is true of command lines, whoever reads them.
 ghost use Rattle.relay_lines.specs.Word.{AddressLiteralIsTested, HostWordIsTested};
-ghost use Rattle.relay_lines.specs.Command.{EveryLineSplits, SplitIsOne, ReadingIsOfWords, ReadingIsOfSpelling, BadByteIsFound, UnknownIsFound, BadArgumentIsFound, NotOfferedIsFound, LetterCaseIsFree, MailIsRead, RcptIsRead, HeloIsRead, EhloIsRead, BareVerbsAreRead};
+ghost use Rattle.relay_lines.specs.Command.{EveryLineSplits, SplitIsOne, ReadingIsOfWords, ReadingIsOfSpelling, BadByteIsFound, UnknownIsFound, BadArgumentIsFound, NotOfferedIsFound, BadChunkSizeIsFound, LetterCaseIsFree, MailIsRead, RcptIsRead, HeloIsRead, EhloIsRead, BdatIsRead, BareVerbsAreRead};
 
 /// A line has a word and an argument.
 pub fn every_line_splits()
@@ -22,7 +22,7 @@ pub fn reading_is_of_spelling()
     ensures { ReadingIsOfSpelling }
 {}
 
-/// A bad octet is found exactly where the word or the argument holds one.
+/// A bad octet is found exactly where the word isn't BDAT, and it or the argument holds one.
 pub fn bad_byte_is_found()
     ensures { BadByteIsFound }
 {}
@@ -32,8 +32,8 @@ pub fn unknown_is_found()
     ensures { UnknownIsFound }
 {}
 
-/// An argument is bad exactly where the line is printable, its word is a verb that is offered, and the two spell no
-/// command.
+/// An argument is bad exactly where the line is printable, its word is a verb that is offered but not BDAT, and the two
+/// spell no command.
 pub fn bad_argument_is_found()
     ensures { BadArgumentIsFound }
 {}
@@ -41,6 +41,16 @@ pub fn bad_argument_is_found()
 /// A verb isn't offered exactly where the line is printable, and its word is EXPN or TURN.
 pub fn not_offered_is_found()
     ensures { NotOfferedIsFound }
+{}
+
+/// A bad chunk size is found exactly where the word is BDAT, and the argument spells no chunk.
+pub fn bad_chunk_size_is_found()
+    ensures { BadChunkSizeIsFound }
+{}
+
+/// A client's BDAT is read as it was written, in any letter case.
+pub fn bdat_is_read()
+    ensures { BdatIsRead }
 {}
 
 /// The letter case of a verb says nothing.
