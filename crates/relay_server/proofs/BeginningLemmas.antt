@@ -2,23 +2,18 @@
 use Rattle.std.proofs.Common.{◌≡◌, ℕ, List, [], ◌∷◌, ◌++◌, length, inl, inr, refl, sym, subst, ap, ◌∙◌, arith, append_assoc, length-append}
 use Rattle.std.proofs.lemmas.List.{append-nil, append_cancel_left}
 use Rattle.relay_octets.specs.Line.{crlf}
-use Rattle.relay_body.specs.DotText.{gathered_of}
-use Rattle.relay_body.specs.declared.gathered.Gathered.{Gathered}
-use Rattle.relay_body.specs.declared.gathered.Gathered.TheVariants.{Whole, TooLarge}
-use Rattle.relay_body.proofs.DotTextLemmas.{no_text_begins_another}
 use Rattle.relay_lines.specs.Reply.{reply_text}
-use Rattle.relay_envelope.specs.declared.envelope.Envelope.{Envelope}
-use Rattle.relay_server.specs.declared.client.Client.{Client}
 use Rattle.relay_server.specs.declared.offer.Answer.{Answer}
 use Rattle.relay_server.specs.declared.reply_table.Row.TheVariants.{Greeting}
-use Rattle.relay_server.specs.Dialogue.{Offered, Turn, Answers, Turns, IsLeft, IsOutcome, read_by, written_by, offered_by, answered_by, answers_in, offers_in}
-use Rattle.relay_server.specs.Setup.{Setup}
+use Rattle.relay_server.specs.Dialogue.{Offered, Turn, Answers, Takes, Turns, IsLeft, read_by, written_by, offered_by, answered_by, answers_in, offers_in}
 use Rattle.relay_server.specs.DialogueLaws.{Begins, AreNumbered, BeginningsHaveBeginnings}
 use Rattle.relay_server.specs.Reply.{reply_of}
-use Rattle.relay_server.specs.State.{State, Command, Receiving, Closed, start}
+use Rattle.relay_server.specs.ReplyTable.{Course, Replies, Offers}
+use Rattle.relay_server.specs.Setup.{Setup}
+use Rattle.relay_server.specs.State.{State, start}
 use Rattle.relay_server.proofs.DialogueLemmas.{left_is_one, turn_on_left}
 use Rattle.relay_server.proofs.ReplyTextLemmas.{answer_line, answer_text, answer_is_one}
-use Rattle.relay_server.proofs.TurnLemmas.{asked_is_unit, content_is, row_is_fixed, text_is_offered}
+use Rattle.relay_server.proofs.TurnLemmas.{asked_is_unit, course_of_unit, courses_meet, row_is_fixed, unit_is_offered}
 use Rattle.relay_server.proofs.UnitLemmas.{no_unit_begins_another}
 
 -- an empty list begins every list
@@ -52,23 +47,18 @@ numbered_parts (answer ∷ front) back h =
     let later = numbered_parts front back h.1 in
     ((h.0, later.0), later.1)
 
--- the reply to a text tells the answer
-outcome_tells : (setup : Setup) (client : Client) (envelope : Envelope) (gathered : Gathered) (turn other : Turn) (behind more : List ℕ) → IsOutcome setup client envelope gathered turn → IsOutcome setup client envelope gathered other → AreNumbered (answers_in other.offer) → reply_text turn.reply ++ behind ≡ reply_text other.reply ++ more → answers_in turn.offer ≡ answers_in other.offer
-outcome_tells setup client envelope TooLarge turn other behind more one two h e = ap answers_in (one.1 ∙ sym two.1)
-outcome_tells setup client envelope (Whole content) turn other behind more one two h e =
+-- the reply tells the answer
+taken_tells : (host : List ℕ) (course : Course) (new next : State) (turn other : Turn) (behind more : List ℕ) → Takes host course turn new → Takes host course other next → AreNumbered (answers_in other.offer) → reply_text turn.reply ++ behind ≡ reply_text other.reply ++ more → answers_in turn.offer ≡ answers_in other.offer
+taken_tells host (Replies row mid) new next turn other behind more one two h e = ap answers_in (one.1 ∙ sym two.1)
+taken_tells host (Offers client envelope content) new next turn other behind more one two h e =
     let number = subst (λ o. AreNumbered (answers_in o)) two.2 h in
-    let same = answer_is_one setup.host one.0 two.0 behind more number.0 (ap (λ r. reply_text r ++ behind) (sym one.1) ∙ e ∙ ap (λ r. reply_text r ++ more) two.1) in
+    let same = answer_is_one host one.0 two.0 behind more number.0 (ap (λ r. reply_text r ++ behind) (sym one.1) ∙ e ∙ ap (λ r. reply_text r ++ more) two.1) in
     ap answers_in one.2 ∙ ap (λ given. given ∷ []) same ∙ sym (ap answers_in two.2)
 
 -- the reply to a unit tells the answer
 reply_tells : (setup : Setup) (old new next : State) (turn other : Turn) (behind more : List ℕ) → Answers setup old turn new → Answers setup old other next → turn.asked ≡ other.asked → AreNumbered (answers_in other.offer) → reply_text turn.reply ++ behind ≡ reply_text other.reply ++ more → answers_in turn.offer ≡ answers_in other.offer
-reply_tells setup (Command state) new next turn other behind more one two same h e =
-    ap answers_in (one.no_offer ∙ sym two.no_offer)
-reply_tells setup (Receiving client envelope) new next turn other behind more one two same h e =
-    let content = content_is setup client envelope turn new other.asked two.content one same two.unit in
-    let outcome = subst (λ c. IsOutcome setup client envelope (gathered_of setup.max_content c) turn) content one.outcome in
-    outcome_tells setup client envelope (gathered_of setup.max_content two.content) turn other behind more outcome two.outcome h e
-reply_tells setup Closed new next turn other behind more one two same h e = absurd one
+reply_tells setup old new next turn other behind more one two same h e =
+    taken_tells setup.host two.course new next turn other behind more (courses_meet setup old new next turn other one two same) two.takes h e
 
 -- octets read and written begin with one turn
 turn_is_one : (setup : Setup) (old new next : State) (turn other : Turn) (unread left behind more : List ℕ) → Answers setup old turn new → Answers setup old other next → AreNumbered (answers_in other.offer) → turn.asked ++ unread ≡ other.asked ++ left → reply_text turn.reply ++ behind ≡ reply_text other.reply ++ more → (turn ≡ other) × (new ≡ next) × (unread ≡ left) × (behind ≡ more)
@@ -81,28 +71,22 @@ turn_is_one setup old new next turn other unread left behind more one two h e w 
 
 -- the offer that is unanswered behind some input is that of any longer input
 left_begins : (setup : Setup) (state : State) (rest left unread : List ℕ) (unanswered other : List Offered) → IsLeft setup state rest unanswered → IsLeft setup state left other → left ≡ rest ++ unread → Begins unanswered other
-left_begins setup (Command state) rest left unread unanswered other a b e = begins_none unanswered other a.1
-left_begins setup (Receiving client envelope) rest left unread unanswered other (inl a) b e =
-    begins_none unanswered other a.1
-left_begins setup (Receiving client envelope) rest left unread unanswered other (inr a) (inl b) e =
-    absurd (b.0 rest unread (a.0, a.1) e)
-left_begins setup (Receiving client envelope) rest left unread unanswered other (inr a) (inr b) e =
-    let same = no_text_begins_another rest a.0 left b.0 unread [] a.1 b.1 (sym e ∙ sym (append-nil left)) in
-    let offers = left_is_one setup (Receiving client envelope) rest left unanswered other (inr a) (inr b) same.0 in
+left_begins setup state rest left unread unanswered other (inl a) b e = begins_none unanswered other a.1
+left_begins setup state rest left unread unanswered other (inr a) (inl b) e =
+    absurd (b.0 rest unread (course_of_unit setup state rest _ a.comes) e)
+left_begins setup state rest left unread unanswered other (inr a) (inr b) e =
+    let same = no_unit_begins_another state rest left unread [] (course_of_unit setup state rest _ a.comes) (course_of_unit setup state left _ b.comes) (sym e ∙ sym (append-nil left)) in
+    let offers = left_is_one setup state rest left unanswered other (inr a) (inr b) same.0 in
     ([], sym offers ∙ sym (append-nil unanswered))
-left_begins setup Closed rest left unread unanswered other a b e = begins_none unanswered other a
 
 -- and the offer of the turn that reads it
 turn_begins : (setup : Setup) (old new : State) (turn : Turn) (rest unread more : List ℕ) (unanswered : List Offered) → IsLeft setup old rest unanswered → Answers setup old turn new → rest ++ unread ≡ turn.asked ++ more → Begins unanswered (offers_in turn.offer)
-turn_begins setup (Command state) new turn rest unread more unanswered left is e =
+turn_begins setup old new turn rest unread more unanswered (inl left) is e =
     begins_none unanswered (offers_in turn.offer) left.1
-turn_begins setup (Receiving client envelope) new turn rest unread more unanswered (inl left) is e =
-    begins_none unanswered (offers_in turn.offer) left.1
-turn_begins setup (Receiving client envelope) new turn rest unread more unanswered (inr left) is e =
-    let same = no_text_begins_another rest left.0 turn.asked is.content unread more left.1 is.unit e in
-    let offered = text_is_offered setup client envelope turn new rest left.0 is (sym same.0) left.1 left.2 in
-    ([], ap offers_in offered.offer ∙ sym left.3 ∙ sym (append-nil unanswered))
-turn_begins setup Closed new turn rest unread more unanswered left is e = absurd is
+turn_begins setup old new turn rest unread more unanswered (inr left) is e =
+    let same = no_unit_begins_another old rest turn.asked unread more (course_of_unit setup old rest _ left.comes) (asked_is_unit setup old turn new is) e in
+    let offered = unit_is_offered setup old new turn rest left.client left.envelope left.content is (sym same.0) left.comes in
+    ([], ap offers_in offered.offer ∙ sym left.offer_is ∙ sym (append-nil unanswered))
 
 -- where the octets read and written begin those of other turns, so do the answers and the offers
 run_begins : (setup : Setup) (old new next : State) (turns others : List Turn) (rest left unread unwritten : List ℕ) (unanswered other : List Offered) → Turns setup old turns new → Turns setup old others next → IsLeft setup new rest unanswered → IsLeft setup next left other → AreNumbered (answered_by others) → read_by others ++ left ≡ (read_by turns ++ rest) ++ unread → written_by others ≡ written_by turns ++ unwritten → Begins (answered_by turns) (answered_by others) × Begins (offered_by turns ++ unanswered) (offered_by others ++ other)

@@ -1,23 +1,33 @@
 -- Dialogues: runs of turns, what a session holds of them, and what fixes them.
-use Rattle.std.proofs.Common.{◌≡◌, ℕ, List, [], ◌∷◌, ◌++◌, length, take, drop, inl, inr, refl, sym, subst, ap, ◌∙◌, append_assoc}
+use Rattle.std.proofs.Common.{◌≡◌, ◌<◌, ◌+◌, ℕ, List, [], ◌∷◌, ◌++◌, length, inl, inr, refl, sym, subst, ap, ◌∙◌, arith, append_assoc, length-append}
 use Rattle.std.proofs.lemmas.List.{append-nil}
-use Rattle.std.proofs.Math.Seq.{take-append_seam, drop-append_seam}
-use Rattle.relay_body.specs.DotText.{ReadsDotText}
-use Rattle.relay_body.proofs.DotTextLemmas.{one_content, no_text_begins_another, reading_has_no_dot_text}
-use Rattle.relay_lines.specs.HeldLine.{HeldLine}
+use Rattle.relay_octets.specs.Line.{crlf}
+use Rattle.relay_octets.proofs.LineLemmas.{first_line_is_one}
+use Rattle.relay_body.proofs.DotTextLemmas.{reading_has_no_dot_text}
+use Rattle.relay_lines.specs.HeldLine.{HeldLine, Holds}
 use Rattle.relay_lines.specs.Reply.{reply_text}
+use Rattle.relay_lines.specs.declared.chunk_argument.BdatArgument.{BdatArgument}
 use Rattle.relay_server.specs.declared.offer.Answer.{Answer}
 use Rattle.relay_server.specs.declared.reply_table.Row.TheVariants.{Greeting}
 use Rattle.relay_server.specs.declared.stage.Stage.{Stage}
 use Rattle.relay_server.specs.declared.stage.Stage.TheVariants as stage
-use Rattle.relay_server.specs.Dialogue.{Offered, Turn, Answers, Turns, IsLeft, read_by, written_by, offered_by, answered_by, answers_in, row_of_answer}
-use Rattle.relay_server.specs.Setup.{Setup}
+use Rattle.relay_server.specs.Dialogue.{Offered, Turn, Answers, Turns, IsLeft, offered_of, read_by, written_by, offered_by, answered_by, answers_in, row_of_answer}
 use Rattle.relay_server.specs.DialogueLaws.{RunsCompose, WhatStandsIsADialogue, OutputIsFixed}
 use Rattle.relay_server.specs.Reply.{reply_of}
-use Rattle.relay_server.specs.Session.{Keeps, state_at, offers_at}
-use Rattle.relay_server.specs.State.{State, Command, Receiving, Closed, start}
-use Rattle.relay_server.proofs.TurnLemmas.{asked_is_unit, as_many_answers, row_is_fixed, text_is_offered}
-use Rattle.relay_server.proofs.UnitLemmas.{no_unit_begins_another}
+use Rattle.relay_server.specs.ReplyTable.{Course, Replies, Offers}
+use Rattle.relay_server.specs.Session.{BeginsChunk, Keeps, offers_at}
+use Rattle.relay_server.specs.Setup.{Setup}
+use Rattle.relay_server.specs.State.{CommandState, State, Command, start}
+use Rattle.relay_server.specs.Unit.{HasNoUnit, chunk_size_of}
+use Rattle.relay_server.specs.Values.{command_state_of}
+use Rattle.relay_server.proofs.ChunkLemmas.{announced, chunk_missing}
+use Rattle.relay_server.proofs.TurnLemmas.{asked_is_unit, as_many_answers, course_is_one, course_of_unit, row_is_fixed, unit_is_offered}
+use Rattle.relay_server.proofs.UnitLemmas.{no_unit_begins_another, same_parts}
+
+-- a part of a line is no unit
+no_line_unit : (state : CommandState) (line : HeldLine) (rest : List ℕ) → Holds line rest → HasNoUnit (Command state) rest
+no_line_unit state line rest holds unit more is e =
+    holds.unended.nowhere is.0 (is.1 ++ more) (e ∙ ap (λ u. u ++ more) is.2.unit_is ∙ append_assoc (is.0 ++ crlf) is.1 more)
 
 -- runs compose
 pub runs_compose : RunsCompose
@@ -26,21 +36,42 @@ runs_compose setup old mid new [] more one two =
 runs_compose setup old mid new (turn ∷ turns) more one two =
     (one.0, one.1, runs_compose setup one.0 mid new turns more one.2 two)
 
+-- a chunk that hasn't come whole makes no unit
+unended_chunk : (octets part : List ℕ) (argument : BdatArgument) (missing : ℕ) → BeginsChunk octets argument part → argument.size ≡ length part + missing → 0 < missing → (state : CommandState) → HasNoUnit (Command state) octets
+unended_chunk octets part argument missing begins size some state unit rest is e =
+    let text = begins.text in
+    let same = first_line_is_one octets text part is.0 (is.1 ++ rest) (record { text = begins.octets_are; first = begins.line }) (record {
+      text = e ∙ ap (λ u. u ++ rest) is.2.unit_is ∙ append_assoc (is.0 ++ crlf) is.1 rest;
+      first = is.2.line;
+    }) in
+    let counted = is.2.counted ∙ ap chunk_size_of (sym same.0) ∙ announced text argument begins.short begins.reads in
+    let sum = ap length same.1 ∙ length-append is.1 rest in
+    omega (arith, counted, sum, size, some)
+
 -- what a session keeps is what is left of the input
-left_by : (setup : Setup) (line : HeldLine) (stage : Stage) (rest : List ℕ) → Keeps setup.max_content line stage rest → IsLeft setup (state_at stage) rest (offers_at stage)
-left_by setup line (stage.Command state) rest keeps =
-    (λ unit more is e. keeps.unended.nowhere is.0 more (e ∙ ap (λ u. u ++ more) is.2), refl)
-left_by setup line (stage.Receiving mail) rest keeps =
-    inl (λ unit more is e. (reading_has_no_dot_text mail.reader setup.max_content rest keeps.1).nowhere unit is.0 more is.1 e, refl)
-left_by setup line (stage.Offering transaction content) rest keeps = inr (content, keeps.1, keeps.2, refl)
-left_by setup line stage.Closed rest keeps = refl
-left_by setup line stage.Failed rest keeps = absurd keeps
+left_by : (setup : Setup) (line : HeldLine) (now : Stage) (state : State) (rest : List ℕ) → Keeps setup line now state rest → IsLeft setup state rest (offers_at now)
+left_by setup line (stage.Command held) state rest keeps =
+    inl (subst (λ (s : State). HasNoUnit s rest) (sym keeps.0) (no_line_unit (command_state_of held) line rest keeps.2), refl)
+left_by setup line (stage.Receiving mail) state rest keeps =
+    inl (subst (λ (s : State). HasNoUnit s rest) (sym keeps.1.0) (λ unit more is e. (reading_has_no_dot_text mail.reader setup.max_content rest keeps.1.1).nowhere unit is.0 more is.1 e), refl)
+left_by setup line (stage.Chunk chunk) state rest keeps =
+    let kept = keeps.1 in
+    let missing = chunk_missing chunk setup.max_content state rest kept in
+    inl (subst (λ (s : State). HasNoUnit s rest) (sym kept.state_is) (unended_chunk rest kept.part kept.argument kept.chunk_is.missing kept.begins kept.chunk_is.size_is missing kept.old), refl)
+left_by setup line (stage.Skipping skipped) state rest keeps =
+    let kept = keeps.1 in
+    inl (subst (λ (s : State). HasNoUnit s rest) (sym kept.state_is) (unended_chunk rest kept.part kept.argument skipped.missing kept.begins kept.size_is skipped.some kept.old), refl)
+left_by setup line (stage.Offering transaction content) state rest keeps =
+    inr (record { client = transaction.client; envelope = transaction.envelope; content = content; comes = keeps.1; offer_is = refl })
+left_by setup line stage.Closed state rest keeps =
+    inl (subst (λ (s : State). HasNoUnit s rest) (sym keeps.1.0) (λ unit more is e. is), refl)
+left_by setup line stage.Failed state rest keeps = absurd keeps.1
 
 -- what fits a session is a dialogue
 pub what_stands_is_a_dialogue : WhatStandsIsADialogue
 what_stands_is_a_dialogue setup session said stands = record {
   turns = stands.turns;
-  state = state_at session.stage;
+  state = stands.state;
   rest = stands.rest;
   unanswered = offers_at session.stage;
   runs = stands.runs;
@@ -48,22 +79,26 @@ what_stands_is_a_dialogue setup session said stands = record {
   output = stands.output;
   answers = stands.answers;
   offers = stands.offers;
-  left = left_by setup session.line session.stage stands.rest stands.keeps;
+  left = left_by setup session.line session.stage stands.state stands.rest stands.keeps;
 }
+
+-- the offer of a course
+abbrev offers_of : Course → List Offered
+offers_of (Replies row next) = []
+offers_of (Offers client envelope content) = offered_of client envelope content ∷ []
 
 -- what is left of one input has the same offer unanswered
 pub left_is_one : (setup : Setup) (state : State) (rest left : List ℕ) (unanswered other : List Offered) → IsLeft setup state rest unanswered → IsLeft setup state left other → rest ≡ left → unanswered ≡ other
-left_is_one setup (Command state) rest left unanswered other a b e = a.1 ∙ sym b.1
-left_is_one setup (Receiving client envelope) rest left unanswered other (inl a) (inl b) e = a.1 ∙ sym b.1
-left_is_one setup (Receiving client envelope) rest left unanswered other (inl a) (inr b) e =
-    absurd (a.0 left [] (b.0, b.1) (e ∙ sym (append-nil left)))
-left_is_one setup (Receiving client envelope) rest left unanswered other (inr a) (inl b) e =
-    absurd (b.0 rest [] (a.0, a.1) (sym e ∙ sym (append-nil rest)))
-left_is_one setup (Receiving client envelope) rest left unanswered other (inr a) (inr b) e =
-    let message : List ℕ → Offered = λ c. record { client = client; envelope = envelope; content = c } in
-    let same = one_content left a.0 b.0 (subst (λ text. ReadsDotText text a.0) e a.1) b.1 in
-    a.3 ∙ ap (λ c. message c ∷ []) same ∙ sym b.3
-left_is_one setup Closed rest left unanswered other a b e = a ∙ sym b
+left_is_one setup state rest left unanswered other (inl a) (inl b) e = a.1 ∙ sym b.1
+left_is_one setup state rest left unanswered other (inl a) (inr b) e =
+    absurd (a.0 left [] (course_of_unit setup state left _ b.comes) (e ∙ sym (append-nil left)))
+left_is_one setup state rest left unanswered other (inr a) (inl b) e =
+    absurd (b.0 rest [] (course_of_unit setup state rest _ a.comes) (sym e ∙ sym (append-nil rest)))
+left_is_one setup state rest left unanswered other (inr a) (inr b) e =
+    let one : Course = Offers a.client a.envelope a.content in
+    let two : Course = Offers b.client b.envelope b.content in
+    let same : one ≡ two = course_is_one setup state rest left one two a.comes b.comes e in
+    a.offer_is ∙ ap offers_of same ∙ sym b.offer_is
 
 -- a turn that answers an offer
 pub record AnswersSome (setup : Setup) (turn : Turn) : Type 0 where
@@ -73,22 +108,12 @@ pub record AnswersSome (setup : Setup) (turn : Turn) : Type 0 where
 
 -- a turn on what was left answers the offer that was unanswered
 pub turn_on_left : (setup : Setup) (old new : State) (turn : Turn) (rest more : List ℕ) (unanswered : List Offered) → IsLeft setup old rest unanswered → Answers setup old turn new → rest ≡ turn.asked ++ more → AnswersSome setup turn
-turn_on_left setup (Command state) new turn rest more unanswered left is e =
-    absurd (left.0 turn.asked more (asked_is_unit setup (Command state) turn new is) e)
-turn_on_left setup (Receiving client envelope) new turn rest more unanswered (inl left) is e =
-    absurd (left.0 turn.asked more (asked_is_unit setup (Receiving client envelope) turn new is) e)
-turn_on_left setup (Receiving client envelope) new turn rest more unanswered (inr left) is e =
-    let same = no_text_begins_another rest left.0 turn.asked is.content [] more left.1 is.unit (append-nil rest ∙ e) in
-    let offered = text_is_offered setup client envelope turn new rest left.0 is (sym same.0) left.1 left.2 in
+turn_on_left setup old new turn rest more unanswered (inl left) is e =
+    absurd (left.0 turn.asked more (asked_is_unit setup old turn new is) e)
+turn_on_left setup old new turn rest more unanswered (inr left) is e =
+    let same = no_unit_begins_another old rest turn.asked [] more (course_of_unit setup old rest _ left.comes) (asked_is_unit setup old turn new is) (append-nil rest ∙ e) in
+    let offered = unit_is_offered setup old new turn rest left.client left.envelope left.content is (sym same.0) left.comes in
     record { given = offered.given; reply = offered.reply; answers = ap answers_in offered.offer }
-turn_on_left setup Closed new turn rest more unanswered left is e = absurd is
-
--- behind parts of one length lists go on alike
-same_parts : {A : Type 0} (front other rest more : List A) → length front ≡ length other → front ++ rest ≡ other ++ more → (front ≡ other) × (rest ≡ more)
-same_parts front other rest more n e = (
-  sym (take-append_seam front rest) ∙ ap (λ l. take (length front) l) e ∙ ap (λ k. take k (other ++ more)) n ∙ take-append_seam other more,
-  sym (drop-append_seam front rest) ∙ ap (λ l. drop (length front) l) e ∙ ap (λ k. drop k (other ++ more)) n ∙ drop-append_seam other more,
-)
 
 -- the input and the answers fix the turns, and the offer that is unanswered
 run_is_fixed : (setup : Setup) (old new next : State) (turns others : List Turn) (rest left : List ℕ) (unanswered other : List Offered) → Turns setup old turns new → Turns setup old others next → IsLeft setup new rest unanswered → IsLeft setup next left other → read_by turns ++ rest ≡ read_by others ++ left → answered_by turns ≡ answered_by others → (turns ≡ others) × (unanswered ≡ other)

@@ -1,5 +1,6 @@
 pub mod OctetLemmas
 pub mod SessionLemmas
+pub mod StageLemmas
 pub mod StandsLemmas
 pub mod UnitLemmas
 pub mod TurnLemmas
@@ -8,3 +9,5 @@ pub mod ReplyTextLemmas
 pub mod BeginningLemmas
 pub mod ReplyLemmas
 pub mod StoredLemmas
+pub mod ChunkLemmas
+pub mod JudgeLemmas

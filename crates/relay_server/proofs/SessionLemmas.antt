@@ -1,101 +1,128 @@
 -- What a session keeps of its dialogue, over values alone.
-use Rattle.std.proofs.Common.{◌≡◌, ◌≤◌, ◌<◌, ℕ, Bool, true, false, cond, nat_le, List, ◌++◌, length, None, refl, sym, ap, ◌∙◌, subst, inl, inr}
+use Rattle.std.proofs.Common.{◌≡◌, ◌≤◌, ◌<◌, arith, ℕ, Bool, cond, nat_le, take, Result, IfOk, List, [], ◌++◌, codes, length, Ok, Err, None, refl, sym, ap, ◌∙◌, subst, inl, inr, append-nil}
+use Rattle.std.proofs.lemmas.Bool.{cond-true, le-leb}
+use Rattle.std.proofs.Math.Seq.{take-nil, take-take}
 use Rattle.relay_octets.specs.Line.{HasNoCrlf, crlf}
-use Rattle.relay_body.specs.DotText.{ReadsDotText, gathered_of}
-use Rattle.relay_body.specs.declared.gathered.Gathered.{Gathered}
-use Rattle.relay_body.specs.declared.gathered.Gathered.TheVariants.{Whole, TooLarge}
-use Rattle.relay_lines.specs.Reply.{reply_text}
+use Rattle.relay_body.specs.declared.chunk_reader.ChunkReader.{ChunkReader}
 use Rattle.relay_lines.specs.Command.{reading_of}
+use Rattle.relay_server.specs.declared.judge.Judged.TheVariants as judged
 use Rattle.relay_server.specs.declared.reply_table.Row.{Row}
-use Rattle.relay_server.specs.declared.reply_table.Row.TheVariants.{LineTooLong, ContentTooLarge}
+use Rattle.relay_server.specs.declared.state.CommandState.{CommandState as Held}
 use Rattle.relay_server.specs.declared.state.State.{State as Next}
 use Rattle.relay_server.specs.declared.state.Transaction.{Transaction}
-use Rattle.relay_server.specs.declared.state.CommandState.TheVariants as held
 use Rattle.relay_server.specs.declared.stage.Stage.{Stage}
 use Rattle.relay_server.specs.declared.stage.Stage.TheVariants as stage
-use Rattle.relay_server.specs.Dialogue.{Turn, IsOutcome}
-use Rattle.relay_server.specs.Setup.{Setup}
+use Rattle.relay_server.specs.Dialogue.{Comes}
 use Rattle.relay_server.specs.Reply.{reply_of}
-use Rattle.relay_server.specs.ReplyTable.{Step, step, step_of}
-use Rattle.relay_server.specs.Session.{EndsText, EntersBy, GoesOn, Moves, TakesTurn}
-use Rattle.relay_server.specs.State.{CommandState, State, Command, Receiving}
-use Rattle.relay_server.specs.Unit.{Asked, LongLine, Asks}
-use Rattle.relay_server.specs.Values.{IsJudged, state_of}
+use Rattle.relay_server.specs.ReplyTable.{Course, Replies, Offers, course_of, course_of_chunks}
+use Rattle.relay_server.specs.Session.{EndsBy, GathersChunk, GoesOn, Moves, RefusesChunk}
+use Rattle.relay_server.specs.Setup.{Setup}
+use Rattle.relay_server.specs.State.{CommandState, State, Command}
+use Rattle.relay_server.specs.Unit.{Asked, LongLine, Faulty, Asks, asked_of_long, chunk_size_by, chunk_size_of}
+use Rattle.relay_lines.specs.ChunkArgument.{begins_with_bdat}
+use Rattle.relay_lines.specs.Word.{is_word}
+use Rattle.relay_lines.specs.declared.command.LineFault.TheVariants.{BadChunkSize}
+use Rattle.relay_server.specs.Values.{IsJudged, IsNextHeld, state_of}
+use Rattle.relay_server.proofs.ChunkLemmas.{long_announces_none}
 
--- a row of the table for what the line asks is a turn
-pub line_turn : (setup : Setup) (state : CommandState) (asked : Asked) (line : List ℕ) (new : Stage) (row : Row) (next : State) (before after : List ℕ) → HasNoCrlf line → Asks line asked → step_of setup asked state ≡ step row next → EntersBy setup row next new before after → TakesTurn setup (Command state) new (line ++ crlf) before after
-line_turn setup state asked line new row next before after is_line asks table enters =
-    let row_is = ap (λ (s : Step). s.row) table in
-    let next_is = ap (λ (s : Step). s.next) table in
+-- a unit that has come whole is replied to, or offered
+pub comes_and_ends : (setup : Setup) (old : State) (unit : List ℕ) (course : Course) (new : Stage) (before after : List ℕ) → Comes setup old unit course → EndsBy setup course new before after → Moves setup old new unit before after
+comes_and_ends setup old unit (Replies row next) new before after comes ends = inr (record {
+  turn = record { asked = unit; reply = reply_of setup.host row; offer = None };
+  next = next;
+  answers = record { course = Replies row next; comes = comes; takes = (refl, refl, refl) };
+  asked_is = refl;
+  written = ends.written;
+  no_offer = refl;
+  nothing_kept = ends.nothing_kept;
+  none_unanswered = ends.none_unanswered;
+})
+comes_and_ends setup old unit (Offers client envelope content) new before after comes ends =
+    let transaction = ends.0 in
+    let same : Offers transaction.client transaction.envelope content ≡ Offers client envelope content = ap (λ c. Offers c transaction.envelope content) ends.2 ∙ ap (λ v. Offers client v content) ends.3 in
+    let goes : GoesOn setup old (stage.Offering transaction content) unit before after = record {
+      kept = subst (λ (course : Course). Comes setup old unit course) (sym same) comes;
+      no_line = refl;
+      nothing_written = ends.4;
+    } in
+    subst (λ (s : Stage). Moves setup old s unit before after) (sym ends.1) (inl goes)
+
+-- a line that announces nothing, and is no longer than it may be, has its course
+short_counted : (text : List ℕ) → length text ≤ 2046 → chunk_size_by (reading_of text) ≡ 0 → chunk_size_of text ≡ 0
+short_counted text short none =
+    cond-true (nat_le (length text) 2046) (chunk_size_by (reading_of text)) 0 (le-leb (length text) 2046 short) ∙ none
+
+line_comes : (setup : Setup) (state : CommandState) (text : List ℕ) (asked : Asked) (course : Course) → HasNoCrlf text → chunk_size_of text ≡ 0 → Asks text [] asked → course_of setup asked state ≡ course → Comes setup (Command state) (text ++ crlf) course
+line_comes setup state text asked course is_line none asks course_is = record {
+  text = text;
+  octets = [];
+  what = asked;
+  is_unit = record { unit_is = sym (append-nil (text ++ crlf)); line = is_line; counted = sym none };
+  asks = asks;
+  course_is = sym course_is;
+}
+
+-- a line that is judged has its course
+pub judged_line : (setup : Setup) (state : CommandState) (text : List ℕ) (row : Row) (next : Next) (new : Stage) (before after : List ℕ) → HasNoCrlf text → length text ≤ 2046 → IsJudged setup (reading_of text) state (judged.Replied row next) → EndsBy setup (Replies row (state_of next)) new before after → Moves setup (Command state) new (text ++ crlf) before after
+judged_line setup state text row next new before after is_line short (inl is) ends =
+    comes_and_ends setup (Command state) (text ++ crlf) (Replies row (state_of next)) new before after
+    (line_comes setup state text is.asked (Replies row (state_of next)) is_line (short_counted text short is.no_octets) (inr (short, is.asks)) is.replied) ends
+judged_line setup state text row next new before after is_line short (inr is) ends = absurd is.2
+
+-- a line that is too long has the course of its beginning
+pub long_line : (setup : Setup) (state : CommandState) (text : List ℕ) (new : Stage) (before after : List ℕ) → HasNoCrlf text → 2046 < length text → EndsBy setup (course_of setup (asked_of_long text) state) new before after → Moves setup (Command state) new (text ++ crlf) before after
+long_line setup state text new before after is_line long ends =
+    comes_and_ends setup (Command state) (text ++ crlf) (course_of setup (asked_of_long text) state) new before after
+    (line_comes setup state text (asked_of_long text) (course_of setup (asked_of_long text) state) is_line (long_announces_none text long) (inl (long, refl)) refl) ends
+
+-- a line that announces a chunk begins it
+pub gathers_line : (setup : Setup) (state : CommandState) (text : List ℕ) (transaction : Transaction) (reader : ChunkReader) (is_last : Bool) → HasNoCrlf text → length text ≤ 2046 → IsJudged setup (reading_of text) state (judged.Gathers transaction reader is_last) → GathersChunk setup.max_content transaction reader is_last (Command state) (text ++ crlf)
+gathers_line setup state text transaction reader is_last is_line short (inl is) = absurd is.replied
+gathers_line setup state text transaction reader is_last is_line short (inr is) =
+    let limit = setup.max_content in
+    let argument = is.0 in
+    let begun = is.2.1 in
     record {
-      turn = record { asked = line ++ crlf; reply = reply_of setup.host row; offer = None };
-      answers = record {
-        text = line;
-        what = asked;
-        unit = refl;
-        line = is_line;
-        asks = asks;
-        reply = ap (reply_of setup.host) (sym row_is);
-        next = enters.state ∙ sym next_is;
-        no_offer = refl;
-      };
-      asked_is = refl;
-      written = enters.written;
-      no_offer = refl;
-      nothing_kept = enters.nothing_kept;
-      none_unanswered = enters.none_unanswered;
+      old = state;
+      state_is = refl;
+      argument = argument;
+      part = [];
+      begins = record { text = text; octets_are = sym (append-nil (text ++ crlf)); line = is_line; short = short; reads = is.1 };
+      last_is = is.2.2;
+      chunks = begun.chunks;
+      chunk_is = begun.chunk_is;
+      course_is = λ rest. is.2.3 rest ∙ ap (λ b. course_of_chunks limit transaction.client transaction.envelope (b ++ rest) argument.last) (sym begun.before_is);
     }
 
--- a line that is too long is answered so
-pub long_turn : (setup : Setup) (state : CommandState) (line : List ℕ) (new : Stage) (before after : List ℕ) → HasNoCrlf line → 2046 < length line → EntersBy setup LineTooLong (Command state) new before after → TakesTurn setup (Command state) new (line ++ crlf) before after
-long_turn setup state line new before after is_line long enters =
-    line_turn setup state LongLine line new LineTooLong (Command state) before after is_line (inl (long, refl)) refl enters
+pub refuses_line : (setup : Setup) (state : CommandState) (text : List ℕ) (row : Row) (behind : Held) (size : ℕ) → HasNoCrlf text → length text ≤ 2046 → IsJudged setup (reading_of text) state (judged.Refuses row behind size) → RefusesChunk setup.max_content row behind size (Command state) (text ++ crlf)
+refuses_line setup state text row behind size is_line short (inl is) = absurd is.replied
+refuses_line setup state text row behind size is_line short (inr is) = record {
+  old = state;
+  state_is = refl;
+  argument = is.0;
+  part = [];
+  begins = record { text = text; octets_are = sym (append-nil (text ++ crlf)); line = is_line; short = short; reads = is.1 };
+  size_is = let size_is = is.2.0 in omega (arith, size_is);
+  is_held = is.2.1;
+  course_is = is.2.2;
+}
 
--- a line that is judged is answered so
-pub judged_turn : (setup : Setup) (state : CommandState) (line : List ℕ) (new : Stage) (judged : Row × Next) (before after : List ℕ) → HasNoCrlf line → length line ≤ 2046 → IsJudged setup (reading_of line) state judged → EntersBy setup judged.0 (state_of judged.1) new before after → TakesTurn setup (Command state) new (line ++ crlf) before after
-judged_turn setup state line new judged before after is_line short is enters =
-    line_turn setup state is.0 line new judged.0 (state_of judged.1) before after is_line (inr (short, is.1)) is.2 enters
+-- nothing is behind the line yet
+pub nothing_behind : (setup : Setup) (old : State) (new : Stage) (unit before after : List ℕ) (used : ℕ) → Moves setup old new (unit ++ take used []) before after → Moves setup old new unit before after
+nothing_behind setup old new unit before after used moves =
+    subst (λ (o : List ℕ). Moves setup old new o before after) (ap (λ l. unit ++ l) (take-nil used) ∙ append-nil unit) moves
 
--- a content that is handed on whole is the text's
-chosen_whole : (fits : Bool) (kept content : List ℕ) → Whole kept ≡ cond fits (Whole content) TooLarge → kept ≡ content
-chosen_whole true kept content e = cc
-chosen_whole false kept content e = cc
+-- whether a line is of BDAT is seen from its first octets
+pub long_asks : (line : List ℕ) → asked_of_long (take 2048 line) ≡ asked_of_long line
+unfolding begins_with_bdat
+long_asks line = ap (λ front. cond (is_word front (codes "BDAT ")) (Faulty BadChunkSize) LongLine) (take-take 5 2048 line (omega arith))
 
-gathered_whole : (limit : ℕ) (kept content : List ℕ) → Whole kept ≡ gathered_of limit content → kept ≡ content
-gathered_whole limit kept content e = chosen_whole (nat_le (length content) limit) kept content e
+-- what the state behind a judged line holds is as it must be
+pub judged_held : (setup : Setup) (state : CommandState) (text : List ℕ) (row : Row) (next : Next) → IsJudged setup (reading_of text) state (judged.Replied row next) → IsNextHeld setup.max_content next
+judged_held setup state text row next (inl is) = is.held
+judged_held setup state text row next (inr is) = absurd is.2
 
-refused : (setup : Setup) (transaction : Transaction) (text content before after : List ℕ) → ReadsDotText text content → TooLarge ≡ gathered_of setup.max_content content → after ≡ before ++ reply_text (reply_of setup.host ContentTooLarge) → TakesTurn setup (Receiving transaction.client transaction.envelope) (stage.Command (held.Greeted transaction.client)) text before after
-refused setup transaction text content before after reads is written =
-    let turn : Turn = record { asked = text; reply = reply_of setup.host ContentTooLarge; offer = None } in
-    record {
-      turn = turn;
-      answers = record {
-        content = content;
-        unit = reads;
-        outcome = subst (λ (gathered : Gathered). IsOutcome setup transaction.client transaction.envelope gathered turn) is (refl, refl);
-        next = refl;
-      };
-      asked_is = refl;
-      written = written;
-      no_offer = refl;
-      nothing_kept = refl;
-      none_unanswered = refl;
-    }
-
-offers : (setup : Setup) (transaction : Transaction) (kept text content before after : List ℕ) → ReadsDotText text content → Whole kept ≡ gathered_of setup.max_content content → after ≡ before → GoesOn setup (Receiving transaction.client transaction.envelope) (stage.Offering transaction kept) text before after
-offers setup transaction kept text content before after reads is written =
-    let same = gathered_whole setup.max_content kept content is in
-    record {
-      state = refl;
-      kept = (subst (λ (c : List ℕ). ReadsDotText text c) (sym same) reads, ap (gathered_of setup.max_content) same ∙ sym is);
-      nothing_written = written;
-    }
-
--- a dot text that has been read whole is refused, or offered
-pub text_ends : (setup : Setup) (transaction : Transaction) (gathered : Gathered) (new : Stage) (text content before after : List ℕ) → ReadsDotText text content → gathered ≡ gathered_of setup.max_content content → EndsText setup.host transaction gathered new before after → Moves setup (Receiving transaction.client transaction.envelope) new text before after
-text_ends setup transaction TooLarge new text content before after reads is (new_is, written) =
-    subst (λ (s : Stage). Moves setup (Receiving transaction.client transaction.envelope) s text before after) (sym new_is)
-    (inr (refused setup transaction text content before after reads is written))
-text_ends setup transaction (Whole kept) new text content before after reads is (new_is, written) =
-    subst (λ (s : Stage). Moves setup (Receiving transaction.client transaction.envelope) s text before after) (sym new_is)
-    (inl (offers setup transaction kept text content before after reads is written))
+-- what is true of the value is true of what follows from it
+pub if_ok : {T E : Type 0} (P Q : T → Type 0) (result : Result T E) → ((value : T) → P value → Q value) → IfOk result P → IfOk result Q
+if_ok P Q (Ok value) follows holds = follows value holds
+if_ok P Q (Err error) follows holds = tt

@@ -1,11 +1,10 @@
 -- How a session stands behind what was said, and behind more.
-use Rattle.std.proofs.Common.{◌≡◌, ◌≤◌, ℕ, Bool, true, false, nat_lt, List, [], ◌∷◌, ◌++◌, ◌+◌, length, take, drop, Some, refl, sym, ap, ◌∙◌, subst, inl, inr, append_assoc, arith}
-use Rattle.std.proofs.lemmas.List.{append-nil, take_all}
+use Rattle.std.proofs.Common.{◌≡◌, ◌≤◌, ◌<◌, ℕ, Bool, true, false, nat_lt, List, [], ◌∷◌, ◌++◌, ◌+◌, ◌-◌, length-append, length, take, drop, Some, refl, sym, ap, ◌∙◌, subst, inl, inr, append_assoc, arith}
+use Rattle.std.proofs.lemmas.List.{append-nil, length-take, take_all}
 use Rattle.std.proofs.lemmas.Grind.{flat_map-append}
-use Rattle.std.proofs.Math.Seq.{take-add}
+use Rattle.std.proofs.Math.Seq.{take-add, take-append_seam}
 use Rattle.std.proofs.lemmas.Bool.Decides.{nat_tests}
 use Rattle.std.specs.List.{flat_map}
-use Rattle.relay_body.specs.declared.gathered.Gathered.{Gathered}
 use Rattle.relay_octets.specs.Line.{ReadsLine, crlf}
 use Rattle.relay_lines.specs.HeldLine.{HeldLine, Holds, HoldsLine}
 use Rattle.relay_lines.specs.Reply.{reply_text}
@@ -18,11 +17,12 @@ use Rattle.relay_server.specs.declared.stage.Stage.{Stage}
 use Rattle.relay_server.specs.declared.stage.Stage.TheVariants as stage
 use Rattle.relay_server.specs.declared.state.CommandState.TheVariants as held
 use Rattle.relay_server.specs.declared.state.Transaction.{Transaction}
-use Rattle.relay_server.specs.Dialogue.{Offered, Turn, IsOutcome, Answers, Turns, Said, more_said, read_by, written_by, offered_by, offers_in, answers_in, row_of_answer}
+use Rattle.relay_server.specs.Dialogue.{Offered, Turn, Answers, Turns, Said, more_said, offered_of, read_by, written_by, offered_by, offers_in, answers_in, row_of_answer}
 use Rattle.relay_server.specs.Setup.{Setup, setup_of}
 use Rattle.relay_server.specs.Reply.{reply_of}
-use Rattle.relay_server.specs.Session.{Advances, IsGiven, Keeps, KeepsText, Stands, Steps, is_reading, new_offers, offers_at, state_at}
-use Rattle.relay_server.specs.State.{State, Command, Receiving, Greeted, start}
+use Rattle.relay_server.specs.ReplyTable.{Offers}
+use Rattle.relay_server.specs.Session.{Advances, IsGiven, Keeps, KeepsText, Moves, Stands, Steps, is_reading, new_offers, offers_at}
+use Rattle.relay_server.specs.State.{State, Command, Greeted, start}
 
 -- one more turn at the end of a run
 pub turns_more : (setup : Setup) (old : State) (turns : List Turn) (mid : State) (turn : Turn) (new : State) → Turns setup old turns mid → Answers setup mid turn new → Turns setup old (turns ++ turn ∷ []) new
@@ -43,12 +43,13 @@ between f turns turn first said more last next before now =
     ∙ sym (append_assoc (first ++ flat_map f turns) (f turn) next) ∙ ap (λ l. l ++ next) (append_assoc first (flat_map f turns) (f turn) ∙ ap (λ l. first ++ l) (sym (added f turns turn)))
 
 -- Behind one more turn, which ends the unit that was begun, a session stands.
-pub stands_turn : (setup : Setup) (old new : Session) (said : Said) (more : List ℕ) (answers : List Answer) (written : List ℕ) (offers : List Offered) (turn : Turn) → (s : Stands setup old said) → new.server ≡ old.server → Answers setup (state_at old.stage) turn (state_at new.stage) → turn.asked ≡ s.rest ++ more → written ≡ reply_text turn.reply → answers ≡ answers_in turn.offer → offers_at old.stage ++ offers ≡ offers_in turn.offer ++ offers_at new.stage → Keeps setup.max_content new.line new.stage [] → Stands setup new (more_said said more answers written offers)
-stands_turn setup old new said more answers written offers turn s same row asked reply given unanswered keeps = record {
+pub stands_turn : (setup : Setup) (old new : Session) (said : Said) (more : List ℕ) (answers : List Answer) (written : List ℕ) (offers : List Offered) (turn : Turn) (next : State) → (s : Stands setup old said) → new.server ≡ old.server → Answers setup s.state turn next → turn.asked ≡ s.rest ++ more → written ≡ reply_text turn.reply → answers ≡ answers_in turn.offer → offers_at old.stage ++ offers ≡ offers_in turn.offer ++ offers_at new.stage → Keeps setup new.line new.stage next [] → Stands setup new (more_said said more answers written offers)
+stands_turn setup old new said more answers written offers turn next s same row asked reply given unanswered keeps = record {
   setup_is = s.setup_is ∙ ap (λ (server : Server). setup_of server setup.routes) (sym same);
   turns = s.turns ++ turn ∷ [];
+  state = next;
   rest = [];
-  runs = turns_more setup start s.turns (state_at old.stage) turn (state_at new.stage) s.runs row;
+  runs = turns_more setup start s.turns s.state turn next s.runs row;
   input = between (λ (t : Turn). t.asked) s.turns turn [] said.input more s.rest [] s.input (sym asked ∙ sym (append-nil turn.asked));
   output =
       ap (λ l. l ++ written) s.output ∙ append_assoc (reply_text (reply_of setup.host Greeting)) (written_by s.turns) written
@@ -59,12 +60,13 @@ stands_turn setup old new said more answers written offers turn s same row asked
 }
 
 -- Where further octets belong to the unit that was begun, a session stands.
-pub stands_on : (setup : Setup) (old new : Session) (said : Said) (more : List ℕ) (offers : List Offered) → (s : Stands setup old said) → new.server ≡ old.server → state_at new.stage ≡ state_at old.stage → offers_at old.stage ++ offers ≡ offers_at new.stage → Keeps setup.max_content new.line new.stage (s.rest ++ more) → Stands setup new (more_said said more [] [] offers)
-stands_on setup old new said more offers s same state unanswered keeps = record {
+pub stands_on : (setup : Setup) (old new : Session) (said : Said) (more : List ℕ) (offers : List Offered) → (s : Stands setup old said) → new.server ≡ old.server → offers_at old.stage ++ offers ≡ offers_at new.stage → Keeps setup new.line new.stage s.state (s.rest ++ more) → Stands setup new (more_said said more [] [] offers)
+stands_on setup old new said more offers s same unanswered keeps = record {
   setup_is = s.setup_is ∙ ap (λ (server : Server). setup_of server setup.routes) (sym same);
   turns = s.turns;
+  state = s.state;
   rest = s.rest ++ more;
-  runs = subst (λ (x : State). Turns setup start s.turns x) (sym state) s.runs;
+  runs = s.runs;
   input = ap (λ l. l ++ more) s.input ∙ append_assoc (read_by s.turns) s.rest more;
   output = append-nil said.output ∙ s.output;
   answers = append-nil said.answers ∙ s.answers;
@@ -73,36 +75,41 @@ stands_on setup old new said more offers s same state unanswered keeps = record 
 }
 
 -- what a stage keeps, and a line buffer without a line, are what a session keeps
-pub keeps_text : (limit : ℕ) (line : HeldLine) (now : Stage) (octets : List ℕ) → Holds line [] → KeepsText limit now octets → Keeps limit line now octets
-keeps_text limit line (stage.Command state) octets empty kept = subst (λ (o : List ℕ). Holds line o) (sym kept) empty
-keeps_text limit line (stage.Receiving mail) octets empty kept = (empty, kept)
-keeps_text limit line (stage.Offering transaction content) octets empty kept = (empty, kept.0, kept.1)
-keeps_text limit line stage.Closed octets empty kept = (empty, kept)
-keeps_text limit line stage.Failed octets empty kept = kept
+pub keeps_text : (setup : Setup) (line : HeldLine) (now : Stage) (state : State) (octets : List ℕ) → Holds line [] → KeepsText setup now state octets → Keeps setup line now state octets
+keeps_text setup line (stage.Command held) state octets empty kept =
+    (kept.0, kept.1, subst (λ (o : List ℕ). Holds line o) (sym kept.2) empty)
+keeps_text setup line (stage.Receiving mail) state octets empty kept = (empty, kept)
+keeps_text setup line (stage.Chunk chunk) state octets empty kept = (empty, kept)
+keeps_text setup line (stage.Skipping skipped) state octets empty kept = (empty, kept)
+keeps_text setup line (stage.Offering transaction content) state octets empty kept = (empty, kept)
+keeps_text setup line stage.Closed state octets empty kept = (empty, kept)
+keeps_text setup line stage.Failed state octets empty kept = absurd kept
 
 -- a stage that reads has no offer
 none_at : (now : Stage) → is_reading now ≡ true → offers_at now ≡ []
 none_at (stage.Command state) reads = refl
 none_at (stage.Receiving mail) reads = refl
+none_at (stage.Chunk chunk) reads = refl
+none_at (stage.Skipping skipped) reads = refl
 none_at (stage.Offering transaction content) reads = cc
 none_at stage.Closed reads = refl
 none_at stage.Failed reads = refl
 
 -- what a call of the session has done, it has done in the dialogue
-stands_step : (setup : Setup) (old new : Session) (said : Said) (used before after : List ℕ) → (s : Stands setup old said) → is_reading old.stage ≡ true → new.server ≡ old.server → Steps setup (state_at old.stage) new (s.rest ++ used) before after → (more : List ℕ) × (after ≡ before ++ more) × Stands setup new (more_said said used [] more (offers_at new.stage))
+stands_step : (setup : Setup) (old new : Session) (said : Said) (used before after : List ℕ) → (s : Stands setup old said) → is_reading old.stage ≡ true → new.server ≡ old.server → Steps setup s.state new (s.rest ++ used) before after → (more : List ℕ) × (after ≡ before ++ more) × Stands setup new (more_said said used [] more (offers_at new.stage))
 stands_step setup old new said used before after s reads same (inl goes) = (
   [],
-  goes.2 ∙ sym (append-nil before),
-  stands_on setup old new said used (offers_at new.stage) s same goes.0 (ap (λ l. l ++ offers_at new.stage) (none_at old.stage reads)) goes.1,
+  goes.1 ∙ sym (append-nil before),
+  stands_on setup old new said used (offers_at new.stage) s same (ap (λ l. l ++ offers_at new.stage) (none_at old.stage reads)) goes.0,
 )
 stands_step setup old new said used before after s reads same (inr ends) =
     let turn = ends.0.turn in
     let none = none_at old.stage reads in (
       reply_text turn.reply,
       ends.0.written,
-      stands_turn setup old new said used [] (reply_text turn.reply) (offers_at new.stage) turn s same ends.0.answers ends.0.asked_is refl
+      stands_turn setup old new said used [] (reply_text turn.reply) (offers_at new.stage) turn ends.0.next s same ends.0.answers ends.0.asked_is refl
           (ap answers_in (sym ends.0.no_offer)) (ap (λ l. l ++ offers_at new.stage) (none ∙ ap offers_in (sym ends.0.no_offer)))
-          (keeps_text setup.max_content new.line new.stage [] ends.1 ends.0.nothing_kept),
+          (keeps_text setup new.line new.stage ends.0.next [] ends.1 ends.0.nothing_kept),
     )
 
 -- a setup is that of the server and the routes
@@ -112,32 +119,39 @@ setup_by setup server routes is same = is ∙ ap (setup_of server) same
 pub stands_advanced : (setup : Setup) (old new : Session) (routes : List Route) (said : Said) (used before after : List ℕ) → setup.routes ≡ routes → Stands setup old said → is_reading old.stage ≡ true → Advances old new routes used before after → (more : List ℕ) × (after ≡ before ++ more) × Stands setup new (more_said said used [] more (offers_at new.stage))
 stands_advanced setup old new routes said used before after same s reads advances =
     let e = setup_by setup old.server routes s.setup_is same in
-    let keeps : Keeps old.server.max_content old.line old.stage s.rest = subst (λ (x : Setup). Keeps x.max_content old.line old.stage s.rest) e s.keeps in
+    let keeps : Keeps (setup_of old.server routes) old.line old.stage s.state s.rest = subst (λ (x : Setup). Keeps x old.line old.stage s.state s.rest) e s.keeps in
     stands_step setup old new said used before after s reads advances.server
-    (subst (λ (x : Setup). Steps x (state_at old.stage) new (s.rest ++ used) before after) (sym e) (advances.moves s.rest keeps))
+    (subst (λ (x : Setup). Steps x s.state new (s.rest ++ used) before after) (sym e) (advances.moves s.state s.rest keeps))
 
--- an answer ends the text's turn
+-- what a stage has done without the line buffer, the session has done
+pub steps_by : (setup : Setup) (old : State) (new : Session) (octets before after : List ℕ) → Moves setup old new.stage octets before after → Holds new.line [] → Steps setup old new octets before after
+steps_by setup old new octets before after (inl goes) empty =
+    inl (keeps_text setup new.line new.stage old octets empty goes.kept, goes.nothing_written)
+steps_by setup old new octets before after (inr turn) empty = inr (turn, empty)
+
+-- an answer ends the unit's turn
 pub answered : (setup : Setup) (old new : Session) (said : Said) (transaction : Transaction) (content : List ℕ) (given : Answer) (out : List ℕ) → Stands setup old said → old.stage ≡ stage.Offering transaction content → new.server ≡ old.server → new.line ≡ old.line → new.stage ≡ stage.Command (held.Greeted transaction.client) → out ≡ [] ++ reply_text (reply_of old.server.host (row_of_answer given)) → Stands setup new (more_said said [] (given ∷ []) out [])
 answered setup old new said transaction content given out s offering same line_is now written =
-    let kept : Keeps setup.max_content old.line (stage.Offering transaction content) s.rest = subst (λ (x : Stage). Keeps setup.max_content old.line x s.rest) offering s.keeps in
-    let offer : Offered = record { client = transaction.client; envelope = transaction.envelope; content = content } in
+    let kept : Keeps setup old.line (stage.Offering transaction content) s.state s.rest = subst (λ (x : Stage). Keeps setup old.line x s.state s.rest) offering s.keeps in
+    let offer = offered_of transaction.client transaction.envelope content in
     let turn : Turn = record { asked = s.rest; reply = reply_of setup.host (row_of_answer given); offer = Some (offer, given) } in
-    let row : Answers setup (Receiving transaction.client transaction.envelope) turn (Command (Greeted transaction.client)) = record {
-      content = content;
-      unit = kept.1;
-      outcome = subst (λ (gathered : Gathered). IsOutcome setup transaction.client transaction.envelope gathered turn) (sym kept.2) (given, refl, refl);
-      next = refl;
+    let next : State = Command (Greeted transaction.client) in
+    let row : Answers setup s.state turn next = record {
+      course = Offers transaction.client transaction.envelope content;
+      comes = kept.1;
+      takes = (given, refl, refl, refl);
     } in
     let host = ap (λ (x : Setup). x.host) s.setup_is in
-    stands_turn setup old new said [] (given ∷ []) out [] turn s same
-    (subst (λ (x : Stage). Answers setup (state_at x) turn (state_at new.stage)) (sym offering)
-    (subst (λ (x : Stage). Answers setup (Receiving transaction.client transaction.envelope) turn (state_at x)) (sym now) row))
+    let keeps : Keeps setup new.line (stage.Command (held.Greeted transaction.client)) next [] = (refl, tt, subst (λ (l : HeldLine). Holds l []) (sym line_is) kept.0) in
+    stands_turn setup old new said [] (given ∷ []) out [] turn next s same row
     (sym (append-nil s.rest)) (written ∙ ap (λ (h : List ℕ). reply_text (reply_of h (row_of_answer given))) (sym host)) refl
     (ap (λ (x : Stage). offers_at x ++ []) offering ∙ sym (ap (λ (x : Stage). offer ∷ offers_at x) now))
-    (subst (λ (x : Stage). Keeps setup.max_content new.line x []) (sym now) (subst (λ (l : HeldLine). Holds l []) (sym line_is) kept.0))
+    (subst (λ (x : Stage). Keeps setup new.line x next []) (sym now) keeps)
 
 given_by : (is_long : Bool) (line kept : List ℕ) → kept ≡ take 2048 line → is_long ≡ nat_lt 2046 (length line) → IsGiven line kept is_long
-given_by true line kept kept_is long_is = grind (arith, nat_tests)
+given_by true line kept kept_is long_is =
+    let long : 2046 < length line = grind (arith, nat_tests) in
+    (long, kept_is)
 given_by false line kept kept_is long_is =
     let short : length line ≤ 2046 = grind (arith, nat_tests) in
     (short, kept_is ∙ take_all 2048 line (omega arith))
@@ -155,6 +169,7 @@ pub stands_by : (setup : Setup) (session : Session) (said other : Said) → Stan
 stands_by setup session said other s input answers output offers = record {
   setup_is = s.setup_is;
   turns = s.turns;
+  state = s.state;
   rest = s.rest;
   runs = s.runs;
   input = input ∙ s.input;
@@ -168,6 +183,8 @@ stands_by setup session said other s input answers output offers = record {
 none_new : (now : Stage) → new_offers now now ≡ []
 none_new (stage.Command state) = refl
 none_new (stage.Receiving mail) = refl
+none_new (stage.Chunk chunk) = refl
+none_new (stage.Skipping skipped) = refl
 none_new (stage.Offering transaction content) = refl
 none_new stage.Closed = refl
 none_new stage.Failed = refl
@@ -181,6 +198,8 @@ stands_still setup session said s =
 new_behind : (old new : Stage) → is_reading old ≡ true → new_offers old new ≡ offers_at new
 new_behind (stage.Command state) new reads = refl
 new_behind (stage.Receiving mail) new reads = refl
+new_behind (stage.Chunk chunk) new reads = refl
+new_behind (stage.Skipping skipped) new reads = refl
 new_behind (stage.Offering transaction content) new reads = cc
 new_behind stage.Closed new reads = refl
 new_behind stage.Failed new reads = refl
@@ -198,4 +217,22 @@ stands_behind setup first old new routes said piece used count start_out before 
           (sym (append-nil (said.answers ++ [])))
           (sym (append_assoc said.output so_far.0 next.0))
           (ap (λ l. said.offers ++ l) (new_behind first.stage new.stage began) ∙ sym (ap (λ l. l ++ offers_at new.stage) (ap (λ l. said.offers ++ l) none ∙ append-nil said.offers))),
+    )
+
+-- a line buffer without octets holds nothing
+pub holds_nothing : (held_line : HeldLine) (octets : List ℕ) → Holds held_line octets → held_line.kept ≡ [] → octets ≡ []
+holds_nothing held_line [] holds empty = refl
+holds_nothing held_line (octet ∷ octets) holds empty =
+    let many = length-take 2048 (octet ∷ octets) in
+    let none = ap length (sym holds.kept ∙ empty) in
+    absurd (omega (arith, many, none))
+
+-- a line that stands whole in a piece, and its unit
+pub whole_line : (piece line rest : List ℕ) (end : ℕ) → ReadsLine piece line rest → end ≡ length line + 2 → (take (end - 2) piece ≡ line) × (take end piece ≡ line ++ crlf)
+whole_line piece line rest end reads end_is =
+    let unit_long = length-append line crlf in
+    let line_end : end - 2 ≡ length line = omega (arith, end_is) in
+    let unit_end : end ≡ length (line ++ crlf) = omega (arith, end_is, unit_long) in (
+      ap (λ k. take k piece) line_end ∙ ap (take (length line)) (reads.text ∙ append_assoc line crlf rest) ∙ take-append_seam line (crlf ++ rest),
+      ap (λ k. take k piece) unit_end ∙ ap (take (length (line ++ crlf))) reads.text ∙ take-append_seam (line ++ crlf) rest,
     )

@@ -2,13 +2,12 @@
 use Rattle.std.proofs.Common.{◌≡◌, ℕ, ◌≤◌, Bool, true, false, if◌then◌else◌, nat_le, is_some, List, [], ◌∷◌, ◌++◌, length, Result, Ok, Err, inl, inr, refl, sym, subst, arith, length-append}
 use Rattle.std.specs.List.{AllByRecursion}
 use Rattle.std.proofs.lemmas.Bool.{leb-true, leb-false}
-use Rattle.relay_body.specs.DotText.{gathered_of}
-use Rattle.relay_body.specs.declared.gathered.Gathered.{Gathered}
-use Rattle.relay_body.specs.declared.gathered.Gathered.TheVariants.{Whole, TooLarge}
+use Rattle.relay_lines.specs.ChunkArgument.{begins_with_bdat}
 use Rattle.relay_lines.specs.Command as line
 use Rattle.relay_lines.specs.Command.{reading_of}
 use Rattle.relay_lines.specs.Word.{IsHostWord}
 use Rattle.relay_lines.specs.declared.command.LineFault.{LineFault}
+use Rattle.relay_lines.specs.declared.command.LineFault.TheVariants as fault
 use Rattle.relay_lines.proofs.CommandLemmas.{reading_is_of_spelling}
 use Rattle.relay_envelope.specs.declared.envelope.Envelope.{Envelope}
 use Rattle.relay_envelope.specs.declared.fault.EnvelopeFault.{EnvelopeFault}
@@ -16,14 +15,16 @@ use Rattle.relay_envelope.specs.Envelope.{IsEnvelope, IsRecipient, IsWrittenPath
 use Rattle.relay_envelope.specs.Mail.{Mail as MailSaid, Rcpt as RcptSaid, ReadsMail, ReadsRcpt}
 use Rattle.relay_envelope.specs.Path.{is_reverse}
 use Rattle.relay_envelope.proofs.ValidLemmas.{read_mail_is_valid, read_rcpt_is_valid}
+use Rattle.relay_trace.specs.HeaderSection.{received_count_of}
 use Rattle.relay_server.specs.declared.client.Client.{Client}
-use Rattle.relay_server.specs.Dialogue.{Offered, Turn, Answers, Turns, IsLeft, IsOutcome, offered_by, offers_in}
+use Rattle.relay_server.specs.declared.reply_table.Row.TheVariants.{ChunkOk}
+use Rattle.relay_server.specs.Dialogue.{Offered, Turn, Answers, Comes, Takes, Turns, IsLeft, offered_by, offered_of, offers_in}
 use Rattle.relay_server.specs.DialogueLaws.{MayBeStored, OffersMayBeStored}
-use Rattle.relay_server.specs.ReplyTable.{Step, step_of, step_of_data, step_of_mail, step_of_rcpt}
+use Rattle.relay_server.specs.ReplyTable.{Course, Replies, Offers, course_of, course_of_bdat, course_of_chunks, course_of_content, course_of_data, course_of_mail, course_of_rcpt, course_of_text, state_behind_fault}
 use Rattle.relay_server.specs.Routes.{hop_of}
 use Rattle.relay_server.specs.Setup.{Setup}
-use Rattle.relay_server.specs.State.{CommandState, Fresh, Greeted, Open, State, Command, Receiving, Closed, start}
-use Rattle.relay_server.specs.Unit.{Asked, Rset, Asks, AsksBy}
+use Rattle.relay_server.specs.State.{CommandState, Fresh, Greeted, Open, Gathering, Spent, State, Command, Receiving, Closed, start}
+use Rattle.relay_server.specs.Unit.{Asked, LongLine, Faulty, Rset, Asks, AsksBy}
 
 -- an envelope to which recipients may still come
 record IsOpen (envelope : Envelope) : Type 0 where
@@ -37,6 +38,8 @@ abbrev IsSound : State → Type 0
 IsSound (Command Fresh) = Unit {0}
 IsSound (Command (Greeted client)) = IsHostWord client.word
 IsSound (Command (Open client envelope)) = IsHostWord client.word × IsOpen envelope
+IsSound (Command (Gathering client envelope content)) = IsHostWord client.word × IsEnvelope envelope
+IsSound (Command (Spent client)) = IsHostWord client.word
 IsSound (Receiving client envelope) = IsHostWord client.word × IsEnvelope envelope
 IsSound Closed = Unit {0}
 
@@ -45,10 +48,16 @@ joined : {X : Type 0} (P : X → Type 0) (front back : List X) → AllByRecursio
 joined P [] back all more = more
 joined P (x ∷ front) back all more = (all.0, joined P front back all.1 more)
 
--- of two steps
-chosen : (b : Bool) (one two : Step) → (b ≡ true → IsSound one.next) → (b ≡ false → IsSound two.next) → IsSound (if b then one else two).next
-chosen true one two h k = h refl
-chosen false one two h k = k refl
+-- what comes leads to a state that is sound, or offers what may be stored
+abbrev IsGood : Setup → Course → Type 0
+IsGood setup (Replies row next) = IsSound next
+IsGood setup (Offers client envelope content) =
+    IsHostWord client.word × MayBeStored setup (offered_of client envelope content)
+
+-- of two courses
+chosen : (setup : Setup) (b : Bool) (one two : Course) → (b ≡ true → IsGood setup one) → (b ≡ false → IsGood setup two) → IsGood setup (if b then one else two)
+chosen setup true one two h k = h refl
+chosen setup false one two h k = k refl
 
 -- one more recipient, where there are fewer than 100
 grown : (envelope : Envelope) (rcpt : RcptSaid) (text : List ℕ) → IsOpen envelope → nat_le 100 (length envelope.recipients) ≡ false → ReadsRcpt text (Ok rcpt) → IsOpen (record envelope { recipients = envelope.recipients ++ recipient_from rcpt ∷ [] })
@@ -62,38 +71,82 @@ grown envelope rcpt text so_far few reads =
       recipients = joined IsRecipient envelope.recipients (recipient_from rcpt ∷ []) so_far.recipients (read_rcpt_is_valid text rcpt reads, tt);
     }
 
-mail_sound : (text : List ℕ) (read : Result MailSaid EnvelopeFault) (old : CommandState) → ReadsMail text read → IsSound (Command old) → IsSound (step_of_mail read old).next
-mail_sound text (Err fault) old reads sound = sound
-mail_sound text (Ok mail) Fresh reads sound = tt
-mail_sound text (Ok mail) (Greeted client) reads sound =
+mail_good : (setup : Setup) (text : List ℕ) (read : Result MailSaid EnvelopeFault) (old : CommandState) → ReadsMail text read → IsSound (Command old) → IsGood setup (course_of_mail read old)
+mail_good setup text (Err fault) old reads sound = sound
+mail_good setup text (Ok mail) Fresh reads sound = tt
+mail_good setup text (Ok mail) (Greeted client) reads sound =
     let valid = read_mail_is_valid text mail reads in
     (sound, record { reverse_path = valid.0; envid = valid.1; within = omega arith; recipients = tt })
-mail_sound text (Ok mail) (Open client envelope) reads sound = sound
+mail_good setup text (Ok mail) (Open client envelope) reads sound = sound
+mail_good setup text (Ok mail) (Gathering client envelope content) reads sound = sound
+mail_good setup text (Ok mail) (Spent client) reads sound = sound
 
-rcpt_sound : (setup : Setup) (text : List ℕ) (read : Result RcptSaid EnvelopeFault) (old : CommandState) → ReadsRcpt text read → IsSound (Command old) → IsSound (step_of_rcpt setup read old).next
-rcpt_sound setup text (Err fault) old reads sound = sound
-rcpt_sound setup text (Ok rcpt) Fresh reads sound = tt
-rcpt_sound setup text (Ok rcpt) (Greeted client) reads sound = sound
-rcpt_sound setup text (Ok rcpt) (Open client envelope) reads sound =
-    chosen (nat_le 100 (length envelope.recipients)) _ _ (λ _. sound) (λ few. chosen (is_some (hop_of setup.host setup.routes rcpt.path)) _ _ (λ _. (sound.0, grown envelope rcpt text sound.1 few reads)) (λ _. sound))
+rcpt_good : (setup : Setup) (text : List ℕ) (read : Result RcptSaid EnvelopeFault) (old : CommandState) → ReadsRcpt text read → IsSound (Command old) → IsGood setup (course_of_rcpt setup read old)
+rcpt_good setup text (Err fault) old reads sound = sound
+rcpt_good setup text (Ok rcpt) Fresh reads sound = tt
+rcpt_good setup text (Ok rcpt) (Greeted client) reads sound = sound
+rcpt_good setup text (Ok rcpt) (Open client envelope) reads sound =
+    chosen setup (nat_le 100 (length envelope.recipients)) _ _ (λ _. sound) (λ few. chosen setup (is_some (hop_of setup.host setup.routes rcpt.path)) _ _ (λ _. (sound.0, grown envelope rcpt text sound.1 few reads)) (λ _. sound))
+rcpt_good setup text (Ok rcpt) (Gathering client envelope content) reads sound = sound
+rcpt_good setup text (Ok rcpt) (Spent client) reads sound = sound
 
-data_sound : (old : CommandState) → IsSound (Command old) → IsSound (step_of_data old).next
-data_sound Fresh sound = tt
-data_sound (Greeted client) sound = sound
-data_sound (Open client envelope) sound =
-    let whole : nat_le 1 (length envelope.recipients) ≡ true → IsEnvelope envelope = λ some. record {
-      reverse_path = sound.1.reverse_path;
-      envid = sound.1.envid;
-      some = leb-true 1 (length envelope.recipients) some;
-      within = sound.1.within;
-      recipients = sound.1.recipients;
-    } in
-    chosen (nat_le 1 (length envelope.recipients)) _ _ (λ some. (sound.0, whole some)) (λ _. sound)
+-- an envelope with a recipient is whole
+whole_envelope : (envelope : Envelope) → IsOpen envelope → nat_le 1 (length envelope.recipients) ≡ true → IsEnvelope envelope
+whole_envelope envelope so_far some = record {
+  reverse_path = so_far.reverse_path;
+  envid = so_far.envid;
+  some = leb-true 1 (length envelope.recipients) some;
+  within = so_far.within;
+  recipients = so_far.recipients;
+}
 
-reset_sound : (setup : Setup) (old : CommandState) → IsSound (Command old) → IsSound (step_of setup Rset old).next
-reset_sound setup Fresh sound = tt
-reset_sound setup (Greeted client) sound = sound
-reset_sound setup (Open client envelope) sound = sound.0
+data_good : (setup : Setup) (old : CommandState) → IsSound (Command old) → IsGood setup (course_of_data old)
+data_good setup Fresh sound = tt
+data_good setup (Greeted client) sound = sound
+data_good setup (Open client envelope) sound =
+    chosen setup (nat_le 1 (length envelope.recipients)) _ _ (λ some. (sound.0, whole_envelope envelope sound.1 some)) (λ _. sound)
+data_good setup (Gathering client envelope content) sound = sound
+data_good setup (Spent client) sound = sound
+
+-- a content within the limit is refused, or may be stored
+content_good : (setup : Setup) (client : Client) (envelope : Envelope) (content : List ℕ) → IsHostWord client.word → IsEnvelope envelope → length content ≤ setup.max_content → IsGood setup (course_of_content client envelope content)
+content_good setup client envelope content word whole fits =
+    chosen setup (nat_le 100 (received_count_of content)) _ _ (λ _. word) (λ few. (word, record { client = word; envelope = whole; content = fits; received = leb-false 100 (received_count_of content) few }))
+
+text_good : (setup : Setup) (client : Client) (envelope : Envelope) (content : List ℕ) → IsHostWord client.word → IsEnvelope envelope → IsGood setup (course_of_text setup.max_content client envelope content)
+text_good setup client envelope content word whole =
+    chosen setup (nat_le (length content) setup.max_content) _ _ (λ fits. content_good setup client envelope content word whole (leb-true (length content) setup.max_content fits)) (λ _. word)
+
+last_good : (setup : Setup) (last : Bool) (client : Client) (envelope : Envelope) (content : List ℕ) → IsHostWord client.word → IsEnvelope envelope → length content ≤ setup.max_content → IsGood setup (if last then course_of_content client envelope content else Replies ChunkOk (Command (Gathering client envelope content)))
+last_good setup true client envelope content word whole fits = content_good setup client envelope content word whole fits
+last_good setup false client envelope content word whole fits = (word, whole)
+
+chunks_good : (setup : Setup) (client : Client) (envelope : Envelope) (content : List ℕ) (last : Bool) → IsHostWord client.word → IsEnvelope envelope → IsGood setup (course_of_chunks setup.max_content client envelope content last)
+chunks_good setup client envelope content last word whole =
+    chosen setup (nat_le (length content) setup.max_content) _ _ (λ fits. last_good setup last client envelope content word whole (leb-true (length content) setup.max_content fits)) (λ _. word)
+
+bdat_good : (setup : Setup) (octets : List ℕ) (last : Bool) (old : CommandState) → IsSound (Command old) → IsGood setup (course_of_bdat setup.max_content octets last old)
+bdat_good setup octets last Fresh sound = tt
+bdat_good setup octets last (Greeted client) sound = sound
+bdat_good setup octets last (Open client envelope) sound =
+    chosen setup (nat_le 1 (length envelope.recipients)) _ _ (λ some. chunks_good setup client envelope octets last sound.0 (whole_envelope envelope sound.1 some)) (λ _. sound.0)
+bdat_good setup octets last (Gathering client envelope content) sound =
+    chunks_good setup client envelope (content ++ octets) last sound.0 sound.1
+bdat_good setup octets last (Spent client) sound = sound
+
+reset_good : (setup : Setup) (old : CommandState) → IsSound (Command old) → IsGood setup (course_of setup Rset old)
+reset_good setup Fresh sound = tt
+reset_good setup (Greeted client) sound = sound
+reset_good setup (Open client envelope) sound = sound.0
+reset_good setup (Gathering client envelope content) sound = sound.0
+reset_good setup (Spent client) sound = sound
+
+fault_good : (which : LineFault) (old : CommandState) → IsSound (Command old) → IsSound (state_behind_fault which old)
+fault_good fault.Unknown old sound = sound
+fault_good fault.BadByte old sound = sound
+fault_good fault.BadArgument old sound = sound
+fault_good fault.NotOffered old sound = sound
+fault_good fault.BadChunkSize old sound = tt
 
 -- the word of a greeting is one of a host
 helo_word : (text word : List ℕ) → reading_of text ≡ Ok (line.Helo word) → IsHostWord word
@@ -102,64 +155,66 @@ helo_word text word e = ((reading_is_of_spelling text (line.Helo word)).0 e).spe
 ehlo_word : (text word : List ℕ) → reading_of text ≡ Ok (line.Ehlo word) → IsHostWord word
 ehlo_word text word e = ((reading_is_of_spelling text (line.Ehlo word)).0 e).spelled.1
 
--- a command leads from a sound state to a sound one
-asked_sound : (setup : Setup) (text : List ℕ) (reading : Result line.Command LineFault) (asked : Asked) (old : CommandState) → reading_of text ≡ reading → AsksBy reading asked → IsSound (Command old) → IsSound (step_of setup asked old).next
-asked_sound setup text (Err fault) asked old e asks sound =
-    subst (λ (a : Asked). IsSound (step_of setup a old).next) (sym asks) sound
-asked_sound setup text (Ok (line.Helo word)) asked old e asks sound =
-    subst (λ (a : Asked). IsSound (step_of setup a old).next) (sym asks) (helo_word text word e)
-asked_sound setup text (Ok (line.Ehlo word)) asked old e asks sound =
-    subst (λ (a : Asked). IsSound (step_of setup a old).next) (sym asks) (ehlo_word text word e)
-asked_sound setup text (Ok (line.Mail behind)) asked old e asks sound =
-    subst (λ (a : Asked). IsSound (step_of setup a old).next) (sym asks.2) (mail_sound behind asks.0 old asks.1 sound)
-asked_sound setup text (Ok (line.Rcpt behind)) asked old e asks sound =
-    subst (λ (a : Asked). IsSound (step_of setup a old).next) (sym asks.2) (rcpt_sound setup behind asks.0 old asks.1 sound)
-asked_sound setup text (Ok line.Data) asked old e asks sound =
-    subst (λ (a : Asked). IsSound (step_of setup a old).next) (sym asks) (data_sound old sound)
-asked_sound setup text (Ok line.Rset) asked old e asks sound =
-    subst (λ (a : Asked). IsSound (step_of setup a old).next) (sym asks) (reset_sound setup old sound)
-asked_sound setup text (Ok line.Noop) asked old e asks sound =
-    subst (λ (a : Asked). IsSound (step_of setup a old).next) (sym asks) sound
-asked_sound setup text (Ok line.Vrfy) asked old e asks sound =
-    subst (λ (a : Asked). IsSound (step_of setup a old).next) (sym asks) sound
-asked_sound setup text (Ok line.Help) asked old e asks sound =
-    subst (λ (a : Asked). IsSound (step_of setup a old).next) (sym asks) sound
-asked_sound setup text (Ok line.Quit) asked old e asks sound =
-    subst (λ (a : Asked). IsSound (step_of setup a old).next) (sym asks) tt
+-- what a line asks comes to good
+asked_good : (setup : Setup) (text octets : List ℕ) (reading : Result line.Command LineFault) (asked : Asked) (old : CommandState) → reading_of text ≡ reading → AsksBy reading octets asked → IsSound (Command old) → IsGood setup (course_of setup asked old)
+asked_good setup text octets (Err which) asked old e asks sound =
+    subst (λ (a : Asked). IsGood setup (course_of setup a old)) (sym asks) (fault_good which old sound)
+asked_good setup text octets (Ok (line.Helo word)) asked old e asks sound =
+    subst (λ (a : Asked). IsGood setup (course_of setup a old)) (sym asks) (helo_word text word e)
+asked_good setup text octets (Ok (line.Ehlo word)) asked old e asks sound =
+    subst (λ (a : Asked). IsGood setup (course_of setup a old)) (sym asks) (ehlo_word text word e)
+asked_good setup text octets (Ok (line.Mail behind)) asked old e asks sound =
+    subst (λ (a : Asked). IsGood setup (course_of setup a old)) (sym asks.2) (mail_good setup behind asks.0 old asks.1 sound)
+asked_good setup text octets (Ok (line.Rcpt behind)) asked old e asks sound =
+    subst (λ (a : Asked). IsGood setup (course_of setup a old)) (sym asks.2) (rcpt_good setup behind asks.0 old asks.1 sound)
+asked_good setup text octets (Ok line.Data) asked old e asks sound =
+    subst (λ (a : Asked). IsGood setup (course_of setup a old)) (sym asks) (data_good setup old sound)
+asked_good setup text octets (Ok (line.Bdat argument)) asked old e asks sound =
+    subst (λ (a : Asked). IsGood setup (course_of setup a old)) (sym asks) (bdat_good setup octets argument.last old sound)
+asked_good setup text octets (Ok line.Rset) asked old e asks sound =
+    subst (λ (a : Asked). IsGood setup (course_of setup a old)) (sym asks) (reset_good setup old sound)
+asked_good setup text octets (Ok line.Noop) asked old e asks sound =
+    subst (λ (a : Asked). IsGood setup (course_of setup a old)) (sym asks) sound
+asked_good setup text octets (Ok line.Vrfy) asked old e asks sound =
+    subst (λ (a : Asked). IsGood setup (course_of setup a old)) (sym asks) sound
+asked_good setup text octets (Ok line.Help) asked old e asks sound =
+    subst (λ (a : Asked). IsGood setup (course_of setup a old)) (sym asks) sound
+asked_good setup text octets (Ok line.Quit) asked old e asks sound =
+    subst (λ (a : Asked). IsGood setup (course_of setup a old)) (sym asks) tt
 
-line_sound : (setup : Setup) (text : List ℕ) (asked : Asked) (old : CommandState) → Asks text asked → IsSound (Command old) → IsSound (step_of setup asked old).next
-line_sound setup text asked old (inl long) sound =
-    subst (λ (a : Asked). IsSound (step_of setup a old).next) (sym long.1) sound
-line_sound setup text asked old (inr read) sound =
-    asked_sound setup text (reading_of text) asked old refl read.1 sound
+-- a line that is too long changes no state, or closes
+long_good : (setup : Setup) (b : Bool) (old : CommandState) → IsSound (Command old) → IsGood setup (course_of setup (if b then Faulty fault.BadChunkSize else LongLine) old)
+long_good setup true old sound = tt
+long_good setup false old sound = sound
 
--- a content that is handed on is within the limit
-chosen_fits : (limit : ℕ) (fits : Bool) (whole content : List ℕ) → nat_le (length content) limit ≡ fits → (if fits then Whole content else TooLarge) ≡ Whole whole → length whole ≤ limit
-chosen_fits limit true whole content test e =
-    let same : content ≡ whole = cc in
-    subst (λ (c : List ℕ). length c ≤ limit) same (leb-true (length content) limit test)
-chosen_fits limit false whole content test e = absurd (cc)
+line_good : (setup : Setup) (text octets : List ℕ) (asked : Asked) (old : CommandState) → Asks text octets asked → IsSound (Command old) → IsGood setup (course_of setup asked old)
+line_good setup text octets asked old (inl long) sound =
+    subst (λ (a : Asked). IsGood setup (course_of setup a old)) (sym long.1) (long_good setup (begins_with_bdat text) old sound)
+line_good setup text octets asked old (inr read) sound =
+    asked_good setup text octets (reading_of text) asked old refl read.1 sound
 
-whole_fits : (limit : ℕ) (whole content : List ℕ) → gathered_of limit content ≡ Whole whole → length whole ≤ limit
-whole_fits limit whole content e = chosen_fits limit (nat_le (length content) limit) whole content refl e
+-- what comes of a unit in a sound state is good
+comes_good : (setup : Setup) (old : State) (unit : List ℕ) (course : Course) → Comes setup old unit course → IsSound old → IsGood setup course
+comes_good setup (Command state) unit course comes sound =
+    subst (IsGood setup) (sym comes.course_is) (line_good setup comes.text comes.octets comes.what state comes.asks sound)
+comes_good setup (Receiving client envelope) unit course comes sound =
+    subst (IsGood setup) (sym comes.course_is) (text_good setup client envelope comes.content sound.0 sound.1)
+comes_good setup Closed unit course comes sound = absurd comes
 
-outcome_stored : (setup : Setup) (client : Client) (envelope : Envelope) (gathered : Gathered) (content : List ℕ) (turn : Turn) → gathered_of setup.max_content content ≡ gathered → IsOutcome setup client envelope gathered turn → IsHostWord client.word → IsEnvelope envelope → AllByRecursion (MayBeStored setup) (offers_in turn.offer)
-outcome_stored setup client envelope TooLarge content turn e outcome word whole =
-    subst (λ o. AllByRecursion (MayBeStored setup) (offers_in o)) (sym outcome.1) tt
-outcome_stored setup client envelope (Whole kept) content turn e outcome word whole =
-    subst (λ o. AllByRecursion (MayBeStored setup) (offers_in o)) (sym outcome.2) (record { client = word; envelope = whole; content = whole_fits setup.max_content kept content e }, tt)
+taken_sound : (setup : Setup) (course : Course) (turn : Turn) (new : State) → IsGood setup course → Takes setup.host course turn new → IsSound new × AllByRecursion (MayBeStored setup) (offers_in turn.offer)
+taken_sound setup (Replies row next) turn new good takes = (
+  subst IsSound (sym takes.2) good,
+  subst (λ o. AllByRecursion (MayBeStored setup) (offers_in o)) (sym takes.1) tt,
+)
+taken_sound setup (Offers client envelope content) turn new good takes = (
+  subst IsSound (sym takes.3) good.0,
+  subst (λ o. AllByRecursion (MayBeStored setup) (offers_in o)) (sym takes.2) (good.1, tt),
+)
 
 -- a turn leads from a sound state to a sound one, and what it offers may be stored
 turn_sound : (setup : Setup) (old new : State) (turn : Turn) → Answers setup old turn new → IsSound old → IsSound new × AllByRecursion (MayBeStored setup) (offers_in turn.offer)
-turn_sound setup (Command state) new turn is sound = (
-  subst IsSound (sym is.next) (line_sound setup is.text is.what state is.asks sound),
-  subst (λ o. AllByRecursion (MayBeStored setup) (offers_in o)) (sym is.no_offer) tt,
-)
-turn_sound setup (Receiving client envelope) new turn is sound = (
-  subst IsSound (sym is.next) sound.0,
-  outcome_stored setup client envelope (gathered_of setup.max_content is.content) is.content turn refl is.outcome sound.0 sound.1,
-)
-turn_sound setup Closed new turn is sound = absurd is
+turn_sound setup old new turn is sound =
+    taken_sound setup is.course turn new (comes_good setup old turn.asked is.course is.comes sound) is.takes
 
 turns_sound : (setup : Setup) (old new : State) (turns : List Turn) → Turns setup old turns new → IsSound old → IsSound new × AllByRecursion (MayBeStored setup) (offered_by turns)
 turns_sound setup old new [] runs sound = (subst IsSound runs sound, tt)
@@ -169,12 +224,10 @@ turns_sound setup old new (turn ∷ turns) runs sound =
     (later.0, joined (MayBeStored setup) (offers_in turn.offer) (offered_by turns) first.1 later.1)
 
 left_stored : (setup : Setup) (state : State) (rest : List ℕ) (unanswered : List Offered) → IsLeft setup state rest unanswered → IsSound state → AllByRecursion (MayBeStored setup) unanswered
-left_stored setup (Command state) rest unanswered left sound = subst (AllByRecursion (MayBeStored setup)) (sym left.1) tt
-left_stored setup (Receiving client envelope) rest unanswered (inl left) sound =
-    subst (AllByRecursion (MayBeStored setup)) (sym left.1) tt
-left_stored setup (Receiving client envelope) rest unanswered (inr left) sound =
-    subst (AllByRecursion (MayBeStored setup)) (sym left.3) (record { client = sound.0; envelope = sound.1; content = whole_fits setup.max_content left.0 left.0 left.2 }, tt)
-left_stored setup Closed rest unanswered left sound = subst (AllByRecursion (MayBeStored setup)) (sym left) tt
+left_stored setup state rest unanswered (inl left) sound = subst (AllByRecursion (MayBeStored setup)) (sym left.1) tt
+left_stored setup state rest unanswered (inr left) sound =
+    let good = comes_good setup state rest (Offers left.client left.envelope left.content) left.comes sound in
+    subst (AllByRecursion (MayBeStored setup)) (sym left.offer_is) (good.1, tt)
 
 pub offers_may_be_stored : OffersMayBeStored
 offers_may_be_stored setup said is =

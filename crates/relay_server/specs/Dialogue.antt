@@ -2,22 +2,19 @@
 -- with its one reply, and the offers of mail. The units decide, and not the pieces that they come in.
 use Rattle.std.specs.Prelude.{◌≡◌, ◌⊎◌, ℕ, List, [], ◌∷◌, ◌++◌, Option, Some, None}
 use Rattle.std.specs.List.{flat_map}
-use Rattle.relay_octets.specs.Line.{crlf, HasNoCrlf}
-use Rattle.relay_body.specs.DotText.{ReadsDotText, gathered_of}
-use Rattle.relay_body.specs.declared.gathered.Gathered.{Gathered}
-use Rattle.relay_body.specs.declared.gathered.Gathered.TheVariants.{Whole, TooLarge}
+use Rattle.relay_body.specs.DotText.{ReadsDotText}
 use Rattle.relay_lines.specs.Reply.{Reply, reply_text}
 use Rattle.relay_envelope.specs.declared.envelope.Envelope.{Envelope}
 use Rattle.relay_server.specs.declared.client.Client.{Client}
 use Rattle.relay_server.specs.declared.offer.Answer.{Answer}
 use Rattle.relay_server.specs.declared.offer.Answer.TheVariants as answer
 use Rattle.relay_server.specs.declared.reply_table.Row.{Row}
-use Rattle.relay_server.specs.declared.reply_table.Row.TheVariants.{Greeting, ContentTooLarge, Queued, SpoolFull}
+use Rattle.relay_server.specs.declared.reply_table.Row.TheVariants.{Greeting, Queued, SpoolFull}
 use Rattle.relay_server.specs.Reply.{reply_of}
-use Rattle.relay_server.specs.ReplyTable.{step_of}
+use Rattle.relay_server.specs.ReplyTable.{Course, Replies, Offers, course_of, course_of_text}
 use Rattle.relay_server.specs.Setup.{Setup}
 use Rattle.relay_server.specs.State.{CommandState, Greeted, State, Command, Receiving, Closed, start}
-use Rattle.relay_server.specs.Unit.{HasNoUnit, Asked, Asks}
+use Rattle.relay_server.specs.Unit.{Asked, Asks, HasNoUnit, IsCommandUnit}
 
 -- a message that is offered for keeping: who offers it, the envelope, and the content
 pub record Offered : Type 0 where
@@ -36,36 +33,43 @@ abbrev pub row_of_answer : Answer → Row
 row_of_answer (answer.Queued number) = Queued number
 row_of_answer answer.Full = SpoolFull
 
--- a command line has the reply and the next state of the table
-pub record AnswersLine (setup : Setup) (old : CommandState) (turn : Turn) (new : State) : Type 0 where
+-- the course of a command line, with the octets of its chunk, is that of the table
+pub record ComesOfLine (setup : Setup) (state : CommandState) (unit : List ℕ) (course : Course) : Type 0 where
   pub text : List ℕ
+  pub octets : List ℕ
   pub what : Asked
-  pub unit : turn.asked ≡ text ++ crlf
-  pub line : HasNoCrlf text
-  pub asks : Asks text what
-  pub reply : turn.reply ≡ reply_of setup.host (step_of setup what old).row
-  pub next : new ≡ (step_of setup what old).next
-  pub no_offer : turn.offer ≡ None
+  pub is_unit : IsCommandUnit unit text octets
+  pub asks : Asks text octets what
+  pub course_is : course ≡ course_of setup what state
 
--- a content that is too large is refused, and another is offered and answered
-abbrev pub IsOutcome : Setup → Client → Envelope → Gathered → Turn → Type 0
-IsOutcome setup client envelope TooLarge turn = (turn.reply ≡ reply_of setup.host ContentTooLarge) × (turn.offer ≡ None)
-IsOutcome setup client envelope (Whole content) turn =
-    (given : Answer) × (turn.reply ≡ reply_of setup.host (row_of_answer given))
-    × (turn.offer ≡ Some (record { client = client; envelope = envelope; content = content }, given))
-
--- behind a dot text the transaction is over, whatever became of it
-pub record AnswersText (setup : Setup) (client : Client) (envelope : Envelope) (turn : Turn) (new : State) : Type 0 where
+-- the course of a dot text is that of its content
+pub record ComesOfText (setup : Setup) (client : Client) (envelope : Envelope) (unit : List ℕ) (course : Course) : Type 0 where
   pub content : List ℕ
-  pub unit : ReadsDotText turn.asked content
-  pub outcome : IsOutcome setup client envelope (gathered_of setup.max_content content) turn
-  pub next : new ≡ Command (Greeted client)
+  pub reads : ReadsDotText unit content
+  pub course_is : course ≡ course_of_text setup.max_content client envelope content
+
+-- in this state this is the course of the unit
+abbrev pub Comes : Setup → State → List ℕ → Course → Type 0
+Comes setup (Command state) unit course = ComesOfLine setup state unit course
+Comes setup (Receiving client envelope) unit course = ComesOfText setup client envelope unit course
+Comes setup Closed unit course = ⊥
+
+-- what was offered
+abbrev pub offered_of : Client → Envelope → List ℕ → Offered
+offered_of client envelope content = record { client = client; envelope = envelope; content = content }
+
+-- the turn has the reply of its course, and leads to the state behind it; an offer is replied to by its answer
+abbrev pub Takes : List ℕ → Course → Turn → State → Type 0
+Takes host (Replies row next) turn new = (turn.reply ≡ reply_of host row) × (turn.offer ≡ None) × (new ≡ next)
+Takes host (Offers client envelope content) turn new =
+    (given : Answer) × (turn.reply ≡ reply_of host (row_of_answer given))
+    × (turn.offer ≡ Some (offered_of client envelope content, given)) × (new ≡ Command (Greeted client))
 
 -- from the old state the turn leads to the new
-abbrev pub Answers : Setup → State → Turn → State → Type 0
-Answers setup (Command state) turn new = AnswersLine setup state turn new
-Answers setup (Receiving client envelope) turn new = AnswersText setup client envelope turn new
-Answers setup Closed turn new = ⊥
+pub record Answers (setup : Setup) (old : State) (turn : Turn) (new : State) : Type 0 where
+  pub course : Course
+  pub comes : Comes setup old turn.asked course
+  pub takes : Takes setup.host course turn new
 
 -- the turns lead from the old state to the new
 abbrev pub Turns : Setup → State → List Turn → State → Type 0
@@ -114,14 +118,18 @@ more_said said input answers output offers = record {
   offers = said.offers ++ offers;
 }
 
--- what is left of the input: no whole unit, or a text whose offer is unanswered and stands behind the others
+-- what is left of the input is a unit whose offer is unanswered, and stands behind the others
+pub record IsUnanswered (setup : Setup) (state : State) (rest : List ℕ) (unanswered : List Offered) : Type 0 where
+  pub client : Client
+  pub envelope : Envelope
+  pub content : List ℕ
+  pub comes : Comes setup state rest (Offers client envelope content)
+  pub offer_is : unanswered ≡ offered_of client envelope content ∷ []
+
+-- what is left of the input: no whole unit, or one whose offer is unanswered
 abbrev pub IsLeft : Setup → State → List ℕ → List Offered → Type 0
-IsLeft setup (Command state) rest unanswered = HasNoUnit (Command state) rest × (unanswered ≡ [])
-IsLeft setup (Receiving client envelope) rest unanswered =
-    (HasNoUnit (Receiving client envelope) rest × (unanswered ≡ []))
-    ⊎ ((content : List ℕ) × ReadsDotText rest content × (gathered_of setup.max_content content ≡ Whole content)
-    × (unanswered ≡ record { client = client; envelope = envelope; content = content } ∷ []))
-IsLeft setup Closed rest unanswered = unanswered ≡ []
+IsLeft setup state rest unanswered =
+    (HasNoUnit state rest × (unanswered ≡ [])) ⊎ IsUnanswered setup state rest unanswered
 
 -- What was said is a dialogue: the input is whole units and a rest, the output the greeting and the units' replies in
 -- order, and the k-th offer is replied to by the k-th answer; where there is none yet, the input ends with its unit.

@@ -1,11 +1,10 @@
 -- What is true of units, turns and dialogues, whatever the pieces that the input comes in.
-use Rattle.std.specs.Prelude.{◌≡◌, ◌≢◌, ℕ, ◌^◌, ◌<◌, ◌≤◌, List, [], ◌∷◌, ◌++◌, length}
+use Rattle.std.specs.Prelude.{◌≡◌, ◌≢◌, ℕ, ◌^◌, ◌<◌, ◌≤◌, List, [], ◌∷◌, ◌++◌, true, length, Some, Ok}
 use Rattle.std.specs.List.{AllByRecursion}
+use Rattle.relay_lines.specs.Command.{Bdat, reading_of}
 use Rattle.relay_lines.specs.Reply.{IsReply}
 use Rattle.relay_lines.specs.Word.{IsHostWord}
-use Rattle.relay_envelope.specs.declared.envelope.Envelope.{Envelope}
 use Rattle.relay_envelope.specs.Envelope.{IsEnvelope}
-use Rattle.relay_server.specs.declared.client.Client.{Client}
 use Rattle.relay_server.specs.declared.offer.Answer.{Answer}
 use Rattle.relay_server.specs.declared.offer.Answer.TheVariants.{Queued, Full}
 use Rattle.relay_server.specs.declared.reply_table.Row.TheVariants.{Greeting}
@@ -15,8 +14,9 @@ use Rattle.relay_server.specs.Dialogue.{Offered, Turn, Answers, Turns, Said, IsD
 use Rattle.relay_server.specs.Reply.{reply_of}
 use Rattle.relay_server.specs.Session.{Stands}
 use Rattle.relay_server.specs.Setup.{Setup}
-use Rattle.relay_server.specs.State.{State, Receiving}
-use Rattle.relay_server.specs.Unit.{IsUnit}
+use Rattle.relay_trace.specs.HeaderSection.{received_count_of}
+use Rattle.relay_server.specs.State.{State, Command, Receiving, Closed}
+use Rattle.relay_server.specs.Unit.{IsCommandUnit, IsUnit}
 
 -- the list begins with these
 abbrev pub Begins : {A : Type 0} → List A → List A → Type 0
@@ -71,12 +71,25 @@ BeginningsHaveBeginnings =
     → Begins said.input other.input → Begins said.output other.output
     → Begins said.answers other.answers × Begins said.offers other.offers
 
--- of all replies to a text only the one to a queued offer is positive
+-- the unit ends a content: a dot text, or a chunk with LAST
+abbrev pub EndsContent : State → List ℕ → Type 0
+EndsContent (Command state) unit =
+    (text : List ℕ) × (octets : List ℕ) × (size : ℕ) × IsCommandUnit unit text octets × (length text ≤ 2046)
+    × (reading_of text ≡ Ok (Bdat (record { size = size; last = true })))
+EndsContent (Receiving client envelope) unit = Unit {0}
+EndsContent Closed unit = Unit {0}
+
+-- of all replies to the end of a content only the one to a queued offer is positive
 abbrev pub OnlyQueuedIsPositive : Type 0
 OnlyQueuedIsPositive =
-    (setup : Setup) (client : Client) (envelope : Envelope) (turn : Turn) (new : State)
-    → Answers setup (Receiving client envelope) turn new → 200 ≤ turn.reply.code → turn.reply.code < 300
-    → (number : ℕ) × (answers_in turn.offer ≡ Queued number ∷ [])
+    (setup : Setup) (old new : State) (turn : Turn) → Answers setup old turn new → EndsContent old turn.asked
+    → 200 ≤ turn.reply.code → turn.reply.code < 300 → (number : ℕ) × (answers_in turn.offer ≡ Queued number ∷ [])
+
+-- nothing but the end of a content is offered
+abbrev pub OnlyContentIsOffered : Type 0
+OnlyContentIsOffered =
+    (setup : Setup) (old new : State) (turn : Turn) (offer : Offered) (given : Answer) → Answers setup old turn new
+    → turn.offer ≡ Some (offer, given) → EndsContent old turn.asked
 
 -- the greeting and the replies of all turns are well formed
 abbrev pub RepliesAreWellFormed : Type 0
@@ -86,11 +99,13 @@ RepliesAreWellFormed =
     × ((old new : State) (turns : List Turn) → Turns setup old turns new → AreNumbered (answered_by turns)
     → AllByRecursion (λ turn. IsReply turn.reply) turns)
 
--- an offer as it may be stored: the client's word is one of HELO's, the envelope is whole, and the content within the limit
+-- an offer as it may be stored: the client's word is one of HELO's, the envelope is whole, the content is within the limit
+-- and has fewer than 100 `Received:` fields
 pub record MayBeStored (setup : Setup) (offer : Offered) : Type 0 where
   pub client : IsHostWord offer.client.word
   pub envelope : IsEnvelope offer.envelope
   pub content : length offer.content ≤ setup.max_content
+  pub received : received_count_of offer.content < 100
 
 -- each offer of a dialogue may be stored
 abbrev pub OffersMayBeStored : Type 0

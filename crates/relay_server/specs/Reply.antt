@@ -2,13 +2,13 @@
 use Rattle.std.specs.Prelude.{ℕ, List, [], ◌∷◌, ◌++◌, codes, decimal}
 use Rattle.relay_lines.specs.Reply.{Reply, made_of, one_line}
 use Rattle.relay_server.specs.declared.reply_table.Row.{Row}
-use Rattle.relay_server.specs.declared.reply_table.Row.TheVariants.{Greeting, Hello, Extensions, SenderOk, RecipientOk, TooManyRecipients, NoRoute, BadSequence, NoValidRecipients, StartMailInput, ContentTooLarge, Queued, SpoolFull, Done, NotVerified, SeeStandard, Closing, UnknownCommand, BadOctet, LineTooLong, BadArgument, BadPath, BadValue, Repeated, UnknownParameter, NotOffered}
+use Rattle.relay_server.specs.declared.reply_table.Row.TheVariants.{Greeting, Hello, Extensions, SenderOk, RecipientOk, TooManyRecipients, NoRoute, BadSequence, NoValidRecipients, StartMailInput, ChunkOk, ContentTooLarge, TooManyReceived, Queued, SpoolFull, Done, NotVerified, SeeStandard, Closing, UnknownCommand, BadOctet, LineTooLong, BadArgument, BadPath, BadValue, Repeated, UnknownParameter, NotOffered, BadChunkSize}
 
 -- what each row answers, at a server with this host name
 unfoldable pub reply_of : List ℕ → Row → Reply
 reply_of host Greeting = one_line 220 (host ++ codes " ESMTP relay ready")
 reply_of host Hello = one_line 250 host
-reply_of host Extensions = made_of 250 (host ∷ codes "DSN" ∷ [])
+reply_of host Extensions = made_of 250 (host ∷ codes "PIPELINING" ∷ codes "CHUNKING" ∷ codes "DSN" ∷ [])
 reply_of host SenderOk = one_line 250 (codes "sender OK")
 reply_of host RecipientOk = one_line 250 (codes "recipient OK")
 reply_of host TooManyRecipients = one_line 452 (codes "too many recipients")
@@ -16,7 +16,9 @@ reply_of host NoRoute = one_line 550 (codes "no route")
 reply_of host BadSequence = one_line 503 (codes "bad sequence")
 reply_of host NoValidRecipients = one_line 554 (codes "no valid recipients")
 reply_of host StartMailInput = one_line 354 (codes "end with a line of one period")
+reply_of host ChunkOk = one_line 250 (codes "chunk OK")
 reply_of host ContentTooLarge = one_line 552 (codes "content too large")
+reply_of host TooManyReceived = one_line 554 (codes "too many Received fields")
 reply_of host (Queued number) = one_line 250 (codes "queued as " ++ decimal number)
 reply_of host SpoolFull = one_line 452 (codes "spool full")
 reply_of host Done = one_line 250 (codes "OK")
@@ -32,3 +34,4 @@ reply_of host BadValue = one_line 501 (codes "bad parameter value")
 reply_of host Repeated = one_line 501 (codes "parameter given twice")
 reply_of host UnknownParameter = one_line 555 (codes "unknown parameter")
 reply_of host NotOffered = one_line 502 (codes "not implemented")
+reply_of host BadChunkSize = one_line 421 (host ++ codes " bad chunk size, closing")

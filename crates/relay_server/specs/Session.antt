@@ -1,10 +1,13 @@
 -- A session in the dialogue that it has held: what it keeps of what was said, for every history that fits it.
-use Rattle.std.specs.Prelude.{◌≡◌, ◌⊎◌, ◌<◌, ◌≤◌, ℕ, Bool, true, false, List, [], ◌∷◌, ◌++◌, length, None}
-use Rattle.relay_body.specs.DotText.{ReadsDotText, IsReading, gathered_of}
-use Rattle.relay_body.specs.declared.gathered.Gathered.TheVariants.{Whole, TooLarge}
-use Rattle.relay_body.specs.declared.gathered.Gathered.{Gathered}
+use Rattle.std.specs.Prelude.{◌≡◌, ◌⊎◌, ◌<◌, ◌≤◌, ◌+◌, ℕ, Bool, true, false, List, [], ◌∷◌, ◌++◌, length, take, None, Ok}
+use Rattle.relay_octets.specs.Line.{crlf, HasNoCrlf}
+use Rattle.relay_body.specs.DotText.{IsReading}
+use Rattle.relay_body.specs.ChunkText.{Chunk, IsInChunk, content_of_chunks}
+use Rattle.relay_body.specs.declared.chunk_reader.ChunkReader.{ChunkReader}
+use Rattle.relay_lines.specs.declared.chunk_argument.BdatArgument.{BdatArgument}
+use Rattle.relay_lines.specs.Command.{Bdat, reading_of}
 use Rattle.relay_server.specs.declared.state.Transaction.{Transaction}
-use Rattle.relay_server.specs.declared.state.CommandState.TheVariants as held
+use Rattle.relay_server.specs.declared.state.CommandState.{CommandState as Held}
 use Rattle.relay_lines.specs.Reply.{reply_text}
 use Rattle.relay_lines.specs.HeldLine.{HeldLine, Holds}
 use Rattle.relay_server.specs.declared.stage.Stage.{Stage}
@@ -14,28 +17,23 @@ use Rattle.relay_server.specs.declared.offer.Offer.{Offer}
 use Rattle.relay_server.specs.declared.session.Next.{Next}
 use Rattle.relay_server.specs.declared.session.Next.TheVariants as next
 use Rattle.relay_server.specs.declared.routes.Route.{Route}
-use Rattle.relay_server.specs.Dialogue.{Offered, Turn, Answers, Turns, Said, read_by, written_by, offered_by, answered_by}
+use Rattle.relay_server.specs.Dialogue.{Offered, Turn, Answers, Comes, Turns, offered_of, Said, read_by, written_by, offered_by, answered_by}
 use Rattle.relay_server.specs.Reply.{reply_of}
 use Rattle.relay_server.specs.declared.reply_table.Row.{Row}
-use Rattle.relay_server.specs.declared.reply_table.Row.TheVariants.{Greeting, ContentTooLarge}
+use Rattle.relay_server.specs.declared.reply_table.Row.TheVariants.{Greeting}
 use Rattle.relay_server.specs.Setup.{Setup, setup_of}
-use Rattle.relay_server.specs.State.{State, Command, Receiving, Closed, start}
-use Rattle.relay_server.specs.Values.{command_state_of}
-
--- the state of the dialogue, by the stage; while an offer is unanswered its text isn't
-abbrev pub state_at : Stage → State
-state_at (stage.Command state) = Command (command_state_of state)
-state_at (stage.Receiving mail) = Receiving mail.transaction.client mail.transaction.envelope
-state_at (stage.Offering transaction content) = Receiving transaction.client transaction.envelope
-state_at stage.Closed = Closed
-state_at stage.Failed = Closed
+use Rattle.relay_server.specs.State.{CommandState, State, Command, Receiving, Closed, start}
+use Rattle.relay_server.specs.Values.{IsHeld, command_state_of}
+use Rattle.relay_server.specs.ReplyTable.{Course, Replies, Offers, course_of_bdat, course_of_chunks}
 
 -- the offer that is unanswered
 abbrev pub offers_at : Stage → List Offered
 offers_at (stage.Command state) = []
 offers_at (stage.Receiving mail) = []
+offers_at (stage.Chunk chunk) = []
+offers_at (stage.Skipping skipped) = []
 offers_at (stage.Offering transaction content) =
-    record { client = transaction.client; envelope = transaction.envelope; content = content } ∷ []
+    offered_of transaction.client transaction.envelope content ∷ []
 offers_at stage.Closed = []
 offers_at stage.Failed = []
 
@@ -43,69 +41,115 @@ offers_at stage.Failed = []
 abbrev pub IsOffering : Stage → Type 0
 IsOffering (stage.Command state) = ⊥
 IsOffering (stage.Receiving mail) = ⊥
+IsOffering (stage.Chunk chunk) = ⊥
+IsOffering (stage.Skipping skipped) = ⊥
 IsOffering (stage.Offering transaction content) = Unit {0}
 IsOffering stage.Closed = ⊥
 IsOffering stage.Failed = ⊥
 
--- octets are read: those of a command line, or of mail data
+-- a command is awaited
+abbrev pub is_command : Stage → Bool
+is_command (stage.Command now) = true
+is_command _ = false
+
+-- octets are read: those of a command line, of mail data, or of a chunk
 abbrev pub is_reading : Stage → Bool
 is_reading (stage.Command state) = true
 is_reading (stage.Receiving mail) = true
+is_reading (stage.Chunk chunk) = true
+is_reading (stage.Skipping skipped) = true
 is_reading (stage.Offering transaction content) = false
 is_reading stage.Closed = false
 is_reading stage.Failed = false
 
--- the stage has used these octets since the last unit, but those of a command line, which stand elsewhere
-abbrev pub KeepsText : ℕ → Stage → List ℕ → Type 0
-KeepsText limit (stage.Command state) octets = octets ≡ []
-KeepsText limit (stage.Receiving mail) octets = IsReading mail.reader limit octets
-KeepsText limit (stage.Offering transaction content) octets =
-    ReadsDotText octets content × (gathered_of limit content ≡ Whole content)
-KeepsText limit stage.Closed octets = octets ≡ []
-KeepsText limit stage.Failed octets = ⊥
+-- the octets are a line of BDAT with this argument, and these of its chunk
+pub record BeginsChunk (octets : List ℕ) (argument : BdatArgument) (part : List ℕ) : Type 0 where
+  pub text : List ℕ
+  pub octets_are : octets ≡ text ++ crlf ++ part
+  pub line : HasNoCrlf text
+  pub short : length text ≤ 2046
+  pub reads : reading_of text ≡ Ok (Bdat argument)
 
--- the session has used these octets since the last unit
-abbrev pub Keeps : ℕ → HeldLine → Stage → List ℕ → Type 0
-Keeps limit line (stage.Command state) octets = Holds line octets
-Keeps limit line (stage.Receiving mail) octets = Holds line [] × IsReading mail.reader limit octets
-Keeps limit line (stage.Offering transaction content) octets =
-    Holds line [] × ReadsDotText octets content × (gathered_of limit content ≡ Whole content)
-Keeps limit line stage.Closed octets = Holds line [] × (octets ≡ [])
-Keeps limit line stage.Failed octets = ⊥
+-- in this state a chunk has come so far, and its octets join those before
+pub record GathersChunk (limit : ℕ) (transaction : Transaction) (reader : ChunkReader) (is_last : Bool) (state : State) (octets : List ℕ) : Type 0 where
+  pub old : CommandState
+  pub state_is : state ≡ Command old
+  pub argument : BdatArgument
+  pub part : List ℕ
+  pub begins : BeginsChunk octets argument part
+  pub last_is : is_last ≡ argument.last
+  pub chunks : List Chunk
+  pub chunk_is : IsInChunk reader limit chunks (record { size = argument.size; octets = part })
+  pub course_is : (rest : List ℕ) → course_of_bdat limit rest argument.last old
+      ≡ course_of_chunks limit transaction.client transaction.envelope (content_of_chunks chunks ++ rest) argument.last
 
--- the text is all of a line that isn't too long, or some of one that is
+-- in this state a chunk has come so far but for as many octets as are missing, and is refused by this row
+pub record RefusesChunk (limit : ℕ) (row : Row) (behind : Held) (missing : ℕ) (state : State) (octets : List ℕ) : Type 0 where
+  pub old : CommandState
+  pub state_is : state ≡ Command old
+  pub argument : BdatArgument
+  pub part : List ℕ
+  pub begins : BeginsChunk octets argument part
+  pub size_is : argument.size ≡ length part + missing
+  pub is_held : IsHeld limit behind
+  pub course_is : (rest : List ℕ) → course_of_bdat limit rest argument.last old ≡ Replies row (Command (command_state_of behind))
+
+-- the stage stands in this state, and has used these octets since the last unit, but those of a command line, which stand
+-- elsewhere
+abbrev pub KeepsText : Setup → Stage → State → List ℕ → Type 0
+KeepsText setup (stage.Command now) state octets =
+    (state ≡ Command (command_state_of now)) × IsHeld setup.max_content now × (octets ≡ [])
+KeepsText setup (stage.Receiving mail) state octets =
+    (state ≡ Receiving mail.transaction.client mail.transaction.envelope) × IsReading mail.reader setup.max_content octets
+KeepsText setup (stage.Chunk chunk) state octets =
+    GathersChunk setup.max_content chunk.transaction chunk.reader chunk.is_last state octets
+KeepsText setup (stage.Skipping skipped) state octets =
+    RefusesChunk setup.max_content skipped.row skipped.state skipped.missing state octets
+KeepsText setup (stage.Offering transaction content) state octets =
+    Comes setup state octets (Offers transaction.client transaction.envelope content)
+KeepsText setup stage.Closed state octets = (state ≡ Closed) × (octets ≡ [])
+KeepsText setup stage.Failed state octets = ⊥
+
+-- the session stands in this state, and has used these octets since the last unit
+abbrev pub Keeps : Setup → HeldLine → Stage → State → List ℕ → Type 0
+Keeps setup line (stage.Command now) state octets =
+    (state ≡ Command (command_state_of now)) × IsHeld setup.max_content now × Holds line octets
+Keeps setup line now state octets = Holds line [] × KeepsText setup now state octets
+
+-- the text is all of a line that isn't too long, or the beginning of one that is
 abbrev pub IsGiven : List ℕ → List ℕ → Bool → Type 0
-IsGiven line text true = 2046 < length line
+IsGiven line text true = (2046 < length line) × (text ≡ take 2048 line)
 IsGiven line text false = (length line ≤ 2046) × (text ≡ line)
 
 -- from the old state one unit, with its reply, leads to this stage, which has used nothing behind it
 pub record TakesTurn (setup : Setup) (old : State) (new : Stage) (asked before after : List ℕ) : Type 0 where
   pub turn : Turn
-  pub answers : Answers setup old turn (state_at new)
+  pub next : State
+  pub answers : Answers setup old turn next
   pub asked_is : turn.asked ≡ asked
   pub written : after ≡ before ++ reply_text turn.reply
   pub no_offer : turn.offer ≡ None
-  pub nothing_kept : KeepsText setup.max_content new []
+  pub nothing_kept : KeepsText setup new next []
   pub none_unanswered : offers_at new ≡ []
 
 -- behind the reply of a row the session enters this state, and has used nothing behind it
 pub record EntersBy (setup : Setup) (row : Row) (next : State) (new : Stage) (before after : List ℕ) : Type 0 where
-  pub state : state_at new ≡ next
   pub written : after ≡ before ++ reply_text (reply_of setup.host row)
-  pub nothing_kept : KeepsText setup.max_content new []
+  pub nothing_kept : KeepsText setup new next []
   pub none_unanswered : offers_at new ≡ []
 
 -- further octets belong to the unit that was begun, and nothing is answered yet
 pub record GoesOn (setup : Setup) (old : State) (new : Stage) (octets before after : List ℕ) : Type 0 where
-  pub state : state_at new ≡ old
-  pub kept : KeepsText setup.max_content new octets
+  pub kept : KeepsText setup new old octets
+  pub no_line : is_command new ≡ false
   pub nothing_written : after ≡ before
 
--- a content that is too large is refused, and the transaction is over; another is offered, and nothing is answered yet
-abbrev pub EndsText : List ℕ → Transaction → Gathered → Stage → List ℕ → List ℕ → Type 0
-EndsText host transaction TooLarge new before after =
-    (new ≡ stage.Command (held.Greeted transaction.client)) × (after ≡ before ++ reply_text (reply_of host ContentTooLarge))
-EndsText host transaction (Whole content) new before after = (new ≡ stage.Offering transaction content) × (after ≡ before)
+-- the course of a unit that has come whole: its reply, or the offer, of which nothing is answered yet
+abbrev pub EndsBy : Setup → Course → Stage → List ℕ → List ℕ → Type 0
+EndsBy setup (Replies row next) new before after = EntersBy setup row next new before after
+EndsBy setup (Offers client envelope content) new before after =
+    (transaction : Transaction) × (new ≡ stage.Offering transaction content) × (transaction.client ≡ client)
+    × (transaction.envelope ≡ envelope) × (after ≡ before)
 
 -- a session goes on in a unit, or ends it
 abbrev pub Moves : Setup → State → Stage → List ℕ → List ℕ → List ℕ → Type 0
@@ -114,25 +158,27 @@ Moves setup old new octets before after = GoesOn setup old new octets before aft
 -- from the old state the session goes on in a unit of which it has used these octets, or ends it with its reply
 abbrev pub Steps : Setup → State → Session → List ℕ → List ℕ → List ℕ → Type 0
 Steps setup old new octets before after =
-    ((state_at new.stage ≡ old) × Keeps setup.max_content new.line new.stage octets × (after ≡ before))
+    (Keeps setup new.line new.stage old octets × (after ≡ before))
     ⊎ (TakesTurn setup old new.stage octets before after × Holds new.line [])
 
 -- the session stands behind these turns of what was said, and keeps what was read since
 pub record Stands (setup : Setup) (session : Session) (said : Said) : Type 0 where
   pub setup_is : setup ≡ setup_of session.server setup.routes
   pub turns : List Turn
+  pub state : State
   pub rest : List ℕ
-  pub runs : Turns setup start turns (state_at session.stage)
+  pub runs : Turns setup start turns state
   pub input : said.input ≡ read_by turns ++ rest
   pub output : said.output ≡ reply_text (reply_of setup.host Greeting) ++ written_by turns
   pub answers : said.answers ≡ answered_by turns
   pub offers : said.offers ≡ offered_by turns ++ offers_at session.stage
-  pub keeps : Keeps setup.max_content session.line session.stage rest
+  pub keeps : Keeps setup session.line session.stage state rest
 
 -- a call on a session has used these octets and written what is new: whatever was used of a unit, it goes on or ends
 pub record Advances (old new : Session) (routes : List Route) (used before after : List ℕ) : Type 0 where
   pub server : new.server ≡ old.server
-  pub moves : (octets : List ℕ) → Keeps old.server.max_content old.line old.stage octets → Steps (setup_of old.server routes) (state_at old.stage) new (octets ++ used) before after
+  pub moves : (state : State) (octets : List ℕ) → Keeps (setup_of old.server routes) old.line old.stage state octets
+      → Steps (setup_of old.server routes) state new (octets ++ used) before after
 
 -- what an offer shows
 abbrev pub offered : Offer → Offered
@@ -142,6 +188,8 @@ offered offer = record { client = offer.client.now; envelope = offer.envelope.no
 abbrev pub new_offers : Stage → Stage → List Offered
 new_offers (stage.Command state) new = offers_at new
 new_offers (stage.Receiving mail) new = offers_at new
+new_offers (stage.Chunk chunk) new = offers_at new
+new_offers (stage.Skipping skipped) new = offers_at new
 new_offers (stage.Offering transaction content) new = []
 new_offers stage.Closed new = offers_at new
 new_offers stage.Failed new = offers_at new
@@ -150,6 +198,8 @@ new_offers stage.Failed new = offers_at new
 abbrev pub next_at : Stage → Next
 next_at (stage.Command state) = next.More
 next_at (stage.Receiving mail) = next.More
+next_at (stage.Chunk chunk) = next.More
+next_at (stage.Skipping skipped) = next.More
 next_at (stage.Offering transaction content) = next.Offer
 next_at stage.Closed = next.Close
 next_at stage.Failed = next.Close

@@ -1,8 +1,11 @@
--- Units: what a server reads next, by what it awaits (RFC 5321, section 2.3.8 and 4.5.2; RFC 2920, section 3.2).
-use Rattle.std.specs.Prelude.{◌≡◌, ◌≢◌, ◌⊎◌, ◌<◌, ◌≤◌, ℕ, List, ◌++◌, length, Result, Ok, Err}
+-- Units: what a server reads next, by what it awaits (RFC 5321, sections 2.3.8 and 4.5.2; RFC 2920, section 3.2; RFC
+-- 3030, section 2).
+use Rattle.std.specs.Prelude.{◌≡◌, ◌≢◌, ◌⊎◌, ◌<◌, ◌≤◌, ℕ, nat_le, Bool, List, ◌++◌, length, Result, Ok, Err, if◌then◌else◌}
 use Rattle.relay_octets.specs.Line.{crlf, HasNoCrlf}
 use Rattle.relay_body.specs.DotText.{ReadsDotText}
 use Rattle.relay_lines.specs.declared.command.LineFault.{LineFault}
+use Rattle.relay_lines.specs.declared.command.LineFault.TheVariants.{BadChunkSize}
+use Rattle.relay_lines.specs.ChunkArgument.{begins_with_bdat}
 use Rattle.relay_lines.specs.Command as line
 use Rattle.relay_lines.specs.Command.{reading_of}
 use Rattle.relay_envelope.specs.declared.fault.EnvelopeFault.{EnvelopeFault}
@@ -11,9 +14,23 @@ use Rattle.relay_trace.specs.declared.received.Protocol.TheVariants.{Smtp, Esmtp
 use Rattle.relay_server.specs.declared.client.Client.{Client}
 use Rattle.relay_server.specs.State.{State, Command, Receiving, Closed, client_of}
 
--- a line with its CR LF where a command is awaited, and a dot text behind DATA that was answered 354
+-- how many octets follow a line at once: those of the chunk that it announces, or none
+abbrev pub chunk_size_by : Result line.Command LineFault → ℕ
+chunk_size_by (Ok (line.Bdat argument)) = argument.size
+chunk_size_by _ = 0
+
+abbrev pub chunk_size_of : List ℕ → ℕ
+chunk_size_of text = if nat_le (length text) 2046 then chunk_size_by (reading_of text) else 0
+
+-- a command line with its CR LF, and the octets of its chunk behind it
+pub record IsCommandUnit (unit text octets : List ℕ) : Type 0 where
+  pub unit_is : unit ≡ text ++ crlf ++ octets
+  pub line : HasNoCrlf text
+  pub counted : length octets ≡ chunk_size_of text
+
+-- a line where a command is awaited, and a dot text behind DATA that was answered 354
 abbrev pub IsUnit : State → List ℕ → Type 0
-IsUnit (Command state) unit = (text : List ℕ) × HasNoCrlf text × (unit ≡ text ++ crlf)
+IsUnit (Command state) unit = (text : List ℕ) × (octets : List ℕ) × IsCommandUnit unit text octets
 IsUnit (Receiving client envelope) unit = (content : List ℕ) × ReadsDotText unit content
 IsUnit Closed unit = ⊥
 
@@ -30,27 +47,33 @@ pub data Asked : Type 0 where
   Mail : Result MailSaid EnvelopeFault → Asked
   Rcpt : Result RcptSaid EnvelopeFault → Asked
   Data : Asked
+  Bdat : List ℕ → Bool → Asked
   Rset : Asked
   Noop : Asked
   Vrfy : Asked
   Help : Asked
   Quit : Asked
 
--- the reading of a line asks this
-abbrev pub AsksBy : Result line.Command LineFault → Asked → Type 0
-AsksBy (Err fault) asked = asked ≡ Faulty fault
-AsksBy (Ok (line.Helo word)) asked = asked ≡ Hello (client_of word Smtp)
-AsksBy (Ok (line.Ehlo word)) asked = asked ≡ Hello (client_of word Esmtp)
-AsksBy (Ok (line.Mail text)) asked = (read : Result MailSaid EnvelopeFault) × ReadsMail text read × (asked ≡ Mail read)
-AsksBy (Ok (line.Rcpt text)) asked = (read : Result RcptSaid EnvelopeFault) × ReadsRcpt text read × (asked ≡ Rcpt read)
-AsksBy (Ok line.Data) asked = asked ≡ Data
-AsksBy (Ok line.Rset) asked = asked ≡ Rset
-AsksBy (Ok line.Noop) asked = asked ≡ Noop
-AsksBy (Ok line.Vrfy) asked = asked ≡ Vrfy
-AsksBy (Ok line.Help) asked = asked ≡ Help
-AsksBy (Ok line.Quit) asked = asked ≡ Quit
+-- the reading of a line, with the octets behind it, asks this
+abbrev pub AsksBy : Result line.Command LineFault → List ℕ → Asked → Type 0
+AsksBy (Err fault) octets asked = asked ≡ Faulty fault
+AsksBy (Ok (line.Helo word)) octets asked = asked ≡ Hello (client_of word Smtp)
+AsksBy (Ok (line.Ehlo word)) octets asked = asked ≡ Hello (client_of word Esmtp)
+AsksBy (Ok (line.Mail text)) octets asked = (read : Result MailSaid EnvelopeFault) × ReadsMail text read × (asked ≡ Mail read)
+AsksBy (Ok (line.Rcpt text)) octets asked = (read : Result RcptSaid EnvelopeFault) × ReadsRcpt text read × (asked ≡ Rcpt read)
+AsksBy (Ok line.Data) octets asked = asked ≡ Data
+AsksBy (Ok (line.Bdat argument)) octets asked = asked ≡ Bdat octets argument.last
+AsksBy (Ok line.Rset) octets asked = asked ≡ Rset
+AsksBy (Ok line.Noop) octets asked = asked ≡ Noop
+AsksBy (Ok line.Vrfy) octets asked = asked ≡ Vrfy
+AsksBy (Ok line.Help) octets asked = asked ≡ Help
+AsksBy (Ok line.Quit) octets asked = asked ≡ Quit
 
--- the line asks this; one of more than 2,048 octets with its CR LF asks nothing else, whatever it holds
-abbrev pub Asks : List ℕ → Asked → Type 0
-Asks text asked =
-    ((2046 < length text) × (asked ≡ LongLine)) ⊎ ((length text ≤ 2046) × AsksBy (reading_of text) asked)
+-- what a line asks that is too long, whatever it holds; of a chunk's size nobody knows then how many octets follow
+abbrev pub asked_of_long : List ℕ → Asked
+asked_of_long text = if begins_with_bdat text then Faulty BadChunkSize else LongLine
+
+-- the line, with the octets behind it, asks this; it has at most 2,048 octets with its CR LF
+abbrev pub Asks : List ℕ → List ℕ → Asked → Type 0
+Asks text octets asked =
+    ((2046 < length text) × (asked ≡ asked_of_long text)) ⊎ ((length text ≤ 2046) × AsksBy (reading_of text) octets asked)

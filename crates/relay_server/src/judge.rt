@@ -1,51 +1,63 @@
 //! Command lines judged by the reply table. No octet is written here.
-ghost use Rattle.std.specs.Prelude.{◌≡◌, Ok, IfOk};
+ghost use Rattle.std.specs.Prelude.{◌≡◌, ℕ, Ok, IfOk};
 ghost use Rattle.relay_lines.specs.Command as line;
 ghost use Rattle.relay_lines.specs.Command.{reading_of};
 ghost use Rattle.relay_envelope.specs.Mail.{mail_reading, rcpt_reading, rcpt_value};
-ghost use Rattle.relay_server.specs.ReplyTable.{step, step_of_data, step_of_mail, step_of_rcpt, row_of_envelope_fault, row_of_fault, row_of_hello, without_transaction};
+ghost use Rattle.relay_server.specs.ReplyTable.{Replies, course_of_data, course_of_mail, course_of_rcpt, row_of_envelope_fault, row_of_fault, row_of_hello, state_behind_fault, without_transaction};
 ghost use Rattle.relay_server.specs.Setup.{setup_of};
 ghost use Rattle.relay_server.specs.State as standing;
 ghost use Rattle.relay_server.specs.State.{client_of};
-ghost use Rattle.relay_server.specs.Values.{IsJudged, command_state_of, state_of};
+ghost use Rattle.relay_server.specs.Values.{IsChunked, IsHeld, IsJudged, IsReplied, IsReplyHeld, command_state_of};
 
 use crate::client::Client;
 use crate::reply_table::Row;
 use crate::routes::Table;
 use crate::server::Server;
-use crate::state::{CommandState, State, Transaction};
+use crate::state::{CommandState, Gathering, State, Transaction};
+use relay_body::ChunkReader;
 use relay_envelope::{Envelope, EnvelopeFault, Mail, Rcpt, Recipient, read_mail, read_rcpt};
-use relay_lines::{Command, LineFault};
+use relay_lines::{BdatArgument, Command, LineFault};
 use relay_trace::Protocol;
 use std::alloc::AllocError;
 
 /// The most recipients of a transaction. RFC 5321, 4.5.3.1.8, asks for at least as many.
 const RECIPIENT_LIMIT: usize = 100;
 
-/// The row that answers a command line, and the state behind it. Faults of a line come before its place in the order
-/// of commands is looked at.
+/// What a command line leads to.
+pub(crate) enum Judged {
+    /// The row that answers it, and the state behind it.
+    Replied(Row, State),
+    /// A chunk, which the reader awaits, and whether it ends the content.
+    Gathers(Transaction, ChunkReader, bool),
+    /// A chunk of so many octets that is refused: the row that answers it, and the state behind it.
+    Refuses(Row, CommandState, u32),
+}
+
+/// What a command line leads to. Faults of a line come before its place in the order of commands is looked at.
 pub(crate) fn judge(
     server: &Server,
     table: &Table,
     text: &[u8],
     state: CommandState,
-) -> Result<(Row, State), AllocError>
-    ensures { IfOk result (IsJudged (setup_of server.now table.now) (reading_of text.now) (command_state_of state)) }
+) -> Result<Judged, AllocError>
+    ensures { IsHeld server.now.max_content state
+        → IfOk result (IsJudged (setup_of server.now table.now) (reading_of text.now) (command_state_of state)) }
 {
     match Command::parse(text) {
-        Err(fault) => Ok((row_of_fault(fault), State::Command(state))),
+        Err(fault) => Ok(judge_fault(fault, state)),
         Ok(command) => judge_command(server, table, command, state),
     }
 }
 
-/// The row that answers a command, and the state behind it.
+/// What a command leads to.
 fn judge_command(
     server: &Server,
     table: &Table,
     command: Command<'_>,
     state: CommandState,
-) -> Result<(Row, State), AllocError>
-    ensures { IfOk result (IsJudged (setup_of server.now table.now) (Ok (line.value_of command.entry)) (command_state_of state)) }
+) -> Result<Judged, AllocError>
+    ensures { IsHeld server.now.max_content state
+        → IfOk result (IsJudged (setup_of server.now table.now) (Ok (line.value_of command.entry)) (command_state_of state)) }
 {
     match command {
         Command::Helo(word) => greet(server, word, Protocol::Smtp),
@@ -53,25 +65,41 @@ fn judge_command(
         Command::Mail(text) => judge_mail(server, read_mail(text), state),
         Command::Rcpt(text) => judge_rcpt(server, table, read_rcpt(text), state),
         Command::Data => Ok(judge_data(state)),
-        Command::Rset => Ok((Row::Done, State::Command(reset(state)))),
-        Command::Noop => Ok((Row::Done, State::Command(state))),
-        Command::Vrfy => Ok((Row::NotVerified, State::Command(state))),
-        Command::Help => Ok((Row::SeeStandard, State::Command(state))),
-        Command::Quit => Ok((Row::Closing, State::Closed)),
+        Command::Bdat(argument) => Ok(judge_bdat(server, argument, state)),
+        Command::Rset => Ok(Judged::Replied(Row::Done, State::Command(reset(state)))),
+        Command::Noop => Ok(Judged::Replied(Row::Done, State::Command(state))),
+        Command::Vrfy => Ok(Judged::Replied(Row::NotVerified, State::Command(state))),
+        Command::Help => Ok(Judged::Replied(Row::SeeStandard, State::Command(state))),
+        Command::Quit => Ok(Judged::Replied(Row::Closing, State::Closed)),
+    }
+}
+
+/// A fault of a line is answered. Behind a bad chunk size nobody knows what follows, and the connection closes.
+fn judge_fault(fault: LineFault, state: CommandState) -> Judged
+    ensures course { IsReplied (Replies (row_of_fault fault) (state_behind_fault fault (command_state_of state))) result }
+    ensures held { (limit : ℕ) → IsHeld limit state → IsReplyHeld limit result }
+{
+    match fault {
+        LineFault::Unknown => Judged::Replied(Row::UnknownCommand, State::Command(state)),
+        LineFault::BadByte => Judged::Replied(Row::BadOctet, State::Command(state)),
+        LineFault::BadArgument => Judged::Replied(Row::BadArgument, State::Command(state)),
+        LineFault::NotOffered => Judged::Replied(Row::NotOffered, State::Command(state)),
+        LineFault::BadChunkSize => Judged::Replied(Row::BadChunkSize, State::Closed),
     }
 }
 
 /// HELO and EHLO greet the client, and give an open transaction up (RFC 5321, section 4.1.4).
-fn greet(server: &Server, word: &[u8], protocol: Protocol) -> Result<(Row, State), AllocError>
-    ensures { IfOk result (λ judged. step (row_of_hello protocol) (standing.Command (standing.Greeted (client_of word.now protocol)))
-        ≡ step judged.0 (state_of judged.1)) }
+fn greet(server: &Server, word: &[u8], protocol: Protocol) -> Result<Judged, AllocError>
+    ensures course { IfOk result (IsReplied
+        (Replies (row_of_hello protocol) (standing.Command (standing.Greeted (client_of word.now protocol))))) }
+    ensures held { (limit : ℕ) → IfOk result (IsReplyHeld limit) }
 {
     let client = Client::new(server.alloc, word, protocol)?;
     let row = match protocol {
         Protocol::Smtp => Row::Hello,
         Protocol::Esmtp => Row::Extensions,
     };
-    Ok((row, State::Command(CommandState::Greeted(client))))
+    Ok(Judged::Replied(row, State::Command(CommandState::Greeted(client))))
 }
 
 /// MAIL opens a transaction where the client is greeted and none is open.
@@ -79,29 +107,42 @@ fn judge_mail(
     server: &Server,
     mail: Result<Mail<'_>, EnvelopeFault>,
     state: CommandState,
-) -> Result<(Row, State), AllocError>
-    ensures { IfOk result (λ judged. step_of_mail (mail_reading mail.entry) (command_state_of state) ≡ step judged.0 (state_of judged.1)) }
+) -> Result<Judged, AllocError>
+    ensures course { IfOk result (IsReplied (course_of_mail (mail_reading mail.entry) (command_state_of state))) }
+    ensures held { (limit : ℕ) → IsHeld limit state → IfOk result (IsReplyHeld limit) }
 {
     let mail = match mail {
-        Err(fault) => return Ok((row_of_envelope_fault(fault), State::Command(state))),
+        Err(fault) => {
+            let row = row_of_envelope_fault(fault);
+            return Ok(Judged::Replied(row, State::Command(state)));
+        }
         Ok(mail) => mail,
     };
     match state {
         CommandState::Greeted(client) => {
             let envelope = Envelope::new(server.alloc, mail)?;
             let transaction = Transaction { client, envelope };
-            Ok((
+            Ok(Judged::Replied(
                 Row::SenderOk,
                 State::Command(CommandState::Open(transaction)),
             ))
         }
-        CommandState::Fresh => Ok((Row::BadSequence, State::Command(CommandState::Fresh))),
-        CommandState::Open(transaction) => {
-            Ok((
-                Row::BadSequence,
-                State::Command(CommandState::Open(transaction)),
-            ))
-        }
+        CommandState::Fresh => Ok(Judged::Replied(
+            Row::BadSequence,
+            State::Command(CommandState::Fresh),
+        )),
+        CommandState::Open(transaction) => Ok(Judged::Replied(
+            Row::BadSequence,
+            State::Command(CommandState::Open(transaction)),
+        )),
+        CommandState::Gathering(gathering) => Ok(Judged::Replied(
+            Row::BadSequence,
+            State::Command(CommandState::Gathering(gathering)),
+        )),
+        CommandState::Spent(client) => Ok(Judged::Replied(
+            Row::BadSequence,
+            State::Command(CommandState::Spent(client)),
+        )),
     }
 }
 
@@ -111,23 +152,36 @@ fn judge_rcpt(
     table: &Table,
     rcpt: Result<Rcpt<'_>, EnvelopeFault>,
     state: CommandState,
-) -> Result<(Row, State), AllocError>
-    ensures { IfOk result (λ judged. step_of_rcpt (setup_of server.now table.now) (rcpt_reading rcpt.entry) (command_state_of state)
-        ≡ step judged.0 (state_of judged.1)) }
+) -> Result<Judged, AllocError>
+    ensures course { IfOk result (IsReplied
+        (course_of_rcpt (setup_of server.now table.now) (rcpt_reading rcpt.entry) (command_state_of state))) }
+    ensures held { (limit : ℕ) → IsHeld limit state → IfOk result (IsReplyHeld limit) }
 {
     let rcpt = match rcpt {
-        Err(fault) => return Ok((row_of_envelope_fault(fault), State::Command(state))),
+        Err(fault) => {
+            let row = row_of_envelope_fault(fault);
+            return Ok(Judged::Replied(row, State::Command(state)));
+        }
         Ok(rcpt) => rcpt,
     };
     match state {
         CommandState::Open(transaction) => add(server, table, rcpt, transaction),
-        CommandState::Fresh => Ok((Row::BadSequence, State::Command(CommandState::Fresh))),
-        CommandState::Greeted(client) => {
-            Ok((
-                Row::BadSequence,
-                State::Command(CommandState::Greeted(client)),
-            ))
-        }
+        CommandState::Fresh => Ok(Judged::Replied(
+            Row::BadSequence,
+            State::Command(CommandState::Fresh),
+        )),
+        CommandState::Greeted(client) => Ok(Judged::Replied(
+            Row::BadSequence,
+            State::Command(CommandState::Greeted(client)),
+        )),
+        CommandState::Gathering(gathering) => Ok(Judged::Replied(
+            Row::BadSequence,
+            State::Command(CommandState::Gathering(gathering)),
+        )),
+        CommandState::Spent(client) => Ok(Judged::Replied(
+            Row::BadSequence,
+            State::Command(CommandState::Spent(client)),
+        )),
     }
 }
 
@@ -137,75 +191,111 @@ fn add(
     table: &Table,
     rcpt: Rcpt<'_>,
     mut transaction: Transaction,
-) -> Result<(Row, State), AllocError>
-    ensures { IfOk result (λ judged. step_of_rcpt (setup_of server.now table.now) (Ok (rcpt_value rcpt.entry)) (standing.Open transaction.client transaction.envelope)
-        ≡ step judged.0 (state_of judged.1)) }
+) -> Result<Judged, AllocError>
+    ensures course { IfOk result (IsReplied
+        (course_of_rcpt (setup_of server.now table.now) (Ok (rcpt_value rcpt.entry)) (standing.Open transaction.client transaction.envelope))) }
+    ensures held { (limit : ℕ) → IfOk result (IsReplyHeld limit) }
 {
     if transaction.envelope.recipients.len() >= RECIPIENT_LIMIT {
-        return Ok((
+        return Ok(Judged::Replied(
             Row::TooManyRecipients,
             State::Command(CommandState::Open(transaction)),
         ));
     }
     if table.hop(server.host.as_slice(), &rcpt.path).is_none() {
-        return Ok((
+        return Ok(Judged::Replied(
             Row::NoRoute,
             State::Command(CommandState::Open(transaction)),
         ));
     }
     let recipient = Recipient::new(server.alloc, rcpt)?;
     transaction.envelope.recipients.push(recipient)?;
-    Ok((
+    Ok(Judged::Replied(
         Row::RecipientOk,
         State::Command(CommandState::Open(transaction)),
     ))
 }
 
 /// DATA begins the mail data of a transaction with a recipient.
-fn judge_data(state: CommandState) -> (Row, State)
-    ensures { step_of_data (command_state_of state) ≡ step result.0 (state_of result.1) }
+fn judge_data(state: CommandState) -> Judged
+    ensures course { IsReplied (course_of_data (command_state_of state)) result }
+    ensures held { (limit : ℕ) → IsHeld limit state → IsReplyHeld limit result }
 {
     match state {
-        CommandState::Fresh => (Row::BadSequence, State::Command(CommandState::Fresh)),
-        CommandState::Greeted(client) => {
-            (
-                Row::BadSequence,
-                State::Command(CommandState::Greeted(client)),
-            )
-        }
         CommandState::Open(transaction) => {
             if transaction.envelope.recipients.is_empty() {
-                (
+                Judged::Replied(
                     Row::NoValidRecipients,
                     State::Command(CommandState::Open(transaction)),
                 )
             } else {
-                (Row::StartMailInput, State::Receiving(transaction))
+                Judged::Replied(Row::StartMailInput, State::Receiving(transaction))
             }
+        }
+        CommandState::Fresh => Judged::Replied(
+            Row::BadSequence,
+            State::Command(CommandState::Fresh),
+        ),
+        CommandState::Greeted(client) => Judged::Replied(
+            Row::BadSequence,
+            State::Command(CommandState::Greeted(client)),
+        ),
+        CommandState::Gathering(gathering) => Judged::Replied(
+            Row::BadSequence,
+            State::Command(CommandState::Gathering(gathering)),
+        ),
+        CommandState::Spent(client) => Judged::Replied(
+            Row::BadSequence,
+            State::Command(CommandState::Spent(client)),
+        ),
+    }
+}
+
+/// BDAT begins a chunk of a transaction with a recipient. The octets of another are dropped.
+fn judge_bdat(server: &Server, argument: BdatArgument, state: CommandState) -> Judged
+    ensures { IsHeld server.now.max_content state
+        → IsChunked server.now.max_content argument (command_state_of state) result }
+{
+    let BdatArgument { size, last } = argument;
+    match state {
+        CommandState::Open(transaction) => {
+            if transaction.envelope.recipients.is_empty() {
+                let spent = CommandState::Spent(transaction.client);
+                return Judged::Refuses(Row::NoValidRecipients, spent, size);
+            }
+            let mut reader = ChunkReader::new(server.alloc, server.max_content);
+            reader.begin(size);
+            Judged::Gathers(transaction, reader, last)
+        }
+        CommandState::Gathering(gathering) => {
+            let Gathering {
+                transaction,
+                mut reader,
+            } = gathering;
+            reader.begin(size);
+            Judged::Gathers(transaction, reader, last)
+        }
+        CommandState::Fresh => Judged::Refuses(Row::BadSequence, CommandState::Fresh, size),
+        CommandState::Greeted(client) => {
+            Judged::Refuses(Row::BadSequence, CommandState::Greeted(client), size)
+        }
+        CommandState::Spent(client) => {
+            Judged::Refuses(Row::BadSequence, CommandState::Spent(client), size)
         }
     }
 }
 
 /// RSET gives the transaction up.
 fn reset(state: CommandState) -> CommandState
-    ensures { command_state_of result ≡ without_transaction (command_state_of state) }
+    ensures state { command_state_of result ≡ without_transaction (command_state_of state) }
+    ensures held { (limit : ℕ) → IsHeld limit result }
 {
     match state {
         CommandState::Fresh => CommandState::Fresh,
         CommandState::Greeted(client) => CommandState::Greeted(client),
         CommandState::Open(transaction) => CommandState::Greeted(transaction.client),
-    }
-}
-
-/// The row of a fault that a line has.
-fn row_of_fault(fault: LineFault) -> Row
-    ensures { result ≡ row_of_fault fault }
-{
-    match fault {
-        LineFault::Unknown => Row::UnknownCommand,
-        LineFault::BadByte => Row::BadOctet,
-        LineFault::BadArgument => Row::BadArgument,
-        LineFault::NotOffered => Row::NotOffered,
+        CommandState::Gathering(gathering) => CommandState::Greeted(gathering.transaction.client),
+        CommandState::Spent(client) => CommandState::Greeted(client),
     }
 }
 

@@ -1,5 +1,5 @@
 //! What is true of dialogues, whatever session holds them.
-ghost use Rattle.relay_server.specs.DialogueLaws.{NoUnitIsEmpty, NoUnitBeginsAnother, RunsCompose, WhatStandsIsADialogue, RowIsFixed, OutputIsFixed, BeginningsHaveBeginnings, OnlyQueuedIsPositive, RepliesAreWellFormed, OffersMayBeStored};
+ghost use Rattle.relay_server.specs.DialogueLaws.{NoUnitIsEmpty, NoUnitBeginsAnother, RunsCompose, WhatStandsIsADialogue, RowIsFixed, OutputIsFixed, BeginningsHaveBeginnings, OnlyContentIsOffered, OnlyQueuedIsPositive, RepliesAreWellFormed, OffersMayBeStored};
 
 /// No unit is empty.
 pub fn no_unit_is_empty()
@@ -39,6 +39,11 @@ pub fn beginnings_have_beginnings()
 /// Of all replies to mail data only the one to a queued message is positive.
 pub fn only_queued_is_positive()
     ensures { OnlyQueuedIsPositive }
+{}
+
+/// Nothing is offered but mail data that has ended, and chunks of which the last has come.
+pub fn only_content_is_offered()
+    ensures { OnlyContentIsOffered }
 {}
 
 /// The greeting and every reply are well formed, for a host name and numbers of 64 bits.

@@ -1,5 +1,5 @@
 ghost use Rattle.std.specs.Prelude.{◌≡◌, ◌++◌, OnOk, OnErr};
-ghost use Rattle.relay_lines.specs.Reply.{reply_text};
+ghost use Rattle.relay_lines.specs.Reply.{Begins, reply_text};
 ghost use Rattle.relay_server.specs.Reply.{reply_of};
 
 use itoa::Buffer;
@@ -29,8 +29,12 @@ pub(crate) enum Row {
     NoValidRecipients,
     /// DATA: mail data follows.
     StartMailInput,
+    /// BDAT: the chunk has joined the content.
+    ChunkOk,
     /// The content has more octets than the configuration allows.
     ContentTooLarge,
+    /// The content has come in a circle: it has 100 `Received:` fields or more.
+    TooManyReceived,
     /// The message is in the queue, under this number.
     Queued(u64),
     /// The message was not stored, for want of room.
@@ -61,6 +65,8 @@ pub(crate) enum Row {
     UnknownParameter,
     /// A command that isn't offered.
     NotOffered,
+    /// BDAT, and nobody knows how many octets follow.
+    BadChunkSize,
 }
 
 impl Row {
@@ -81,7 +87,9 @@ impl Row {
             Row::BadSequence => write_line(out, 503, b"bad sequence", b""),
             Row::NoValidRecipients => write_line(out, 554, b"no valid recipients", b""),
             Row::StartMailInput => write_line(out, 354, b"end with a line of one period", b""),
+            Row::ChunkOk => write_line(out, 250, b"chunk OK", b""),
             Row::ContentTooLarge => write_line(out, 552, b"content too large", b""),
+            Row::TooManyReceived => write_line(out, 554, b"too many Received fields", b""),
             Row::Queued(number) => {
                 write_line(
                     out,
@@ -104,6 +112,7 @@ impl Row {
             Row::Repeated => write_line(out, 501, b"parameter given twice", b""),
             Row::UnknownParameter => write_line(out, 555, b"unknown parameter", b""),
             Row::NotOffered => write_line(out, 502, b"not implemented", b""),
+            Row::BadChunkSize => write_line(out, 421, host, b" bad chunk size, closing"),
         }
     }
 }
@@ -116,10 +125,21 @@ fn write_extensions(host: &[u8], out: &mut Vec<u8>) -> Result<(), AllocError>
     ensures err { OnErr result (out.new.items ≡ out.old.items) }
 {
     let start = out.len();
-    write_middle_line(out, 250, host)?;
-    let written = write_line(out, 250, b"DSN", b"");
+    let written = push_extensions(host, out);
     if written.is_err() {
         out.truncate(start);
     }
     written
+}
+
+/// Writes the reply to EHLO, or a beginning of it where memory runs out.
+#[tactic(auto, unfolding(crate::specs::Reply::reply_of))]
+fn push_extensions(host: &[u8], out: &mut Vec<u8>) -> Result<(), AllocError>
+    ensures ok { OnOk result (out.new.items ≡ out.old.items ++ reply_text (reply_of host.now Row.Extensions)) }
+    ensures front { Begins out.old.items out.new.items }
+{
+    write_middle_line(out, 250, host)?;
+    write_middle_line(out, 250, b"PIPELINING")?;
+    write_middle_line(out, 250, b"CHUNKING")?;
+    write_line(out, 250, b"DSN", b"")
 }

@@ -1,23 +1,31 @@
-//! Whole lines and texts, each with its reply.
+//! Whole lines, texts and chunks, each with its reply.
 ghost use Rattle.std.specs.Prelude.{◌≡◌, ℕ, List, [], ◌++◌, ◌≤◌, ◌<◌, length, take, IfOk};
 ghost use Rattle.relay_octets.specs.Line.{HasNoCrlf, crlf};
-ghost use Rattle.relay_body.specs.DotText.{IsReading};
+ghost use Rattle.relay_body.specs.ChunkText.{Chunk as ChunkText, HasChunks, IsBetweenChunks, content_of_chunks};
+ghost use Rattle.relay_body.specs.DotText.{IsReading, gathered_of};
 ghost use Rattle.relay_server.specs.Dialogue.{row_of_answer};
-ghost use Rattle.relay_server.specs.Session.{EndsText, EntersBy, IsGiven, KeepsText, Moves, TakesTurn, offers_at, state_at};
+ghost use Rattle.relay_server.specs.ReplyTable.{course_of, course_of_chunks, course_of_content, course_of_text};
+ghost use Rattle.relay_server.specs.Session.{EndsBy, EntersBy, GathersChunk, IsGiven, KeepsText, Moves, RefusesChunk, offers_at};
 ghost use Rattle.relay_server.specs.Setup.{setup_of};
 ghost use Rattle.relay_server.specs.State as standing;
-ghost use Rattle.relay_server.specs.Values.{command_state_of, state_of};
+ghost use Rattle.relay_server.specs.Unit.{asked_of_long};
+ghost use Rattle.relay_server.specs.Values.{IsHeld, IsNextHeld, command_state_of, state_of};
 ghost use Rattle.relay_server.specs.declared.routes.Route.{Route};
 
-use crate::judge::judge;
+use crate::judge::{Judged, judge};
 use crate::offer::Answer;
 use crate::reply_table::Row;
 use crate::routes::Table;
-use crate::stage::{MailData, Stage};
-use crate::state::{CommandState, State, Transaction};
-use relay_body::{BodyFault, DotReader, Gathered};
+use crate::stage::{Chunk, MailData, Skipped, Stage};
+use crate::state::{CommandState, Gathering, State, Transaction};
+use relay_body::{BodyFault, ChunkReader, DotReader, Gathered};
+use relay_lines::begins_with_bdat;
 use relay_octets::Octets;
+use relay_trace::received_count;
 use std::alloc::{AllocError, Global};
+
+/// So many `Received:` fields show that a message goes in a circle (RFC 5321, section 6.3).
+const RECEIVED_LIMIT: usize = 100;
 
 /// What stays the same through a session.
 #[derive(Debug, Drop)]
@@ -30,7 +38,8 @@ pub(crate) struct Server {
 }
 
 impl Server {
-    /// Answers a command line: its octets without CR LF, or the first of them where it is too long.
+    /// Answers a command line: its octets without CR LF, or the first of them where it is too long. A line that
+    /// announces a chunk is answered when that has come.
     pub(crate) fn answer_line(
         &self,
         table: &Table,
@@ -39,19 +48,46 @@ impl Server {
         state: CommandState,
         out: &mut Vec<u8>,
     ) -> Result<Stage, AllocError>
-        ensures { IfOk result (λ stage. (line : List ℕ) → HasNoCrlf line → IsGiven line text.now is_long
-            → TakesTurn (setup_of self.now table.now) (standing.Command (command_state_of state)) stage (line ++ crlf) out.old.items out.new.items) }
+        ensures { IsHeld self.now.max_content state → IfOk result (λ stage. (line : List ℕ) → HasNoCrlf line → IsGiven line text.now is_long
+            → Moves (setup_of self.now table.now) (standing.Command (command_state_of state)) stage (line ++ crlf) out.old.items out.new.items) }
     {
         if is_long {
-            return self.reply(Row::LineTooLong, State::Command(state), out);
+            return self.answer_long_line(text, state, out);
         }
-        let (row, next) = judge(self, table, text, state)?;
-        self.reply(row, next, out)
+        match judge(self, table, text, state)? {
+            Judged::Replied(row, next) => self.reply(row, next, out),
+            Judged::Gathers(transaction, reader, is_last) => {
+                let (stage, _) = self.read_chunk(transaction, reader, is_last, b"", out)?;
+                Ok(stage)
+            }
+            Judged::Refuses(row, state, size) => {
+                let (stage, _) = self.skip(row, state, size, b"", out)?;
+                Ok(stage)
+            }
+        }
+    }
+
+    /// Answers a line that is too long, by its first octets.
+    fn answer_long_line(
+        &self,
+        text: &[u8],
+        state: CommandState,
+        out: &mut Vec<u8>,
+    ) -> Result<Stage, AllocError>
+        ensures { IsHeld self.now.max_content state → IfOk result (λ stage. (routes : List Route)
+            → EndsBy (setup_of self.now routes) (course_of (setup_of self.now routes) (asked_of_long text.now) (command_state_of state)) stage out.old.items out.new.items) }
+    {
+        if begins_with_bdat(text) {
+            self.reply(Row::BadChunkSize, State::Closed, out)
+        } else {
+            self.reply(Row::LineTooLong, State::Command(state), out)
+        }
     }
 
     /// Writes a reply, and gives the stage of the state behind it.
     fn reply(&self, row: Row, next: State, out: &mut Vec<u8>) -> Result<Stage, AllocError>
-        ensures { IfOk result (λ stage. EntersBy (setup_of self.now []) row (state_of next) stage out.old.items out.new.items) }
+        ensures { IsNextHeld self.now.max_content next → IfOk result (λ stage. (routes : List Route)
+            → EntersBy (setup_of self.now routes) row (state_of next) stage out.old.items out.new.items) }
     {
         row.write(self.host.as_slice(), out)?;
         Ok(self.stage_of(next))
@@ -59,8 +95,8 @@ impl Server {
 
     /// The stage of the state that a command has led to.
     fn stage_of(&self, state: State) -> Stage
-        ensures state { state_at result ≡ state_of state }
-        ensures begun { KeepsText self.now.max_content result [] }
+        ensures begun { IsNextHeld self.now.max_content state
+            → (routes : List Route) → KeepsText (setup_of self.now routes) result (state_of state) [] }
         ensures none { offers_at result ≡ [] }
     {
         match state {
@@ -76,8 +112,7 @@ impl Server {
         }
     }
 
-    /// Takes octets of mail data up to its end, and answers how many they were. A content that is too large is
-    /// refused at its end.
+    /// Takes octets of mail data up to its end, and answers how many they were.
     pub(crate) fn read_text(
         &self,
         mail: MailData,
@@ -110,22 +145,129 @@ impl Server {
         }
     }
 
-    /// Refuses a content that is too large, and offers another.
+    /// Refuses a content that is too large, and ends another.
     fn end_text(
         &self,
         transaction: Transaction,
         gathered: Gathered,
         out: &mut Vec<u8>,
     ) -> Result<Stage, AllocError>
-        ensures { IfOk result (λ stage. EndsText self.now.host transaction gathered stage out.old.items out.new.items) }
+        ensures { IfOk result (λ stage. (routes : List Route) (content : List ℕ) → gathered ≡ gathered_of self.now.max_content content
+            → EndsBy (setup_of self.now routes) (course_of_text self.now.max_content transaction.client transaction.envelope content) stage out.old.items out.new.items) }
     {
         match gathered {
-            Gathered::Whole(content) => Ok(Stage::Offering(transaction, content)),
+            Gathered::Whole(content) => self.end_content(transaction, content, out),
             Gathered::TooLarge => {
-                Row::ContentTooLarge.write(self.host.as_slice(), out)?;
-                Ok(Stage::Command(CommandState::Greeted(transaction.client)))
+                let greeted = CommandState::Greeted(transaction.client);
+                self.reply(Row::ContentTooLarge, State::Command(greeted), out)
             }
         }
+    }
+
+    /// Refuses a content that has come in a circle, and offers another.
+    fn end_content(
+        &self,
+        transaction: Transaction,
+        content: Octets,
+        out: &mut Vec<u8>,
+    ) -> Result<Stage, AllocError>
+        ensures { IfOk result (λ stage. (routes : List Route)
+            → EndsBy (setup_of self.now routes) (course_of_content transaction.client transaction.envelope content) stage out.old.items out.new.items) }
+    {
+        if received_count(content.as_slice()) >= RECEIVED_LIMIT {
+            let greeted = CommandState::Greeted(transaction.client);
+            return self.reply(Row::TooManyReceived, State::Command(greeted), out);
+        }
+        Ok(Stage::Offering(transaction, content))
+    }
+
+    /// Takes octets of a chunk up to its end, and answers how many they were.
+    pub(crate) fn read_chunk(
+        &self,
+        transaction: Transaction,
+        mut reader: ChunkReader,
+        is_last: bool,
+        rest: &[u8],
+        out: &mut Vec<u8>,
+    ) -> Result<(Stage, usize), AllocError>
+        ensures moves { IfOk result (λ read. (routes : List Route) (state : standing.State) (octets : List ℕ)
+            → GathersChunk self.now.max_content transaction reader is_last state octets
+            → Moves (setup_of self.now routes) state read.0 (octets ++ take read.1 rest.now) out.old.items out.new.items) }
+        ensures within { IfOk result (λ read. read.1 ≤ length rest.now) }
+        ensures progress { 0 < length rest.now → (¬ IsBetweenChunks reader) → IfOk result (λ read. 0 < read.1) }
+    {
+        match reader.feed(rest) {
+            Err(BodyFault::NoMemory) => Err(AllocError),
+            Ok(cut) => {
+                if cut.done {
+                    let stage = self.end_chunk(transaction, reader, is_last, out)?;
+                    Ok((stage, cut.used))
+                } else {
+                    let chunk = Chunk {
+                        transaction,
+                        reader,
+                        is_last,
+                    };
+                    Ok((Stage::Chunk(chunk), cut.used))
+                }
+            }
+        }
+    }
+
+    /// Answers a chunk that has come whole: too large, one more, or the last.
+    fn end_chunk(
+        &self,
+        transaction: Transaction,
+        reader: ChunkReader,
+        is_last: bool,
+        out: &mut Vec<u8>,
+    ) -> Result<Stage, AllocError>
+        requires { IsBetweenChunks reader }
+        ensures { IfOk result (λ stage. (routes : List Route) (chunks : List ChunkText) → HasChunks reader self.now.max_content chunks
+            → EndsBy (setup_of self.now routes) (course_of_chunks self.now.max_content transaction.client transaction.envelope (content_of_chunks chunks) is_last) stage out.old.items out.new.items) }
+    {
+        if reader.is_too_large() {
+            let spent = CommandState::Spent(transaction.client);
+            return self.reply(Row::ContentTooLarge, State::Command(spent), out);
+        }
+        if is_last {
+            return self.end_text(transaction, reader.finish(), out);
+        }
+        let gathering = Gathering {
+            transaction,
+            reader,
+        };
+        let state = CommandState::Gathering(gathering);
+        self.reply(Row::ChunkOk, State::Command(state), out)
+    }
+
+    /// Drops octets of a chunk that is refused, up to its end, and answers how many they were.
+    pub(crate) fn skip(
+        &self,
+        row: Row,
+        state: CommandState,
+        missing: u32,
+        rest: &[u8],
+        out: &mut Vec<u8>,
+    ) -> Result<(Stage, usize), AllocError>
+        ensures moves { IfOk result (λ read. (routes : List Route) (old : standing.State) (octets : List ℕ)
+            → RefusesChunk self.now.max_content row state missing old octets
+            → Moves (setup_of self.now routes) old read.0 (octets ++ take read.1 rest.now) out.old.items out.new.items) }
+        ensures within { IfOk result (λ read. read.1 ≤ length rest.now) }
+        ensures progress { 0 < length rest.now → 0 < missing → IfOk result (λ read. 0 < read.1) }
+    {
+        let used = rest.len().min(missing as usize);
+        let missing = missing - used as u32;
+        if missing == 0 {
+            let stage = self.reply(row, State::Command(state), out)?;
+            return Ok((stage, used));
+        }
+        let skipped = Skipped {
+            row,
+            state,
+            missing,
+        };
+        Ok((Stage::Skipping(skipped), used))
     }
 }
 

@@ -1,9 +1,12 @@
-ghost use Rattle.std.specs.Prelude.{◌≡◌, ℕ, List, [], ◌∷◌, ◌++◌, ◌≤◌, ◌<◌, length, take, true, false, IfOk, OnErr, IsErr, MatchOption};
+ghost use Rattle.std.specs.Prelude.{◌≡◌, ℕ, List, [], ◌∷◌, ◌++◌, ◌≤◌, ◌<◌, length, take, true, false, IfOk, OnOk, OnErr, IsErr, MatchOption};
+ghost use Rattle.relay_octets.specs.Line.{HasNoCrlf, crlf};
+ghost use Rattle.relay_body.specs.DotText.{IsReading};
 ghost use Rattle.relay_server.specs.Dialogue.{Said, more_said};
-ghost use Rattle.relay_server.specs.Session.{Advances, HasFailed, HasOffer, Stands, Steps, Waits, is_reading, new_offers, next_of, offered, offers_since, open_offers};
+ghost use Rattle.relay_server.specs.Session.{Advances, GathersChunk, HasFailed, HasOffer, IsGiven, Moves, RefusesChunk, Stands, Steps, Waits, is_reading, new_offers, next_of, offered, offers_since, open_offers};
 ghost use Rattle.relay_server.specs.Setup.{Setup, setup_of};
 ghost use Rattle.relay_server.specs.State as standing;
-ghost use Rattle.relay_server.specs.Values.{command_state_of};
+ghost use Rattle.relay_server.specs.Values.{IsHeld, command_state_of};
+ghost use Rattle.relay_server.specs.declared.routes.Route.{Route};
 ghost use Rattle.relay_lines.specs.HeldLine.{Holds};
 
 use crate::config::Config;
@@ -11,7 +14,7 @@ use crate::offer::{Answer, Offer};
 use crate::reply_table::Row;
 use crate::routes::Table;
 use crate::server::{Server, row_of_answer};
-use crate::stage::Stage;
+use crate::stage::{Chunk, MailData, Skipped, Stage};
 use crate::state::CommandState;
 use relay_lines::{LINE_LIMIT, LineBuffer, LineCut, next_line};
 use relay_octets::Octets;
@@ -41,12 +44,22 @@ pub struct Fed {
 }
 
 /// The server's end of one connection.
-#[derive(Drop)]
 pub struct Session {
     server: Server,
     /// What has come of a command line, and nothing while mail data comes.
     line: LineBuffer,
     stage: Stage,
+}
+
+// Written out, so that a crate that drops a session calls this, and doesn't look into each stage where it drops one.
+impl Drop for Session {
+    fn drop(self) {
+        let Session {
+            server: _server,
+            line: _line,
+            stage: _stage,
+        } = self;
+    }
 }
 
 impl Session {
@@ -107,7 +120,12 @@ impl Session {
                 envelope: &transaction.envelope,
                 content: content.as_slice(),
             }),
-            Stage::Command(_) | Stage::Receiving(_) | Stage::Closed | Stage::Failed => None,
+            Stage::Command(_)
+            | Stage::Receiving(_)
+            | Stage::Chunk(_)
+            | Stage::Skipping(_)
+            | Stage::Closed
+            | Stage::Failed => None,
         }
     }
 
@@ -118,13 +136,30 @@ impl Session {
             → Stands setup self.new (more_said said [] (answer ∷ []) out.items [])) }
         ensures failed { OnErr result (HasFailed self.new) }
     {
-        let Stage::Offering(transaction, _) = mem::replace(&mut self.stage, Stage::Failed) else {
+        let Stage::Offering(transaction, _) = self.leave() else {
             unreachable!()
         };
         let mut out = Vec::new(self.server.alloc);
         row_of_answer(answer).write(self.server.host.as_slice(), &mut out)?;
-        self.stage = Stage::Command(CommandState::Greeted(transaction.client));
+        self.enter(Stage::Command(CommandState::Greeted(transaction.client)));
         Ok(out)
+    }
+
+    /// Takes the stage out. Until it enters another, the session has failed.
+    fn leave(&mut self) -> Stage
+        ensures stage { result ≡ self.old.stage }
+        ensures failed { self.new.stage ≡ Stage.Failed }
+        ensures same { (self.new.server ≡ self.old.server) × (self.new.line ≡ self.old.line) }
+    {
+        mem::replace(&mut self.stage, Stage::Failed)
+    }
+
+    /// Stands in this stage from now on.
+    fn enter(&mut self, stage: Stage)
+        ensures stage { self.new.stage ≡ stage }
+        ensures same { (self.new.server ≡ self.old.server) × (self.new.line ≡ self.old.line) }
+    {
+        self.stage = stage;
     }
 
     /// What the caller does next.
@@ -132,7 +167,9 @@ impl Session {
         ensures { result ≡ next_of self.now }
     {
         match &self.stage {
-            Stage::Command(_) | Stage::Receiving(_) => Next::More,
+            Stage::Command(_) | Stage::Receiving(_) | Stage::Chunk(_) | Stage::Skipping(_) => {
+                Next::More
+            }
             Stage::Offering(..) => Next::Offer,
             Stage::Closed | Stage::Failed => Next::Close,
         }
@@ -160,7 +197,7 @@ impl Session {
         ensures { result ≡ is_reading self.now.stage }
     {
         match &self.stage {
-            Stage::Command(_) | Stage::Receiving(_) => true,
+            Stage::Command(_) | Stage::Receiving(_) | Stage::Chunk(_) | Stage::Skipping(_) => true,
             Stage::Offering(..) | Stage::Closed | Stage::Failed => false,
         }
     }
@@ -178,15 +215,85 @@ impl Session {
         ensures within { IfOk result (λ used. (0 < used) × (used ≤ length rest.now)) }
         ensures failed { OnErr result (self.new.stage ≡ Stage.Failed) }
     {
-        match mem::replace(&mut self.stage, Stage::Failed) {
+        match self.leave() {
             Stage::Command(state) => self.read_line(table, state, rest, out),
-            Stage::Receiving(mail) => {
-                let (stage, used) = self.server.read_text(mail, rest, out)?;
-                self.stage = stage;
-                Ok(used)
-            }
+            Stage::Receiving(mail) => self.read_text(mail, rest, out),
+            Stage::Chunk(chunk) => self.read_chunk(chunk, rest, out),
+            Stage::Skipping(skipped) => self.skip(skipped, rest, out),
             Stage::Offering(..) | Stage::Closed | Stage::Failed => unreachable!(),
         }
+    }
+
+    /// Uses the octets of mail data up to its end.
+    fn read_text(
+        &mut self,
+        mail: MailData,
+        rest: &[u8],
+        out: &mut Vec<u8>,
+    ) -> Result<usize, AllocError>
+        requires some { 0 < length rest.now }
+        ensures moves { IfOk result (λ used. (routes : List Route) (octets : List ℕ)
+            → IsReading mail.reader self.old.server.max_content octets
+            → Moves (setup_of self.old.server routes) (standing.Receiving mail.transaction.client mail.transaction.envelope) self.new.stage (octets ++ take used rest.now) out.old.items out.new.items) }
+        ensures same { (self.new.server ≡ self.old.server) × (self.new.line ≡ self.old.line) }
+        ensures within { IfOk result (λ used. (0 < used) × (used ≤ length rest.now)) }
+        ensures failed { OnErr result (self.new.stage ≡ self.old.stage) }
+    {
+        let (stage, used) = self.server.read_text(mail, rest, out)?;
+        self.enter(stage);
+        Ok(used)
+    }
+
+    /// Uses the octets of a chunk up to its end.
+    fn read_chunk(
+        &mut self,
+        chunk: Chunk,
+        rest: &[u8],
+        out: &mut Vec<u8>,
+    ) -> Result<usize, AllocError>
+        requires some { 0 < length rest.now }
+        ensures moves { IfOk result (λ used. (routes : List Route) (state : standing.State) (octets : List ℕ)
+            → GathersChunk self.old.server.max_content chunk.transaction chunk.reader chunk.is_last state octets
+            → Moves (setup_of self.old.server routes) state self.new.stage (octets ++ take used rest.now) out.old.items out.new.items) }
+        ensures same { (self.new.server ≡ self.old.server) × (self.new.line ≡ self.old.line) }
+        ensures within { IfOk result (λ used. (0 < used) × (used ≤ length rest.now)) }
+        ensures failed { OnErr result (self.new.stage ≡ self.old.stage) }
+    {
+        let Chunk {
+            transaction,
+            reader,
+            is_last,
+        } = chunk;
+        let (stage, used) = self
+            .server
+            .read_chunk(transaction, reader, is_last, rest, out)?;
+        self.enter(stage);
+        Ok(used)
+    }
+
+    /// Drops the octets of a chunk that is refused, up to its end.
+    fn skip(
+        &mut self,
+        skipped: Skipped,
+        rest: &[u8],
+        out: &mut Vec<u8>,
+    ) -> Result<usize, AllocError>
+        requires some { 0 < length rest.now }
+        ensures moves { IfOk result (λ used. (routes : List Route) (state : standing.State) (octets : List ℕ)
+            → RefusesChunk self.old.server.max_content skipped.row skipped.state skipped.missing state octets
+            → Moves (setup_of self.old.server routes) state self.new.stage (octets ++ take used rest.now) out.old.items out.new.items) }
+        ensures same { (self.new.server ≡ self.old.server) × (self.new.line ≡ self.old.line) }
+        ensures within { IfOk result (λ used. (0 < used) × (used ≤ length rest.now)) }
+        ensures failed { OnErr result (self.new.stage ≡ self.old.stage) }
+    {
+        let Skipped {
+            row,
+            state,
+            missing,
+        } = skipped;
+        let (stage, used) = self.server.skip(row, state, missing, rest, out)?;
+        self.enter(stage);
+        Ok(used)
     }
 
     /// Uses the octets of one command line, or the next ones of it. A line that stands whole in the piece is read there.
@@ -198,7 +305,7 @@ impl Session {
         out: &mut Vec<u8>,
     ) -> Result<usize, AllocError>
         requires some { 0 < length rest.now }
-        ensures steps { IfOk result (λ used. (octets : List ℕ) → Holds self.old.line octets
+        ensures steps { IsHeld self.old.server.max_content state → IfOk result (λ used. (octets : List ℕ) → Holds self.old.line octets
             → Steps (setup_of self.old.server table.now) (standing.Command (command_state_of state)) self.new (octets ++ take used rest.now) out.old.items out.new.items) }
         ensures server { self.new.server ≡ self.old.server }
         ensures within { IfOk result (λ used. (0 < used) × (used ≤ length rest.now)) }
@@ -207,20 +314,38 @@ impl Session {
         if self.line.is_empty()
             && let LineCut::Whole(end) = next_line(rest, LINE_LIMIT)
         {
-            self.stage = self
-                .server
-                .answer_line(table, &rest[..end - 2], false, state, out)?;
+            let text = &rest[..end - 2];
+            let stage = self.server.answer_line(table, text, false, state, out)?;
+            self.enter(stage);
             return Ok(end);
         }
         let Some(used) = self.line.feed(rest) else {
-            self.stage = Stage::Command(state);
+            self.enter(Stage::Command(state));
             return Ok(rest.len());
         };
-        let is_long = self.line.is_long();
-        self.stage = self
-            .server
-            .answer_line(table, self.line.octets(), is_long, state, out)?;
-        self.line.clear();
+        self.answer_line(table, state, out)?;
         Ok(used)
+    }
+
+    /// Answers the line that has ended in the buffer, and clears that.
+    fn answer_line(
+        &mut self,
+        table: &Table,
+        state: CommandState,
+        out: &mut Vec<u8>,
+    ) -> Result<(), AllocError>
+        ensures moves { IsHeld self.old.server.max_content state → OnOk result ((line : List ℕ) → HasNoCrlf line
+            → IsGiven line self.old.line.kept self.old.line.is_long
+            → Moves (setup_of self.old.server table.now) (standing.Command (command_state_of state)) self.new.stage (line ++ crlf) out.old.items out.new.items) }
+        ensures server { self.new.server ≡ self.old.server }
+        ensures line { OnOk result (Holds self.new.line []) }
+        ensures failed { OnErr result (self.new.stage ≡ self.old.stage) }
+    {
+        let is_long = self.line.is_long();
+        let text = self.line.octets();
+        let stage = self.server.answer_line(table, text, is_long, state, out)?;
+        self.line.clear();
+        self.enter(stage);
+        Ok(())
     }
 }

@@ -8,24 +8,17 @@ use Rattle.relay_server.specs.declared.session.Next.TheVariants as next
 use Rattle.relay_server.specs.declared.stage.Stage.{Stage}
 use Rattle.relay_server.specs.declared.stage.Stage.TheVariants as stage
 use Rattle.relay_server.specs.Dialogue.{Said, Offered, Turn, answers_in, offers_in, answered_by, offered_by, more_said}
-use Rattle.relay_server.specs.Session.{IsOffering, Keeps, Stands, new_offers, next_at, offers_at}
+use Rattle.relay_server.specs.Session.{IsOffering, Stands, new_offers, offers_at}
+use Rattle.relay_server.proofs.StageLemmas.{as_many, new_behind, none_of, offering_is_open}
 use Rattle.relay_server.proofs.DialogueLemmas.{output_is_fixed, what_stands_is_a_dialogue}
 use Rattle.relayd.specs.declared.exchange.Exchange.{Exchange}
 use Rattle.relayd.specs.Exchange.{Receives, Rests, Serves}
 use Rattle.relayd.specs.Kept.{queued_to}
 use Rattle.relayd.specs.Setup.{session_setup}
 
--- as many offers as answers
-as_many_in : (offer : Option (Offered × Answer)) → length (offers_in offer) ≡ length (answers_in offer)
-as_many_in None = refl
-as_many_in (Some offer) = refl
-
-as_many : (turns : List Turn) → length (offered_by turns) ≡ length (answered_by turns)
-as_many [] = refl
-as_many (turn ∷ turns) =
-    length-append (offers_in turn.offer) (offered_by turns)
-    ∙ ap (λ n. n + length (offered_by turns)) (as_many_in turn.offer) ∙ ap (λ n. length (answers_in turn.offer) + n) (as_many turns)
-    ∙ sym (length-append (answers_in turn.offer) (answered_by turns))
+-- the two truth values differ
+pub apart : false ≡ true → ⊥
+apart e = cc
 
 -- this many answers
 pub queued_length : (count : ℕ) → length (queued_to count) ≡ count
@@ -34,10 +27,6 @@ queued_length (suc count) =
     let all = length-append (queued_to count) (Queued (suc count) ∷ []) in
     let before = queued_length count in
     omega (arith, all, before)
-
-no_offer_by : (offers : List Offered) → length offers ≡ 0 → offers ≡ []
-no_offer_by [] e = refl
-no_offer_by (offer ∷ offers) e = absurd (omega (arith, e))
 
 -- where each offer was answered, none is open
 pub none_open : (exchange : Exchange) (said : Said) → Rests exchange said → offers_at exchange.session.stage ≡ []
@@ -48,15 +37,7 @@ none_open exchange said r =
     let answers = ap length (sym r.numbered ∙ s.answers) in
     let many = as_many s.turns in
     let count = queued_length (length exchange.messages) in
-    no_offer_by unanswered (omega (arith, offers, answers, many, count))
-
--- behind a stage without an offer the offers are new
-new_behind : (old new : Stage) → offers_at old ≡ [] → new_offers old new ≡ offers_at new
-new_behind (stage.Command state) new none = refl
-new_behind (stage.Receiving mail) new none = refl
-new_behind (stage.Offering transaction content) new none = cc
-new_behind stage.Closed new none = refl
-new_behind stage.Failed new none = refl
+    none_of unanswered (omega (arith, offers, answers, many, count))
 
 -- a feed behind which an offer may be open
 pub fed : (old new : Exchange) (said : Said) (used out : List ℕ) → Rests old said → new.messages ≡ old.messages → Stands session_setup new.session (more_said said used [] out (new_offers old.session.stage new.session.stage)) → Serves new (more_said said used [] out (new_offers old.session.stage new.session.stage))
@@ -88,13 +69,6 @@ kept_one old new said offer number out s unanswered pushed count stands =
           ∙ ap queued_to (sym long);
     }
 
-offering_is_open : (now : Stage) → IsOffering now → offers_at now ≡ [] → ⊥
-offering_is_open (stage.Command state) is none = is
-offering_is_open (stage.Receiving mail) is none = is
-offering_is_open (stage.Offering transaction content) is none = cc
-offering_is_open stage.Closed is none = is
-offering_is_open stage.Failed is none = is
-
 -- no offer comes without octets
 pub offers_need_octets : (old new : Exchange) (said : Said) (used out : List ℕ) → Rests old said → IsOffering new.session.stage → Stands session_setup new.session (more_said said used [] out (new_offers old.session.stage new.session.stage)) → used ≡ [] → ⊥
 offers_need_octets old new said used out r offering stands none =
@@ -103,33 +77,7 @@ offers_need_octets old new said used out r offering stands none =
     let same = output_is_fixed session_setup said later (what_stands_is_a_dialogue session_setup old.session said r.stands) (what_stands_is_a_dialogue session_setup new.session later stands) (sym (ap (λ l. said.input ++ l) none ∙ append-nil said.input)) (sym (append-nil said.answers)) in
     let long = ap length same.1 ∙ length-append said.offers offers in
     let empty : length offers ≡ 0 = omega (arith, long) in
-    offering_is_open new.session.stage offering (sym (new_behind old.session.stage new.session.stage (none_open old said r)) ∙ no_offer_by offers empty)
-
--- what the caller does next tells the stage
-pub offering_by : (now : Stage) → next.Offer ≡ next_at now → IsOffering now
-offering_by (stage.Command state) e = absurd (cc)
-offering_by (stage.Receiving mail) e = absurd (cc)
-offering_by (stage.Offering transaction content) e = tt
-offering_by stage.Closed e = absurd (cc)
-offering_by stage.Failed e = absurd (cc)
-
-pub going_by : (now : Stage) → next.More ≡ next_at now → offers_at now ≡ []
-going_by (stage.Command state) e = refl
-going_by (stage.Receiving mail) e = refl
-going_by (stage.Offering transaction content) e = absurd (cc)
-going_by stage.Closed e = refl
-going_by stage.Failed e = refl
-
-closed_at : (now : Stage) → next.Close ≡ next_at now → (now ≡ stage.Failed → ⊥) → now ≡ stage.Closed
-closed_at (stage.Command state) e live = absurd (cc)
-closed_at (stage.Receiving mail) e live = absurd (cc)
-closed_at (stage.Offering transaction content) e live = absurd (cc)
-closed_at stage.Closed e live = refl
-closed_at stage.Failed e live = absurd (live refl)
-
-pub closed_by : (session : Session) (said : Said) → Stands session_setup session said → next.Close ≡ next_at session.stage → session.stage ≡ stage.Closed
-closed_by session said s e =
-    closed_at session.stage e (λ failed. subst (λ (x : Stage). Keeps session_setup.max_content session.line x s.rest) failed s.keeps)
+    offering_is_open new.session.stage offering (sym (new_behind old.session.stage new.session.stage (none_open old said r)) ∙ none_of offers empty)
 
 pub open_at : (now : Stage) → now ≡ stage.Closed → offers_at now ≡ []
 open_at now e = ap offers_at e

@@ -6,8 +6,9 @@ use Rattle.relay_server.specs.declared.session.Session.{Session}
 use Rattle.relay_server.specs.declared.stage.Stage.{Stage}
 use Rattle.relay_server.specs.declared.stage.Stage.TheVariants as stage
 use Rattle.relay_server.specs.Dialogue.{IsDialogue, Offered, Said, Turns, greeted_only, offered_by, read_by}
-use Rattle.relay_server.specs.Session.{Stands, offers_at, state_at}
+use Rattle.relay_server.specs.Session.{Stands, offers_at}
 use Rattle.relay_server.specs.State.{Closed, State, start}
+use Rattle.relay_server.proofs.StageLemmas.{closed_dialogue, unread_behind}
 use Rattle.relay_server.proofs.DialogueLemmas.{what_stands_is_a_dialogue}
 use Rattle.relay_server.proofs.UnitLemmas.{no_unit_is_empty}
 use Rattle.relayd.specs.declared.exchange.Exchange.{Exchange}
@@ -24,27 +25,6 @@ dialogue exchange said r = what_stands_is_a_dialogue session_setup exchange.sess
 counted : (exchange : Exchange) (said : Said) → Rests exchange said → said.answers ≡ queued_to (length said.offers)
 counted exchange said r = r.numbered ∙ ap (λ (l : List Offered). queued_to (length l)) (sym r.kept)
 
--- what was said, and octets that nobody reads
-abbrev unread_behind : Said → List ℕ → Said
-unread_behind said octets = record { input = said.input ++ octets; answers = said.answers; output = said.output; offers = said.offers }
-
--- behind a close, any octets belong to the rest
-abbrev closed_dialogue : (exchange : Exchange) (said : Said) (unread : List ℕ) → Rests exchange said → exchange.session.stage ≡ stage.Closed → IsDialogue session_setup (unread_behind said unread)
-closed_dialogue exchange said unread r closed =
-    let s = r.stands in
-    record {
-      turns = s.turns;
-      state = Closed;
-      rest = s.rest ++ unread;
-      unanswered = [];
-      runs = subst (λ (x : State). Turns session_setup start s.turns x) (ap state_at closed) s.runs;
-      input = ap (λ l. l ++ unread) s.input ∙ append_assoc (read_by s.turns) s.rest unread;
-      output = s.output;
-      answers = s.answers;
-      offers = s.offers ∙ ap (λ (x : Stage). offered_by s.turns ++ offers_at x) closed;
-      left = refl;
-    }
-
 module _ (left mid_left new_left held mid_held new_held : Option (List ℕ)) (old new : Exchange) where
   -- a round that isn't the last one
   pub goes_on : (g : GoesOn left mid_left held mid_held old) → GoesRound mid_left new_left mid_held new_held g.said new false → GoesOn left new_left held new_held new
@@ -60,14 +40,14 @@ module _ (left mid_left new_left held mid_held new_held : Option (List ℕ)) (ol
   served_by : (g : GoesOn left mid_left held mid_held old) → (r : GoesRound mid_left new_left mid_held new_held g.said new true) → ((new.session.stage ≡ stage.Closed) ⊎ ((r.unused ≡ []) × IsAtEnd new_left)) → IsServed left new_left held new_held new.messages
   served_by g r (inl closed) = record {
     said = unread_behind r.later r.unused;
-    dialogue = closed_dialogue new r.later r.unused r.rests closed;
+    dialogue = (closed_dialogue session_setup new.session r.later r.unused r.rests.stands closed).0;
     read =
         subst (Consumes left new_left) (sym (append_assoc g.said.input r.octets r.unused) ∙ ap (λ l. l ++ r.unused) (sym r.input))
         (Consumes-trans left mid_left new_left g.said.input (r.octets ++ r.unused) g.read r.read);
     written = subst (Appends held new_held) (sym r.output) (Appends-trans held mid_held new_held g.said.output r.replies g.written r.written);
     offers = sym r.rests.kept;
     answers = counted new r.later r.rests;
-    ended = inl refl;
+    ended = inl (closed_dialogue session_setup new.session r.later r.unused r.rests.stands closed).1;
   }
   served_by g r (inr (none, end)) = record {
     said = r.later;
@@ -117,7 +97,7 @@ greeted = record {
   output = sym (append-nil (greeted_only session_setup.host).output);
   answers = refl;
   offers = refl;
-  left = (λ unit more is e. no_unit_is_empty start unit is (nil_front unit more e), refl);
+  left = inl (λ unit more is e. no_unit_is_empty start unit is (nil_front unit more e), refl);
 }
 
 -- before the greeting nothing is read or written

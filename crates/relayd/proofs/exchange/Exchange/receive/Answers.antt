@@ -5,7 +5,8 @@ use Rattle.std.proofs.Math.Seq.{take-add}
 use Rattle.relay_server.specs.declared.session.Next.TheVariants as next
 use Rattle.relayd.specs.Setup.{session_setup}
 use Rattle.relayd.specs.declared.exchange.Exchange.{Exchange}
-use Rattle.relayd.proofs.KeptLemmas.{all_used, closed_by, fed_behind, going_by, nothing_received, offering_by, offers_need_octets, open_at, positive, received, received_and_kept, shrinks}
+use Rattle.relay_server.proofs.StageLemmas.{closed_by, going_by, offering_by}
+use Rattle.relayd.proofs.KeptLemmas.{all_used, apart, fed_behind, nothing_received, offers_need_octets, open_at, positive, received, received_and_kept, shrinks}
 use Rattle.relayd.proofs.exchange.Exchange.receive.Goals as goal
 
 pub loop-used-init : goal.loop-used-init
@@ -30,7 +31,7 @@ returns-in-More c = λ said rests.
     let is_more : c.in_ok-fed.fed.next ≡ next.More = search rules in
     let none = all_used octets used count c.loop-used.invariant.within (whole is_more) in
     received said new (take (used + count) octets) (drop (used + count) octets) octets _ _ false now (sym (take-append-drop (used + count) octets))
-    (going_by new.session.stage (sym is_more ∙ c.in_ok-fed.ensures.next)) (λ _. none) (λ e. absurd (cc))
+    (going_by new.session.stage (sym is_more ∙ c.in_ok-fed.ensures.next)) (λ _. none) (λ e. absurd (apart e))
 
 pub returns-in-Close : goal.returns-in-Close
 returns-in-Close c = λ said rests.
@@ -46,9 +47,9 @@ returns-in-Close c = λ said rests.
     let now = fed_behind old new said (take used octets) (take count (drop used octets)) (take (used + count) octets) _ _ c.in_ok-fed.fed.out.items _ before refl
     stood (take-add used count octets) grown in
     let is_close : c.in_ok-fed.fed.next ≡ next.Close = search rules in
-    let closed = closed_by new.session _ stood (sym is_close ∙ c.in_ok-fed.ensures.next) in
+    let closed = closed_by session_setup new.session _ stood (sym is_close ∙ c.in_ok-fed.ensures.next) in
     received said new (take (used + count) octets) (drop (used + count) octets) octets _ _ true now (sym (take-append-drop (used + count) octets))
-    (open_at new.session.stage closed) (λ e. absurd (cc)) (λ _. closed)
+    (open_at new.session.stage closed) (λ e. absurd (apart (sym e))) (λ _. closed)
 
 pub loop-used-smaller : goal.loop-used-smaller
 loop-used-smaller c =
