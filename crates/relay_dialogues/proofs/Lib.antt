@@ -1,2 +1,1 @@
-pub mod StageLemmas
 pub mod PlayLemmas

@@ -7,14 +7,14 @@ use Rattle.relay_server.specs.declared.stage.Stage.{Stage}
 use Rattle.relay_server.specs.declared.stage.Stage.TheVariants as stage
 use Rattle.relay_server.specs.Dialogue.{IsDialogue, Offered, Said, Turns, more_said, offered_by, read_by}
 use Rattle.relay_server.specs.Setup.{Setup}
-use Rattle.relay_server.specs.Session.{IsOffering, Stands, new_offers, offers_at, state_at}
+use Rattle.relay_server.specs.Session.{IsOffering, Stands, new_offers, offers_at}
 use Rattle.relay_server.specs.State.{Closed, State, start}
 use Rattle.relay_server.proofs.DialogueLemmas.{output_is_fixed, what_stands_is_a_dialogue}
 use Rattle.relay_dialogues.specs.declared.play.Play.{Play}
 use Rattle.relay_dialogues.specs.OfferText.{offer_text, offers_text}
 use Rattle.relay_dialogues.specs.Played.{HasPlayed, IsAnswered, Plays, Uses}
 use Rattle.relay_dialogues.specs.Transcript.{IsTranscript}
-use Rattle.relay_dialogues.proofs.StageLemmas.{counted, new_behind, none_of, offering_is_open}
+use Rattle.relay_server.proofs.StageLemmas.{closed_dialogue, counted, new_behind, none_of, offering_is_open, unread_behind}
 
 -- offers behind others are written behind them
 offers_text_append : (xs ys : List Offered) → offers_text (xs ++ ys) ≡ offers_text xs ++ offers_text ys
@@ -169,29 +169,10 @@ transcript_open setup play octets running p = record {
   answered = all_answered setup play p.said p.played p.answered;
 }
 
--- what was said, and octets that nobody reads
-abbrev pub unread_behind : Said → List ℕ → Said
-unread_behind said octets = record { input = said.input ++ octets; answers = said.answers; output = said.output; offers = said.offers }
-
--- behind a close, any octets belong to the rest
-abbrev closed_dialogue : (setup : Setup) (session : Session) (said : Said) (unread : List ℕ) → Stands setup session said → session.stage ≡ stage.Closed → IsDialogue setup (unread_behind said unread)
-closed_dialogue setup session said unread s closed = record {
-  turns = s.turns;
-  state = Closed;
-  rest = s.rest ++ unread;
-  unanswered = [];
-  runs = subst (λ (x : State). Turns setup start s.turns x) (ap state_at closed) s.runs;
-  input = ap (λ l. l ++ unread) s.input ∙ append_assoc (read_by s.turns) s.rest unread;
-  output = s.output;
-  answers = s.answers;
-  offers = s.offers ∙ ap (λ (x : Stage). offered_by s.turns ++ offers_at x) closed;
-  left = refl;
-}
-
 transcript_closed : (setup : Setup) (play : Play) (octets : List ℕ) → play.session.stage ≡ stage.Closed → Plays setup play octets → IsTranscript setup octets play.replies play.offers
 transcript_closed setup play octets closed p = record {
   said = unread_behind p.said p.unread;
-  dialogue = closed_dialogue setup play.session p.said p.unread p.played.stands closed;
+  dialogue = (closed_dialogue setup play.session p.said p.unread p.played.stands closed).0;
   input = sym p.octets_are;
   output = sym p.played.replies;
   offered = p.played.offers ∙ ap (λ l. play.offers ++ offers_text l) p.answered ∙ append-nil play.offers;

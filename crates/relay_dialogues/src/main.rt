@@ -34,8 +34,52 @@ const DIALOGUES: [&str; 17] = [
     "longest_paths",
 ];
 
+/// The same, with pipelined commands and with chunks.
+const CHUNK_DIALOGUES: [&str; 17] = [
+    "pipelined",
+    "chunks",
+    "chunk_words",
+    "chunk_contents",
+    "empty_chunks",
+    "chunk_before_mail",
+    "gathering",
+    "spent",
+    "refused_chunks",
+    "unended_chunk",
+    "awaited_chunk",
+    "cut_off_chunk",
+    "longest_chunk_line",
+    "too_long_chunk_line",
+    "too_long_other_line",
+    "received_fields",
+    "received_fields_in_chunks",
+];
+
+/// The same, each with a chunk size that can't be read.
+const BAD_CHUNK_SIZES: [&str; 19] = [
+    "bad_chunk_size_blank",
+    "bad_chunk_size_eleven_digits",
+    "bad_chunk_size_gathering",
+    "bad_chunk_size_hexadecimal",
+    "bad_chunk_size_last_alone",
+    "bad_chunk_size_last_first",
+    "bad_chunk_size_letter",
+    "bad_chunk_size_longer_last",
+    "bad_chunk_size_negative",
+    "bad_chunk_size_none",
+    "bad_chunk_size_null",
+    "bad_chunk_size_octet",
+    "bad_chunk_size_plus",
+    "bad_chunk_size_tab",
+    "bad_chunk_size_ten_nines",
+    "bad_chunk_size_too_great",
+    "bad_chunk_size_touching_last",
+    "bad_chunk_size_two_sizes",
+    "bad_chunk_size_words_behind_last",
+];
+
 /// The dialogues at a host that takes contents of up to 4 octets.
-const SMALL_DIALOGUES: [&str; 1] = ["small_contents"];
+const SMALL_DIALOGUES: [&str; 2] = ["small_contents", "small_chunks"];
 
 /// The dialogues at a host that takes mail for every domain.
 const OPEN_DIALOGUES: [&str; 2] = ["postmaster_routed", "standard_paths"];
@@ -53,6 +97,8 @@ fn main(rt: HostRuntime) -> Result<(), Fail> {
     };
     let config = configuration(alloc)?;
     hold(&rt, folder, &DIALOGUES, &config)?;
+    hold(&rt, folder, &CHUNK_DIALOGUES, &config)?;
+    hold(&rt, folder, &BAD_CHUNK_SIZES, &config)?;
     hold(&rt, folder, &SMALL_DIALOGUES, &small_configuration(alloc)?)?;
     hold(&rt, folder, &OPEN_DIALOGUES, &open_configuration(alloc)?)?;
     hold(&rt, folder, &WRONG_DIALOGUES, &config)
