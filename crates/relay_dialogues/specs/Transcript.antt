@@ -1,6 +1,6 @@
 -- A dialogue as it is written down: the client's octets, the replies, and the offers.
 use Rattle.std.specs.Prelude.{◌≡◌, ℕ, List, length}
-use Rattle.relay_server.specs.declared.config.Config.{Config}
+use Rattle.relay_routes.specs.declared.config.Config.{Config}
 use Rattle.relay_server.specs.Dialogue.{IsDialogue, Said}
 use Rattle.relay_server.specs.Setup.{Setup}
 use Rattle.relay_dialogues.specs.OfferText.{offers_text}

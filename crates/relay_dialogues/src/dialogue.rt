@@ -3,7 +3,7 @@ ghost use Rattle.relay_dialogues.specs.Played.{Plays};
 ghost use Rattle.relay_dialogues.specs.Transcript.{IsTranscript, setup_from};
 
 use crate::play::Play;
-use relay_server::Config;
+use relay_routes::Config;
 use std::alloc::{AllocError, Global};
 use std::fmt::{self, Display, Formatter};
 use std::fs;

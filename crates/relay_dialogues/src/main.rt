@@ -8,7 +8,7 @@ mod play;
 mod setup;
 
 use dialogue::Dialogue;
-use relay_server::Config;
+use relay_routes::Config;
 use setup::{configuration, open_configuration, small_configuration};
 use std::env;
 use std::test::Fail;
@@ -35,8 +35,9 @@ const DIALOGUES: [&str; 17] = [
 ];
 
 /// The same, with pipelined commands and with chunks.
-const CHUNK_DIALOGUES: [&str; 17] = [
+const CHUNK_DIALOGUES: [&str; 18] = [
     "pipelined",
+    "thousand_commands",
     "chunks",
     "chunk_words",
     "chunk_contents",

@@ -7,7 +7,8 @@ ghost use Rattle.relay_dialogues.specs.Transcript.{setup_from};
 
 use crate::offer_text::written_offer;
 use relay_octets::Octets;
-use relay_server::{Answer, Config, Next, Session, Table};
+use relay_routes::{Config, Table};
+use relay_server::{Answer, Next, Session};
 use std::alloc::{AllocError, Global};
 
 /// A content that this caller has no room for.

@@ -1,3 +1,4 @@
 pub mod AddressLemmas
 pub mod RouteLemmas
 pub mod MemberLemmas
+pub mod ReadingLemmas

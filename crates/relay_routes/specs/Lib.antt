@@ -4,3 +4,4 @@ pub mod Indexed
 pub mod Document
 pub mod Settings
 pub mod Config
+pub mod ConfigLaws

@@ -8,6 +8,7 @@ mod fault;
 mod hop;
 mod host_name;
 mod key;
+pub mod laws;
 mod spool_path;
 mod table;
 

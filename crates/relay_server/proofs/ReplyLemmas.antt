@@ -21,12 +21,12 @@ use Rattle.relay_server.specs.declared.offer.Answer.{Answer}
 use Rattle.relay_server.specs.declared.offer.Answer.TheVariants as answer
 use Rattle.relay_server.specs.declared.reply_table.Row.{Row}
 use Rattle.relay_server.specs.declared.reply_table.Row.TheVariants.{Greeting, Hello, Extensions, SenderOk, RecipientOk, TooManyRecipients, NoRoute, BadSequence, NoValidRecipients, StartMailInput, ChunkOk, ContentTooLarge, TooManyReceived, Queued, SpoolFull, Done, NotVerified, SeeStandard, Closing, UnknownCommand, BadOctet, LineTooLong, BadArgument, BadPath, BadValue, Repeated, UnknownParameter, NotOffered, BadChunkSize}
-use Rattle.relay_server.specs.Config.{IsHostName, is_host_octet}
+use Rattle.relay_routes.specs.Value.{IsHostName, is_host_octet}
 use Rattle.relay_server.specs.Dialogue.{Offered, Turn, Answers, Comes, Takes, Turns, answers_in, answered_by, row_of_answer}
 use Rattle.relay_server.specs.DialogueLaws.{AreNumbered, IsNumbered, OnlyContentIsOffered, OnlyQueuedIsPositive, RepliesAreWellFormed}
 use Rattle.relay_server.specs.Reply.{reply_of}
 use Rattle.relay_server.specs.ReplyTable.{Course, Replies, Offers, row_of_envelope_fault, row_of_fault, row_of_hello, course_of, course_of_bdat, course_of_chunks, course_of_content, course_of_data, course_of_mail, course_of_rcpt, course_of_text}
-use Rattle.relay_server.specs.Routes.{hop_of}
+use Rattle.relay_routes.specs.Routes.{hop_of}
 use Rattle.relay_server.specs.Setup.{Setup}
 use Rattle.relay_server.specs.State.{CommandState, Fresh, Greeted, Open, Gathering, Spent, State, Command, Receiving, Closed}
 use Rattle.relay_server.specs.Unit as unit
@@ -153,7 +153,7 @@ rcpt_course setup (Err which) state = envelope_fault_row which
 rcpt_course setup (Ok rcpt) Fresh = tt
 rcpt_course setup (Ok rcpt) (Greeted client) = tt
 rcpt_course setup (Ok rcpt) (Open client envelope) =
-    chosen_course false (nat_le 100 (length envelope.recipients)) _ _ tt (chosen_course false (is_some (hop_of setup.host setup.routes rcpt.path)) _ _ tt tt)
+    chosen_course false (nat_le 100 (length envelope.recipients)) _ _ tt (chosen_course false (is_some (hop_of setup.routes rcpt.path)) _ _ tt tt)
 rcpt_course setup (Ok rcpt) (Gathering client envelope content) = tt
 rcpt_course setup (Ok rcpt) (Spent client) = tt
 

@@ -8,7 +8,8 @@ use Rattle.std.proofs.lemmas.Fmt.{decimal_is_IsNumeral, decimal_is_IsNumeral_wid
 use Rattle.std.proofs.lemmas.List.{append_cancel_left}
 use Rattle.relay_octets.specs.Line.{crlf, HasNoCrlf}
 use Rattle.relay_octets.proofs.LineLemmas.{first_line_is_one}
-use Rattle.relay_lines.specs.Reply.{reply_text}
+use Rattle.relay_lines.specs.Reply.{middle_line, one_line, reply_text}
+use Rattle.relay_server.specs.declared.reply_table.Row.TheVariants.{Extensions}
 use Rattle.relay_server.specs.declared.offer.Answer.{Answer}
 use Rattle.relay_server.specs.declared.offer.Answer.TheVariants.{Queued, Full}
 use Rattle.relay_server.specs.Dialogue.{row_of_answer}
@@ -117,3 +118,16 @@ answer_is_one host given other behind more h e =
       first = answer_has_no_crlf other;
     }) in
     line_is_one given other h same.0
+
+-- the lines of the reply to EHLO, written one behind another
+pub extensions_text : (host start one two three : List ℕ) → one ≡ start ++ middle_line 250 host → two ≡ one ++ middle_line 250 (codes "PIPELINING") → three ≡ two ++ middle_line 250 (codes "CHUNKING") → three ++ reply_text (one_line 250 (codes "DSN")) ≡ start ++ reply_text (reply_of host Extensions)
+unfolding reply_of
+extensions_text host start one two three first second third =
+    let name = middle_line 250 host in
+    let pipelining = middle_line 250 (codes "PIPELINING") in
+    let chunking = middle_line 250 (codes "CHUNKING") in
+    let last = reply_text (one_line 250 (codes "DSN")) in
+    ap (λ l. l ++ last) (third ∙ ap (λ l. l ++ chunking) (second ∙ ap (λ l. l ++ pipelining) first))
+    ∙ append_assoc ((start ++ name) ++ pipelining) chunking last
+    ∙ append_assoc (start ++ name) pipelining (chunking ++ last)
+    ∙ append_assoc start name (pipelining ++ (chunking ++ last))

@@ -10,7 +10,7 @@ use Rattle.relay_lines.specs.HeldLine.{HeldLine, Holds, HoldsLine}
 use Rattle.relay_lines.specs.Reply.{reply_text}
 use Rattle.relay_server.specs.declared.offer.Answer.{Answer}
 use Rattle.relay_server.specs.declared.reply_table.Row.TheVariants.{Greeting}
-use Rattle.relay_server.specs.declared.routes.Route.{Route}
+use Rattle.relay_routes.specs.Routes.{RouteTable}
 use Rattle.relay_server.specs.declared.session.Session.{Session}
 use Rattle.relay_server.specs.declared.server.Server.{Server}
 use Rattle.relay_server.specs.declared.stage.Stage.{Stage}
@@ -113,10 +113,10 @@ stands_step setup old new said used before after s reads same (inr ends) =
     )
 
 -- a setup is that of the server and the routes
-setup_by : (setup : Setup) (server : Server) (routes : List Route) → setup ≡ setup_of server setup.routes → setup.routes ≡ routes → setup ≡ setup_of server routes
+setup_by : (setup : Setup) (server : Server) (routes : RouteTable) → setup ≡ setup_of server setup.routes → setup.routes ≡ routes → setup ≡ setup_of server routes
 setup_by setup server routes is same = is ∙ ap (setup_of server) same
 
-pub stands_advanced : (setup : Setup) (old new : Session) (routes : List Route) (said : Said) (used before after : List ℕ) → setup.routes ≡ routes → Stands setup old said → is_reading old.stage ≡ true → Advances old new routes used before after → (more : List ℕ) × (after ≡ before ++ more) × Stands setup new (more_said said used [] more (offers_at new.stage))
+pub stands_advanced : (setup : Setup) (old new : Session) (routes : RouteTable) (said : Said) (used before after : List ℕ) → setup.routes ≡ routes → Stands setup old said → is_reading old.stage ≡ true → Advances old new routes used before after → (more : List ℕ) × (after ≡ before ++ more) × Stands setup new (more_said said used [] more (offers_at new.stage))
 stands_advanced setup old new routes said used before after same s reads advances =
     let e = setup_by setup old.server routes s.setup_is same in
     let keeps : Keeps (setup_of old.server routes) old.line old.stage s.state s.rest = subst (λ (x : Setup). Keeps x old.line old.stage s.state s.rest) e s.keeps in
@@ -205,7 +205,7 @@ new_behind stage.Closed new reads = refl
 new_behind stage.Failed new reads = refl
 
 -- one call behind others
-pub stands_behind : (setup : Setup) (first old new : Session) (routes : List Route) (said : Said) (piece : List ℕ) (used count : ℕ) (start_out before after : List ℕ) → setup.routes ≡ routes → is_reading first.stage ≡ true → is_reading old.stage ≡ true → ((more : List ℕ) × (before ≡ start_out ++ more) × Stands setup old (more_said said (take used piece) [] more (new_offers first.stage old.stage))) → Advances old new routes (take count (drop used piece)) before after → (more : List ℕ) × (after ≡ start_out ++ more) × Stands setup new (more_said said (take (used + count) piece) [] more (new_offers first.stage new.stage))
+pub stands_behind : (setup : Setup) (first old new : Session) (routes : RouteTable) (said : Said) (piece : List ℕ) (used count : ℕ) (start_out before after : List ℕ) → setup.routes ≡ routes → is_reading first.stage ≡ true → is_reading old.stage ≡ true → ((more : List ℕ) × (before ≡ start_out ++ more) × Stands setup old (more_said said (take used piece) [] more (new_offers first.stage old.stage))) → Advances old new routes (take count (drop used piece)) before after → (more : List ℕ) × (after ≡ start_out ++ more) × Stands setup new (more_said said (take (used + count) piece) [] more (new_offers first.stage new.stage))
 stands_behind setup first old new routes said piece used count start_out before after same began reads so_far advances =
     let past = more_said said (take used piece) [] so_far.0 (new_offers first.stage old.stage) in
     let next = stands_advanced setup old new routes past (take count (drop used piece)) before after same so_far.2 reads advances in

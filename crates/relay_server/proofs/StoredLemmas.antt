@@ -21,7 +21,7 @@ use Rattle.relay_server.specs.declared.reply_table.Row.TheVariants.{ChunkOk}
 use Rattle.relay_server.specs.Dialogue.{Offered, Turn, Answers, Comes, Takes, Turns, IsLeft, offered_by, offered_of, offers_in}
 use Rattle.relay_server.specs.DialogueLaws.{MayBeStored, OffersMayBeStored}
 use Rattle.relay_server.specs.ReplyTable.{Course, Replies, Offers, course_of, course_of_bdat, course_of_chunks, course_of_content, course_of_data, course_of_mail, course_of_rcpt, course_of_text, state_behind_fault}
-use Rattle.relay_server.specs.Routes.{hop_of}
+use Rattle.relay_routes.specs.Routes.{hop_of}
 use Rattle.relay_server.specs.Setup.{Setup}
 use Rattle.relay_server.specs.State.{CommandState, Fresh, Greeted, Open, Gathering, Spent, State, Command, Receiving, Closed, start}
 use Rattle.relay_server.specs.Unit.{Asked, LongLine, Faulty, Rset, Asks, AsksBy}
@@ -86,7 +86,7 @@ rcpt_good setup text (Err fault) old reads sound = sound
 rcpt_good setup text (Ok rcpt) Fresh reads sound = tt
 rcpt_good setup text (Ok rcpt) (Greeted client) reads sound = sound
 rcpt_good setup text (Ok rcpt) (Open client envelope) reads sound =
-    chosen setup (nat_le 100 (length envelope.recipients)) _ _ (λ _. sound) (λ few. chosen setup (is_some (hop_of setup.host setup.routes rcpt.path)) _ _ (λ _. (sound.0, grown envelope rcpt text sound.1 few reads)) (λ _. sound))
+    chosen setup (nat_le 100 (length envelope.recipients)) _ _ (λ _. sound) (λ few. chosen setup (is_some (hop_of setup.routes rcpt.path)) _ _ (λ _. (sound.0, grown envelope rcpt text sound.1 few reads)) (λ _. sound))
 rcpt_good setup text (Ok rcpt) (Gathering client envelope content) reads sound = sound
 rcpt_good setup text (Ok rcpt) (Spent client) reads sound = sound
 

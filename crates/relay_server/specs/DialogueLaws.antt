@@ -9,7 +9,7 @@ use Rattle.relay_server.specs.declared.offer.Answer.{Answer}
 use Rattle.relay_server.specs.declared.offer.Answer.TheVariants.{Queued, Full}
 use Rattle.relay_server.specs.declared.reply_table.Row.TheVariants.{Greeting}
 use Rattle.relay_server.specs.declared.session.Session.{Session}
-use Rattle.relay_server.specs.Config.{IsHostName}
+use Rattle.relay_routes.specs.Value.{IsHostName}
 use Rattle.relay_server.specs.Dialogue.{Offered, Turn, Answers, Turns, Said, IsDialogue, answers_in, answered_by}
 use Rattle.relay_server.specs.Reply.{reply_of}
 use Rattle.relay_server.specs.Session.{Stands}

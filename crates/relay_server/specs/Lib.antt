@@ -1,5 +1,3 @@
-pub mod Routes
-pub mod Config
 pub mod Setup
 pub mod State
 pub mod Unit

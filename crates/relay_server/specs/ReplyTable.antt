@@ -14,7 +14,7 @@ use Rattle.relay_trace.specs.HeaderSection.{received_count_of}
 use Rattle.relay_server.specs.declared.client.Client.{Client}
 use Rattle.relay_server.specs.declared.reply_table.Row.{Row}
 use Rattle.relay_server.specs.declared.reply_table.Row.TheVariants as row
-use Rattle.relay_server.specs.Routes.{hop_of}
+use Rattle.relay_routes.specs.Routes.{hop_of}
 use Rattle.relay_server.specs.Setup.{Setup}
 use Rattle.relay_server.specs.State.{CommandState, Fresh, Greeted, Open, Gathering, Spent, State, Command, Receiving, Closed}
 use Rattle.relay_server.specs.Unit.{Asked, LongLine, Faulty, Hello, Mail, Rcpt, Data, Bdat, Rset, Noop, Vrfy, Help, Quit}
@@ -67,7 +67,7 @@ course_of_rcpt setup (Ok rcpt) Fresh = Replies row.BadSequence (Command Fresh)
 course_of_rcpt setup (Ok rcpt) (Greeted client) = Replies row.BadSequence (Command (Greeted client))
 course_of_rcpt setup (Ok rcpt) (Open client envelope) =
     if nat_le 100 (length envelope.recipients) then Replies row.TooManyRecipients (Command (Open client envelope))
-    else (if is_some (hop_of setup.host setup.routes rcpt.path)
+    else (if is_some (hop_of setup.routes rcpt.path)
     then Replies row.RecipientOk (Command (Open client (with_recipient envelope rcpt)))
     else Replies row.NoRoute (Command (Open client envelope)))
 course_of_rcpt setup (Ok rcpt) (Gathering client envelope content) = Replies row.BadSequence (Command (Gathering client envelope content))

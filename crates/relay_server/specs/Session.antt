@@ -16,7 +16,7 @@ use Rattle.relay_server.specs.declared.session.Session.{Session}
 use Rattle.relay_server.specs.declared.offer.Offer.{Offer}
 use Rattle.relay_server.specs.declared.session.Next.{Next}
 use Rattle.relay_server.specs.declared.session.Next.TheVariants as next
-use Rattle.relay_server.specs.declared.routes.Route.{Route}
+use Rattle.relay_routes.specs.Routes.{RouteTable}
 use Rattle.relay_server.specs.Dialogue.{Offered, Turn, Answers, Comes, Turns, offered_of, Said, read_by, written_by, offered_by, answered_by}
 use Rattle.relay_server.specs.Reply.{reply_of}
 use Rattle.relay_server.specs.declared.reply_table.Row.{Row}
@@ -175,7 +175,7 @@ pub record Stands (setup : Setup) (session : Session) (said : Said) : Type 0 whe
   pub keeps : Keeps setup session.line session.stage state rest
 
 -- a call on a session has used these octets and written what is new: whatever was used of a unit, it goes on or ends
-pub record Advances (old new : Session) (routes : List Route) (used before after : List ℕ) : Type 0 where
+pub record Advances (old new : Session) (routes : RouteTable) (used before after : List ℕ) : Type 0 where
   pub server : new.server ≡ old.server
   pub moves : (state : State) (octets : List ℕ) → Keeps (setup_of old.server routes) old.line old.stage state octets
       → Steps (setup_of old.server routes) state new (octets ++ used) before after

@@ -1,14 +1,15 @@
 -- What a server works with through a session.
 use Rattle.std.specs.Prelude.{ℕ, List}
-use Rattle.relay_server.specs.declared.routes.Route.{Route}
+use Rattle.relay_routes.specs.Routes.{RouteTable}
 use Rattle.relay_server.specs.declared.server.Server.{Server}
 
--- the server's name, the most octets of a content, and its routes
+-- the server's name, the most octets of a content, and where mail goes; the table names a host too, in a configuration
+-- the same
 pub record Setup : Type 0 where
   pub host : List ℕ
   pub max_content : ℕ
-  pub routes : List Route
+  pub routes : RouteTable
 
--- the name, the limit and the routes that the code works with
-abbrev pub setup_of : Server → List Route → Setup
+-- the name, the limit and the table that the code works with
+abbrev pub setup_of : Server → RouteTable → Setup
 setup_of server routes = record { host = server.host; max_content = server.max_content; routes = routes }

@@ -11,12 +11,12 @@ ghost use Rattle.relay_server.specs.Values.{IsChunked, IsHeld, IsJudged, IsRepli
 
 use crate::client::Client;
 use crate::reply_table::Row;
-use crate::routes::Table;
 use crate::server::Server;
 use crate::state::{CommandState, Gathering, State, Transaction};
 use relay_body::ChunkReader;
 use relay_envelope::{Envelope, EnvelopeFault, Mail, Rcpt, Recipient, read_mail, read_rcpt};
 use relay_lines::{BdatArgument, Command, LineFault};
+use relay_routes::Table;
 use relay_trace::Protocol;
 use std::alloc::AllocError;
 
@@ -202,7 +202,7 @@ fn add(
             State::Command(CommandState::Open(transaction)),
         ));
     }
-    if table.hop(server.host.as_slice(), &rcpt.path).is_none() {
+    if table.hop(&rcpt.path).is_none() {
         return Ok(Judged::Replied(
             Row::NoRoute,
             State::Command(CommandState::Open(transaction)),

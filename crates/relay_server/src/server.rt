@@ -10,17 +10,17 @@ ghost use Rattle.relay_server.specs.Setup.{setup_of};
 ghost use Rattle.relay_server.specs.State as standing;
 ghost use Rattle.relay_server.specs.Unit.{asked_of_long};
 ghost use Rattle.relay_server.specs.Values.{IsHeld, IsNextHeld, command_state_of, state_of};
-ghost use Rattle.relay_server.specs.declared.routes.Route.{Route};
+ghost use Rattle.relay_routes.specs.Routes.{RouteTable};
 
 use crate::judge::{Judged, judge};
 use crate::offer::Answer;
 use crate::reply_table::Row;
-use crate::routes::Table;
 use crate::stage::{Chunk, MailData, Skipped, Stage};
 use crate::state::{CommandState, Gathering, State, Transaction};
 use relay_body::{BodyFault, ChunkReader, DotReader, Gathered};
 use relay_lines::begins_with_bdat;
 use relay_octets::Octets;
+use relay_routes::{HostName, Table};
 use relay_trace::received_count;
 use std::alloc::{AllocError, Global};
 
@@ -32,7 +32,7 @@ const RECEIVED_LIMIT: usize = 100;
 pub(crate) struct Server {
     pub(crate) alloc: Global,
     /// The name of this host.
-    pub(crate) host: Octets,
+    pub(crate) host: HostName,
     /// The most octets of a content.
     pub(crate) max_content: usize,
 }
@@ -74,7 +74,7 @@ impl Server {
         state: CommandState,
         out: &mut Vec<u8>,
     ) -> Result<Stage, AllocError>
-        ensures { IsHeld self.now.max_content state → IfOk result (λ stage. (routes : List Route)
+        ensures { IsHeld self.now.max_content state → IfOk result (λ stage. (routes : RouteTable)
             → EndsBy (setup_of self.now routes) (course_of (setup_of self.now routes) (asked_of_long text.now) (command_state_of state)) stage out.old.items out.new.items) }
     {
         if begins_with_bdat(text) {
@@ -86,7 +86,7 @@ impl Server {
 
     /// Writes a reply, and gives the stage of the state behind it.
     fn reply(&self, row: Row, next: State, out: &mut Vec<u8>) -> Result<Stage, AllocError>
-        ensures { IsNextHeld self.now.max_content next → IfOk result (λ stage. (routes : List Route)
+        ensures { IsNextHeld self.now.max_content next → IfOk result (λ stage. (routes : RouteTable)
             → EntersBy (setup_of self.now routes) row (state_of next) stage out.old.items out.new.items) }
     {
         row.write(self.host.as_slice(), out)?;
@@ -96,7 +96,7 @@ impl Server {
     /// The stage of the state that a command has led to.
     fn stage_of(&self, state: State) -> Stage
         ensures begun { IsNextHeld self.now.max_content state
-            → (routes : List Route) → KeepsText (setup_of self.now routes) result (state_of state) [] }
+            → (routes : RouteTable) → KeepsText (setup_of self.now routes) result (state_of state) [] }
         ensures none { offers_at result ≡ [] }
     {
         match state {
@@ -119,7 +119,7 @@ impl Server {
         rest: &[u8],
         out: &mut Vec<u8>,
     ) -> Result<(Stage, usize), AllocError>
-        ensures moves { IfOk result (λ read. (routes : List Route) (octets : List ℕ) → IsReading mail.reader self.now.max_content octets
+        ensures moves { IfOk result (λ read. (routes : RouteTable) (octets : List ℕ) → IsReading mail.reader self.now.max_content octets
             → Moves (setup_of self.now routes) (standing.Receiving mail.transaction.client mail.transaction.envelope) read.0 (octets ++ take read.1 rest.now) out.old.items out.new.items) }
         ensures within { IfOk result (λ read. read.1 ≤ length rest.now) }
         ensures progress { 0 < length rest.now → IfOk result (λ read. 0 < read.1) }
@@ -152,7 +152,7 @@ impl Server {
         gathered: Gathered,
         out: &mut Vec<u8>,
     ) -> Result<Stage, AllocError>
-        ensures { IfOk result (λ stage. (routes : List Route) (content : List ℕ) → gathered ≡ gathered_of self.now.max_content content
+        ensures { IfOk result (λ stage. (routes : RouteTable) (content : List ℕ) → gathered ≡ gathered_of self.now.max_content content
             → EndsBy (setup_of self.now routes) (course_of_text self.now.max_content transaction.client transaction.envelope content) stage out.old.items out.new.items) }
     {
         match gathered {
@@ -171,7 +171,7 @@ impl Server {
         content: Octets,
         out: &mut Vec<u8>,
     ) -> Result<Stage, AllocError>
-        ensures { IfOk result (λ stage. (routes : List Route)
+        ensures { IfOk result (λ stage. (routes : RouteTable)
             → EndsBy (setup_of self.now routes) (course_of_content transaction.client transaction.envelope content) stage out.old.items out.new.items) }
     {
         if received_count(content.as_slice()) >= RECEIVED_LIMIT {
@@ -190,7 +190,7 @@ impl Server {
         rest: &[u8],
         out: &mut Vec<u8>,
     ) -> Result<(Stage, usize), AllocError>
-        ensures moves { IfOk result (λ read. (routes : List Route) (state : standing.State) (octets : List ℕ)
+        ensures moves { IfOk result (λ read. (routes : RouteTable) (state : standing.State) (octets : List ℕ)
             → GathersChunk self.now.max_content transaction reader is_last state octets
             → Moves (setup_of self.now routes) state read.0 (octets ++ take read.1 rest.now) out.old.items out.new.items) }
         ensures within { IfOk result (λ read. read.1 ≤ length rest.now) }
@@ -223,7 +223,7 @@ impl Server {
         out: &mut Vec<u8>,
     ) -> Result<Stage, AllocError>
         requires { IsBetweenChunks reader }
-        ensures { IfOk result (λ stage. (routes : List Route) (chunks : List ChunkText) → HasChunks reader self.now.max_content chunks
+        ensures { IfOk result (λ stage. (routes : RouteTable) (chunks : List ChunkText) → HasChunks reader self.now.max_content chunks
             → EndsBy (setup_of self.now routes) (course_of_chunks self.now.max_content transaction.client transaction.envelope (content_of_chunks chunks) is_last) stage out.old.items out.new.items) }
     {
         if reader.is_too_large() {
@@ -250,7 +250,7 @@ impl Server {
         rest: &[u8],
         out: &mut Vec<u8>,
     ) -> Result<(Stage, usize), AllocError>
-        ensures moves { IfOk result (λ read. (routes : List Route) (old : standing.State) (octets : List ℕ)
+        ensures moves { IfOk result (λ read. (routes : RouteTable) (old : standing.State) (octets : List ℕ)
             → RefusesChunk self.now.max_content row state missing old octets
             → Moves (setup_of self.now routes) old read.0 (octets ++ take read.1 rest.now) out.old.items out.new.items) }
         ensures within { IfOk result (λ read. read.1 ≤ length rest.now) }

@@ -6,18 +6,16 @@ ghost use Rattle.relay_server.specs.Session.{Advances, GathersChunk, HasFailed, 
 ghost use Rattle.relay_server.specs.Setup.{Setup, setup_of};
 ghost use Rattle.relay_server.specs.State as standing;
 ghost use Rattle.relay_server.specs.Values.{IsHeld, command_state_of};
-ghost use Rattle.relay_server.specs.declared.routes.Route.{Route};
+ghost use Rattle.relay_routes.specs.Routes.{RouteTable};
 ghost use Rattle.relay_lines.specs.HeldLine.{Holds};
 
-use crate::config::Config;
 use crate::offer::{Answer, Offer};
 use crate::reply_table::Row;
-use crate::routes::Table;
 use crate::server::{Server, row_of_answer};
 use crate::stage::{Chunk, MailData, Skipped, Stage};
 use crate::state::CommandState;
 use relay_lines::{LINE_LIMIT, LineBuffer, LineCut, next_line};
-use relay_octets::Octets;
+use relay_routes::{Config, Table};
 use std::alloc::{AllocError, Global};
 use std::mem;
 
@@ -72,7 +70,7 @@ impl Session {
     {
         let server = Server {
             alloc,
-            host: Octets::from_slice(alloc, config.host.as_slice())?,
+            host: config.host.copy(alloc)?,
             max_content: config.max_content,
         };
         let mut greeting = Vec::new(alloc);
@@ -85,7 +83,8 @@ impl Session {
         Ok((session, greeting))
     }
 
-    /// Uses octets of a piece up to an offer or a close, or all of them.
+    /// Uses octets of a piece up to an offer or a close, or all of them. The table says which recipients have a next hop;
+    /// `<Postmaster>` (RFC 5321, section 4.5.1) is routed as the table's host, in a configuration the session's own.
     pub fn feed(&mut self, table: &Table, piece: &[u8]) -> Result<Fed, AllocError>
         ensures stands { IfOk result (λ fed. (setup : Setup) (said : Said)
             → setup.routes ≡ table.now → Stands setup self.old said
@@ -232,7 +231,7 @@ impl Session {
         out: &mut Vec<u8>,
     ) -> Result<usize, AllocError>
         requires some { 0 < length rest.now }
-        ensures moves { IfOk result (λ used. (routes : List Route) (octets : List ℕ)
+        ensures moves { IfOk result (λ used. (routes : RouteTable) (octets : List ℕ)
             → IsReading mail.reader self.old.server.max_content octets
             → Moves (setup_of self.old.server routes) (standing.Receiving mail.transaction.client mail.transaction.envelope) self.new.stage (octets ++ take used rest.now) out.old.items out.new.items) }
         ensures same { (self.new.server ≡ self.old.server) × (self.new.line ≡ self.old.line) }
@@ -252,7 +251,7 @@ impl Session {
         out: &mut Vec<u8>,
     ) -> Result<usize, AllocError>
         requires some { 0 < length rest.now }
-        ensures moves { IfOk result (λ used. (routes : List Route) (state : standing.State) (octets : List ℕ)
+        ensures moves { IfOk result (λ used. (routes : RouteTable) (state : standing.State) (octets : List ℕ)
             → GathersChunk self.old.server.max_content chunk.transaction chunk.reader chunk.is_last state octets
             → Moves (setup_of self.old.server routes) state self.new.stage (octets ++ take used rest.now) out.old.items out.new.items) }
         ensures same { (self.new.server ≡ self.old.server) × (self.new.line ≡ self.old.line) }
@@ -279,7 +278,7 @@ impl Session {
         out: &mut Vec<u8>,
     ) -> Result<usize, AllocError>
         requires some { 0 < length rest.now }
-        ensures moves { IfOk result (λ used. (routes : List Route) (state : standing.State) (octets : List ℕ)
+        ensures moves { IfOk result (λ used. (routes : RouteTable) (state : standing.State) (octets : List ℕ)
             → RefusesChunk self.old.server.max_content skipped.row skipped.state skipped.missing state octets
             → Moves (setup_of self.old.server routes) state self.new.stage (octets ++ take used rest.now) out.old.items out.new.items) }
         ensures same { (self.new.server ≡ self.old.server) × (self.new.line ≡ self.old.line) }

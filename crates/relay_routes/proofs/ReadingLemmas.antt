@@ -1,0 +1,220 @@
+-- A text reads as one configuration, or has one first fault.
+use Rattle.std.proofs.Common.{◌≡◌, ◌⊎◌, inl, inr, ℕ, List, [], ◌∷◌, Option, None, Some, Result, Ok, Err, pos, refl, sym, ap, ◌∙◌, subst}
+use Rattle.std.proofs.Math.Path.{PathP, to_path_p}
+use Rattle.std.proofs.Props.{props}
+use Rattle.toml.specs.Data.{Data, Members, no_members, member, string, integer, table}
+use Rattle.toml.specs.Parse.{parse_document}
+use Rattle.relay_routes.specs.declared.config.Config.{Config}
+use Rattle.relay_routes.specs.declared.fault.ConfigFault.{ConfigFault}
+use Rattle.relay_routes.specs.declared.key.Key.{Key}
+use Rattle.relay_routes.specs.declared.key.Key.TheVariants.{Host, Listen, Spool, MaxContent, SpoolLimit, Routes}
+use Rattle.relay_routes.specs.Value.{GivesAddress, GivesHost, GivesPath, GivesSize, address_text}
+use Rattle.relay_routes.specs.Routes.{Route, RouteTable}
+use Rattle.relay_routes.specs.Settings.{IsConfig}
+use Rattle.relay_routes.specs.Document.{AreRoutes, GivesRoutes, value_of}
+use Rattle.relay_routes.specs.Config.{FirstFault, IsGood, ReadsDocument, ReadsHost, ReadsListen, ReadsMaxContent, ReadsOptional, ReadsParsed, ReadsRequired, ReadsRoutes, ReadsSpool, ReadsSpoolLimit, ReadsValue, Says, at_host, at_listen, at_max_content, at_routes, at_spool, at_spool_limit}
+use Rattle.relay_routes.specs.ConfigLaws.{OneReading}
+use Rattle.relay_routes.proofs.AddressLemmas.{address_is_one}
+use Rattle.relay_routes.proofs.MemberLemmas.{route_is_one}
+
+-- what a value gives is one
+abbrev GivesOne : {A : Type 0} → (Data → A → Type 0) → Type 0
+GivesOne {A} Gives = (value : Data) (one two : A) → Gives value one → Gives value two → one ≡ two
+
+-- what is read is one
+abbrev ReadsOne : {A : Type 0} → (Result A ConfigFault → Type 0) → Type 0
+ReadsOne {A} Reads = (one two : Result A ConfigFault) → Reads one → Reads two → one ≡ two
+
+value_is_one : {A : Type 0} (key : Key) (Gives : Data → A → Type 0) (value : Data) → GivesOne Gives → ReadsOne (ReadsValue key Gives value)
+value_is_one key Gives value given (Ok one) (Ok two) a b = ap Ok (given value one two a b)
+value_is_one key Gives value given (Ok one) (Err two) a b = absurd (b.1 one a)
+value_is_one key Gives value given (Err one) (Ok two) a b = absurd (a.1 two b)
+value_is_one key Gives value given (Err one) (Err two) a b = ap Err (a.0 ∙ sym b.0)
+
+required_is_one : {A : Type 0} (key : Key) (Gives : Data → A → Type 0) (found : Option Data) → GivesOne Gives → ReadsOne (ReadsRequired key Gives found)
+required_is_one key Gives None given one two a b = a ∙ sym b
+required_is_one key Gives (Some value) given one two a b = value_is_one key Gives value given one two a b
+
+optional_is_one : {A : Type 0} (key : Key) (default : A) (Gives : Data → A → Type 0) (found : Option Data) → GivesOne Gives → ReadsOne (ReadsOptional key default Gives found)
+optional_is_one key default Gives None given one two a b = a ∙ sym b
+optional_is_one key default Gives (Some value) given one two a b = value_is_one key Gives value given one two a b
+
+host_is_one : GivesOne GivesHost
+host_is_one value one two a b =
+    let same : string one ≡ string two = sym a.0 ∙ b.0 in
+    cc same
+
+listen_is_one : GivesOne GivesAddress
+listen_is_one value one two a b =
+    let same : string (address_text one) ≡ string (address_text two) = sym a.0 ∙ b.0 in
+    address_is_one one two a.1 b.1 (cc same)
+
+path_is_one : GivesOne GivesPath
+path_is_one value one two a b =
+    let same : string one ≡ string two = sym a.0 ∙ b.0 in
+    cc same
+
+size_is_one : (limit : ℕ) → GivesOne (GivesSize limit)
+size_is_one limit value one two a b =
+    let same : integer (pos one) ≡ integer (pos two) = sym a.0 ∙ b.0 in
+    cc same
+
+-- members say one list of routes
+routes_are_one : (members : Members) (one two : List Route) → AreRoutes members one → AreRoutes members two → one ≡ two
+routes_are_one no_members [] [] a b = refl
+routes_are_one no_members [] (route ∷ routes) a b = absurd b
+routes_are_one no_members (route ∷ routes) two a b = absurd a
+routes_are_one (member key value more) [] two a b = absurd a
+routes_are_one (member key value more) (route ∷ routes) [] a b = absurd b
+routes_are_one (member key value more) (route ∷ routes) (other ∷ others) a b =
+    let first = route_is_one key value route other a.0 b.0 in
+    let rest = routes_are_one more routes others a.1 b.1 in
+    λ j. first j ∷ rest j
+
+table_is_one : GivesOne GivesRoutes
+table_is_one value one two a b =
+    let same : table a.members ≡ table b.members = sym a.value_is ∙ b.value_is in
+    let members : a.members ≡ b.members = cc same in
+    routes_are_one b.members one two (subst (λ (m : Members). AreRoutes m one) members a.are_routes) b.are_routes
+
+-- each key of a document is read in one way
+one_host : (document : Members) → ReadsOne (ReadsHost document)
+one_host document = required_is_one Host GivesHost (value_of Host document) host_is_one
+
+one_listen : (document : Members) → ReadsOne (ReadsListen document)
+one_listen document = required_is_one Listen GivesAddress (value_of Listen document) listen_is_one
+
+one_spool : (document : Members) → ReadsOne (ReadsSpool document)
+one_spool document = required_is_one Spool GivesPath (value_of Spool document) path_is_one
+
+one_max_content : (document : Members) → ReadsOne (ReadsMaxContent document)
+one_max_content document = optional_is_one MaxContent 1048576 (GivesSize 16777216) (value_of MaxContent document) (size_is_one 16777216)
+
+one_spool_limit : (document : Members) → ReadsOne (ReadsSpoolLimit document)
+one_spool_limit document = optional_is_one SpoolLimit 67108864 (GivesSize 549755813888) (value_of SpoolLimit document) (size_is_one 549755813888)
+
+one_routes : (document : Members) → ReadsOne (ReadsRoutes document)
+one_routes document = required_is_one Routes GivesRoutes (value_of Routes document) table_is_one
+
+-- a value that was read is one
+same_value : {A : Type 0} (Reads : Result A ConfigFault → Type 0) (one two : A) → ReadsOne Reads → Reads (Ok one) → Reads (Ok two) → one ≡ two
+same_value Reads one two unique a b =
+    let same : ◌≡◌ {A = Result _ ConfigFault} (Ok one) (Ok two) = unique (Ok one) (Ok two) a b in
+    cc same
+
+same_fault : {A : Type 0} (Reads : Result A ConfigFault → Type 0) (one two : ConfigFault) → ReadsOne Reads → Reads (Err one) → Reads (Err two) → one ≡ two
+same_fault {A} Reads one two unique a b =
+    let same : ◌≡◌ {A = Result A ConfigFault} (Err one) (Err two) = unique (Err one) (Err two) a b in
+    cc same
+
+-- and what is good has no fault
+no_fault : {A : Type 0} (Reads : Result A ConfigFault → Type 0) (value : A) (fault : ConfigFault) → ReadsOne Reads → Reads (Ok value) → ¬ Reads (Err fault)
+no_fault {A} Reads value fault unique good bad =
+    let same : ◌≡◌ {A = Result A ConfigFault} (Ok value) (Err fault) = unique (Ok value) (Err fault) good bad in
+    absurd (cc same)
+
+-- what is said of a configuration's values has one proof
+config_prop : (host : List ℕ) (max_content spool_limit : ℕ) (routes : RouteTable) → IsProp (IsConfig host max_content spool_limit routes)
+config_prop host max_content spool_limit routes = hlevel props
+
+-- a configuration is its values
+config_by : (one two : Config) → one.host ≡ two.host → one.listen ≡ two.listen → one.spool ≡ two.spool → one.max_content ≡ two.max_content → one.spool_limit ≡ two.spool_limit → one.routes ≡ two.routes → one ≡ two
+config_by one two host listen spool max_content spool_limit routes =
+    let valid : PathP (λ j. IsConfig (host j) (max_content j) (spool_limit j) (routes j)) one.valid two.valid =
+    to_path_p (λ j. IsConfig (host j) (max_content j) (spool_limit j) (routes j)) (config_prop two.host two.max_content two.spool_limit two.routes _ two.valid) in
+    λ j. record {
+      host = host j;
+      listen = listen j;
+      spool = spool j;
+      max_content = max_content j;
+      spool_limit = spool_limit j;
+      routes = routes j;
+      valid = valid j;
+    }
+
+-- a document says one configuration
+says_one : (document : Members) (one two : Config) → Says document one → Says document two → one ≡ two
+says_one document one two a b =
+    let host = same_value (ReadsHost document) one.host two.host (one_host document) a.host b.host in
+    let listen = same_value (ReadsListen document) one.listen two.listen (one_listen document) a.listen b.listen in
+    let spool = same_value (ReadsSpool document) one.spool two.spool (one_spool document) a.spool b.spool in
+    let max_content = same_value (ReadsMaxContent document) one.max_content two.max_content (one_max_content document) a.max_content b.max_content in
+    let spool_limit = same_value (ReadsSpoolLimit document) one.spool_limit two.spool_limit (one_spool_limit document) a.spool_limit b.spool_limit in
+    let routes = same_value (ReadsRoutes document) one.routes.routes two.routes.routes (one_routes document) a.routes b.routes in
+    let routes_host : one.routes.host ≡ two.routes.host = a.routes_host ∙ host ∙ sym b.routes_host in
+    config_by one two host listen spool max_content spool_limit (λ j. record { host = routes_host j; routes = routes j })
+
+-- a fault is that of this key, or the key is good and the fault a later one
+abbrev FaultFrom : {A : Type 0} → (Result A ConfigFault → Type 0) → (ConfigFault → Type 0) → ConfigFault → Type 0
+FaultFrom Reads Later fault = Reads (Err fault) ⊎ (IsGood Reads × Later fault)
+
+abbrev IsOneFault : (ConfigFault → Type 0) → Type 0
+IsOneFault Faults = (one two : ConfigFault) → Faults one → Faults two → one ≡ two
+
+from_is_one : {A : Type 0} (Reads : Result A ConfigFault → Type 0) (Later : ConfigFault → Type 0) → ReadsOne Reads → IsOneFault Later → IsOneFault (FaultFrom Reads Later)
+from_is_one Reads Later unique later one two (inl a) (inl b) = same_fault Reads one two unique a b
+from_is_one Reads Later unique later one two (inl a) (inr b) = absurd (no_fault Reads b.0.value one unique b.0.reads a)
+from_is_one Reads Later unique later one two (inr a) (inl b) = absurd (no_fault Reads a.0.value two unique a.0.reads b)
+from_is_one Reads Later unique later one two (inr a) (inr b) = later one two a.1 b.1
+
+-- the faults from each key on
+abbrev FromRoutes : Members → ConfigFault → Type 0
+FromRoutes document fault = ReadsRoutes document (Err fault)
+
+abbrev FromSpoolLimit : Members → ConfigFault → Type 0
+FromSpoolLimit document = FaultFrom (ReadsSpoolLimit document) (FromRoutes document)
+
+abbrev FromMaxContent : Members → ConfigFault → Type 0
+FromMaxContent document = FaultFrom (ReadsMaxContent document) (FromSpoolLimit document)
+
+abbrev FromSpool : Members → ConfigFault → Type 0
+FromSpool document = FaultFrom (ReadsSpool document) (FromMaxContent document)
+
+abbrev FromListen : Members → ConfigFault → Type 0
+FromListen document = FaultFrom (ReadsListen document) (FromSpool document)
+
+abbrev FromHost : Members → ConfigFault → Type 0
+FromHost document = FaultFrom (ReadsHost document) (FromListen document)
+
+from_host : (document : Members) (fault : ConfigFault) → FirstFault document fault → FromHost document fault
+from_host document fault (at_host bad) = inl bad
+from_host document fault (at_listen host bad) = inr (host, inl bad)
+from_host document fault (at_spool host listen bad) = inr (host, inr (listen, inl bad))
+from_host document fault (at_max_content host listen spool bad) = inr (host, inr (listen, inr (spool, inl bad)))
+from_host document fault (at_spool_limit host listen spool max_content bad) = inr (host, inr (listen, inr (spool, inr (max_content, inl bad))))
+from_host document fault (at_routes host listen spool max_content spool_limit bad) =
+    inr (host, inr (listen, inr (spool, inr (max_content, inr (spool_limit, bad)))))
+
+one_from_host : (document : Members) → IsOneFault (FromHost document)
+one_from_host document =
+    from_is_one (ReadsHost document) (FromListen document) (one_host document)
+    (from_is_one (ReadsListen document) (FromSpool document) (one_listen document)
+    (from_is_one (ReadsSpool document) (FromMaxContent document) (one_spool document)
+    (from_is_one (ReadsMaxContent document) (FromSpoolLimit document) (one_max_content document)
+    (from_is_one (ReadsSpoolLimit document) (FromRoutes document) (one_spool_limit document)
+    (λ one two a b. same_fault (ReadsRoutes document) one two (one_routes document) a b)))))
+
+-- a document that says a configuration has no fault
+says_no_fault : (document : Members) (config : Config) (fault : ConfigFault) → Says document config → ¬ FirstFault document fault
+says_no_fault document config fault says (at_host bad) = no_fault (ReadsHost document) config.host fault (one_host document) says.host bad
+says_no_fault document config fault says (at_listen host bad) = no_fault (ReadsListen document) config.listen fault (one_listen document) says.listen bad
+says_no_fault document config fault says (at_spool host listen bad) = no_fault (ReadsSpool document) config.spool fault (one_spool document) says.spool bad
+says_no_fault document config fault says (at_max_content host listen spool bad) =
+    no_fault (ReadsMaxContent document) config.max_content fault (one_max_content document) says.max_content bad
+says_no_fault document config fault says (at_spool_limit host listen spool max_content bad) =
+    no_fault (ReadsSpoolLimit document) config.spool_limit fault (one_spool_limit document) says.spool_limit bad
+says_no_fault document config fault says (at_routes host listen spool max_content spool_limit bad) =
+    no_fault (ReadsRoutes document) config.routes.routes fault (one_routes document) says.routes bad
+
+document_is_one : (document : Members) → ReadsOne (ReadsDocument document)
+document_is_one document (Ok one) (Ok two) a b = ap Ok (says_one document one two a b)
+document_is_one document (Ok one) (Err two) a b = absurd (says_no_fault document one two a b)
+document_is_one document (Err one) (Ok two) a b = absurd (says_no_fault document two one b a)
+document_is_one document (Err one) (Err two) a b = ap Err (one_from_host document one two (from_host document one a) (from_host document two b))
+
+parsed_is_one : (found : Option Members) → ReadsOne (ReadsParsed found)
+parsed_is_one None one two a b = a ∙ sym b
+parsed_is_one (Some document) one two a b = document_is_one document one two a b
+
+pub one_reading : OneReading
+one_reading text one two a b = parsed_is_one (parse_document text) one two a b
