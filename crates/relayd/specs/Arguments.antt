@@ -2,8 +2,9 @@
 use Rattle.std.specs.Prelude.{◌≡◌, ◌≢◌, ℕ, Option, List, [], ◌∷◌, true, codes}
 use Rattle.clap.specs.Words.{App, IsAmong, Kinds, Text, fault_of, new_app, with_subcommand}
 use Rattle.clap.specs.declared.error.kind.ErrorKind.TheVariants.{DisplayHelp, MissingSubcommand, UnknownArgument}
-use Rattle.relay_server.specs.Dialogue.{Offered}
-use Rattle.relayd.specs.Served.{IsBegun, IsServed}
+use Rattle.relay_session.specs.declared.message.Message.{Message}
+use Rattle.relay_session.specs.Served.{IsBegun, IsServed}
+use Rattle.relayd.specs.Setup.{session_peer, session_setup}
 
 -- a program that wants a subcommand, and has none for help
 abbrev pub without_subcommands : App
@@ -35,8 +36,8 @@ AreWrong kinds = (kinds ≢ []) × (¬ IsAmong DisplayHelp kinds)
 
 -- status 0: the session was served to its end
 abbrev pub HasServed : Option (List ℕ) → Option (List ℕ) → Option (List ℕ) → Option (List ℕ) → Type 0
-HasServed left new_left held new_held = (messages : List Offered) × IsServed left new_left held new_held messages
+HasServed left new_left held new_held = (messages : List Message) × IsServed session_setup session_peer left new_left held new_held messages
 
 -- status 1: the session was begun, or nothing was done
 abbrev pub HasFault : ℕ → Option (List ℕ) → Option (List ℕ) → Option (List ℕ) → Option (List ℕ) → Type 0
-HasFault status left new_left held new_held = (status ≡ 1) × IsBegun left new_left held new_held
+HasFault status left new_left held new_held = (status ≡ 1) × IsBegun session_setup left new_left held new_held

@@ -1,5 +1,2 @@
 pub mod Setup
-pub mod Kept
-pub mod Exchange
-pub mod Served
 pub mod Arguments

@@ -2,13 +2,10 @@
 #![tactic(auto)]
 
 mod dispatch;
-mod exchange;
-mod message;
 mod setup;
 mod streams;
 #[cfg(test)]
 mod tests;
-mod whole;
 mod words;
 
 use dispatch::{command, refuse_words};

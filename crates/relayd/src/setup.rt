@@ -1,27 +1,87 @@
-ghost use Rattle.std.specs.Prelude.{◌≡◌, IfOk};
-ghost use Rattle.relayd.specs.Setup.{session_setup};
+ghost use Rattle.std.specs.Prelude.{◌≡◌, [], ◌∷◌, IfOk};
+ghost use Rattle.relay_routes.specs.Value.{IsHostName};
+ghost use Rattle.relay_session.specs.Setup.{setup_of_config};
+ghost use Rattle.relayd.specs.Setup.{loopback_at, only_route, session_peer, session_setup};
 
-use relay_octets::Octets;
-use relay_server::{Config, Hop, Route, Table};
+use relay_routes::{Config, Hop, HostName, SpoolPath, Table};
+use relay_session::{Moment, Peer};
 use std::alloc::{AllocError, Global};
+use std::net::{Ipv4Addr, SocketAddrV4};
+
+/// The address in the time stamp lines of a session from standard input, which has no peer: this host's own, 127.0.0.1.
+const ADDRESS: [u8; 4] = [127, 0, 0, 1];
+
+/// The seconds from 1970 in the time stamp lines of a session from standard input, which has no clock.
+const SECONDS: u64 = 0;
+
+/// The most octets of a content.
+const MAX_CONTENT: usize = 1_048_576;
+
+/// The most octets of a spool. A session from standard input has none yet.
+const SPOOL_LIMIT: u64 = 67_108_864;
 
 /// The configuration of a session from standard input: the host `relay.example`, contents of up to 1,048,576 octets,
 /// and `example.org` as the only domain that mail is taken for. It fails where memory runs out.
 pub fn configuration(alloc: Global) -> Result<Config, AllocError>
-    ensures host { IfOk result (λ config. config.host ≡ session_setup.host) }
-    ensures content { IfOk result (λ config. config.max_content ≡ session_setup.max_content) }
-    ensures routes { IfOk result (λ config. config.routes ≡ session_setup.routes) }
+    ensures { IfOk result (λ config. setup_of_config config ≡ session_setup) }
 {
-    let mut routes = Table::new(alloc);
-    routes.add(Route {
-        domain: Octets::from_slice(alloc, b"example.org")?,
-        hop: Hop {
-            name: Octets::from_slice(alloc, b"next.example")?,
-        },
-    })?;
-    let host = Octets::from_slice(alloc, b"relay.example")?;
-    let Some(config) = Config::new(host, 1_048_576, routes) else {
+    let host = host_name(alloc, b"relay.example")?;
+    let mut routes = Table::new(alloc, host.copy(alloc)?);
+    add_route(alloc, &mut routes)?;
+    let Some(spool) = SpoolPath::new(alloc, "relay.spool")? else {
+        unreachable!()
+    };
+    let listen = at_port(2525);
+    let Some(config) = Config::new(host, listen, spool, MAX_CONTENT, SPOOL_LIMIT, routes) else {
         unreachable!()
     };
     Ok(config)
+}
+
+/// The route of `example.org`, to `next.example`.
+fn add_route(alloc: Global, routes: &mut Table) -> Result<(), AllocError>
+    requires { routes.old.routes ≡ [] }
+    ensures host { routes.new.host ≡ routes.old.host }
+    ensures route { IfOk result (λ _. routes.new.routes ≡ only_route ∷ []) }
+{
+    let hop = Hop {
+        name: host_name(alloc, b"next.example")?,
+        at: at_port(2526),
+    };
+    match routes.add(alloc, b"example.org", hop) {
+        Ok(()) => Ok(()),
+        // The domain is one, and no other route stands in the table, so nothing but memory can be wanting.
+        Err(_) => Err(AllocError),
+    }
+}
+
+/// The name of a host. It fails where memory runs out.
+fn host_name(alloc: Global, name: &[u8]) -> Result<HostName, AllocError>
+    requires { IsHostName name.now }
+    ensures { IfOk result (λ host. host ≡ name.now) }
+{
+    match HostName::read(alloc, name)? {
+        Some(host) => Ok(host),
+        None => unreachable!(),
+    }
+}
+
+/// This host's own address, with a port.
+fn at_port(port: u16) -> SocketAddrV4
+    ensures { result ≡ loopback_at port }
+{
+    SocketAddrV4::new(Ipv4Addr::new(127, 0, 0, 1), port)
+}
+
+/// The peer of a session from standard input, as its time stamp lines give it. It takes no memory.
+pub fn peer() -> Peer
+    ensures { result ≡ session_peer }
+{
+    let Ok(moment) = Moment::new(SECONDS) else {
+        unreachable!()
+    };
+    Peer {
+        address: ADDRESS,
+        moment,
+    }
 }

@@ -1,5 +1,6 @@
 // Runs of the program on readers and writers that give and take little, and fail in mid-stream.
 use crate::dispatch::command;
+use crate::streams::session;
 use std::alloc::Global;
 use std::io::{self, ErrorKind, Read, Write};
 use std::test::Fail;
@@ -23,6 +24,13 @@ const REPLIES: [&str; 7] = [
     "354 end with a line of one period",
     "250 queued as 1",
     "221 relay.example closing",
+];
+
+/// The lines of its message's stored text, whose content is empty.
+const STORED: [&str; 3] = [
+    "Received: from x ([127.0.0.1])",
+    " by relay.example with SMTP id 1;",
+    " Thu, 01 Jan 1970 00:00:00 +0000",
 ];
 
 /// Gives its octets one at a time. Where `cut` of them are gone it fails once, by `kind`.
@@ -128,6 +136,23 @@ fn the_first_dialogue_octet_by_octet(rt: HostRuntime) -> Result<(), Fail> {
     assert_eq!(rt; status, 0);
     assert_eq!(rt; writer.held.as_slice(), wanted.as_slice());
     assert!(rt; errors.is_empty());
+    Ok(())
+}
+
+#[test]
+fn the_first_message_is_stored_behind_its_time_stamp_line(rt: HostRuntime) -> Result<(), Fail> {
+    let input = text_of(rt.alloc(), &COMMANDS)?;
+    let wanted = text_of(rt.alloc(), &STORED)?;
+    let mut reader = reader_of(input.as_slice(), None, ErrorKind::Other);
+    let mut writer = writer_of(rt.alloc(), None, ErrorKind::Other, 0);
+    let Ok(messages) = session(rt.alloc(), &mut reader, &mut writer) else {
+        return Err(Fail::new("the session ended by a fault"));
+    };
+    let [message] = messages.as_slice() else {
+        return Err(Fail::new("there is not one message"));
+    };
+    assert_eq!(rt; wanted.len(), 101);
+    assert_eq!(rt; message.stored_text.as_slice(), wanted.as_slice());
     Ok(())
 }
 

@@ -3,8 +3,9 @@ use Rattle.std.proofs.Common.{rules, ◌≡◌, inl, inr, [], subst, sym}
 use Rattle.clap.specs.Words.{HasKind, Kinds, kind_of}
 use Rattle.clap.specs.declared.error.Error.{Error}
 use Rattle.clap.specs.declared.error.kind.ErrorKind.TheVariants as kind
-use Rattle.relayd.specs.Served.{IsBegun}
-use Rattle.relayd.proofs.ServedLemmas.{begun_nothing}
+use Rattle.relay_session.specs.Served.{IsBegun}
+use Rattle.relay_session.proofs.ServedLemmas.{begun_nothing}
+use Rattle.relayd.specs.Setup.{session_setup}
 use Rattle.relayd.proofs.dispatch.command.Goals as goal
 
 -- an error of words without a fault is want of memory
@@ -21,5 +22,5 @@ returns-in-Err-clause-fault g c = λ none _.
     let out = only_memory c.in-Err.error _ has none in
     let same = c.explain.ensures.writer (λ e. absurd (cc)) in (
       c.explain.ensures.memory out,
-      subst (λ w. IsBegun (g.R.Read.remaining c.args.reader.now) (g.R.Read.remaining c.args.reader.now) (g.W.Write.contents c.args.writer.now) (g.W.Write.contents w)) (sym same) (begun_nothing _ _),
+      subst (λ w. IsBegun session_setup (g.R.Read.remaining c.args.reader.now) (g.R.Read.remaining c.args.reader.now) (g.W.Write.contents c.args.writer.now) (g.W.Write.contents w)) (sym same) (begun_nothing session_setup _ _),
     )

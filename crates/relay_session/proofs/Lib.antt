@@ -1,0 +1,4 @@
+pub mod KeptLemmas
+pub mod ServedLemmas
+pub mod StoredLemmas
+pub mod WholeLemmas

@@ -1,0 +1,6 @@
+pub mod Setup
+pub mod Kept
+pub mod Exchange
+pub mod Served
+pub mod Rounds
+pub mod Laws
