@@ -1,13 +1,20 @@
 # What a fresh machine with the toolchain needs: `make demo` and `make test`.
+SHELL := bash
+.SHELLFLAGS := -eo pipefail -c
+
 .PHONY: test demo bench relayd relay_bench
 
-# The whole gate: the sample configuration beside its tested copy, the program over two pipes and short of memory first,
-# and then every proof from nothing, the edits that must fail and the tests. Its closing line is the last.
-test: relayd
+# The whole gate: the sample configuration beside its tested copy; then every proof from nothing, the edits that must fail
+# and the tests; then the program that these have built, over two pipes and short of memory. The gate's own last line is
+# the last.
+test:
 	cmp relayd.toml crates/relay_routes_tests/data/relayd.toml
+	mkdir -p build
+	rt ci | tee build/gate.log
+	cp crates/relayd/out/relayd build/relayd
 	tests/one_line_at_a_time.sh build/relayd
 	tests/each_allocation_refused.sh build/relayd
-	rt ci
+	tail -n 1 build/gate.log
 
 # Builds the program, and holds its first dialogue.
 demo: relayd

@@ -102,6 +102,25 @@ transaction() {
     printf 'QUIT\r\n'
 } > "$room/kept"
 
+# 200 messages of 16 chunks of 65,536 octets, which are 1,048,576 octets each, the most that are kept.
+mail_lines 863 | head -c 65536 > "$room/chunk"
+{
+    printf 'MAIL FROM:<a@example.org>\r\nRCPT TO:<b@example.org>\r\n'
+    for ((chunk = 1; chunk < 16; chunk++)); do
+        printf 'BDAT 65536\r\n'
+        cat "$room/chunk"
+    done
+    printf 'BDAT 65536 LAST\r\n'
+    cat "$room/chunk"
+} > "$room/message"
+{
+    printf 'EHLO x\r\n'
+    for ((message = 0; message < 200; message++)); do
+        cat "$room/message"
+    done
+    printf 'QUIT\r\n'
+} > "$room/chunks"
+
 {
     printf 'HELO x\r\n'
     yes "$(transaction; printf 'hello\r\n.\r')" | head -n 500000 || true
@@ -149,6 +168,7 @@ done > "$room/headers"
 
 measure "session: mail data that is refused" octets "$(stat -c %s "$room/refused")" "$room/refused" -l 7 "$relayd" session
 measure "session: 200 messages of 1 MiB that are kept" octets "$(stat -c %s "$room/kept")" "$room/kept" -l 803 "$relayd" session
+measure "session: 200 messages of 16 chunks that are kept" octets "$(stat -c %s "$room/chunks")" "$room/chunks" -c 3606 "$relayd" session
 measure "session: 100,000 small messages" messages 100000 "$room/small" -l 400003 "$relayd" session
 measure "session: 1,000,000 pipelined NOOPs" commands 1000000 "$room/noops" -l 1000002 "$relayd" session
 measure "session: 500,000 RCPTs with all parameters" commands 500000 "$room/recipients" -l 510004 "$relayd" session

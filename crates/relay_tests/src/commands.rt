@@ -1,8 +1,8 @@
 // Command lines without their CR LF, and the command or the fault that each gives.
-use relay_lines::{Command, LineFault, word};
+use relay_lines::{BdatArgument, Command, LineFault, begins_with_bdat, word};
 use std::test::Fail;
 
-const COMMANDS: [(&[u8], Command<'static>); 32] = [
+const COMMANDS: [(&[u8], Command<'static>); 34] = [
     (b"HELO client.example", Command::Helo(b"client.example")),
     (b"MAIL FROM:<a@b.example>", Command::Mail(b"<a@b.example>")),
     (b"RCPT TO:<c@d.example>", Command::Rcpt(b"<c@d.example>")),
@@ -38,13 +38,26 @@ const COMMANDS: [(&[u8], Command<'static>); 32] = [
     (b"vrfy", Command::Vrfy),
     (b"HELP", Command::Help),
     (b"help me", Command::Help),
+    (
+        b"BDAT 4294967295",
+        Command::Bdat(BdatArgument {
+            size: 4_294_967_295,
+            last: false,
+        }),
+    ),
+    (
+        b"bdat  05  Last \t",
+        Command::Bdat(BdatArgument {
+            size: 5,
+            last: true,
+        }),
+    ),
 ];
 
-const FAULTS: [(&[u8], LineFault); 53] = [
+const FAULTS: [(&[u8], LineFault); 56] = [
     (b"", LineFault::Unknown),
     (b" \t", LineFault::Unknown),
     (b" NOOP", LineFault::Unknown),
-    (b"BDAT 5 LAST", LineFault::Unknown),
     (b"EHL x", LineFault::Unknown),
     (b"TURNS", LineFault::Unknown),
     (b"STARTTLS", LineFault::Unknown),
@@ -94,6 +107,10 @@ const FAULTS: [(&[u8], LineFault); 53] = [
     (b"TURN", LineFault::NotOffered),
     (b"Turn x", LineFault::NotOffered),
     (b"EXPN \x80", LineFault::BadByte),
+    (b"BDAT", LineFault::BadChunkSize),
+    (b"BDAT x", LineFault::BadChunkSize),
+    (b"BDAT 4294967296", LineFault::BadChunkSize),
+    (b"bdat 1\x80", LineFault::BadChunkSize),
 ];
 
 #[test]
@@ -162,4 +179,17 @@ fn a_line_fault_has_a_text(rt: HostRuntime) -> Result<(), Fail> {
         assert_eq!(rt; format!(in rt.alloc(); "{fault}")?.as_str(), text);
     }
     Ok(())
+}
+
+#[test]
+fn a_line_that_begins_with_bdat_is_known(rt: HostRuntime) {
+    for (line, is_bdat) in [
+        (b"BDAT 1".as_slice(), true),
+        (b"bdAt ", true),
+        (b"BDAT", false),
+        (b"BDATA 1", false),
+        (b"DATA BDAT ", false),
+    ] {
+        assert_eq!(rt; begins_with_bdat(line), is_bdat, "{line:?}");
+    }
 }
