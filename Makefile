@@ -2,7 +2,7 @@
 SHELL := bash
 .SHELLFLAGS := -eo pipefail -c
 
-.PHONY: test demo bench relayd relay_bench
+.PHONY: test demo bench instructions relayd relay_bench
 
 # The whole gate: the sample configuration beside its tested copy; then every proof from nothing, the edits that must fail
 # and the tests; then the program that these have built, over two pipes and short of memory. The gate's own last line is
@@ -23,6 +23,10 @@ demo: relayd
 # Measures the program and library calls beside `wc` on the same octets (docs/PERFORMANCE.md).
 bench: relayd relay_bench
 	bench/run.sh build/relayd build/relay_bench
+
+# Counts the instructions of the same with callgrind, which valgrind brings.
+instructions: relayd relay_bench
+	bench/instructions.sh build/relayd build/relay_bench
 
 # Proves and links a program. It runs once, on its stored input.
 relayd:

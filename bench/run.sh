@@ -7,6 +7,7 @@
 # DISK (build) is the folder whose device the appends of a spool are measured on.
 set -euo pipefail
 export LC_ALL=C
+. "$(dirname "$0")/inputs.sh"
 
 relayd=$1
 bench=$2
@@ -73,106 +74,50 @@ compare() {
             printf "%-52s %12.0f %s/s   %.2f of %s\n", name, count / ours * 1000000, unit, theirs / ours, label }'
 }
 
-# Lines of 76 octets with their CR LF.
-line=$(printf '%074d' 0)
-mail_lines() {
-    yes "$line"$'\r' | head -n "$1" || true
+# look_ups NAME COUNT MANY FEW: COUNT look-ups in a table of MANY routes, beside as many in one of FEW. What it takes to
+# make a table is measured without look-ups, and taken off.
+look_ups() {
+    local count
+    rm -f "$room"/table.*
+    for ((run = 0; run < runs; run++)); do
+        for count in "$2" 0; do
+            micros_of "$bench routes $3 $count" >> "$room/table.many.$count"
+            micros_of "$bench routes $4 $count" >> "$room/table.few.$count"
+        done
+    done
+    awk -v name="$1" -v count="$2" \
+        -v ours=$(($(median < "$room/table.many.$2") - $(median < "$room/table.many.0"))) \
+        -v theirs=$(($(median < "$room/table.few.$2") - $(median < "$room/table.few.0"))) \
+        -v label="a table of $4" 'BEGIN {
+            printf "%-52s %12.0f %s/s   %.2f of %s\n", name, count / ours * 1000000, "look-ups", theirs / ours, label }'
 }
 
-transaction() {
-    printf 'MAIL FROM:<a@example.org>\r\nRCPT TO:<b@example.org>\r\nDATA\r\n'
-}
-
-{
-    printf 'HELO x\r\n'
-    transaction
-    mail_lines 2631579
-    printf '.\r\nQUIT\r\n'
-} > "$room/refused"
-
-{
-    printf 'HELO x\r\n'
-    transaction > "$room/head"
-    # 13,797 lines are 1,048,572 octets, the most lines that are kept.
-    mail_lines 13797 > "$room/content"
-    for ((message = 0; message < 200; message++)); do
-        cat "$room/head" "$room/content"
-        printf '.\r\n'
-    done
-    printf 'QUIT\r\n'
-} > "$room/kept"
-
-# 200 messages of 16 chunks of 65,536 octets, which are 1,048,576 octets each, the most that are kept.
-mail_lines 863 | head -c 65536 > "$room/chunk"
-{
-    printf 'MAIL FROM:<a@example.org>\r\nRCPT TO:<b@example.org>\r\n'
-    for ((chunk = 1; chunk < 16; chunk++)); do
-        printf 'BDAT 65536\r\n'
-        cat "$room/chunk"
-    done
-    printf 'BDAT 65536 LAST\r\n'
-    cat "$room/chunk"
-} > "$room/message"
-{
-    printf 'EHLO x\r\n'
-    for ((message = 0; message < 200; message++)); do
-        cat "$room/message"
-    done
-    printf 'QUIT\r\n'
-} > "$room/chunks"
-
-{
-    printf 'HELO x\r\n'
-    yes "$(transaction; printf 'hello\r\n.\r')" | head -n 500000 || true
-    printf 'QUIT\r\n'
-} > "$room/small"
-
-{
-    yes $'NOOP\r' | head -n 1000000 || true
-    printf 'QUIT\r\n'
-} > "$room/noops"
-
-# 5,000 transactions of 100 recipients, each RCPT with all its parameters.
-recipients() {
-    printf 'MAIL FROM:<a@example.org> RET=HDRS ENVID=q+2B1\r\n'
-    for ((recipient = 0; recipient < 100; recipient++)); do
-        printf 'RCPT TO:<somebody@example.org> NOTIFY=SUCCESS,FAILURE,DELAY ORCPT=rfc822;some+2Bbody@example.org\r\n'
-    done
-    printf 'RSET\r'
-}
-
-{
-    printf 'EHLO x\r\n'
-    yes "$(recipients)" | head -n 510000 || true
-    printf 'QUIT\r\n'
-} > "$room/recipients"
-
-{
-    mail_lines 2631579
-    printf '.\r\n'
-} > "$room/text"
-
-yes $'RCPT TO:<somebody@example.org>\r' | head -n 2000000 > "$room/commands" || true
-
+message_of 2631579 > "$room/refused"
+large_messages 200 > "$room/kept"
+chunked_messages 200 > "$room/chunks"
+chunked_message_of 3052 > "$room/refused_chunks"
+small_messages 100000 > "$room/small"
+noops 1000000 > "$room/noops"
+full_transactions 5000 > "$room/recipients"
+dot_text 2631579 > "$room/text"
+rcpt_lines 2000000 > "$room/commands"
 # 4,369 replies are 65,535 octets.
-yes $'250 sender OK\r' | head -n 4369000 > "$room/replies" || true
-
+short_replies 4369000 > "$room/replies"
 # A header section of 16 MB, which is looked through 20 times, and the same octets for `wc`.
-{
-    yes "X-Field: $(printf '%065d' 0)"$'\r' | head -n 210526 || true
-    printf '\r\n'
-} > "$room/header"
+header_section 210526 > "$room/header"
 for ((time = 0; time < 20; time++)); do
     cat "$room/header"
 done > "$room/headers"
 
 measure "session: mail data that is refused" octets "$(stat -c %s "$room/refused")" "$room/refused" -l 7 "$relayd" session
 measure "session: 200 messages of 1 MiB that are kept" octets "$(stat -c %s "$room/kept")" "$room/kept" -l 803 "$relayd" session
-measure "session: 200 messages of 16 chunks that are kept" octets "$(stat -c %s "$room/chunks")" "$room/chunks" -c 3606 "$relayd" session
+measure "session: 200 messages of 16 chunks that are kept" octets "$(stat -c %s "$room/chunks")" "$room/chunks" -c 3806 "$relayd" session
+measure "session: 3,052 chunks, refused behind 16" octets "$(stat -c %s "$room/refused_chunks")" "$room/refused_chunks" -c 3060 "$relayd" session
 measure "session: 100,000 small messages" messages 100000 "$room/small" -l 400003 "$relayd" session
 measure "session: 1,000,000 pipelined NOOPs" commands 1000000 "$room/noops" -l 1000002 "$relayd" session
 measure "session: 500,000 RCPTs with all parameters" commands 500000 "$room/recipients" -l 510004 "$relayd" session
 measure "library: a dot text that is refused" octets "$(stat -c %s "$room/text")" "$room/text" -l 1 "$bench" texts
+measure "library: the same, octet by octet" octets "$(stat -c %s "$room/text")" "$room/text" -l 1 "$bench" plain
 measure "library: RCPT lines that are parsed" commands 2000000 "$room/commands" -l 1 "$bench" commands
 measure "library: short replies that are read" replies 4369000 "$room/replies" -l 1 "$bench" replies
 against=$room/headers
@@ -194,3 +139,4 @@ compare "library: a spool of 256 MB that is opened" octets "$(stat -c %s "$room/
     "$bench open $room/spool" "cat $room/spool | wc -c" "cat | wc -c"
 compare "library: appends to a spool on a file" appends 1000 \
     "rm -f $disk/a; $bench append $disk/a 1000" "rm -f $disk/b; $bench syncs $disk/b 1000" "two bare syncs"
+look_ups "library: look-ups in a table of 100,000 routes" 1000000 100000 100

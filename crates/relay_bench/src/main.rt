@@ -6,18 +6,20 @@ mod blocks;
 mod commands;
 mod header;
 mod replies;
+mod routes;
 mod spools;
 mod texts;
 
 use commands::count_commands;
 use header::look_through_header;
 use replies::count_replies;
+use routes::look_up;
 use spools::{append_bodies, open_spool, sync_twice};
 use std::alloc::Global;
 use std::io::Read;
 use std::test::Fail;
 use std::{env, fs};
-use texts::count_texts;
+use texts::{count_plain, count_texts};
 
 /// Two commands and a fault for the run without a word.
 const COMMANDS: &[u8] = b"HELO x\r\nXYZZY\r\nQUIT\r\n";
@@ -36,22 +38,27 @@ fn main(rt: HostRuntime) -> Result<(), Fail> {
     let words: Vec<String> = env::args(&rt)?.collect(alloc)?;
     if let Some(word) = words.get(1) {
         let line = match words.get(2) {
+            Some(count) if word.as_str() == "routes" => {
+                look_up(alloc, count_of(Some(count)), count_of(words.get(3)))?
+            }
             Some(path) => measure_file(&rt, word.as_str(), path.as_str(), count_of(words.get(3)))?,
             None => measure(alloc, word.as_str(), &mut rt.stdin())?,
         };
         println!(rt; "{}", line.as_str())?;
         return Ok(());
     }
-    let samples: [(&str, &[u8]); 4] = [
+    let samples: [(&str, &[u8]); 5] = [
         ("commands", COMMANDS),
         ("replies", REPLIES),
         ("header", HEADER),
         ("texts", TEXTS),
+        ("plain", TEXTS),
     ];
     for (name, mut octets) in samples {
         let line = measure(alloc, name, &mut octets)?;
         println!(rt; "{}", line.as_str())?;
     }
+    println!(rt; "{}", look_up(alloc, 2, 3)?.as_str())?;
     let path = "relay_bench_spool";
     // A run that was cut off may have left it.
     let _ = fs::remove_file(&rt, path);
@@ -94,7 +101,9 @@ fn measure<R: Read>(alloc: Global, name: &str, reader: &mut R) -> Result<String,
         look_through_header(alloc, reader)
     } else if name == "texts" {
         count_texts(alloc, reader)
+    } else if name == "plain" {
+        count_plain(alloc, reader)
     } else {
-        Err(Fail::new("the measurements are: commands, replies, header, texts"))
+        Err(Fail::new("the measurements are: commands, replies, header, texts, plain"))
     }
 }

@@ -1,5 +1,5 @@
 use crate::blocks::Blocks;
-use relay_body::{DotReader, Gathered};
+use relay_body::{DotReader, Gathered, plain};
 use std::alloc::Global;
 use std::io::Read;
 use std::test::Fail;
@@ -37,6 +37,22 @@ pub fn count_texts<R: Read>(alloc: Global, reader: &mut R) -> Result<String, Fai
         too_large,
     } = tally;
     Ok(format!(in alloc; "texts: {whole} of {octets} octets, {too_large} too large")?)
+}
+
+/// Reads the input as one dot text by the reader that goes octet by octet, and counts the octets that it used.
+pub fn count_plain<R: Read>(alloc: Global, reader: &mut R) -> Result<String, Fail> {
+    let mut text = plain::DotReader::new(alloc, LIMIT);
+    let mut octets: u64 = 0;
+    let mut blocks = Blocks::new(alloc)?;
+    for _ in 0..u64::MAX {
+        let block = blocks.next(reader)?;
+        if block.is_empty() {
+            break;
+        }
+        octets = octets.saturating_add(text.feed(block)?.used as u64);
+    }
+    let ending = if text.is_done() { "ended" } else { "open" };
+    Ok(format!(in alloc; "plain: a text of {octets} octets, {ending}")?)
 }
 
 /// Reads one block, and gives the reader of the text that it ends in.

@@ -173,7 +173,7 @@ ends_in_line_end-lines [] = refl
 ends_in_line_end-lines (line ∷ lines) = ends_behind_line line (lines_text lines) ∙ ends_in_line_end-lines lines
 
 -- what follows lines is all that matters
-ends_behind_lines : (lines : List (List ℕ)) (rest : List ℕ) → ends_in_line_end (lines_text lines ++ rest) ≡ ends_in_line_end rest
+pub ends_behind_lines : (lines : List (List ℕ)) (rest : List ℕ) → ends_in_line_end (lines_text lines ++ rest) ≡ ends_in_line_end rest
 ends_behind_lines [] rest = refl
 ends_behind_lines (line ∷ lines) rest =
     ap ends_in_line_end (append_assoc (line ++ crlf) (lines_text lines) rest) ∙ ends_behind_line line (lines_text lines ++ rest) ∙ ends_behind_lines lines rest

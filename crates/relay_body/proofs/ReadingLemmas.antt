@@ -41,7 +41,7 @@ line_ends old gathering limit before line used added reading text_line joined co
 }
 
 -- a line goes on
-line_goes_on : (old : DotReader) (phase : Phase) (gathering : Gathering) (limit : ℕ) (before used added : List ℕ) (reading : IsReading old limit before) → IsPart phase (reading.part ++ used) (reading.content ++ added) → KeepsContent gathering limit (content_of reading.lines ++ reading.content ++ added) → IsReading (record { phase = phase; gathering = gathering }) limit (before ++ used)
+pub line_goes_on : (old : DotReader) (phase : Phase) (gathering : Gathering) (limit : ℕ) (before used added : List ℕ) (reading : IsReading old limit before) → IsPart phase (reading.part ++ used) (reading.content ++ added) → KeepsContent gathering limit (content_of reading.lines ++ reading.content ++ added) → IsReading (record { phase = phase; gathering = gathering }) limit (before ++ used)
 line_goes_on old phase gathering limit before used added reading part keeps = record {
   lines = reading.lines;
   part = reading.part ++ used;
@@ -53,19 +53,19 @@ line_goes_on old phase gathering limit before used added reading part keeps = re
 }
 
 -- within a line the phase says whether a CR was last
-is_part_by : (last : Bool) (part content : List ℕ) → BeginsTextLine part → ends_in_cr part ≡ last → content ≡ without_period part → IsPart (if last then WithinCr else Within) part content
+pub is_part_by : (last : Bool) (part content : List ℕ) → BeginsTextLine part → ends_in_cr part ≡ last → content ≡ without_period part → IsPart (if last then WithinCr else Within) part content
 is_part_by true part content begins last same = (begins, last, same)
 is_part_by false part content begins last same = (begins, last, same)
 
 -- what shows that a line isn't the end of mail data shows it as the line goes on
-begins_more : (part used : List ℕ) → BeginsTextLine part → HasNoCrlf (part ++ used) → BeginsTextLine (part ++ used)
+pub begins_more : (part used : List ℕ) → BeginsTextLine part → HasNoCrlf (part ++ used) → BeginsTextLine (part ++ used)
 begins_more part used begins none = record {
   no_crlf = none;
   not_end = λ rest e. begins.not_end (used ++ rest) (e ∙ append_assoc part used rest);
 }
 
 -- such a part isn't empty
-begun_is_some : (part : List ℕ) → BeginsTextLine part → part ≢ []
+pub begun_is_some : (part : List ℕ) → BeginsTextLine part → part ≢ []
 begun_is_some part begins e = begins.not_end end_of_data (sym (ap (λ p. p ++ end_of_data) e))
 
 -- the first period of what isn't empty is taken off its front
@@ -73,7 +73,7 @@ period_off : (test : Bool) (octet : ℕ) (octets used : List ℕ) → ◌≡◌ 
 period_off true octet octets used = refl
 period_off false octet octets used = refl
 
-without_period-append : (part used : List ℕ) → part ≢ [] → without_period (part ++ used) ≡ without_period part ++ used
+pub without_period-append : (part used : List ℕ) → part ≢ [] → without_period (part ++ used) ≡ without_period part ++ used
 without_period-append [] used some = absurd (some refl)
 without_period-append (octet ∷ octets) used some = period_off (octet == 46) octet octets used
 
@@ -179,7 +179,7 @@ ends_in_cr-last (octet ∷ next ∷ more) some =
     ends_in_cr-last (next ∷ more) (omega arith) ∙ ap (λ n. get_or (octet ∷ next ∷ more) n 0 == 13) (sym down)
 
 -- what stands in front doesn't matter
-ends_in_cr-append : (front back : List ℕ) → 0 < length back → ends_in_cr (front ++ back) ≡ ends_in_cr back
+pub ends_in_cr-append : (front back : List ℕ) → 0 < length back → ends_in_cr (front ++ back) ≡ ends_in_cr back
 ends_in_cr-append [] back some = refl
 ends_in_cr-append (octet ∷ []) [] some = absurd (omega arith)
 ends_in_cr-append (octet ∷ []) (first ∷ back) some = refl
@@ -202,7 +202,7 @@ run_stays old phase gathering rest runs some none behind keeps = record {
 }
 
 -- the part without its last CR
-cr_off : (part : List ℕ) → ends_in_cr part ≡ true → (line : List ℕ) × (part ≡ line ++ 13 ∷ [])
+pub cr_off : (part : List ℕ) → ends_in_cr part ≡ true → (line : List ℕ) × (part ≡ line ++ 13 ∷ [])
 cr_off [] ends = absurd (false≢true ends)
 cr_off (octet ∷ []) ends = ([], ap (λ o. o ∷ []) (eqb-true octet 13 ends))
 cr_off (octet ∷ next ∷ more) ends =
@@ -269,7 +269,7 @@ cr_stays old phase gathering octet held other behind keeps = record {
 }
 
 -- what is used in two steps is used
-uses_both : (old between new : DotReader) (front back whole : List ℕ) (done : Bool) → Uses old between front false → Uses between new back done → front ++ back ≡ whole → Uses old new whole done
+pub uses_both : (old between new : DotReader) (front back whole : List ℕ) (done : Bool) → Uses old between front false → Uses between new back done → front ++ back ≡ whole → Uses old new whole done
 uses_both old between new front back whole done one two joined = record {
   stands = λ limit before reading.
       subst (λ (octets : List ℕ). HasUsed done new limit octets) (append_assoc before front back ∙ ap (λ octets. before ++ octets) joined)

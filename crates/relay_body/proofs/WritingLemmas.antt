@@ -10,7 +10,7 @@ use Rattle.relay_body.proofs.DotTextLemmas.{ends_behind_line, nothing_ends_so}
 use Rattle.relay_body.proofs.ReadingLemmas.{taken_through, lines_text-more}
 
 -- one line more
-each_more : (lines : List (List ℕ)) (line : List ℕ) → AreLines lines → HasNoCrlf line → AreLines (lines ++ line ∷ [])
+pub each_more : (lines : List (List ℕ)) (line : List ℕ) → AreLines lines → HasNoCrlf line → AreLines (lines ++ line ∷ [])
 each_more [] line h one = (one, tt)
 each_more (first ∷ lines) line h one = (h.0, each_more lines line h.1 one)
 
@@ -19,7 +19,7 @@ period_before : (test : Bool) (octet : ℕ) (octets : List ℕ) → ◌≡◌ {A
 period_before true octet octets = refl
 period_before false octet octets = refl
 
-with_period-crlf : (line : List ℕ) → with_period (line ++ crlf) ≡ with_period line ++ crlf
+pub with_period-crlf : (line : List ℕ) → with_period (line ++ crlf) ≡ with_period line ++ crlf
 with_period-crlf [] = refl
 with_period-crlf (octet ∷ octets) = period_before (octet == 46) octet octets
 

@@ -1,5 +1,5 @@
 -- Single steps of reading and writing a dot text, for the contracts inside this crate.
-use Rattle.std.specs.Prelude.{◌≡◌, ℕ, Bool, true, false, ◌==◌, if◌then◌else◌, List, [], ◌∷◌, ◌++◌, map}
+use Rattle.std.specs.Prelude.{◌≡◌, ◌≢◌, ℕ, Bool, true, false, ◌==◌, if◌then◌else◌, List, [], ◌∷◌, ◌++◌, map}
 use Rattle.relay_octets.specs.Line.{AreLines, lines_text}
 use Rattle.relay_body.specs.declared.dot_reader.Phase.{Phase}
 use Rattle.relay_body.specs.declared.dot_reader.Phase.TheVariants.{LineStart, Period, PeriodCr, Within, WithinCr, Done, Failed}
@@ -29,6 +29,16 @@ RunsOn PeriodCr rest = ⊥
 RunsOn WithinCr rest = ⊥
 RunsOn Done rest = ⊥
 RunsOn Failed rest = ⊥
+
+-- the octet is content in this phase, and its line goes on
+abbrev pub StandsForItself : Phase → ℕ → Type 0
+StandsForItself LineStart octet = octet ≢ 46
+StandsForItself Period octet = octet ≢ 13
+StandsForItself PeriodCr octet = ⊥
+StandsForItself Within octet = Unit {0}
+StandsForItself WithinCr octet = octet ≢ 10
+StandsForItself Done octet = ⊥
+StandsForItself Failed octet = ⊥
 
 -- the phase within a line, behind its last octet
 abbrev pub phase_behind : ℕ → Phase

@@ -8,7 +8,7 @@ use std::alloc::{AllocError, Global};
 
 /// Where a reader stands in a line of mail text.
 #[derive(Clone, Copy, Debug, PartialEq, Eq)]
-enum Phase {
+pub(crate) enum Phase {
     LineStart,
     /// A period at the start of the line, and no more.
     Period,
@@ -24,7 +24,7 @@ enum Phase {
 
 impl Phase {
     /// The phase within a line behind this octet.
-    fn behind(octet: u8) -> Phase
+    pub(crate) fn behind(octet: u8) -> Phase
         ensures { result ≡ phase_behind octet }
     {
         match octet {
@@ -55,8 +55,8 @@ impl DotCut {
 /// A reader of one dot text, which may come in any pieces (RFC 5321, section 4.5.2).
 #[derive(Debug, Drop)]
 pub struct DotReader {
-    phase: Phase,
-    gathering: Gathering,
+    pub(crate) phase: Phase,
+    pub(crate) gathering: Gathering,
 }
 
 impl DotReader {

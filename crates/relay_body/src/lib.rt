@@ -7,6 +7,7 @@ mod dot_reader;
 mod dot_writer;
 mod gathered;
 pub mod laws;
+pub mod plain;
 
 pub use chunk_reader::{ChunkCut, ChunkReader};
 pub use dot_reader::{DotCut, DotReader};

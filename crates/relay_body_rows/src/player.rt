@@ -1,10 +1,16 @@
-ghost use Rattle.std.specs.Prelude.{IfOk};
-ghost use Rattle.relay_body_rows.specs.Player.{ReadsChunk};
+ghost use Rattle.std.specs.Prelude.{◌≡◌, ◌≢◌, ◌↔◌, ℕ, List, IfOk, IsTrue, MatchOption};
+ghost use Rattle.relay_body.specs.DotText.{HasRead, IsDone, gathered_of};
+ghost use Rattle.relay_body_rows.specs.Player.{ReadsChunk, found_of};
 
 use crate::cutting::Cutting;
-use relay_body::{BodyFault, ChunkReader, DotReader, Gathered, ends_in_line_end, write_dots};
+use relay_body::{
+    BodyFault, ChunkReader, DotReader, Gathered, ends_in_line_end, plain, write_dots,
+};
 use relay_octets::Octets;
 use std::alloc::{AllocError, Global};
+
+/// What is found where the two readers, or the two writers, of dot texts differ. No row wants it.
+const PLAIN_DIFFERS: &[u8] = b"the plain body differs";
 
 /// What is fed to what.
 #[derive(Drop)]
@@ -76,28 +82,34 @@ pub fn outcome_of(alloc: Global, play: &Play, cutting: Cutting) -> Result<Octets
 
 /// What a reader has found.
 #[derive(Drop)]
-struct Found {
-    used: usize,
-    /// What it has gathered, once that has come whole.
-    gathered: Option<Gathered>,
+enum Found {
+    /// So many octets were used, and more is awaited.
+    Open(usize),
+    /// So many octets were used, and this has come.
+    Done(usize, Gathered),
+    /// The reader that goes octet by octet found something else.
+    PlainDiffers,
 }
 
 impl Found {
     fn text(&self, alloc: Global) -> Result<Octets, AllocError> {
-        let used = self.used;
-        let text = match &self.gathered {
-            Some(Gathered::Whole(content)) => {
-                let mut text = Octets::from_slice(
-                    alloc,
-                    format!(in alloc; "{used} whole:")?.as_bytes(),
-                )?;
-                text.push_slice(content.as_slice())?;
-                return Ok(text);
+        match self {
+            Found::Open(used) => {
+                let text = format!(in alloc; "{used} open")?;
+                Octets::from_slice(alloc, text.as_bytes())
             }
-            Some(Gathered::TooLarge) => format!(in alloc; "{used} too large")?,
-            None => format!(in alloc; "{used} open")?,
-        };
-        Octets::from_slice(alloc, text.as_bytes())
+            Found::Done(used, Gathered::TooLarge) => {
+                let text = format!(in alloc; "{used} too large")?;
+                Octets::from_slice(alloc, text.as_bytes())
+            }
+            Found::Done(used, Gathered::Whole(content)) => {
+                let text = format!(in alloc; "{used} whole:")?;
+                let mut text = Octets::from_slice(alloc, text.as_bytes())?;
+                text.push_slice(content.as_slice())?;
+                Ok(text)
+            }
+            Found::PlainDiffers => Octets::from_slice(alloc, PLAIN_DIFFERS),
+        }
     }
 }
 
@@ -118,15 +130,12 @@ fn read_chunks(
         reader.begin(*size);
         rest = read_chunk(&mut reader, octets.len(), rest, cutting)?;
     }
-    let gathered = if reader.is_done() {
-        Some(reader.finish())
+    let used = octets.len().saturating_sub(rest.len());
+    if reader.is_done() {
+        Ok(Found::Done(used, reader.finish()))
     } else {
-        None
-    };
-    Ok(Found {
-        used: octets.len().saturating_sub(rest.len()),
-        gathered,
-    })
+        Ok(Found::Open(used))
+    }
 }
 
 /// Reads a chunk, and gives what stands behind it.
@@ -149,7 +158,7 @@ fn read_chunk<'a>(
     Ok(rest)
 }
 
-/// Reads a dot text.
+/// Reads a dot text, and beside it by the reader that goes octet by octet, which is given the same pieces.
 fn read_dots(
     alloc: Global,
     limit: usize,
@@ -157,26 +166,83 @@ fn read_dots(
     cutting: Cutting,
 ) -> Result<Found, BodyFault> {
     let mut reader = DotReader::new(alloc, limit);
+    let mut plain = plain::DotReader::new(alloc, limit);
     let mut rest = octets;
     while !rest.is_empty() && !reader.is_done() {
-        let cut = reader.feed(cutting.piece(octets.len().saturating_sub(rest.len()), rest))?;
+        let piece = cutting.piece(octets.len().saturating_sub(rest.len()), rest);
+        let cut = reader.feed(piece)?;
+        if plain.feed(piece)? != cut {
+            return Ok(Found::PlainDiffers);
+        }
         rest = &rest[cut.used..];
     }
-    let gathered = if reader.is_done() {
+    let used = octets.len().saturating_sub(rest.len());
+    Ok(agreed(used, finished(reader), finished_plain(plain)))
+}
+
+/// What both readers of a dot text have found, who have used so many octets.
+fn agreed(used: usize, gathered: Option<Gathered>, plain: Option<Gathered>) -> Found
+    ensures same { gathered ≡ plain → result ≡ found_of used gathered }
+    ensures differs { gathered ≢ plain → result ≡ Found.PlainDiffers }
+{
+    match (gathered, plain) {
+        (None, None) => Found::Open(used),
+        (Some(gathered), Some(plain)) => {
+            if is_same(&gathered, &plain) {
+                Found::Done(used, gathered)
+            } else {
+                Found::PlainDiffers
+            }
+        }
+        (None, Some(_)) => Found::PlainDiffers,
+        (Some(_), None) => Found::PlainDiffers,
+    }
+}
+
+/// What has come, where a text has been used whole.
+fn finished(reader: DotReader) -> Option<Gathered>
+    ensures { MatchOption result (¬ IsDone reader) (λ gathered. (limit : ℕ) (text content : List ℕ)
+        → HasRead reader limit text content → gathered ≡ gathered_of limit content) }
+{
+    if reader.is_done() {
         Some(reader.finish())
     } else {
         None
-    };
-    Ok(Found {
-        used: octets.len().saturating_sub(rest.len()),
-        gathered,
-    })
+    }
 }
 
-/// The dot text of a content, or that it can't be written.
+/// The same, octet by octet.
+fn finished_plain(reader: plain::DotReader) -> Option<Gathered>
+    ensures { MatchOption result (¬ IsDone reader) (λ gathered. (limit : ℕ) (text content : List ℕ)
+        → HasRead reader limit text content → gathered ≡ gathered_of limit content) }
+{
+    if reader.is_done() {
+        Some(reader.finish())
+    } else {
+        None
+    }
+}
+
+/// Whether two readers gathered the same.
+fn is_same(one: &Gathered, other: &Gathered) -> bool
+    ensures { IsTrue result ↔ (one.now ≡ other.now) }
+{
+    match (one, other) {
+        (Gathered::Whole(one), Gathered::Whole(other)) => one.as_slice() == other.as_slice(),
+        (Gathered::TooLarge, Gathered::TooLarge) => true,
+        (Gathered::Whole(_), Gathered::TooLarge) => false,
+        (Gathered::TooLarge, Gathered::Whole(_)) => false,
+    }
+}
+
+/// The dot text of a content, or that it can't be written, or that the writer that goes octet by octet writes another.
 fn written(alloc: Global, content: &[u8]) -> Result<Octets, AllocError> {
     if !ends_in_line_end(content) {
         return Octets::from_slice(alloc, b"no line end");
     }
-    Ok(Octets::new(write_dots(alloc, content)?))
+    let text = write_dots(alloc, content)?;
+    if plain::write_dots(alloc, content)?.as_slice() != text.as_slice() {
+        return Octets::from_slice(alloc, PLAIN_DIFFERS);
+    }
+    Ok(Octets::new(text))
 }

@@ -1,0 +1,102 @@
+# What bench/run.sh and bench/instructions.sh measure on: each function writes an input of as many parts as its argument
+# says. It needs yes and head.
+
+# Lines of 76 octets with their CR LF.
+line=$(printf '%074d' 0)
+mail_lines() {
+    yes "$line"$'\r' | head -n "$1" || true
+}
+
+transaction() {
+    printf 'MAIL FROM:<a@example.org>\r\nRCPT TO:<b@example.org>\r\nDATA\r\n'
+}
+
+# One message of so many lines.
+message_of() {
+    printf 'HELO x\r\n'
+    transaction
+    mail_lines "$1"
+    printf '.\r\nQUIT\r\n'
+}
+
+# Messages of 13,797 lines, 1,048,572 octets: the most lines that are kept.
+large_messages() {
+    printf 'HELO x\r\n'
+    for ((message = 0; message < $1; message++)); do
+        transaction
+        mail_lines 13797
+        printf '.\r\n'
+    done
+    printf 'QUIT\r\n'
+}
+
+# So many chunks of 65,536 octets each.
+chunks() {
+    for ((chunk = 0; chunk < $1; chunk++)); do
+        printf 'BDAT 65536\r\n'
+        mail_lines 863 | head -c 65536
+    done
+}
+
+# Messages of 16 chunks and an empty one, 1,048,576 octets each: the most that are kept.
+chunked_messages() {
+    printf 'EHLO x\r\n'
+    for ((message = 0; message < $1; message++)); do
+        printf 'MAIL FROM:<a@example.org>\r\nRCPT TO:<b@example.org>\r\n'
+        chunks 16
+        printf 'BDAT 0 LAST\r\n'
+    done
+    printf 'QUIT\r\n'
+}
+
+# One message of so many chunks.
+chunked_message_of() {
+    printf 'EHLO x\r\nMAIL FROM:<a@example.org>\r\nRCPT TO:<b@example.org>\r\n'
+    chunks "$1"
+    printf 'QUIT\r\n'
+}
+
+small_messages() {
+    printf 'HELO x\r\n'
+    yes "$(transaction; printf 'hello\r\n.\r')" | head -n $(($1 * 5)) || true
+    printf 'QUIT\r\n'
+}
+
+noops() {
+    yes $'NOOP\r' | head -n "$1" || true
+    printf 'QUIT\r\n'
+}
+
+# A transaction of 100 recipients, each RCPT with all its parameters.
+full_transaction() {
+    printf 'MAIL FROM:<a@example.org> RET=HDRS ENVID=q+2B1\r\n'
+    for ((recipient = 0; recipient < 100; recipient++)); do
+        printf 'RCPT TO:<somebody@example.org> NOTIFY=SUCCESS,FAILURE,DELAY ORCPT=rfc822;some+2Bbody@example.org\r\n'
+    done
+    printf 'RSET\r'
+}
+
+full_transactions() {
+    printf 'EHLO x\r\n'
+    yes "$(full_transaction)" | head -n $(($1 * 102)) || true
+    printf 'QUIT\r\n'
+}
+
+dot_text() {
+    mail_lines "$1"
+    printf '.\r\n'
+}
+
+rcpt_lines() {
+    yes $'RCPT TO:<somebody@example.org>\r' | head -n "$1" || true
+}
+
+short_replies() {
+    yes $'250 sender OK\r' | head -n "$1" || true
+}
+
+# A header section of lines of 76 octets.
+header_section() {
+    yes "X-Field: $(printf '%065d' 0)"$'\r' | head -n "$1" || true
+    printf '\r\n'
+}
