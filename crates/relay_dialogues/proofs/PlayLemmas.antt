@@ -3,12 +3,10 @@ use Rattle.std.proofs.Common.{◌≡◌, ◌≤◌, ◌<◌, ◌-◌, ℕ, zero,
 use Rattle.std.proofs.lemmas.List.{nil_from_length, take_more}
 use Rattle.relay_server.specs.declared.offer.Answer.{Answer}
 use Rattle.relay_server.specs.declared.session.Session.{Session}
-use Rattle.relay_server.specs.declared.stage.Stage.{Stage}
 use Rattle.relay_server.specs.declared.stage.Stage.TheVariants as stage
-use Rattle.relay_server.specs.Dialogue.{IsDialogue, Offered, Said, Turns, more_said, offered_by, read_by}
+use Rattle.relay_server.specs.Dialogue.{Offered, Said, more_said}
 use Rattle.relay_server.specs.Setup.{Setup}
 use Rattle.relay_server.specs.Session.{IsOffering, Stands, new_offers, offers_at}
-use Rattle.relay_server.specs.State.{Closed, State, start}
 use Rattle.relay_server.proofs.DialogueLemmas.{output_is_fixed, what_stands_is_a_dialogue}
 use Rattle.relay_dialogues.specs.declared.play.Play.{Play}
 use Rattle.relay_dialogues.specs.OfferText.{offer_text, offers_text}

@@ -1,13 +1,8 @@
 -- A dialogue as it is written down: the client's octets, the replies, and the offers.
 use Rattle.std.specs.Prelude.{◌≡◌, ℕ, List, length}
-use Rattle.relay_routes.specs.declared.config.Config.{Config}
 use Rattle.relay_server.specs.Dialogue.{IsDialogue, Said}
 use Rattle.relay_server.specs.Setup.{Setup}
 use Rattle.relay_dialogues.specs.OfferText.{offers_text}
-
--- what a configuration sets up
-abbrev pub setup_from : Config → Setup
-setup_from config = record { host = config.host; max_content = config.max_content; routes = config.routes }
 
 -- the replies are the output of a dialogue of just these octets, and the offers are its offers, each of them answered
 pub record IsTranscript (setup : Setup) (octets replies offers : List ℕ) : Type 0 where

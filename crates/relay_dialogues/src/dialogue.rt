@@ -1,6 +1,7 @@
 ghost use Rattle.std.specs.Prelude.{◌≡◌, ◌≤◌, ◌↔◌, IfOk, IsTrue, length};
 ghost use Rattle.relay_dialogues.specs.Played.{Plays};
-ghost use Rattle.relay_dialogues.specs.Transcript.{IsTranscript, setup_from};
+ghost use Rattle.relay_server.specs.Setup.{setup_of_config};
+ghost use Rattle.relay_dialogues.specs.Transcript.{IsTranscript};
 
 use crate::play::Play;
 use relay_routes::Config;
@@ -61,7 +62,7 @@ impl Dialogue {
     /// Holds the dialogue once for each cutting. It fails where memory runs out.
     pub fn verdict(&self, alloc: Global, config: &Config) -> Result<Verdict, AllocError>
         ensures { IfOk result (λ verdict. verdict ≡ Verdict.Equal
-            → IsTranscript (setup_from config.now) self.now.input.items self.now.replies.items self.now.offers.items) }
+            → IsTranscript (setup_of_config config.now) self.now.input.items self.now.replies.items self.now.offers.items) }
     {
         for place in 0..=self.input.len() {
             let play = self.cut_at(alloc, config, place)?;
@@ -85,7 +86,7 @@ impl Dialogue {
         place: usize,
     ) -> Result<Play<'a>, AllocError>
         requires { place ≤ length self.now.input.items }
-        ensures { IfOk result (λ play. Plays (setup_from config.now) play self.now.input.items) }
+        ensures { IfOk result (λ play. Plays (setup_of_config config.now) play self.now.input.items) }
     {
         let (front, rest) = self.input.as_slice().split_at(place);
         let mut play = Play::new(alloc, config)?;
@@ -96,7 +97,7 @@ impl Dialogue {
 
     /// A play of the dialogue in pieces of one octet.
     fn octet_by_octet<'a>(&self, alloc: Global, config: &'a Config) -> Result<Play<'a>, AllocError>
-        ensures { IfOk result (λ play. Plays (setup_from config.now) play self.now.input.items) }
+        ensures { IfOk result (λ play. Plays (setup_of_config config.now) play self.now.input.items) }
     {
         let mut play = Play::new(alloc, config)?;
         for octet in self.input.as_slice() {

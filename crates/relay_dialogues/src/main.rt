@@ -35,7 +35,7 @@ const DIALOGUES: [&str; 17] = [
 ];
 
 /// The same, with pipelined commands and with chunks.
-const CHUNK_DIALOGUES: [&str; 18] = [
+const CHUNK_DIALOGUES: [&str; 19] = [
     "pipelined",
     "thousand_commands",
     "chunks",
@@ -48,6 +48,7 @@ const CHUNK_DIALOGUES: [&str; 18] = [
     "refused_chunks",
     "unended_chunk",
     "awaited_chunk",
+    "awaited_chunk_of_mail",
     "cut_off_chunk",
     "longest_chunk_line",
     "too_long_chunk_line",

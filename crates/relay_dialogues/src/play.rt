@@ -3,7 +3,7 @@ ghost use Rattle.relay_server.specs.Dialogue.{Said};
 ghost use Rattle.relay_server.specs.Setup.{Setup};
 ghost use Rattle.relay_server.specs.Session.{HasOffer, next_of, open_offers};
 ghost use Rattle.relay_dialogues.specs.Played.{HasPlayed, IsAnswered, Plays, Uses};
-ghost use Rattle.relay_dialogues.specs.Transcript.{setup_from};
+ghost use Rattle.relay_server.specs.Setup.{setup_of_config};
 
 use crate::offer_text::written_offer;
 use relay_octets::Octets;
@@ -31,7 +31,7 @@ pub struct Play<'a> {
 impl<'a> Play<'a> {
     /// A play that has begun: its replies are the greeting. It fails where memory runs out.
     pub fn new(alloc: Global, config: &'a Config) -> Result<Self, AllocError>
-        ensures { IfOk result (λ play. Plays (setup_from config.now) play []) }
+        ensures { IfOk result (λ play. Plays (setup_of_config config.now) play []) }
     {
         let (session, greeting) = Session::new(alloc, config)?;
         Ok(Play {

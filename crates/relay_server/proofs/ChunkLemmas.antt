@@ -20,24 +20,24 @@ use Rattle.relay_server.specs.Dialogue.{Comes}
 use Rattle.relay_envelope.specs.declared.envelope.Envelope.{Envelope}
 use Rattle.relay_server.specs.declared.client.Client.{Client}
 use Rattle.relay_server.specs.ReplyTable.{Course, Replies, course_of_bdat, course_of_chunks, course_of_text}
-use Rattle.relay_server.specs.Session.{BeginsChunk, GathersChunk, RefusesChunk}
+use Rattle.relay_server.specs.Session.{AnnouncesChunk, GathersChunk, RefusesChunk}
 use Rattle.relay_server.specs.Setup.{Setup}
 use Rattle.relay_server.specs.State.{CommandState, State, Command}
-use Rattle.relay_server.specs.Unit.{AsksBy, Bdat, chunk_size_by, chunk_size_of}
+use Rattle.relay_server.specs.Unit.{AsksBy, Bdat, announced_by, announced_of}
 use Rattle.relay_server.specs.Values.{command_state_of}
 
 -- a line of BDAT announces as many octets as it says
-pub announced : (text : List ℕ) (argument : BdatArgument) → length text ≤ 2046 → reading_of text ≡ Ok (line.Bdat argument) → chunk_size_of text ≡ argument.size
+pub announced : (text : List ℕ) (argument : BdatArgument) → length text ≤ 2046 → reading_of text ≡ Ok (line.Bdat argument) → announced_of text ≡ argument.size
 announced text argument short reads =
-    cond-true (nat_le (length text) 2046) (chunk_size_by (reading_of text)) 0 (le-leb (length text) 2046 short) ∙ ap chunk_size_by reads
+    cond-true (nat_le (length text) 2046) (announced_by (reading_of text)) 0 (le-leb (length text) 2046 short) ∙ ap announced_by reads
 
 above : (n m : ℕ) → m < n → nat_le n m ≡ false
 above n m h = grind (arith, nat_tests)
 
 -- a line that is too long announces none
-pub long_announces_none : (text : List ℕ) → 2046 < length text → chunk_size_of text ≡ 0
+pub long_announces_none : (text : List ℕ) → 2046 < length text → announced_of text ≡ 0
 long_announces_none text long =
-    cond-false (nat_le (length text) 2046) (chunk_size_by (reading_of text)) 0 (above (length text) 2046 long)
+    cond-false (nat_le (length text) 2046) (announced_by (reading_of text)) 0 (above (length text) 2046 long)
 
 positive_by : (n : ℕ) → (n ≡ 0 → ⊥) → 0 < n
 positive_by n some = omega (arith, some)
@@ -48,7 +48,7 @@ chunk_missing chunk limit state octets kept =
     positive_by kept.chunk_is.missing (λ none. chunk.reading (kept.chunk_is.awaits ∙ ap Awaits none))
 
 -- more of a chunk
-pub more_of_chunk : (octets part more : List ℕ) (argument : BdatArgument) → BeginsChunk octets argument part → BeginsChunk (octets ++ more) argument (part ++ more)
+pub more_of_chunk : (octets part more : List ℕ) (argument : BdatArgument) → AnnouncesChunk octets argument part → AnnouncesChunk (octets ++ more) argument (part ++ more)
 more_of_chunk octets part more argument begins = record {
   text = begins.text;
   octets_are = ap (λ o. o ++ more) begins.octets_are ∙ append_assoc (begins.text ++ crlf) part more;
@@ -58,7 +58,7 @@ more_of_chunk octets part more argument begins = record {
 }
 
 -- a chunk that has come whole has this course
-pub chunk_comes : (setup : Setup) (state : State) (old : CommandState) (octets part : List ℕ) (argument : BdatArgument) (course : Course) → state ≡ Command old → BeginsChunk octets argument part → length part ≡ argument.size → course_of_bdat setup.max_content part argument.last old ≡ course → Comes setup state octets course
+pub chunk_comes : (setup : Setup) (state : State) (old : CommandState) (octets part : List ℕ) (argument : BdatArgument) (course : Course) → state ≡ Command old → AnnouncesChunk octets argument part → length part ≡ argument.size → course_of_bdat setup.max_content part argument.last old ≡ course → Comes setup state octets course
 chunk_comes setup state old octets part argument course state_is begins whole course_is =
     let text = begins.text in
     let here : Comes setup (Command old) octets course = record {

@@ -15,10 +15,10 @@ use Rattle.relay_server.specs.Dialogue.{Offered, Turn, Answers, Turns, IsLeft, o
 use Rattle.relay_server.specs.DialogueLaws.{RunsCompose, WhatStandsIsADialogue, OutputIsFixed}
 use Rattle.relay_server.specs.Reply.{reply_of}
 use Rattle.relay_server.specs.ReplyTable.{Course, Replies, Offers}
-use Rattle.relay_server.specs.Session.{BeginsChunk, Keeps, offers_at}
+use Rattle.relay_server.specs.Session.{AnnouncesChunk, Keeps, offers_at}
 use Rattle.relay_server.specs.Setup.{Setup}
 use Rattle.relay_server.specs.State.{CommandState, State, Command, start}
-use Rattle.relay_server.specs.Unit.{HasNoUnit, chunk_size_of}
+use Rattle.relay_server.specs.Unit.{HasNoUnit, announced_of}
 use Rattle.relay_server.specs.Values.{command_state_of}
 use Rattle.relay_server.proofs.ChunkLemmas.{announced, chunk_missing}
 use Rattle.relay_server.proofs.TurnLemmas.{asked_is_unit, as_many_answers, course_is_one, course_of_unit, row_is_fixed, unit_is_offered}
@@ -37,14 +37,14 @@ runs_compose setup old mid new (turn ∷ turns) more one two =
     (one.0, one.1, runs_compose setup one.0 mid new turns more one.2 two)
 
 -- a chunk that hasn't come whole makes no unit
-unended_chunk : (octets part : List ℕ) (argument : BdatArgument) (missing : ℕ) → BeginsChunk octets argument part → argument.size ≡ length part + missing → 0 < missing → (state : CommandState) → HasNoUnit (Command state) octets
+unended_chunk : (octets part : List ℕ) (argument : BdatArgument) (missing : ℕ) → AnnouncesChunk octets argument part → argument.size ≡ length part + missing → 0 < missing → (state : CommandState) → HasNoUnit (Command state) octets
 unended_chunk octets part argument missing begins size some state unit rest is e =
     let text = begins.text in
     let same = first_line_is_one octets text part is.0 (is.1 ++ rest) (record { text = begins.octets_are; first = begins.line }) (record {
       text = e ∙ ap (λ u. u ++ rest) is.2.unit_is ∙ append_assoc (is.0 ++ crlf) is.1 rest;
       first = is.2.line;
     }) in
-    let counted = is.2.counted ∙ ap chunk_size_of (sym same.0) ∙ announced text argument begins.short begins.reads in
+    let counted = is.2.counted ∙ ap announced_of (sym same.0) ∙ announced text argument begins.short begins.reads in
     let sum = ap length same.1 ∙ length-append is.1 rest in
     omega (arith, counted, sum, size, some)
 

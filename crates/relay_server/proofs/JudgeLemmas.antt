@@ -10,11 +10,11 @@ use Rattle.relay_server.specs.declared.judge.Judged.{Judged}
 use Rattle.relay_server.specs.ReplyTable.{course_of}
 use Rattle.relay_server.specs.Setup.{Setup}
 use Rattle.relay_server.specs.State.{CommandState}
-use Rattle.relay_server.specs.Unit.{Asked, AsksBy, chunk_size_by}
+use Rattle.relay_server.specs.Unit.{Asked, AsksBy, announced_by}
 use Rattle.relay_server.specs.Values.{IsJudged, IsReplied, IsReplyHeld, content_in}
 
 -- a line that announces no octets is answered by its course
-pub answers_by : (setup : Setup) (reading : Result line.Command LineFault) (old : CommandState) (asked : Asked) (result : Result Judged AllocError) → AsksBy reading [] asked → chunk_size_by reading ≡ 0 → IfOk result (IsReplied (course_of setup asked old)) → IfOk result (IsReplyHeld setup.max_content) → IfOk result (IsJudged setup reading old)
+pub answers_by : (setup : Setup) (reading : Result line.Command LineFault) (old : CommandState) (asked : Asked) (result : Result Judged AllocError) → AsksBy reading [] asked → announced_by reading ≡ 0 → IfOk result (IsReplied (course_of setup asked old)) → IfOk result (IsReplyHeld setup.max_content) → IfOk result (IsJudged setup reading old)
 answers_by setup reading old asked (Ok judged) asks none replied held =
     inl (record { asked = asked; asks = asks; no_octets = none; replied = replied; held = held })
 answers_by setup reading old asked (Err fault) asks none replied held = tt

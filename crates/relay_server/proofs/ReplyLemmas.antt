@@ -374,4 +374,4 @@ only_content_is_offered setup (Command state) new turn offer given is e =
     let last = last_asks comes.text comes.octets asked.0 (subst (λ (a : Asked). Asks comes.text comes.octets a) asked.1 comes.asks) in
     (comes.text, comes.octets, last.0, comes.is_unit, last.1, last.2)
 only_content_is_offered setup (Receiving client envelope) new turn offer given is e = tt
-only_content_is_offered setup Closed new turn offer given is e = tt
+only_content_is_offered setup Closed new turn offer given is e = absurd is.comes

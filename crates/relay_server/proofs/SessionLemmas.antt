@@ -18,7 +18,7 @@ use Rattle.relay_server.specs.ReplyTable.{Course, Replies, Offers, course_of, co
 use Rattle.relay_server.specs.Session.{EndsBy, GathersChunk, GoesOn, Moves, RefusesChunk}
 use Rattle.relay_server.specs.Setup.{Setup}
 use Rattle.relay_server.specs.State.{CommandState, State, Command}
-use Rattle.relay_server.specs.Unit.{Asked, LongLine, Faulty, Asks, asked_of_long, chunk_size_by, chunk_size_of}
+use Rattle.relay_server.specs.Unit.{Asked, LongLine, Faulty, Asks, asked_of_long, announced_by, announced_of}
 use Rattle.relay_lines.specs.ChunkArgument.{begins_with_bdat}
 use Rattle.relay_lines.specs.Word.{is_word}
 use Rattle.relay_lines.specs.declared.command.LineFault.TheVariants.{BadChunkSize}
@@ -48,11 +48,11 @@ comes_and_ends setup old unit (Offers client envelope content) new before after 
     subst (λ (s : Stage). Moves setup old s unit before after) (sym ends.1) (inl goes)
 
 -- a line that announces nothing, and is no longer than it may be, has its course
-short_counted : (text : List ℕ) → length text ≤ 2046 → chunk_size_by (reading_of text) ≡ 0 → chunk_size_of text ≡ 0
+short_counted : (text : List ℕ) → length text ≤ 2046 → announced_by (reading_of text) ≡ 0 → announced_of text ≡ 0
 short_counted text short none =
-    cond-true (nat_le (length text) 2046) (chunk_size_by (reading_of text)) 0 (le-leb (length text) 2046 short) ∙ none
+    cond-true (nat_le (length text) 2046) (announced_by (reading_of text)) 0 (le-leb (length text) 2046 short) ∙ none
 
-line_comes : (setup : Setup) (state : CommandState) (text : List ℕ) (asked : Asked) (course : Course) → HasNoCrlf text → chunk_size_of text ≡ 0 → Asks text [] asked → course_of setup asked state ≡ course → Comes setup (Command state) (text ++ crlf) course
+line_comes : (setup : Setup) (state : CommandState) (text : List ℕ) (asked : Asked) (course : Course) → HasNoCrlf text → announced_of text ≡ 0 → Asks text [] asked → course_of setup asked state ≡ course → Comes setup (Command state) (text ++ crlf) course
 line_comes setup state text asked course is_line none asks course_is = record {
   text = text;
   octets = [];

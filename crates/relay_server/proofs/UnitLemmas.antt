@@ -6,7 +6,7 @@ use Rattle.relay_octets.proofs.LineLemmas.{first_line_is_one}
 use Rattle.relay_body.proofs.DotTextLemmas.{no_text_is_empty, no_text_begins_another}
 use Rattle.relay_server.specs.DialogueLaws.{NoUnitIsEmpty, NoUnitBeginsAnother}
 use Rattle.relay_server.specs.State.{Command, Receiving, Closed}
-use Rattle.relay_server.specs.Unit.{IsCommandUnit, chunk_size_of}
+use Rattle.relay_server.specs.Unit.{IsCommandUnit, announced_of}
 
 -- behind parts of one length lists go on alike
 pub same_parts : {A : Type 0} (front other rest more : List A) → length front ≡ length other → front ++ rest ≡ other ++ more → (front ≡ other) × (rest ≡ more)
@@ -29,7 +29,7 @@ one_command_unit unit other behind rest text octets line more one two e =
       text = e ∙ ap (λ u. u ++ rest) two.unit_is ∙ behind_line line more rest;
       first = two.line;
     }) in
-    let sizes = one.counted ∙ ap chunk_size_of same.0 ∙ sym two.counted in
+    let sizes = one.counted ∙ ap announced_of same.0 ∙ sym two.counted in
     let parts = same_parts octets more behind rest sizes same.1 in
     (same.0, parts.0, parts.1)
 

@@ -1,5 +1,5 @@
--- The dialogue of a server with a client (RFC 5321, sections 2.3.8, 3 and 4; RFC 2920): the units of the input, each
--- with its one reply, and the offers of mail. The units decide, and not the pieces that they come in.
+-- The dialogue of a server with a client (RFC 5321, sections 2.3.8, 3 and 4; RFC 2920; RFC 3030, section 2): the units of
+-- the input, each with its one reply, and the offers of mail. The units decide, and not the pieces that they come in.
 use Rattle.std.specs.Prelude.{◌≡◌, ◌⊎◌, ℕ, List, [], ◌∷◌, ◌++◌, Option, Some, None}
 use Rattle.std.specs.List.{flat_map}
 use Rattle.relay_body.specs.DotText.{ReadsDotText}

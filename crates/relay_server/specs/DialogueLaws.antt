@@ -77,7 +77,7 @@ EndsContent (Command state) unit =
     (text : List ℕ) × (octets : List ℕ) × (size : ℕ) × IsCommandUnit unit text octets × (length text ≤ 2046)
     × (reading_of text ≡ Ok (Bdat (record { size = size; last = true })))
 EndsContent (Receiving client envelope) unit = Unit {0}
-EndsContent Closed unit = Unit {0}
+EndsContent Closed unit = ⊥
 
 -- of all replies to the end of a content only the one to a queued offer is positive
 abbrev pub OnlyQueuedIsPositive : Type 0

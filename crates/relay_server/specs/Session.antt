@@ -63,7 +63,7 @@ is_reading stage.Closed = false
 is_reading stage.Failed = false
 
 -- the octets are a line of BDAT with this argument, and these of its chunk
-pub record BeginsChunk (octets : List ℕ) (argument : BdatArgument) (part : List ℕ) : Type 0 where
+pub record AnnouncesChunk (octets : List ℕ) (argument : BdatArgument) (part : List ℕ) : Type 0 where
   pub text : List ℕ
   pub octets_are : octets ≡ text ++ crlf ++ part
   pub line : HasNoCrlf text
@@ -76,7 +76,7 @@ pub record GathersChunk (limit : ℕ) (transaction : Transaction) (reader : Chun
   pub state_is : state ≡ Command old
   pub argument : BdatArgument
   pub part : List ℕ
-  pub begins : BeginsChunk octets argument part
+  pub begins : AnnouncesChunk octets argument part
   pub last_is : is_last ≡ argument.last
   pub chunks : List Chunk
   pub chunk_is : IsInChunk reader limit chunks (record { size = argument.size; octets = part })
@@ -89,7 +89,7 @@ pub record RefusesChunk (limit : ℕ) (row : Row) (behind : Held) (missing : ℕ
   pub state_is : state ≡ Command old
   pub argument : BdatArgument
   pub part : List ℕ
-  pub begins : BeginsChunk octets argument part
+  pub begins : AnnouncesChunk octets argument part
   pub size_is : argument.size ≡ length part + missing
   pub is_held : IsHeld limit behind
   pub course_is : (rest : List ℕ) → course_of_bdat limit rest argument.last old ≡ Replies row (Command (command_state_of behind))

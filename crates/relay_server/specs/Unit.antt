@@ -14,19 +14,19 @@ use Rattle.relay_trace.specs.declared.received.Protocol.TheVariants.{Smtp, Esmtp
 use Rattle.relay_server.specs.declared.client.Client.{Client}
 use Rattle.relay_server.specs.State.{State, Command, Receiving, Closed, client_of}
 
--- how many octets follow a line at once: those of the chunk that it announces, or none
-abbrev pub chunk_size_by : Result line.Command LineFault → ℕ
-chunk_size_by (Ok (line.Bdat argument)) = argument.size
-chunk_size_by _ = 0
+-- how many octets a line announces, which follow it at once: those of its chunk, or none
+abbrev pub announced_by : Result line.Command LineFault → ℕ
+announced_by (Ok (line.Bdat argument)) = argument.size
+announced_by _ = 0
 
-abbrev pub chunk_size_of : List ℕ → ℕ
-chunk_size_of text = if nat_le (length text) 2046 then chunk_size_by (reading_of text) else 0
+abbrev pub announced_of : List ℕ → ℕ
+announced_of text = if nat_le (length text) 2046 then announced_by (reading_of text) else 0
 
 -- a command line with its CR LF, and the octets of its chunk behind it
 pub record IsCommandUnit (unit text octets : List ℕ) : Type 0 where
   pub unit_is : unit ≡ text ++ crlf ++ octets
   pub line : HasNoCrlf text
-  pub counted : length octets ≡ chunk_size_of text
+  pub counted : length octets ≡ announced_of text
 
 -- a line where a command is awaited, and a dot text behind DATA that was answered 354
 abbrev pub IsUnit : State → List ℕ → Type 0
@@ -73,7 +73,7 @@ AsksBy (Ok line.Quit) octets asked = asked ≡ Quit
 abbrev pub asked_of_long : List ℕ → Asked
 asked_of_long text = if begins_with_bdat text then Faulty BadChunkSize else LongLine
 
--- the line, with the octets behind it, asks this; it has at most 2,048 octets with its CR LF
+-- the line, with the octets behind it, asks this; a line of more than 2,048 octets with its CR LF is too long
 abbrev pub Asks : List ℕ → List ℕ → Asked → Type 0
 Asks text octets asked =
     ((2046 < length text) × (asked ≡ asked_of_long text)) ⊎ ((length text ≤ 2046) × AsksBy (reading_of text) octets asked)

@@ -9,7 +9,7 @@ use Rattle.relay_server.specs.declared.judge.Judged.{Judged}
 use Rattle.relay_server.specs.declared.judge.Judged.TheVariants as judged
 use Rattle.relay_server.specs.Setup.{Setup}
 use Rattle.relay_server.specs.ReplyTable.{Course, Replies, course_of, course_of_bdat, course_of_chunks}
-use Rattle.relay_server.specs.Unit.{Asked, AsksBy, chunk_size_by}
+use Rattle.relay_server.specs.Unit.{Asked, AsksBy, announced_by}
 use Rattle.relay_server.specs.declared.state.CommandState.{CommandState as Held}
 use Rattle.relay_server.specs.declared.state.CommandState.TheVariants as held
 use Rattle.relay_server.specs.declared.state.State.{State as Next}
@@ -66,7 +66,7 @@ IsReplyHeld limit (judged.Gathers transaction reader is_last) = Unit {0}
 IsReplyHeld limit (judged.Refuses row state size) = Unit {0}
 
 -- a chunk of this size has begun, and its octets join those before
-pub record IsBegun (limit : ℕ) (reader : ChunkReader) (size : ℕ) (before : List ℕ) : Type 0 where
+pub record HasBegunChunk (limit : ℕ) (reader : ChunkReader) (size : ℕ) (before : List ℕ) : Type 0 where
   pub chunks : List Chunk
   pub chunk_is : IsInChunk reader limit chunks (new_chunk size)
   pub before_is : content_of_chunks chunks ≡ before
@@ -75,7 +75,7 @@ pub record IsBegun (limit : ℕ) (reader : ChunkReader) (size : ℕ) (before : L
 abbrev pub IsChunked : ℕ → BdatArgument → CommandState → Judged → Type 0
 IsChunked limit argument old (judged.Replied row next) = ⊥
 IsChunked limit argument old (judged.Gathers transaction reader is_last) =
-    (before : List ℕ) × IsBegun limit reader argument.size before × (is_last ≡ argument.last)
+    (before : List ℕ) × HasBegunChunk limit reader argument.size before × (is_last ≡ argument.last)
     × ((octets : List ℕ) → course_of_bdat limit octets argument.last old
     ≡ course_of_chunks limit transaction.client transaction.envelope (before ++ octets) argument.last)
 IsChunked limit argument old (judged.Refuses row state size) =
@@ -86,7 +86,7 @@ IsChunked limit argument old (judged.Refuses row state size) =
 pub record IsAnswered (setup : Setup) (reading : Result line.Command LineFault) (old : CommandState) (judged : Judged) : Type 0 where
   pub asked : Asked
   pub asks : AsksBy reading [] asked
-  pub no_octets : chunk_size_by reading ≡ 0
+  pub no_octets : announced_by reading ≡ 0
   pub replied : IsReplied (course_of setup asked old) judged
   pub held : IsReplyHeld setup.max_content judged
 

@@ -127,22 +127,7 @@ fn judge_mail(
                 State::Command(CommandState::Open(transaction)),
             ))
         }
-        CommandState::Fresh => Ok(Judged::Replied(
-            Row::BadSequence,
-            State::Command(CommandState::Fresh),
-        )),
-        CommandState::Open(transaction) => Ok(Judged::Replied(
-            Row::BadSequence,
-            State::Command(CommandState::Open(transaction)),
-        )),
-        CommandState::Gathering(gathering) => Ok(Judged::Replied(
-            Row::BadSequence,
-            State::Command(CommandState::Gathering(gathering)),
-        )),
-        CommandState::Spent(client) => Ok(Judged::Replied(
-            Row::BadSequence,
-            State::Command(CommandState::Spent(client)),
-        )),
+        state => Ok(out_of_sequence(state)),
     }
 }
 
@@ -166,22 +151,7 @@ fn judge_rcpt(
     };
     match state {
         CommandState::Open(transaction) => add(server, table, rcpt, transaction),
-        CommandState::Fresh => Ok(Judged::Replied(
-            Row::BadSequence,
-            State::Command(CommandState::Fresh),
-        )),
-        CommandState::Greeted(client) => Ok(Judged::Replied(
-            Row::BadSequence,
-            State::Command(CommandState::Greeted(client)),
-        )),
-        CommandState::Gathering(gathering) => Ok(Judged::Replied(
-            Row::BadSequence,
-            State::Command(CommandState::Gathering(gathering)),
-        )),
-        CommandState::Spent(client) => Ok(Judged::Replied(
-            Row::BadSequence,
-            State::Command(CommandState::Spent(client)),
-        )),
+        state => Ok(out_of_sequence(state)),
     }
 }
 
@@ -232,22 +202,7 @@ fn judge_data(state: CommandState) -> Judged
                 Judged::Replied(Row::StartMailInput, State::Receiving(transaction))
             }
         }
-        CommandState::Fresh => Judged::Replied(
-            Row::BadSequence,
-            State::Command(CommandState::Fresh),
-        ),
-        CommandState::Greeted(client) => Judged::Replied(
-            Row::BadSequence,
-            State::Command(CommandState::Greeted(client)),
-        ),
-        CommandState::Gathering(gathering) => Judged::Replied(
-            Row::BadSequence,
-            State::Command(CommandState::Gathering(gathering)),
-        ),
-        CommandState::Spent(client) => Judged::Replied(
-            Row::BadSequence,
-            State::Command(CommandState::Spent(client)),
-        ),
+        state => out_of_sequence(state),
     }
 }
 
@@ -275,14 +230,15 @@ fn judge_bdat(server: &Server, argument: BdatArgument, state: CommandState) -> J
             reader.begin(size);
             Judged::Gathers(transaction, reader, last)
         }
-        CommandState::Fresh => Judged::Refuses(Row::BadSequence, CommandState::Fresh, size),
-        CommandState::Greeted(client) => {
-            Judged::Refuses(Row::BadSequence, CommandState::Greeted(client), size)
-        }
-        CommandState::Spent(client) => {
-            Judged::Refuses(Row::BadSequence, CommandState::Spent(client), size)
-        }
+        state => Judged::Refuses(Row::BadSequence, state, size),
     }
+}
+
+/// The command may not come here, and changes nothing.
+fn out_of_sequence(state: CommandState) -> Judged
+    ensures { result ≡ Judged.Replied Row.BadSequence (State.Command state) }
+{
+    Judged::Replied(Row::BadSequence, State::Command(state))
 }
 
 /// RSET gives the transaction up.

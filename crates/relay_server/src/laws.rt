@@ -36,7 +36,7 @@ pub fn beginnings_have_beginnings()
     ensures { BeginningsHaveBeginnings }
 {}
 
-/// Of all replies to mail data only the one to a queued message is positive.
+/// Of all replies to mail data and to a last chunk only the one to a queued message is positive.
 pub fn only_queued_is_positive()
     ensures { OnlyQueuedIsPositive }
 {}
@@ -51,7 +51,8 @@ pub fn replies_are_well_formed()
     ensures { RepliesAreWellFormed }
 {}
 
-/// Whatever is offered may be stored: a host word, a whole envelope of 1 to 100 recipients, a content within the limit.
+/// Whatever is offered may be stored: a host word, a whole envelope of 1 to 100 recipients, a content within the limit
+/// with at most 99 `Received:` fields.
 pub fn offers_may_be_stored()
     ensures { OffersMayBeStored }
 {}

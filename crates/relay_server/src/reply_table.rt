@@ -1,5 +1,5 @@
-ghost use Rattle.std.specs.Prelude.{◌≡◌, ◌++◌, OnOk, OnErr};
-ghost use Rattle.relay_lines.specs.Reply.{Begins, reply_text};
+ghost use Rattle.std.specs.Prelude.{◌≡◌, ◌++◌, codes, decimal, OnOk, OnErr};
+ghost use Rattle.relay_lines.specs.Reply.{Begins, one_line, reply_text};
 ghost use Rattle.relay_server.specs.Reply.{reply_of};
 
 use itoa::Buffer;
@@ -90,14 +90,7 @@ impl Row {
             Row::ChunkOk => write_line(out, 250, b"chunk OK", b""),
             Row::ContentTooLarge => write_line(out, 552, b"content too large", b""),
             Row::TooManyReceived => write_line(out, 554, b"too many Received fields", b""),
-            Row::Queued(number) => {
-                write_line(
-                    out,
-                    250,
-                    b"queued as ",
-                    Buffer::new().format(number).as_bytes(),
-                )
-            }
+            Row::Queued(number) => write_queued(number, out),
             Row::SpoolFull => write_line(out, 452, b"spool full", b""),
             Row::Done => write_line(out, 250, b"OK", b""),
             Row::NotVerified => write_line(out, 252, b"not verified", b""),
@@ -115,6 +108,16 @@ impl Row {
             Row::BadChunkSize => write_line(out, 421, host, b" bad chunk size, closing"),
         }
     }
+}
+
+/// Writes that a message is in the queue, under this number. Where memory runs out, nothing is written.
+fn write_queued(number: u64, out: &mut Vec<u8>) -> Result<(), AllocError>
+    ensures ok { OnOk result (out.new.items ≡ out.old.items
+        ++ reply_text (one_line 250 (codes "queued as " ++ decimal number))) }
+    ensures err { OnErr result (out.new.items ≡ out.old.items) }
+{
+    let mut digits = Buffer::new();
+    write_line(out, 250, b"queued as ", digits.format(number).as_bytes())
 }
 
 /// Writes the reply to EHLO (RFC 5321, section 4.1.1.1): the name of the host, and a keyword a line. Where memory runs

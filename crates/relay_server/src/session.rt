@@ -44,7 +44,7 @@ pub struct Fed {
 /// The server's end of one connection.
 pub struct Session {
     server: Server,
-    /// What has come of a command line, and nothing while mail data comes.
+    /// What has come of a command line, and nothing while mail data or a chunk comes.
     line: LineBuffer,
     stage: Stage,
 }

@@ -1,13 +1,10 @@
 -- A session that keeps its offers: what one feed and one kept offer do to what was said.
-use Rattle.std.proofs.Common.{◌≡◌, ◌≤◌, ◌<◌, ◌-◌, ℕ, zero, suc, ◌+◌, List, [], ◌∷◌, ◌++◌, length, drop, Bool, true, false, Option, Some, None, refl, sym, ap, ◌∙◌, subst, arith, append_assoc, append-nil, length-append, length-drop}
+use Rattle.std.proofs.Common.{◌≡◌, ◌≤◌, ◌<◌, ◌-◌, ℕ, zero, suc, ◌+◌, List, [], ◌∷◌, ◌++◌, length, drop, Bool, true, false, refl, sym, ap, ◌∙◌, subst, arith, append_assoc, append-nil, length-append, length-drop}
 use Rattle.std.proofs.lemmas.List.{nil_from_length}
-use Rattle.relay_server.specs.declared.offer.Answer.{Answer}
 use Rattle.relay_server.specs.declared.offer.Answer.TheVariants.{Queued}
-use Rattle.relay_server.specs.declared.session.Session.{Session}
-use Rattle.relay_server.specs.declared.session.Next.TheVariants as next
 use Rattle.relay_server.specs.declared.stage.Stage.{Stage}
 use Rattle.relay_server.specs.declared.stage.Stage.TheVariants as stage
-use Rattle.relay_server.specs.Dialogue.{Said, Offered, Turn, answers_in, offers_in, answered_by, offered_by, more_said}
+use Rattle.relay_server.specs.Dialogue.{Said, Offered, offered_by, more_said}
 use Rattle.relay_server.specs.Setup.{Setup}
 use Rattle.relay_server.specs.Session.{IsOffering, Stands, new_offers, offers_at}
 use Rattle.relay_server.proofs.StageLemmas.{as_many, new_behind, none_of, offering_is_open}

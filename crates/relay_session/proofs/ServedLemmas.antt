@@ -2,12 +2,10 @@
 use Rattle.std.proofs.Common.{◌≡◌, ◌⊎◌, inl, inr, Result, Ok, Err, OnErr, ℕ, List, [], ◌∷◌, ◌++◌, length, Bool, true, false, Option, refl, sym, ap, ◌∙◌, subst, append_assoc, append-nil, take}
 use Rattle.std.specs.Io.KnownBytes.{Appends, Consumes, IsAtEnd, Keeps}
 use Rattle.std.proofs.KnownBytes.{Appends-nil, Appends-trans, Consumes-nil, Consumes-trans, Consumes-kept}
-use Rattle.relay_server.specs.declared.stage.Stage.{Stage}
 use Rattle.relay_server.specs.declared.stage.Stage.TheVariants as stage
-use Rattle.relay_server.specs.Dialogue.{IsDialogue, Said, Turns, greeted_only, offered_by, read_by}
+use Rattle.relay_server.specs.Dialogue.{IsDialogue, Said, greeted_only}
 use Rattle.relay_server.specs.Setup.{Setup}
-use Rattle.relay_server.specs.Session.{offers_at}
-use Rattle.relay_server.specs.State.{Closed, State, start}
+use Rattle.relay_server.specs.State.{start}
 use Rattle.relay_server.proofs.StageLemmas.{closed_dialogue, unread_behind}
 use Rattle.relay_server.proofs.DialogueLemmas.{what_stands_is_a_dialogue}
 use Rattle.relay_server.proofs.UnitLemmas.{no_unit_is_empty}
@@ -15,7 +13,7 @@ use Rattle.relay_session.specs.declared.exchange.Exchange.{Exchange}
 use Rattle.relay_session.specs.Exchange.{Receives, Rests, greeted_by}
 use Rattle.relay_session.specs.declared.peer.Peer.{Peer}
 use Rattle.relay_session.specs.Kept.{queued_to}
-use Rattle.relay_session.specs.Rounds.{BreaksOff, GoesOn, GoesRound}
+use Rattle.relay_session.specs.Rounds.{BreaksOff, HasSaid, GoesRound}
 use Rattle.relay_session.specs.Served.{IsBegun, IsServed}
 use Rattle.relay_session.proofs.KeptLemmas.{as_many_kept}
 
@@ -76,7 +74,7 @@ module _ (setup : Setup) (peer : Peer) where
 
   module _ (left mid_left new_left held mid_held new_held : Option (List ℕ)) (old new : Exchange) where
     -- a round that isn't the last one
-    pub goes_on : (g : GoesOn setup peer left mid_left held mid_held old) → GoesRound setup peer mid_left new_left mid_held new_held g.said new false → GoesOn setup peer left new_left held new_held new
+    pub goes_on : (g : HasSaid setup peer left mid_left held mid_held old) → GoesRound setup peer mid_left new_left mid_held new_held g.said new false → HasSaid setup peer left new_left held new_held new
     goes_on g r = record {
       said = r.later;
       rests = r.rests;
@@ -86,7 +84,7 @@ module _ (setup : Setup) (peer : Peer) where
       written = subst (Appends held new_held) (sym r.output) (Appends-trans held mid_held new_held g.said.output r.replies g.written r.written);
     }
 
-    served_by : (g : GoesOn setup peer left mid_left held mid_held old) → (r : GoesRound setup peer mid_left new_left mid_held new_held g.said new true) → ((new.session.stage ≡ stage.Closed) ⊎ ((r.unused ≡ []) × IsAtEnd new_left)) → IsServed setup peer left new_left held new_held new.messages
+    served_by : (g : HasSaid setup peer left mid_left held mid_held old) → (r : GoesRound setup peer mid_left new_left mid_held new_held g.said new true) → ((new.session.stage ≡ stage.Closed) ⊎ ((r.unused ≡ []) × IsAtEnd new_left)) → IsServed setup peer left new_left held new_held new.messages
     served_by g r (inl closed) = record {
       said = unread_behind r.later r.unused;
       dialogue = (closed_dialogue setup new.session r.later r.unused r.rests.stands closed).0;
@@ -111,11 +109,11 @@ module _ (setup : Setup) (peer : Peer) where
     }
 
     -- the last round
-    pub served : (g : GoesOn setup peer left mid_left held mid_held old) → GoesRound setup peer mid_left new_left mid_held new_held g.said new true → IsServed setup peer left new_left held new_held new.messages
+    pub served : (g : HasSaid setup peer left mid_left held mid_held old) → GoesRound setup peer mid_left new_left mid_held new_held g.said new true → IsServed setup peer left new_left held new_held new.messages
     served g r = served_by g r (r.ends refl)
 
     -- a round that a fault has ended
-    pub broken : (g : GoesOn setup peer left mid_left held mid_held old) → BreaksOff setup mid_left new_left mid_held new_held g.said → IsBegun setup left new_left held new_held
+    pub broken : (g : HasSaid setup peer left mid_left held mid_held old) → BreaksOff setup mid_left new_left mid_held new_held g.said → IsBegun setup left new_left held new_held
     broken g b = record {
       said = b.later;
       dialogue = b.dialogue;
@@ -145,7 +143,7 @@ module _ (setup : Setup) (peer : Peer) where
   }
 
   -- the greeting was written
-  pub started : (left held new_held : Option (List ℕ)) (exchange : Exchange) (greeting : List ℕ) → Rests setup peer exchange (greeted_by greeting) → Appends held new_held greeting → GoesOn setup peer left left held new_held exchange
+  pub started : (left held new_held : Option (List ℕ)) (exchange : Exchange) (greeting : List ℕ) → Rests setup peer exchange (greeted_by greeting) → Appends held new_held greeting → HasSaid setup peer left left held new_held exchange
   started left held new_held exchange greeting rests written = record {
     said = greeted_by greeting;
     rests = rests;
@@ -154,7 +152,7 @@ module _ (setup : Setup) (peer : Peer) where
   }
 
   -- after the last read
-  pub begun_so_far : (left new_left held new_held : Option (List ℕ)) (exchange : Exchange) → GoesOn setup peer left new_left held new_held exchange → IsBegun setup left new_left held new_held
+  pub begun_so_far : (left new_left held new_held : Option (List ℕ)) (exchange : Exchange) → HasSaid setup peer left new_left held new_held exchange → IsBegun setup left new_left held new_held
   begun_so_far left new_left held new_held exchange g = record {
     said = g.said;
     dialogue = dialogue exchange g.said g.rests;

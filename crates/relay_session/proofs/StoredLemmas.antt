@@ -17,7 +17,7 @@ use Rattle.relay_server.proofs.StoredLemmas.{offers_may_be_stored}
 use Rattle.relay_session.specs.declared.message.Message.{Message}
 use Rattle.relay_session.specs.declared.peer.Peer.{Peer}
 use Rattle.relay_session.specs.Kept.{AreKeptFrom, stamp_at}
-use Rattle.relay_session.specs.Laws.{CountOneMore, IsAddress, KeepingAddsOne}
+use Rattle.relay_session.specs.Laws.{CountOneMore, IsPeerAddress, KeepingAddsOne}
 
 -- no CR stands in the name of a host
 host_is_free : (host : List ℕ) → IsHostName host → HasNoCrlf host
@@ -38,7 +38,7 @@ word_is_free word is = by_form is.form
     by_form (inl octets) = no_crlf_without_cr word (lacks_by_test is_domain_octet 13 word refl octets)
     by_form (inr literal) = no_crlf_without_cr word (literal_lacks_cr word literal)
 
-module _ (setup : Setup) (peer : Peer) (name : IsHostName setup.host) (address : IsAddress peer.address) where
+module _ (setup : Setup) (peer : Peer) (name : IsHostName setup.host) (address : IsPeerAddress peer.address) where
   -- the stamp of an offer that may be stored
   stamp_is_sound : (offer : Offered) (number : ℕ) → MayBeStored setup offer → number < 2 ^ 64 → IsStamp (stamp_at setup.host peer offer.client number)
   stamp_is_sound offer number stored small = record {

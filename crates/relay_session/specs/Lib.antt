@@ -1,4 +1,3 @@
-pub mod Setup
 pub mod Kept
 pub mod Exchange
 pub mod Served

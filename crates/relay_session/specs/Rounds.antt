@@ -10,7 +10,7 @@ use Rattle.relay_session.specs.Exchange.{Rests}
 use Rattle.relay_session.specs.Kept.{queued_to}
 
 -- so far the exchange has said what was read and written
-pub record GoesOn (setup : Setup) (peer : Peer) (left new_left held new_held : Option (List ℕ)) (exchange : Exchange) : Type 0 where
+pub record HasSaid (setup : Setup) (peer : Peer) (left new_left held new_held : Option (List ℕ)) (exchange : Exchange) : Type 0 where
   pub said : Said
   pub rests : Rests setup peer exchange said
   pub read : Consumes left new_left said.input

@@ -3,7 +3,7 @@ ghost use Rattle.relay_server.specs.Dialogue.{Said};
 ghost use Rattle.relay_server.specs.Session.{HasOffer};
 ghost use Rattle.relay_session.specs.declared.peer.Peer.{Peer};
 ghost use Rattle.relay_session.specs.Exchange.{Receives, Rests, Serves, greeted_by};
-ghost use Rattle.relay_session.specs.Setup.{setup_of_config};
+ghost use Rattle.relay_server.specs.Setup.{setup_of_config};
 
 use crate::message::{Message, Messages};
 use crate::peer::Peer;

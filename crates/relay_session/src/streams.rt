@@ -2,9 +2,9 @@ ghost use Rattle.std.specs.Prelude.{◌≡◌, ℕ, List, ◌++◌, ◌<◌, len
 ghost use Rattle.std.specs.Io.KnownBytes.{Appends};
 ghost use Rattle.relay_server.specs.Dialogue.{Said};
 ghost use Rattle.relay_session.specs.Exchange.{Rests, greeted_by};
-ghost use Rattle.relay_session.specs.Rounds.{BreaksOff, GoesOn, GoesRound};
+ghost use Rattle.relay_session.specs.Rounds.{BreaksOff, HasSaid, GoesRound};
 ghost use Rattle.relay_session.specs.Served.{IsBegun, IsServed};
-ghost use Rattle.relay_session.specs.Setup.{setup_of_config};
+ghost use Rattle.relay_server.specs.Setup.{setup_of_config};
 
 use crate::exchange::Exchange;
 use crate::message::Messages;
@@ -103,10 +103,10 @@ fn converse<R: Read, W: Write>(
 ) -> Result<(), SessionFault>
     requires rests { (said : Said) × Rests (setup_of_config config.now) peer.now exchange.old said }
     ensures served { IfOk result (λ _. (left held : Option (List ℕ))
-        → GoesOn (setup_of_config config.now) peer.now left (R.remaining reader.old) held (W.contents writer.old) exchange.old
+        → HasSaid (setup_of_config config.now) peer.now left (R.remaining reader.old) held (W.contents writer.old) exchange.old
         → IsServed (setup_of_config config.now) peer.now left (R.remaining reader.new) held (W.contents writer.new) exchange.new.messages) }
     ensures begun { OnErr result ((left held : Option (List ℕ))
-        → GoesOn (setup_of_config config.now) peer.now left (R.remaining reader.old) held (W.contents writer.old) exchange.old
+        → HasSaid (setup_of_config config.now) peer.now left (R.remaining reader.old) held (W.contents writer.old) exchange.old
         → IsBegun (setup_of_config config.now) left (R.remaining reader.new) held (W.contents writer.new)) }
 {
     let mut block: Vec<u8> = vec![in alloc; 0; BLOCK]?;

@@ -127,7 +127,9 @@ const SESSION: [&str; 2] = ["relayd", "session"];
 
 #[test]
 fn the_first_dialogue_octet_by_octet(rt: HostRuntime) -> Result<(), Fail> {
-    let input = text_of(rt.alloc(), &COMMANDS)?;
+    let mut input = text_of(rt.alloc(), &COMMANDS)?;
+    let end = input.len();
+    input.extend_from_slice(b"NOOP\r\n")?;
     let wanted = text_of(rt.alloc(), &REPLIES)?;
     let mut reader = reader_of(input.as_slice(), None, ErrorKind::Other);
     let mut writer = writer_of(rt.alloc(), None, ErrorKind::Other, 0);
@@ -135,6 +137,7 @@ fn the_first_dialogue_octet_by_octet(rt: HostRuntime) -> Result<(), Fail> {
     let status = command(rt.alloc(), &SESSION, &mut reader, &mut writer, &mut errors);
     assert_eq!(rt; status, 0);
     assert_eq!(rt; writer.held.as_slice(), wanted.as_slice());
+    assert_eq!(rt; reader.given, end, "nothing is read behind the close");
     assert!(rt; errors.is_empty());
     Ok(())
 }

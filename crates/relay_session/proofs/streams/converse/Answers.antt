@@ -1,9 +1,9 @@
 -- The exchange goes on round by round.
 use Rattle.std.proofs.Common.{◌≡◌, ℕ, rules, List, Option, ◌<◌, length, subst, sym, drop, arith, ap, ◌∙◌}
 use Rattle.std.proofs.lemmas.List.{take_at}
-use Rattle.relay_session.specs.Rounds.{GoesOn}
+use Rattle.relay_session.specs.Rounds.{HasSaid}
 use Rattle.relay_session.specs.Served.{IsBegun}
-use Rattle.relay_session.specs.Setup.{setup_of_config}
+use Rattle.relay_server.specs.Setup.{setup_of_config}
 use Rattle.relay_session.proofs.ServedLemmas.{begun_so_far, broken, goes_on, on_err, served}
 use Rattle.relay_session.proofs.streams.converse.Goals as goal
 
@@ -30,14 +30,14 @@ pub returns-in_err-block-clause-begun : goal.returns-in_err-block-clause-begun
 returns-in_err-block-clause-begun g c =
     let setup = setup_of_config c.args.config.now in
     let peer = c.args.peer.now in
-    let begun : (left held : Option (List ℕ)) → GoesOn setup peer left (g.R.Read.remaining c.args.reader.now) held (g.W.Write.contents c.args.writer.now) c.args.exchange.now → IsBegun setup left (g.R.Read.remaining c.args.reader.now) held (g.W.Write.contents c.args.writer.now) = λ left held before. begun_so_far setup peer _ _ _ _ _ before in
+    let begun : (left held : Option (List ℕ)) → HasSaid setup peer left (g.R.Read.remaining c.args.reader.now) held (g.W.Write.contents c.args.writer.now) c.args.exchange.now → IsBegun setup left (g.R.Read.remaining c.args.reader.now) held (g.W.Write.contents c.args.writer.now) = λ left held before. begun_so_far setup peer _ _ _ _ _ before in
     on_err _ _ begun
 
 pub returns-in_err-exchange_block-clause-begun : goal.returns-in_err-exchange_block-clause-begun
 returns-in_err-exchange_block-clause-begun g c =
     let setup = setup_of_config c.args.config.now in
     let peer = c.args.peer.now in
-    let begun : (left held : Option (List ℕ)) → GoesOn setup peer left (g.R.Read.remaining c.args.reader.now) held (g.W.Write.contents c.args.writer.now) c.args.exchange.now → IsBegun setup left (g.R.Read.remaining c.exchange_block.new.reader) held (g.W.Write.contents c.exchange_block.new.writer) =
+    let begun : (left held : Option (List ℕ)) → HasSaid setup peer left (g.R.Read.remaining c.args.reader.now) held (g.W.Write.contents c.args.writer.now) c.args.exchange.now → IsBegun setup left (g.R.Read.remaining c.exchange_block.new.reader) held (g.W.Write.contents c.exchange_block.new.writer) =
     λ left held before.
     let so_far = c.loop.invariant.so_far left held before in
     broken setup peer _ _ _ _ _ _ c.loop.exchange c.loop.exchange so_far (c.in_err-exchange_block.ensures.err so_far.said so_far.rests) in

@@ -4,7 +4,7 @@ use Rattle.std.specs.Io.KnownBytes.{Appends}
 use Rattle.relay_server.specs.Dialogue.{Said}
 use Rattle.relay_session.specs.Exchange.{Receives, Rests}
 use Rattle.relay_session.specs.Rounds.{BreaksOff}
-use Rattle.relay_session.specs.Setup.{setup_of_config}
+use Rattle.relay_server.specs.Setup.{setup_of_config}
 use Rattle.relay_session.proofs.ServedLemmas.{at_end, cut_off, on_err, quiet, read_none, read_nothing, stopped, whole_round}
 use Rattle.relay_session.proofs.streams.exchange_block.Goals as goal
 

@@ -1,5 +1,5 @@
 -- A session is its greeting, and then round by round.
-use Rattle.relay_session.specs.Setup.{setup_of_config}
+use Rattle.relay_server.specs.Setup.{setup_of_config}
 use Rattle.relay_session.proofs.ServedLemmas.{begun_greeting, on_err, started}
 use Rattle.relay_session.proofs.streams.serve.Goals as goal
 

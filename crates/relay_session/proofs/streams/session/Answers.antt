@@ -1,7 +1,7 @@
 -- Where no session could be made, nothing was read or written.
 use Rattle.std.proofs.Common.{◌≡◌, ℕ, List, rules, subst, sym}
 use Rattle.relay_session.specs.Exchange.{Rests, greeted_by}
-use Rattle.relay_session.specs.Setup.{setup_of_config}
+use Rattle.relay_server.specs.Setup.{setup_of_config}
 use Rattle.relay_session.proofs.ServedLemmas.{begun_nothing, on_err}
 use Rattle.relay_session.proofs.streams.session.Goals as goal
 

@@ -1,12 +1,12 @@
 -- the greeting is all that was said
 use Rattle.std.proofs.Common.{◌≡◌, refl, rules, []}
-use Rattle.relay_dialogues.specs.Transcript.{setup_from}
+use Rattle.relay_server.specs.Setup.{setup_of_config}
 use Rattle.relay_dialogues.proofs.PlayLemmas.{begun}
 use Rattle.relay_dialogues.proofs.play.Play.new.Goals as goal
 
 pub returns : goal.returns
 returns c =
-    let setup = setup_from c.args.config.now in
+    let setup = setup_of_config c.args.config.now in
     let none : c.in_ok-from_slice.field-0 ≡ [] = search rules in
     let greeting : c.new-2.result ≡ c.in_ok-session.greeting.items = search rules in
     begun setup _ c.in_ok-session.greeting.items (c.in_ok-session.ensures setup refl refl) greeting refl none refl

@@ -1,7 +1,7 @@
 -- The message is kept behind the others, and its number is their count.
 use Rattle.std.proofs.Common.{◌≡◌, rules, ◌++◌, ◌∷◌, []}
 use Rattle.relay_server.specs.Session.{offered, offers_at}
-use Rattle.relay_session.specs.Setup.{setup_of_config}
+use Rattle.relay_server.specs.Setup.{setup_of_config}
 use Rattle.relay_session.proofs.KeptLemmas.{keeps_offer}
 use Rattle.relay_session.proofs.exchange.Exchange.keep.Goals as goal
 

@@ -1,6 +1,6 @@
 -- A session that was just made stands behind its greeting.
 use Rattle.std.proofs.Common.{refl}
-use Rattle.relay_session.specs.Setup.{setup_of_config}
+use Rattle.relay_server.specs.Setup.{setup_of_config}
 use Rattle.relay_session.proofs.KeptLemmas.{rests_greeted}
 use Rattle.relay_session.proofs.exchange.Exchange.open.Goals as goal
 

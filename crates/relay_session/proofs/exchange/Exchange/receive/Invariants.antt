@@ -2,7 +2,7 @@
 use Rattle.std.proofs.Common.{◌≤◌, ◌-◌, false, length, take}
 use Rattle.relay_server.specs.Dialogue.{Said}
 use Rattle.relay_session.specs.Exchange.{Receives, Rests}
-use Rattle.relay_session.specs.Setup.{setup_of_config}
+use Rattle.relay_server.specs.Setup.{setup_of_config}
 use Rattle.relay_session.proofs.exchange.Exchange.receive.Given as goal
 
 abbrev pub invariant-loop-used : goal.invariant-loop-used
