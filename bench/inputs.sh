@@ -32,9 +32,11 @@ large_messages() {
 
 # So many chunks of 65,536 octets each.
 chunks() {
+    local text
+    # The letter keeps the line ends at the chunk's end.
+    text=$(mail_lines 863 | head -c 65536; printf x)
     for ((chunk = 0; chunk < $1; chunk++)); do
-        printf 'BDAT 65536\r\n'
-        mail_lines 863 | head -c 65536
+        printf 'BDAT 65536\r\n%s' "${text%x}"
     done
 }
 
