@@ -1,6 +1,6 @@
 #!/usr/bin/env bash
-# Holds the first dialogue once for each allocation of the program, which is refused: either all goes well all the
-# same, or the program says so, ends with status 1, and has written a beginning of the replies.
+# Holds dialogues once for each allocation of the program, which is refused: either all goes well all the same, or the
+# program says so, ends with status 1, and has written a beginning of the replies.
 #
 #   tests/each_allocation_refused.sh build/relayd
 set -euo pipefail
@@ -12,27 +12,40 @@ trap 'rm -rf "$room"' EXIT
 cc -shared -fPIC -O1 -o "$room/refuse.so" tests/refuse_memory.c
 
 fail() {
-    echo "each_allocation_refused: allocation $number: $1" >&2
+    echo "each_allocation_refused: $input: allocation $number: $1" >&2
     exit 1
 }
 
-# Until one is numbered that the program doesn't do.
-refused=0
-for ((number = 1; number <= 10000; number++)); do
-    rm -f "$room/refused"
-    status=0
+# Holds the dialogue with one allocation refused, and looks at what comes out.
+hold_without() {
+    local status=0
     REFUSE=$number REFUSED=$room/refused LD_PRELOAD=$room/refuse.so "$relayd" session \
-        < crates/relayd/stdin > "$room/out" 2> "$room/errors" || status=$?
+        < "$input" > "$room/out" 2> "$room/errors" || status=$?
     if [ "$status" -eq 0 ]; then
-        cmp -s "$room/out" crates/relayd/stdout || fail "status 0, and other replies"
+        cmp -s "$room/out" "$replies" || fail "status 0, and other replies"
         [ ! -s "$room/errors" ] || fail "status 0, and a fault line"
     else
         [ "$status" -eq 1 ] || fail "status $status"
         [ "$(cat "$room/errors")" = "relayd: no memory" ] || fail "the fault line is: $(cat "$room/errors")"
-        cmp -s -n "$(stat -c %s "$room/out")" "$room/out" crates/relayd/stdout || fail "no beginning of the replies"
+        cmp -s -n "$(stat -c %s "$room/out")" "$room/out" "$replies" || fail "no beginning of the replies"
     fi
-    [ -e "$room/refused" ] || break
-    refused=$((refused + 1))
+}
+
+# hold INPUT REPLIES: refuses each allocation, until one is numbered that the program doesn't do.
+hold() {
+    local input=$1 replies=$2 refused=0
+    for ((number = 1; number <= 10000; number++)); do
+        rm -f "$room/refused"
+        hold_without
+        [ -e "$room/refused" ] || break
+        refused=$((refused + 1))
+    done
+    [ ! -e "$room/refused" ] || fail "there are more allocations than this looks at"
+    [ "$refused" -gt 0 ] || fail "none was refused"
+    echo "each_allocation_refused: $input: $refused allocations refused in turn, and each answered"
+}
+
+hold crates/relayd/stdin crates/relayd/stdout
+for dialogue in parameters gathering; do
+    hold "crates/relay_dialogues/data/$dialogue.in" "crates/relay_dialogues/data/$dialogue.ref"
 done
-[ "$refused" -gt 0 ] || fail "none was refused"
-echo "each_allocation_refused: $refused allocations refused in turn, and each answered"
