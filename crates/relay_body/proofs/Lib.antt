@@ -1,5 +1,6 @@
-pub mod DotTextLemmas
-pub mod ReadingLemmas
-pub mod WritingLemmas
-pub mod ChunkLemmas
-pub mod PlainLemmas
+mod DotTextLemmas
+mod ReadingLemmas
+mod WritingLemmas
+mod ChunkLemmas
+mod PlainLemmas
+pub mod Theorems

@@ -1,1 +1,1 @@
-pub mod PlayerLemmas
+mod PlayerLemmas

@@ -1,1 +1,1 @@
-pub mod PlayLemmas
+mod PlayLemmas

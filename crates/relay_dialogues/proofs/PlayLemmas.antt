@@ -7,12 +7,11 @@ use Rattle.relay_server.specs.declared.stage.Stage.TheVariants as stage
 use Rattle.relay_server.specs.Dialogue.{Offered, Said, more_said}
 use Rattle.relay_server.specs.Setup.{Setup}
 use Rattle.relay_server.specs.Session.{IsOffering, Stands, new_offers, offers_at}
-use Rattle.relay_server.proofs.DialogueLemmas.{output_is_fixed, what_stands_is_a_dialogue}
+use Rattle.relay_server.proofs.Theorems.{closed_dialogue, counted, new_behind, none_of, offering_is_open, output_is_fixed, unread_behind, what_stands_is_a_dialogue}
 use Rattle.relay_dialogues.specs.declared.play.Play.{Play}
 use Rattle.relay_dialogues.specs.OfferText.{offer_text, offers_text}
 use Rattle.relay_dialogues.specs.Played.{HasPlayed, IsAnswered, Plays, Uses}
 use Rattle.relay_dialogues.specs.Transcript.{IsTranscript}
-use Rattle.relay_server.proofs.StageLemmas.{closed_dialogue, counted, new_behind, none_of, offering_is_open, unread_behind}
 
 -- offers behind others are written behind them
 offers_text_append : (xs ys : List Offered) → offers_text (xs ++ ys) ≡ offers_text xs ++ offers_text ys

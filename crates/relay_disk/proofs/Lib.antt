@@ -1,4 +1,4 @@
-pub mod DeviceLemmas
-pub mod ImageLemmas
-pub mod CallLemmas
-pub mod PickLemmas
+mod DeviceLemmas
+mod ImageLemmas
+mod CallLemmas
+mod PickLemmas

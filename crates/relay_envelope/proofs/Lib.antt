@@ -1,13 +1,14 @@
-pub mod XtextLemmas
-pub mod RowLemmas
-pub mod PathLemmas
-pub mod PartLemmas
-pub mod ParameterLemmas
-pub mod MailLemmas
-pub mod WrittenLemmas
-pub mod ValidLemmas
-pub mod FitLemmas
-pub mod RowOfWordsLemmas
-pub mod MailRowLemmas
-pub mod RcptRowLemmas
-pub mod RowIsOneLemmas
+mod XtextLemmas
+mod RowLemmas
+mod PathLemmas
+mod PartLemmas
+mod ParameterLemmas
+mod MailLemmas
+mod WrittenLemmas
+mod ValidLemmas
+mod FitLemmas
+mod RowOfWordsLemmas
+mod MailRowLemmas
+mod RcptRowLemmas
+mod RowIsOneLemmas
+pub mod Theorems

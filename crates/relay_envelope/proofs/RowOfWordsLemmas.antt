@@ -4,7 +4,7 @@ use Rattle.std.specs.List.{AllByRecursion, join_with_byte, onto_first, slice_spl
 use Rattle.std.proofs.lemmas.List.Splits.{length-slice_split, slice_split-cons_no, slice_split-cons_yes, join_with_byte-slice_split}
 use Rattle.std.proofs.lemmas.Bool.{eqb-true, false_from_ne_true}
 use Rattle.std.specs.Char.{to_ascii_lowercase}
-use Rattle.relay_lines.proofs.WordLemmas.{same_word}
+use Rattle.relay_lines.proofs.Theorems.{same_word}
 use Rattle.relay_envelope.specs.Parameters.{is_octet, keyword_of, value_of_word}
 use Rattle.relay_envelope.specs.ParameterRow.{IsGiven, IsKnown, IsRowOf, NoneHas, TextIsRow, has_keyword}
 

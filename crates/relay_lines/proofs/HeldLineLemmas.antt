@@ -7,7 +7,7 @@ use Rattle.std.specs.List.{slice_get}
 use Rattle.std.proofs.lemmas.Slice.{take-put_mid}
 use Rattle.std.proofs.Math.Seq.{take-append-add}
 use Rattle.relay_octets.specs.Line.{crlf, HasNoCrlf, ReadsLine, ends_in_cr, begins_with_lf}
-use Rattle.relay_octets.proofs.LineLemmas.{no_crlf_front, no_crlf_joined}
+use Rattle.relay_octets.proofs.Theorems.{no_crlf_front, no_crlf_joined}
 use Rattle.std.proofs.lemmas.Bool.{eqb-true, false≢true}
 use Rattle.relay_lines.specs.HeldLine.{HeldLine, Holds, HoldsLine, GoesOn, last_is_cr}
 use borrow.Rule.Slice.PartMut.{put_mid}

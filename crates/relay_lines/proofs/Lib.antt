@@ -1,8 +1,9 @@
-pub mod HeldLineLemmas
-pub mod WordLemmas
-pub mod CommandLemmas
-pub mod ReplyLemmas
-pub mod ReplyReadingLemmas
-pub mod ReplyLawLemmas
-pub mod ReplyFaultLemmas
-pub mod ChunkArgumentLemmas
+mod HeldLineLemmas
+mod WordLemmas
+mod CommandLemmas
+mod ReplyLemmas
+mod ReplyReadingLemmas
+mod ReplyLawLemmas
+mod ReplyFaultLemmas
+mod ChunkArgumentLemmas
+pub mod Theorems

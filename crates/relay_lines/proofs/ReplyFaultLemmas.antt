@@ -4,7 +4,7 @@ use Rattle.std.specs.List.{AllByRecursion}
 use Rattle.std.proofs.lemmas.List.{append-nil, length-append, take_at}
 use Rattle.std.proofs.Math.Seq.{take-append-add}
 use Rattle.relay_octets.specs.Line.{crlf, HasNoCrlf, ReadsLine, ends_in_cr}
-use Rattle.relay_octets.proofs.LineLemmas.{no_crlf_joined, no_crlf_front, no_crlf_one, first_line_is_one, first_line_stays}
+use Rattle.relay_octets.proofs.Theorems.{no_crlf_joined, no_crlf_front, no_crlf_one, first_line_is_one, first_line_stays}
 use Rattle.relay_lines.specs.Reply.{Reply, IsReply, IsReplyLine, IsCode, ReadsReply, IsBehindCode, code_digits, followed_lines, middle_line, reply_text}
 use Rattle.relay_lines.specs.ReplyReading.{BeginningIsCut, BeginningIsUnfinished, Breaks, CutIsOne, CutsReplies, EndsCut, FaultIsOne, FaultStays, HasFault, HeldIsUnfinished, IsLineOf, IsUnfinished, ReplyHasNoFault, ShowsLine, UnfinishedHasNoFault, UnfinishedHasNoReply, written_replies}
 use Rattle.relay_lines.specs.declared.reply_reader.ReplyFault.{ReplyFault}

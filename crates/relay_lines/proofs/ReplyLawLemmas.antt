@@ -3,7 +3,7 @@ use Rattle.std.proofs.Common.{◌≡◌, ◌≢◌, ℕ, ◌+◌, ◌/◌, ◌%�
 use Rattle.std.specs.List.{AllByRecursion}
 use Rattle.std.proofs.lemmas.Bool.{ne_eqb}
 use Rattle.relay_octets.specs.Line.{crlf, HasNoCrlf, ReadsLine, begins_with_lf}
-use Rattle.relay_octets.proofs.LineLemmas.{no_crlf_joined, no_crlf_one, no_crlf_nil, first_line_is_one}
+use Rattle.relay_octets.proofs.Theorems.{no_crlf_joined, no_crlf_one, no_crlf_nil, first_line_is_one}
 use Rattle.relay_lines.proofs.ReplyLemmas.{lines_of_reply-append}
 use Rattle.relay_lines.specs.Reply.{Reply, IsReplyLine, IsCode, SpellsLine, ReadsReply, IsBehindCode, code_digits, followed_lines, last_line, lines_of_reply, made_of, middle_line}
 use Rattle.relay_lines.specs.ReplyReading.{NoReplyBeginsAnother, WrittenIsRead}

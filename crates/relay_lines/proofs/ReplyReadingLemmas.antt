@@ -5,7 +5,7 @@ use Rattle.std.specs.List.{AllByRecursion}
 use Rattle.std.proofs.lemmas.List.{append-nil, flat_map_more, length-take, length-drop, length-append, length-take-le, take_all, take_at, take-append-drop, take_rest, take-take, drop-take}
 use Rattle.std.proofs.lemmas.Bool.{cases_lt, false≢true}
 use Rattle.relay_octets.specs.Line.{crlf, HasNoCrlf, ReadsLine, ends_in_cr}
-use Rattle.relay_octets.proofs.LineLemmas.{no_crlf_back, no_crlf_front, no_crlf_joined, no_crlf_one, first_line_stays}
+use Rattle.relay_octets.proofs.Theorems.{no_crlf_back, no_crlf_front, no_crlf_joined, no_crlf_one, first_line_stays}
 use Rattle.relay_lines.specs.HeldLine.{HeldLine, Holds, EndsLine}
 use Rattle.relay_lines.specs.Reply.{Reply, IsReply, IsReplyLine, IsCode, IsBehindCode, SpellsLine, ReadsReply, code_digits, followed_lines, made_of, middle_line}
 use Rattle.relay_lines.specs.ReplyReading.{AreFollowed, Breaks, CutsReplies, GivesLines, HasFault, HasMade, HasRead, HoldsEnded, HoldsRest, IsLineOf, IsNextLine, KeepsLine, ShowsLine}

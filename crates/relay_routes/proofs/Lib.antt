@@ -1,4 +1,4 @@
-pub mod AddressLemmas
-pub mod RouteLemmas
-pub mod MemberLemmas
-pub mod ReadingLemmas
+mod AddressLemmas
+mod RouteLemmas
+mod MemberLemmas
+mod ReadingLemmas

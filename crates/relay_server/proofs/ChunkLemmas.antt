@@ -8,7 +8,7 @@ use Rattle.relay_octets.specs.Line.{crlf}
 use Rattle.relay_body.specs.ChunkText.{Chunk as ChunkText, HasChunks, IsBetweenChunks, IsInChunk, content_of_chunks, octets_of, with_octets}
 use Rattle.relay_body.specs.declared.chunk_reader.ChunkReader.{ChunkReader}
 use Rattle.relay_body.specs.declared.chunk_reader.Stage.TheVariants.{Awaits}
-use Rattle.relay_body.proofs.ChunkLemmas.{whole_is_between, whole_is_one_more}
+use Rattle.relay_body.proofs.Theorems.{whole_is_between, whole_is_one_more}
 use Rattle.relay_lines.specs.Command as line
 use Rattle.relay_lines.specs.Command.{reading_of}
 use Rattle.relay_lines.specs.declared.chunk_argument.BdatArgument.{BdatArgument}

@@ -2,8 +2,8 @@
 use Rattle.std.proofs.Common.{◌≡◌, ◌<◌, ◌+◌, ℕ, List, [], ◌∷◌, ◌++◌, length, inl, inr, refl, sym, subst, ap, ◌∙◌, arith, append_assoc, length-append}
 use Rattle.std.proofs.lemmas.List.{append-nil}
 use Rattle.relay_octets.specs.Line.{crlf}
-use Rattle.relay_octets.proofs.LineLemmas.{first_line_is_one}
-use Rattle.relay_body.proofs.DotTextLemmas.{reading_has_no_dot_text}
+use Rattle.relay_octets.proofs.Theorems.{first_line_is_one}
+use Rattle.relay_body.proofs.Theorems.{reading_has_no_dot_text}
 use Rattle.relay_lines.specs.HeldLine.{HeldLine, Holds}
 use Rattle.relay_lines.specs.Reply.{reply_text}
 use Rattle.relay_lines.specs.declared.chunk_argument.BdatArgument.{BdatArgument}

@@ -1,13 +1,14 @@
-pub mod OctetLemmas
-pub mod SessionLemmas
-pub mod StageLemmas
-pub mod StandsLemmas
-pub mod UnitLemmas
-pub mod TurnLemmas
-pub mod DialogueLemmas
-pub mod ReplyTextLemmas
-pub mod BeginningLemmas
-pub mod ReplyLemmas
-pub mod StoredLemmas
-pub mod ChunkLemmas
-pub mod JudgeLemmas
+mod OctetLemmas
+mod SessionLemmas
+mod StageLemmas
+mod StandsLemmas
+mod UnitLemmas
+mod TurnLemmas
+mod DialogueLemmas
+mod ReplyTextLemmas
+mod BeginningLemmas
+mod ReplyLemmas
+mod StoredLemmas
+mod ChunkLemmas
+mod JudgeLemmas
+pub mod Theorems

@@ -7,7 +7,7 @@ use Rattle.std.proofs.lemmas.Bool.{cases_lt, ne_eqb, false≢true}
 use Rattle.std.proofs.lemmas.Fmt.{decimal_is_IsNumeral, decimal_is_IsNumeral_wide, length-decimal-le}
 use Rattle.std.proofs.lemmas.List.{append_cancel_left}
 use Rattle.relay_octets.specs.Line.{crlf, HasNoCrlf}
-use Rattle.relay_octets.proofs.LineLemmas.{first_line_is_one}
+use Rattle.relay_octets.proofs.Theorems.{first_line_is_one}
 use Rattle.relay_lines.specs.Reply.{middle_line, one_line, reply_text}
 use Rattle.relay_server.specs.declared.reply_table.Row.TheVariants.{Extensions}
 use Rattle.relay_server.specs.declared.offer.Answer.{Answer}

@@ -8,13 +8,13 @@ use Rattle.relay_lines.specs.Command.{reading_of}
 use Rattle.relay_lines.specs.Word.{IsHostWord}
 use Rattle.relay_lines.specs.declared.command.LineFault.{LineFault}
 use Rattle.relay_lines.specs.declared.command.LineFault.TheVariants as fault
-use Rattle.relay_lines.proofs.CommandLemmas.{reading_is_of_spelling}
+use Rattle.relay_lines.proofs.Theorems.{reading_is_of_spelling}
 use Rattle.relay_envelope.specs.declared.envelope.Envelope.{Envelope}
 use Rattle.relay_envelope.specs.declared.fault.EnvelopeFault.{EnvelopeFault}
 use Rattle.relay_envelope.specs.Envelope.{IsEnvelope, IsRecipient, IsWrittenPath, may_be_envid, recipient_from}
 use Rattle.relay_envelope.specs.Mail.{Mail as MailSaid, Rcpt as RcptSaid, ReadsMail, ReadsRcpt}
 use Rattle.relay_envelope.specs.Path.{is_reverse}
-use Rattle.relay_envelope.proofs.ValidLemmas.{read_mail_is_valid, read_rcpt_is_valid}
+use Rattle.relay_envelope.proofs.Theorems.{read_mail_is_valid, read_rcpt_is_valid}
 use Rattle.relay_trace.specs.HeaderSection.{received_count_of}
 use Rattle.relay_server.specs.declared.client.Client.{Client}
 use Rattle.relay_server.specs.declared.reply_table.Row.TheVariants.{ChunkOk}

@@ -1,13 +1,13 @@
 -- Turns: what a unit asks is one thing, and state, unit and answer fix the turn.
 use Rattle.std.proofs.Common.{◌≡◌, ℕ, List, [], ◌∷◌, ◌++◌, length, Option, Some, Result, Ok, Err, inl, inr, sym, subst, ap, ◌∙◌, arith}
 use Rattle.relay_body.specs.DotText.{ReadsDotText}
-use Rattle.relay_body.proofs.DotTextLemmas.{one_content}
+use Rattle.relay_body.proofs.Theorems.{one_content}
 use Rattle.relay_lines.specs.Command as line
 use Rattle.relay_lines.specs.Command.{reading_of}
 use Rattle.relay_lines.specs.Reply.{Reply}
 use Rattle.relay_lines.specs.declared.command.LineFault.{LineFault}
 use Rattle.relay_envelope.specs.declared.envelope.Envelope.{Envelope}
-use Rattle.relay_envelope.proofs.MailLemmas.{mail_is_one, rcpt_is_one}
+use Rattle.relay_envelope.proofs.Theorems.{mail_is_one, rcpt_is_one}
 use Rattle.relay_server.specs.declared.client.Client.{Client}
 use Rattle.relay_server.specs.declared.offer.Answer.{Answer}
 use Rattle.relay_server.specs.Dialogue.{Offered, Turn, Answers, Comes, ComesOfLine, ComesOfText, Takes, answers_in, offered_of, row_of_answer}

@@ -2,8 +2,8 @@
 use Rattle.std.proofs.Common.{◌≡◌, ℕ, List, ◌++◌, length, take, drop, sym, ap, ◌∙◌, arith, append_assoc, length-append}
 use Rattle.std.proofs.Math.Seq.{take-append_seam, drop-append_seam}
 use Rattle.relay_octets.specs.Line.{crlf}
-use Rattle.relay_octets.proofs.LineLemmas.{first_line_is_one}
-use Rattle.relay_body.proofs.DotTextLemmas.{no_text_is_empty, no_text_begins_another}
+use Rattle.relay_octets.proofs.Theorems.{first_line_is_one}
+use Rattle.relay_body.proofs.Theorems.{no_text_is_empty, no_text_begins_another}
 use Rattle.relay_server.specs.DialogueLaws.{NoUnitIsEmpty, NoUnitBeginsAnother}
 use Rattle.relay_server.specs.State.{Command, Receiving, Closed}
 use Rattle.relay_server.specs.Unit.{IsCommandUnit, announced_of}

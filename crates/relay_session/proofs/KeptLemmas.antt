@@ -7,8 +7,7 @@ use Rattle.relay_server.specs.declared.stage.Stage.TheVariants as stage
 use Rattle.relay_server.specs.Dialogue.{Said, Offered, offered_by, more_said}
 use Rattle.relay_server.specs.Setup.{Setup}
 use Rattle.relay_server.specs.Session.{IsOffering, Stands, new_offers, offers_at}
-use Rattle.relay_server.proofs.StageLemmas.{as_many, new_behind, none_of, offering_is_open}
-use Rattle.relay_server.proofs.DialogueLemmas.{output_is_fixed, what_stands_is_a_dialogue}
+use Rattle.relay_server.proofs.Theorems.{as_many, new_behind, none_of, offering_is_open, output_is_fixed, what_stands_is_a_dialogue}
 use Rattle.relay_session.specs.declared.exchange.Exchange.{Exchange}
 use Rattle.relay_session.specs.Exchange.{Receives, Rests, Serves, greeted_by}
 use Rattle.relay_session.specs.declared.message.Message.{Message}

@@ -1,4 +1,5 @@
-pub mod KeptLemmas
-pub mod ServedLemmas
-pub mod StoredLemmas
-pub mod WholeLemmas
+mod KeptLemmas
+mod ServedLemmas
+mod StoredLemmas
+mod WholeLemmas
+pub mod Theorems

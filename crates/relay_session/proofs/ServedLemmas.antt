@@ -6,9 +6,7 @@ use Rattle.relay_server.specs.declared.stage.Stage.TheVariants as stage
 use Rattle.relay_server.specs.Dialogue.{IsDialogue, Said, greeted_only}
 use Rattle.relay_server.specs.Setup.{Setup}
 use Rattle.relay_server.specs.State.{start}
-use Rattle.relay_server.proofs.StageLemmas.{closed_dialogue, unread_behind}
-use Rattle.relay_server.proofs.DialogueLemmas.{what_stands_is_a_dialogue}
-use Rattle.relay_server.proofs.UnitLemmas.{no_unit_is_empty}
+use Rattle.relay_server.proofs.Theorems.{closed_dialogue, no_unit_is_empty, unread_behind, what_stands_is_a_dialogue}
 use Rattle.relay_session.specs.declared.exchange.Exchange.{Exchange}
 use Rattle.relay_session.specs.Exchange.{Receives, Rests, greeted_by}
 use Rattle.relay_session.specs.declared.peer.Peer.{Peer}

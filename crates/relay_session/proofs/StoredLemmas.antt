@@ -6,14 +6,12 @@ use Rattle.relay_octets.specs.Line.{HasNoCrlf}
 use Rattle.relay_lines.specs.Word.{IsAddressLiteral, IsHostWord, is_domain_octet, is_literal_octet}
 use Rattle.relay_envelope.specs.Mailbox.{stands_in}
 use Rattle.relay_trace.specs.TimeStamp.{IsStamp}
-use Rattle.relay_trace.proofs.StampLemmas.{passing_adds_one}
+use Rattle.relay_trace.proofs.Theorems.{passing_adds_one}
 use Rattle.relay_routes.specs.Value.{IsHostName, is_host_octet}
 use Rattle.relay_server.specs.Dialogue.{Offered}
 use Rattle.relay_server.specs.DialogueLaws.{MayBeStored}
 use Rattle.relay_server.specs.Setup.{Setup}
-use Rattle.relay_server.proofs.OctetLemmas.{lacks_by_test}
-use Rattle.relay_server.proofs.ReplyTextLemmas.{no_crlf_without_cr}
-use Rattle.relay_server.proofs.StoredLemmas.{offers_may_be_stored}
+use Rattle.relay_server.proofs.Theorems.{lacks_by_test, no_crlf_without_cr, offers_may_be_stored}
 use Rattle.relay_session.specs.declared.message.Message.{Message}
 use Rattle.relay_session.specs.declared.peer.Peer.{Peer}
 use Rattle.relay_session.specs.Kept.{AreKeptFrom, stamp_at}

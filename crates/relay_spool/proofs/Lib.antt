@@ -1,8 +1,8 @@
-pub mod RunLemmas
-pub mod ImageLemmas
-pub mod LinkLemmas
-pub mod WalkLemmas
-pub mod SpoolLemmas
-pub mod BlockLemmas
-pub mod ChainLemmas
-pub mod ReadingLemmas
+mod RunLemmas
+mod ImageLemmas
+mod LinkLemmas
+mod WalkLemmas
+mod SpoolLemmas
+mod BlockLemmas
+mod ChainLemmas
+mod ReadingLemmas

@@ -3,7 +3,7 @@ use Rattle.std.proofs.Common.{◌≡◌, ℕ, ◌+◌, ◌<◌, Bool, true, fals
 use Rattle.std.proofs.lemmas.List.Sums.{sum_by-cons}
 use Rattle.std.specs.List.{count_by}
 use Rattle.relay_octets.specs.Line.{crlf, HasNoCrlf, ReadsLine, lines_text}
-use Rattle.relay_octets.proofs.LineLemmas.{no_crlf_test, no_crlf_tail}
+use Rattle.relay_octets.proofs.Theorems.{no_crlf_test, no_crlf_tail}
 use Rattle.relay_trace.specs.HeaderSection.{lines_of, before_lines, before_empty, is_received, received_count_of, header_end_of}
 
 -- no CR LF stands at the start

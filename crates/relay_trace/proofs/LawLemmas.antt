@@ -2,7 +2,7 @@
 use Rattle.std.proofs.Common.{◌≡◌, ◌≢◌, ℕ, ◌+◌, ◌<◌, cond, List, [], ◌∷◌, ◌++◌, length, refl, sym, ap, ◌∙◌, arith, append_assoc, length-append, zero-add}
 use Rattle.std.proofs.lemmas.List.Sums.{sum_by-cons}
 use Rattle.relay_octets.specs.Line.{crlf, HasNoCrlf, ReadsLine, lines_text}
-use Rattle.relay_octets.proofs.LineLemmas.{no_crlf_nil}
+use Rattle.relay_octets.proofs.Theorems.{no_crlf_nil}
 use Rattle.relay_trace.specs.HeaderSection.{is_received, received_count_of, header_end_of, HeaderGoesOn, HeaderEndsAtEmptyLine, HeaderEndsWithText}
 use Rattle.relay_trace.proofs.HeaderLemmas.{received_count_of-line, received_count_of-empty, received_count_of-last, header_end_of-line, header_end_of-empty, header_end_of-last}
 

@@ -1,8 +1,9 @@
-pub mod DateLemmas
-pub mod StampLemmas
-pub mod HeaderLemmas
-pub mod HeaderSteps
-pub mod LawLemmas
-pub mod LinesLemmas
-pub mod DateTextLemmas
-pub mod EndLemmas
+mod DateLemmas
+mod StampLemmas
+mod HeaderLemmas
+mod HeaderSteps
+mod LawLemmas
+mod LinesLemmas
+mod DateTextLemmas
+mod EndLemmas
+pub mod Theorems

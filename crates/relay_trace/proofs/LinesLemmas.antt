@@ -6,7 +6,7 @@ use Rattle.std.proofs.lemmas.Bool.{cases_Bool, and_parts, eqb-true}
 use Rattle.std.specs.Char.{to_ascii_lowercase}
 use Rattle.std.specs.Prelude.{codes}
 use Rattle.relay_octets.specs.Line.{crlf, AreLines, lines_text}
-use Rattle.relay_octets.proofs.LineLemmas.{has_crlf, no_crlf_test, no_crlf_by_test, no_crlf_nil, no_crlf_one}
+use Rattle.relay_octets.proofs.Theorems.{has_crlf, no_crlf_test, no_crlf_by_test, no_crlf_nil, no_crlf_one}
 use Rattle.relay_trace.specs.HeaderSection.{lines_of, before_lines, is_received, HasLines, LinesAreOne, BeginsWithReceived, ReceivedIsTested}
 use Rattle.relay_trace.proofs.HeaderLemmas.{lines_of-line, lines_of-last, lines_of-octet, lines_of-crlf, lines_of-one, lines_of-nil}
 

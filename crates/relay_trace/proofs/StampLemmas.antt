@@ -11,7 +11,7 @@ use Rattle.std.specs.Str.Parse.{AllDigits}
 use Rattle.jiff_core.specs.Date.{weekday_of}
 use Rattle.jiff_core.specs.declared.civil.datetime.DateTime.{DateTime}
 use Rattle.relay_octets.specs.Line.{HasNoCrlf, lines_text, ends_in_cr, begins_with_lf}
-use Rattle.relay_octets.proofs.LineLemmas.{has_crlf, no_crlf_by_test, no_crlf_joined, no_crlf_nil}
+use Rattle.relay_octets.proofs.Theorems.{has_crlf, no_crlf_by_test, no_crlf_joined, no_crlf_nil}
 use Rattle.relay_trace.specs.DateTime.{IsDateText, date_time_text, day_name, day_names, month_name, month_names, two_digits}
 use Rattle.relay_trace.specs.HeaderSection.{IsFilledLine, is_received, received_count_of, header_end_of}
 use Rattle.relay_trace.specs.TimeStamp.{Stamp, IsStamp, IsTimeStamp, TimeStampIsOne, TimeStampIsOneField, PassingAddsOne, PassingKeepsHeader, address_text, protocol_word, from_line, by_line, date_line}

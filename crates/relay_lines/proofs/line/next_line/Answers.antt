@@ -2,7 +2,7 @@
 use Rattle.std.proofs.Common.{◌++◌, ◌+◌, ◌≤◌, length, take, drop, arith}
 use Rattle.std.proofs.lemmas.List.{length-take, take-append-drop}
 use Rattle.relay_octets.specs.Line.{ReadsLine}
-use Rattle.relay_octets.proofs.LineLemmas.{first_line_stays}
+use Rattle.relay_octets.proofs.Theorems.{first_line_stays}
 use Rattle.relay_lines.proofs.line.next_line.Goals as goal
 
 pub returns-in-Some-find_crlf : goal.returns-in-Some-find_crlf

@@ -4,7 +4,7 @@ use Rattle.clap.specs.Words.{HasKind, Kinds, kind_of}
 use Rattle.clap.specs.declared.error.Error.{Error}
 use Rattle.clap.specs.declared.error.kind.ErrorKind.TheVariants as kind
 use Rattle.relay_session.specs.Served.{IsBegun}
-use Rattle.relay_session.proofs.ServedLemmas.{begun_nothing}
+use Rattle.relay_session.proofs.Theorems.{begun_nothing}
 use Rattle.relayd.specs.Setup.{session_setup}
 use Rattle.relayd.proofs.dispatch.command.Goals as goal
 

@@ -1,6 +1,6 @@
 -- Where there is no configuration, nothing was read or written.
 use Rattle.std.proofs.Common.{Result, Ok, Err, OnErr}
-use Rattle.relay_session.proofs.ServedLemmas.{begun_nothing}
+use Rattle.relay_session.proofs.Theorems.{begun_nothing}
 use Rattle.relayd.specs.Setup.{session_setup}
 use Rattle.relayd.proofs.streams.session.Goals as goal
 

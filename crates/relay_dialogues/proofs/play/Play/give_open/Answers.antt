@@ -6,7 +6,7 @@ use Rattle.relay_server.specs.declared.session.Next.TheVariants as next
 use Rattle.relay_server.specs.Session.{offers_at}
 use Rattle.relay_dialogues.specs.declared.play.Play.{Play}
 use Rattle.relay_dialogues.proofs.PlayLemmas.{all_used, answered_behind, begun_giving, noted, plays_on, positive, shrinks, used_behind}
-use Rattle.relay_server.proofs.StageLemmas.{closed_by, going_by, offering_by}
+use Rattle.relay_server.proofs.Theorems.{closed_by, going_by, offering_by}
 use Rattle.relay_dialogues.proofs.play.Play.give_open.Goals as goal
 
 pub loop-used-init : goal.loop-used-init

@@ -1,7 +1,7 @@
 -- Where the text is no domain's name, it is a domain exactly where it is an address literal.
 use Rattle.std.proofs.Common.{sym, ◌∙◌, inl, inr}
 use Rattle.std.proofs.lemmas.Bool.{iff_false}
-use Rattle.relay_lines.proofs.WordLemmas.{address_literal_is_tested}
+use Rattle.relay_lines.proofs.Theorems.{address_literal_is_tested}
 use Rattle.relay_envelope.proofs.path.mailbox.is_domain.Goals as goal
 
 pub returns-else-is_domain_name : goal.returns-else-is_domain_name

@@ -1,6 +1,6 @@
 use Rattle.std.proofs.Common.{◌≡◌, ◌++◌, ◌&&◌, false, take, sym, ap, ◌∙◌, subst}
 use Rattle.std.proofs.lemmas.Bool.{and_parts}
-use Rattle.relay_octets.proofs.LineLemmas.{no_crlf_joined}
+use Rattle.relay_octets.proofs.Theorems.{no_crlf_joined}
 use Rattle.relay_octets.specs.Line.{ends_in_cr, begins_with_lf}
 use Rattle.relay_lines.specs.HeldLine.{Holds}
 use Rattle.relay_lines.proofs.HeldLineLemmas.{lf_ends, crlf_ends, holds_on, ends_within}

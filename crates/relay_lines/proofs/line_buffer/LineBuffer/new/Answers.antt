@@ -1,5 +1,5 @@
 use Rattle.std.proofs.Common.{refl}
-use Rattle.relay_octets.proofs.LineLemmas.{no_crlf_nil}
+use Rattle.relay_octets.proofs.Theorems.{no_crlf_nil}
 use Rattle.relay_lines.proofs.line_buffer.LineBuffer.new.Goals as goal
 
 pub returns : goal.returns

@@ -5,7 +5,7 @@ use Rattle.std.proofs.Math.Seq.{take-add}
 use Rattle.relay_server.specs.declared.session.Next.TheVariants as next
 use Rattle.relay_server.specs.Setup.{setup_of_config}
 use Rattle.relay_session.specs.declared.exchange.Exchange.{Exchange}
-use Rattle.relay_server.proofs.StageLemmas.{closed_by, going_by, offering_by}
+use Rattle.relay_server.proofs.Theorems.{closed_by, going_by, offering_by}
 use Rattle.relay_session.proofs.KeptLemmas.{all_used, apart, fed_behind, nothing_received, offers_need_octets, open_at, positive, received, received_and_kept, shrinks}
 use Rattle.relay_session.proofs.exchange.Exchange.receive.Goals as goal
 
