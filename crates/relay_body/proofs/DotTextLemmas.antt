@@ -4,7 +4,9 @@ use Rattle.std.proofs.lemmas.List.{append-nil}
 use Rattle.std.proofs.lemmas.Bool.{cases_Bool, and_parts, eqb-true, false≢true}
 use Rattle.relay_octets.specs.Line.{crlf, HasNoCrlf, ReadsLine, lines_text, AreLines}
 use Rattle.relay_octets.proofs.Theorems.{no_crlf_joined, no_crlf_nil, no_crlf_one, no_crlf_back, first_line_is_one}
-use Rattle.relay_body.specs.DotText.{end_of_data, ends_in_line_end, IsTextLine, AreTextLines, without_period, with_period, content_of, HasNoDotText, OneContent, NoTextBeginsAnother, WrittenIsRead, OneText, EachContentIsWritten, ContentEndsInLineEnd, IsPart, NoTextIsEmpty, LineEndIsSeen, SeenIsLineEnd, ReadingHasNoDotText, ReadingIsOpen}
+use Rattle.relay_body.specs.DotText.{end_of_data, ends_in_line_end, IsTextLine, AreTextLines, without_period, with_period, content_of, HasNoDotText}
+use Rattle.relay_body.specs.DotReading.{IsPart}
+use Rattle.relay_body.specs.DotLaws.{OneContent, NoTextBeginsAnother, WrittenIsRead, OneText, EachContentIsWritten, ContentEndsInLineEnd, NoTextIsEmpty, LineEndIsSeen, SeenIsLineEnd, ReadingHasNoDotText, ReadingIsOpen}
 use Rattle.relay_body.specs.declared.dot_reader.Phase.{Phase}
 use Rattle.relay_body.specs.declared.dot_reader.Phase.TheVariants.{LineStart, Period, PeriodCr, Within, WithinCr, Done, Failed}
 

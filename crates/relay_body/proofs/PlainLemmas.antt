@@ -4,7 +4,9 @@ use Rattle.std.proofs.lemmas.List.{append-nil, map_push, take_more}
 use Rattle.std.proofs.lemmas.Bool.{cases_Bool, and_parts, eqb-true, ne_eqb}
 use Rattle.relay_octets.specs.Line.{crlf, HasNoCrlf, AreLines, lines_text, ends_in_cr}
 use Rattle.relay_octets.proofs.Theorems.{no_crlf_front, no_crlf_joined, no_crlf_nil, no_crlf_one}
-use Rattle.relay_body.specs.DotText.{end_of_data, ends_in_line_end, without_period, with_period, content_of, BeginsTextLine, IsPart, KeepsContent, Uses, WritesDotText}
+use Rattle.relay_body.specs.DotText.{end_of_data, ends_in_line_end, without_period, with_period, content_of, WritesDotText}
+use Rattle.relay_body.specs.Gathering.{KeepsContent}
+use Rattle.relay_body.specs.DotReading.{BeginsTextLine, IsPart, Uses}
 use Rattle.relay_body.specs.DotSteps.{StandsForItself, phase_behind}
 use Rattle.relay_body.specs.declared.gathered.Gathering.{Gathering}
 use Rattle.relay_body.specs.declared.dot_reader.Phase.{Phase}

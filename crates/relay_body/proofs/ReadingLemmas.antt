@@ -4,7 +4,9 @@ use Rattle.std.proofs.lemmas.List.{append-nil, map_push, flat_map_more, take_at,
 use Rattle.std.proofs.lemmas.Bool.{eqb-true, false≢true, ne_eqb}
 use Rattle.relay_octets.specs.Line.{crlf, HasNoCrlf, ReadsLine, line_text, lines_text, ends_in_cr, begins_with_lf}
 use Rattle.relay_octets.proofs.Theorems.{no_crlf_joined, no_crlf_one, no_crlf_front}
-use Rattle.relay_body.specs.DotText.{end_of_data, IsTextLine, AreTextLines, without_period, content_of, KeepsContent, BeginsTextLine, IsPart, IsReading, HasRead, HasUsed, Uses, Feeds}
+use Rattle.relay_body.specs.DotText.{end_of_data, IsTextLine, AreTextLines, without_period, content_of}
+use Rattle.relay_body.specs.Gathering.{KeepsContent}
+use Rattle.relay_body.specs.DotReading.{BeginsTextLine, IsPart, IsReading, HasRead, HasUsed, Uses, Feeds}
 use Rattle.relay_body.specs.DotSteps.{begins_with_period, RunsOn, phase_behind}
 use Rattle.relay_body.specs.declared.gathered.Gathering.{Gathering}
 use Rattle.relay_body.specs.declared.dot_reader.Phase.{Phase}

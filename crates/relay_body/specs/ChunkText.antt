@@ -5,7 +5,7 @@ use Rattle.std.specs.List.{flat_map, AllByRecursion}
 use Rattle.relay_body.specs.declared.chunk_reader.Stage.TheVariants.{Awaits, Failed}
 use Rattle.relay_body.specs.declared.chunk_reader.ChunkCut.{ChunkCut}
 use Rattle.relay_body.specs.declared.chunk_reader.ChunkReader.{ChunkReader}
-use Rattle.relay_body.specs.DotText.{KeepsContent}
+use Rattle.relay_body.specs.Gathering.{KeepsContent}
 
 -- a chunk as far as it has come: its chunk-size, and its octets
 pub record Chunk : Type 0 where

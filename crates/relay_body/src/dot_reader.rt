@@ -1,6 +1,7 @@
 ghost use Rattle.std.specs.Prelude.{◌≡◌, ◌<◌, ◌≤◌, ◌↔◌, ℕ, List, [], ◌∷◌, true, false, length, take, Ok, IfOk, OnOk, OnErr, IsErr, IsTrue, MatchBool};
 ghost use Rattle.relay_body.specs.DotSteps.{IsOpen, RunsOn, phase_behind};
-ghost use Rattle.relay_body.specs.DotText.{IsReading, IsDone, HasFailed, HasRead, Feeds, Uses, gathered_of, limit_of};
+ghost use Rattle.relay_body.specs.Gathering.{gathered_of};
+ghost use Rattle.relay_body.specs.DotReading.{IsReading, IsDone, HasFailed, HasRead, Feeds, Uses, limit_of};
 
 use crate::gathered::{BodyFault, Gathered, Gathering};
 use relay_octets::find_crlf;

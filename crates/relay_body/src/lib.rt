@@ -11,5 +11,5 @@ pub mod plain;
 
 pub use chunk_reader::{ChunkCut, ChunkReader};
 pub use dot_reader::{DotCut, DotReader};
-pub use dot_writer::{ends_in_line_end, write_dots};
+pub use dot_writer::{ends_in_line_end, push_dots, write_dots};
 pub use gathered::{BodyFault, Gathered};

@@ -2,7 +2,9 @@
 //! the contracts of the fast ones, for tests that run both.
 ghost use Rattle.std.specs.Prelude.{◌≡◌, ◌<◌, ◌≤◌, ◌↔◌, ◌++◌, ℕ, List, [], ◌∷◌, true, false, Ok, length, IfOk, OnErr, OnOk, IsErr, IsTrue, MatchBool, if◌then◌else◌};
 ghost use Rattle.relay_body.specs.DotSteps.{IsOpen, StandsForItself};
-ghost use Rattle.relay_body.specs.DotText.{IsReading, IsDone, HasFailed, HasRead, Feeds, Uses, WritesDotText, ends_in_line_end, gathered_of, limit_of, with_period};
+ghost use Rattle.relay_body.specs.DotText.{WritesDotText, ends_in_line_end, with_period};
+ghost use Rattle.relay_body.specs.Gathering.{gathered_of};
+ghost use Rattle.relay_body.specs.DotReading.{IsReading, IsDone, HasFailed, HasRead, Feeds, Uses, limit_of};
 
 use crate::dot_reader::{self, DotCut, Phase};
 use crate::gathered::{BodyFault, Gathered};

@@ -1,5 +1,5 @@
 -- The time stamp line (RFC 5321, section 4.4): a `Received:` field of three lines, put before a content.
-use Rattle.std.specs.Prelude.{◌≡◌, ℕ, ◌+◌, ◌^◌, ◌<◌, List, [], ◌∷◌, ◌++◌, length, take, codes, decimal, slice_index}
+use Rattle.std.specs.Prelude.{◌≡◌, ℕ, ◌+◌, ◌^◌, ◌<◌, ◌≤◌, List, [], ◌∷◌, ◌++◌, length, take, codes, decimal, slice_index}
 use Rattle.std.specs.List.{All}
 use Rattle.relay_octets.specs.Line.{HasNoCrlf, lines_text}
 use Rattle.relay_trace.specs.DateTime.{IsDateText}
@@ -96,3 +96,9 @@ abbrev pub PassingKeepsHeader : Type 0
 PassingKeepsHeader =
     (stamp : Stamp) (content text : List ℕ) → IsStamp stamp → (passed : IsPassed stamp content text)
     → take (header_end_of text) text ≡ passed.line ++ take (header_end_of content) content
+
+-- A time stamp line has at most 113 octets beside its two words.
+abbrev pub TimeStampIsShort : Type 0
+TimeStampIsShort =
+    (stamp : Stamp) (line : List ℕ) → IsStamp stamp → IsTimeStamp stamp line
+    → length line ≤ length stamp.client + length stamp.host + 113
