@@ -30,11 +30,16 @@ split_is_one line word argument other more one two =
 pub space-printable : (octet : ℕ) → is_space octet ≡ true → is_printable octet ≡ true
 space-printable octet test = ap is_printable (eqb-true octet 32 test)
 
-are_printable-split : (line word argument : List ℕ) → SplitsLine line word argument → are_printable (without_trailing_blanks line) ≡ are_printable (word ++ argument)
+are_printable-split : (line word argument : List ℕ) → SplitsLine line word argument
+    → are_printable (without_trailing_blanks line) ≡ are_printable (word ++ argument)
 unfolding are_printable
 are_printable-split line word argument split =
-    let spaces = list_all-from_AllPass is_printable split.spaces (AllPass-weaker is_space is_printable split.spaces space-printable split.are_spaces) in
-    let behind = list_all-append is_printable split.spaces argument ∙ ap (λ b. b && list_all is_printable argument) spaces in
+    let spaces =
+    list_all-from_AllPass is_printable split.spaces
+    (AllPass-weaker is_space is_printable split.spaces space-printable split.are_spaces) in
+    let behind =
+    list_all-append is_printable split.spaces argument
+    ∙ ap (λ b. b && list_all is_printable argument) spaces in
     ap (list_all is_printable) (text-split line word argument split)
     ∙ list_all-append is_printable word (split.spaces ++ argument)
     ∙ ap (λ b. list_all is_printable word && b) behind
@@ -45,14 +50,20 @@ unfolding reading_of reading_of_text
 reading_is_of_words line word argument split =
     let text = without_trailing_blanks line in
     let printable = are_printable-split line word argument split in
-    ap (λ b. cond (b || is_bdat (first_word text)) (reading_of_words (first_word text) (argument_of text)) (Err BadByte)) printable
-    ∙ ap (λ w. cond (are_printable (word ++ argument) || is_bdat w) (reading_of_words w (argument_of text)) (Err BadByte)) (first_word-split line word argument split)
-    ∙ ap (λ a. cond (are_printable (word ++ argument) || is_bdat word) (reading_of_words word a) (Err BadByte)) (argument_of-split line word argument split)
+    ap
+    (λ b. cond (b || is_bdat (first_word text)) (reading_of_words (first_word text) (argument_of text)) (Err BadByte)) printable
+    ∙ ap
+    (λ w. cond (are_printable (word ++ argument) || is_bdat w) (reading_of_words w (argument_of text)) (Err BadByte))
+    (first_word-split line word argument split)
+    ∙ ap
+    (λ a. cond (are_printable (word ++ argument) || is_bdat word) (reading_of_words word a) (Err BadByte))
+    (argument_of-split line word argument split)
 
 -- the verb of a word doesn't depend on its letter case
 pub verb_of-same : (word again : List ℕ) → IsSameWord word again → verb_of word ≡ verb_of again
 unfolding verb_of is_word
-verb_of-same word again same = ap (λ l. find (λ v. bytes_eq l (map to_ascii_lowercase (word_of v))) verbs) same
+verb_of-same word again same =
+    ap (λ l. find (λ v. bytes_eq l (map to_ascii_lowercase (word_of v))) verbs) same
 
 verb_of-word_of : (v : Verb) → verb_of (word_of v) ≡ Some v
 unfolding verb_of is_word
@@ -70,11 +81,13 @@ verb_of-word_of verb.Expn = refl
 verb_of-word_of verb.Turn = refl
 verb_of-word_of verb.Quit = refl
 
-pub verb_of-spelled : (word : List ℕ) (v : Verb) → IsSameWord word (word_of v) → verb_of word ≡ Some v
+pub verb_of-spelled : (word : List ℕ) (v : Verb) → IsSameWord word (word_of v)
+    → verb_of word ≡ Some v
 verb_of-spelled word v same = verb_of-same word (word_of v) same ∙ verb_of-word_of v
 
 -- what is found passes
-find-passes : (test : Verb → Bool) (xs : List Verb) (v : Verb) → find test xs ≡ Some v → test v ≡ true
+find-passes : (test : Verb → Bool) (xs : List Verb) (v : Verb) → find test xs ≡ Some v
+    → test v ≡ true
 find-passes test [] v found = cc
 find-passes test (x ∷ xs) v found =
     elim (cases_Bool (test x)) [
@@ -87,23 +100,30 @@ find-passes test (x ∷ xs) v found =
 
 pub verb_of-is : (word : List ℕ) (v : Verb) → verb_of word ≡ Some v → IsSameWord word (word_of v)
 unfolding verb_of
-verb_of-is word v found = same_word word (word_of v) (find-passes (λ u. is_word word (word_of u)) verbs v found)
+verb_of-is word v found =
+    same_word word (word_of v) (find-passes (λ u. is_word word (word_of u)) verbs v found)
 
 -- what a test that was passed, and a part that was found, say of a command
-command_if-ok : (b : Bool) (made command : Command) → command_if b made ≡ Ok command → (b ≡ true) × (made ≡ command)
+command_if-ok : (b : Bool) (made command : Command) → command_if b made ≡ Ok command
+    → (b ≡ true) × (made ≡ command)
 command_if-ok true made command e = (refl, cc)
 command_if-ok false made command e = absurd (cc)
 
-ok_or-ok : (make : List ℕ → Command) (found : Option (List ℕ)) (command : Command) → ok_or (option_map make found) BadArgument ≡ Ok command → (part : List ℕ) × (found ≡ Some part) × (make part ≡ command)
+ok_or-ok : (make : List ℕ → Command) (found : Option (List ℕ)) (command : Command)
+    → ok_or (option_map make found) BadArgument ≡ Ok command
+    → (part : List ℕ) × (found ≡ Some part) × (make part ≡ command)
 ok_or-ok make None command e = absurd (cc)
 ok_or-ok make (Some part) command e = (part, refl, cc)
 
-pub bdat_if-ok : (found : Option BdatArgument) (command : Command) → bdat_if found ≡ Ok command → (chunk : BdatArgument) × (found ≡ Some chunk) × (Bdat chunk ≡ command)
+pub bdat_if-ok : (found : Option BdatArgument) (command : Command) → bdat_if found ≡ Ok command
+    → (chunk : BdatArgument) × (found ≡ Some chunk) × (Bdat chunk ≡ command)
 bdat_if-ok None command e = absurd (cc)
 bdat_if-ok (Some chunk) command e = (chunk, refl, cc)
 
 -- a verb whose argument was taken spells the command
-pub spelled-command_of : (v : Verb) (word argument : List ℕ) (command : Command) → IsSameWord word (word_of v) → command_of v argument ≡ Ok command → IsSpelled command word argument
+pub spelled-command_of : (v : Verb) (word argument : List ℕ) (command : Command)
+    → IsSameWord word (word_of v) → command_of v argument ≡ Ok command
+    → IsSpelled command word argument
 unfolding command_of
 spelled-command_of verb.Helo word argument command same e =
     let p = command_if-ok (is_host_word argument) (Helo argument) command e in
@@ -119,13 +139,15 @@ spelled-command_of verb.Rcpt word argument command same e =
     subst (λ c. IsSpelled c word argument) p.2 (same, begins-behind_keyword (codes "TO:") argument p.0 p.1)
 spelled-command_of verb.Data word argument command same e =
     let p = command_if-ok (length argument == 0) Data command e in
-    subst (λ c. IsSpelled c word argument) p.1 (same, nil_from_length argument (eqb-true (length argument) 0 p.0))
+    subst (λ c. IsSpelled c word argument) p.1
+    (same, nil_from_length argument (eqb-true (length argument) 0 p.0))
 spelled-command_of verb.Bdat word argument command same e =
     let p = bdat_if-ok (bdat_argument_of argument) command e in
     subst (λ c. IsSpelled c word argument) p.2 (same, (bdat_argument_is_of_spelling argument p.0).0 p.1)
 spelled-command_of verb.Rset word argument command same e =
     let p = command_if-ok (length argument == 0) Rset command e in
-    subst (λ c. IsSpelled c word argument) p.1 (same, nil_from_length argument (eqb-true (length argument) 0 p.0))
+    subst (λ c. IsSpelled c word argument) p.1
+    (same, nil_from_length argument (eqb-true (length argument) 0 p.0))
 spelled-command_of verb.Noop word argument command same e =
     let is : Noop ≡ command = cc in
     subst (λ c. IsSpelled c word argument) is same
@@ -139,24 +161,31 @@ spelled-command_of verb.Expn word argument command same e = absurd (cc)
 spelled-command_of verb.Turn word argument command same e = absurd (cc)
 spelled-command_of verb.Quit word argument command same e =
     let p = command_if-ok (length argument == 0) Quit command e in
-    subst (λ c. IsSpelled c word argument) p.1 (same, nil_from_length argument (eqb-true (length argument) 0 p.0))
+    subst (λ c. IsSpelled c word argument) p.1
+    (same, nil_from_length argument (eqb-true (length argument) 0 p.0))
 
-spelled-verb : (found : Option Verb) (word argument : List ℕ) (command : Command) → verb_of word ≡ found → reading_of_verb found argument ≡ Ok command → IsSpelled command word argument
+spelled-verb : (found : Option Verb) (word argument : List ℕ) (command : Command)
+    → verb_of word ≡ found → reading_of_verb found argument ≡ Ok command
+    → IsSpelled command word argument
 spelled-verb None word argument command is e = absurd (cc)
 spelled-verb (Some v) word argument command is e =
     spelled-command_of v word argument command (verb_of-is word v is) e
 
-pub spelled-words : (word argument : List ℕ) (command : Command) → reading_of_words word argument ≡ Ok command → IsSpelled command word argument
+pub spelled-words : (word argument : List ℕ) (command : Command)
+    → reading_of_words word argument ≡ Ok command → IsSpelled command word argument
 unfolding reading_of_words
 spelled-words word argument command e = spelled-verb (verb_of word) word argument command refl e
 
 -- the reading of a word that is a verb
-pub reading_of_words-verb : (word argument : List ℕ) (v : Verb) → IsSameWord word (word_of v) → reading_of_words word argument ≡ command_of v argument
+pub reading_of_words-verb : (word argument : List ℕ) (v : Verb) → IsSameWord word (word_of v)
+    → reading_of_words word argument ≡ command_of v argument
 unfolding reading_of_words
-reading_of_words-verb word argument v same = ap (λ found. reading_of_verb found argument) (verb_of-spelled word v same)
+reading_of_words-verb word argument v same =
+    ap (λ found. reading_of_verb found argument) (verb_of-spelled word v same)
 
 -- a word and an argument that spell a command are read as it
-pub words-spelled : (command : Command) (word argument : List ℕ) → IsSpelled command word argument → reading_of_words word argument ≡ Ok command
+pub words-spelled : (command : Command) (word argument : List ℕ) → IsSpelled command word argument
+    → reading_of_words word argument ≡ Ok command
 unfolding command_of
 words-spelled (Helo host) word argument spelled =
     reading_of_words-verb word argument verb.Helo spelled.0
@@ -168,22 +197,27 @@ words-spelled (Ehlo host) word argument spelled =
     ∙ ap (λ b. command_if b (Ehlo host)) (host-test host spelled.1)
 words-spelled (Mail path) word argument spelled =
     reading_of_words-verb word argument verb.Mail spelled.0
-    ∙ ap (λ found. ok_or (option_map Mail found) BadArgument) (behind_keyword-found (codes "FROM:") argument path spelled.1)
+    ∙ ap (λ found. ok_or (option_map Mail found) BadArgument)
+    (behind_keyword-found (codes "FROM:") argument path spelled.1)
 words-spelled (Rcpt path) word argument spelled =
     reading_of_words-verb word argument verb.Rcpt spelled.0
-    ∙ ap (λ found. ok_or (option_map Rcpt found) BadArgument) (behind_keyword-found (codes "TO:") argument path spelled.1)
+    ∙ ap (λ found. ok_or (option_map Rcpt found) BadArgument)
+    (behind_keyword-found (codes "TO:") argument path spelled.1)
 words-spelled Data word argument spelled =
-    reading_of_words-verb word argument verb.Data spelled.0 ∙ ap (λ a. command_if (length a == 0) Data) spelled.1
+    reading_of_words-verb word argument verb.Data spelled.0
+    ∙ ap (λ a. command_if (length a == 0) Data) spelled.1
 words-spelled (Bdat chunk) word argument spelled =
     reading_of_words-verb word argument verb.Bdat spelled.0
     ∙ ap bdat_if ((bdat_argument_is_of_spelling argument chunk).1 spelled.1)
 words-spelled Rset word argument spelled =
-    reading_of_words-verb word argument verb.Rset spelled.0 ∙ ap (λ a. command_if (length a == 0) Rset) spelled.1
+    reading_of_words-verb word argument verb.Rset spelled.0
+    ∙ ap (λ a. command_if (length a == 0) Rset) spelled.1
 words-spelled Noop word argument spelled = reading_of_words-verb word argument verb.Noop spelled
 words-spelled Vrfy word argument spelled = reading_of_words-verb word argument verb.Vrfy spelled
 words-spelled Help word argument spelled = reading_of_words-verb word argument verb.Help spelled
 words-spelled Quit word argument spelled =
-    reading_of_words-verb word argument verb.Quit spelled.0 ∙ ap (λ a. command_if (length a == 0) Quit) spelled.1
+    reading_of_words-verb word argument verb.Quit spelled.0
+    ∙ ap (λ a. command_if (length a == 0) Quit) spelled.1
 
 -- the word of BDAT is found in any letter case
 pub is_bdat-same : (word again : List ℕ) → IsSameWord word again → is_bdat word ≡ is_bdat again
@@ -195,26 +229,37 @@ unfolding is_word
 is_bdat-true word same = is_bdat-same word (codes "BDAT") same
 
 -- whether the words are printable, or the word is BDAT, decides the reading
-pub reading-printable : (line word argument : List ℕ) → SplitsLine line word argument → AllPass is_printable (word ++ argument) → reading_of line ≡ reading_of_words word argument
+pub reading-printable : (line word argument : List ℕ) → SplitsLine line word argument
+    → AllPass is_printable (word ++ argument) → reading_of line ≡ reading_of_words word argument
 unfolding are_printable
 reading-printable line word argument split all =
     reading_is_of_words line word argument split
-    ∙ cond-true (are_printable (word ++ argument) || is_bdat word) (reading_of_words word argument) (Err BadByte) (ap (λ b. b || is_bdat word) (list_all-from_AllPass is_printable (word ++ argument) all))
+    ∙ cond-true (are_printable (word ++ argument) || is_bdat word) (reading_of_words word argument)
+    (Err BadByte)
+    (ap (λ b. b || is_bdat word) (list_all-from_AllPass is_printable (word ++ argument) all))
 
-pub reading-bdat : (line word argument : List ℕ) → SplitsLine line word argument → IsSameWord word (codes "BDAT") → reading_of line ≡ bdat_if (bdat_argument_of argument)
+pub reading-bdat : (line word argument : List ℕ) → SplitsLine line word argument
+    → IsSameWord word (codes "BDAT") → reading_of line ≡ bdat_if (bdat_argument_of argument)
 unfolding command_of
 reading-bdat line word argument split same =
     reading_is_of_words line word argument split
-    ∙ cond-true (are_printable (word ++ argument) || is_bdat word) (reading_of_words word argument) (Err BadByte) (or_right (are_printable (word ++ argument)) (is_bdat word) (is_bdat-true word same))
+    ∙ cond-true (are_printable (word ++ argument) || is_bdat word) (reading_of_words word argument)
+    (Err BadByte)
+    (or_right (are_printable (word ++ argument)) (is_bdat word) (is_bdat-true word same))
     ∙ reading_of_words-verb word argument verb.Bdat same
 
-reading-bad : (line word argument : List ℕ) → SplitsLine line word argument → are_printable (word ++ argument) ≡ false → is_bdat word ≡ false → reading_of line ≡ Err BadByte
+reading-bad : (line word argument : List ℕ) → SplitsLine line word argument
+    → are_printable (word ++ argument) ≡ false → is_bdat word ≡ false
+    → reading_of line ≡ Err BadByte
 reading-bad line word argument split bad other =
     reading_is_of_words line word argument split
-    ∙ cond-false (are_printable (word ++ argument) || is_bdat word) (reading_of_words word argument) (Err BadByte) (ap (λ b. b || is_bdat word) bad ∙ other)
+    ∙ cond-false (are_printable (word ++ argument) || is_bdat word) (reading_of_words word argument)
+    (Err BadByte) (ap (λ b. b || is_bdat word) bad ∙ other)
 
 -- words that are printable, or BDAT, or a bad octet
-pub cases-printable : (line word argument : List ℕ) → SplitsLine line word argument → (AllPass is_printable (word ++ argument)) ⊎ (IsSameWord word (codes "BDAT")) ⊎ (reading_of line ≡ Err BadByte)
+pub cases-printable : (line word argument : List ℕ) → SplitsLine line word argument
+    → (AllPass is_printable (word ++ argument)) ⊎ (IsSameWord word (codes "BDAT")) ⊎
+    (reading_of line ≡ Err BadByte)
 unfolding are_printable
 cases-printable line word argument split =
     elim (cases_Bool (are_printable (word ++ argument))) [
@@ -225,7 +270,8 @@ cases-printable line word argument split =
       ]
     ]
 
-pub reading-from_reads : (line : List ℕ) (command : Command) → ReadsCommand line command → reading_of line ≡ Ok command
+pub reading-from_reads : (line : List ℕ) (command : Command) → ReadsCommand line command
+    → reading_of line ≡ Ok command
 reading-from_reads line command reads =
     reading-printable line reads.word reads.argument reads.splits reads.printable
     ∙ words-spelled command reads.word reads.argument reads.spelled

@@ -8,5 +8,6 @@ mod ReplyLemmas
 mod ReplyReadingLemmas
 mod ReplyLawLemmas
 mod ReplyFaultLemmas
+mod ReplyCutLemmas
 mod ChunkArgumentLemmas
 pub mod Theorems

@@ -5,4 +5,6 @@ pub mod Command
 pub mod WrittenCommand
 pub mod Reply
 pub mod ReplyReading
+pub mod ReplySteps
+pub mod ReplyLaws
 pub mod ChunkArgument

@@ -35,7 +35,7 @@ impl Model for Reply {
 
 impl Reply {
     ghost use Rattle.std.specs.Prelude.{◌≡◌, ◌++◌, MatchOption, OnOk, OnErr};
-    ghost use Rattle.relay_lines.specs.Reply.{IsReply, reply_text, made_of};
+    ghost use Rattle.relay_lines.specs.Reply.{IsReply, reply_text, last_text, made_of};
 
     /// A reply of these lines, where they and the code may stand in one.
     pub fn new(code: u16, lines: Vec<Octets>) -> Option<Self>
@@ -51,18 +51,31 @@ impl Reply {
         }
     }
 
-    /// The code.
+    /// The code: 200 to 599.
     pub fn code(&self) -> u16
-        ensures { result ≡ self.now.code }
+        ensures value { result ≡ self.now.code }
+        ensures valid { IsReply self.now }
     {
         self.code
     }
 
-    /// The text of each line.
+    /// The text of each line. There are 1 to 100.
     pub fn lines(&self) -> &[Octets]
-        ensures { result.now ≡ self.now.lines }
+        ensures value { result.now ≡ self.now.lines }
+        ensures valid { IsReply self.now }
     {
         self.lines.as_slice()
+    }
+
+    /// The text of the last line.
+    #[tactic(auto, using(crate::proofs::ReplyLemmas::last_is))]
+    pub fn last_text(&self) -> &[u8]
+        ensures { result.now ≡ last_text self.now.lines }
+    {
+        match self.lines.split_last() {
+            Some((last, _)) => last.as_slice(),
+            None => &[],
+        }
     }
 
     /// Writes the reply at the end of `out`. Where memory runs out, nothing is written.

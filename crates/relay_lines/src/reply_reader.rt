@@ -1,7 +1,8 @@
 ghost use Rattle.std.specs.Prelude.{◌≡◌, ◌<◌, ◌≤◌, ◌⊎◌, ℕ, List, [], ◌∷◌, ◌++◌, length, take, drop, Err, IfOk, IfErr, OnOk, OnErr, OnSome, MatchOption, IsTrue, true, false};
 ghost use Rattle.relay_octets.specs.Line.{crlf};
 ghost use Rattle.relay_lines.specs.Reply.{Reply as Coded, IsReply, SpellsLine, followed_lines, made_of};
-ghost use Rattle.relay_lines.specs.ReplyReading.{Breaks, HasFailed, HasFault, HasRead, GivesLines, HasCode, HasMade, HasNoCode, HoldsEnded, HoldsRest, IsNextLine, IsNoReplyLine, KeepsLine};
+ghost use Rattle.relay_lines.specs.ReplyReading.{Breaks, HasFault, IsNoReplyLine};
+ghost use Rattle.relay_lines.specs.ReplySteps.{HasFailed, HasRead, GivesLines, HasCode, HasMade, HasNoCode, HoldsEnded, HoldsRest, IsNextLine, KeepsLine};
 
 use crate::line_buffer::{LINE_LIMIT, LineBuffer};
 use crate::reply::{REPLY_LINES, Reply};
