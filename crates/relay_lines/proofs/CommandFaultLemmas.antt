@@ -17,8 +17,8 @@ takes_chunk : Verb → Bool
 takes_chunk verb.Bdat = true
 takes_chunk _ = false
 
--- what comes of a verb and its argument: a command, a bad argument of a verb that is offered, a verb that isn't, or a bad
--- chunk size
+-- what comes of a verb and its argument: a command, a bad argument of a verb that is offered, a
+-- verb that isn't, or a bad chunk size
 abbrev Comes : Bool → Bool → Result Command LineFault → Type 0
 Comes offered chunked reading =
     ((command : Command) × (reading ≡ Ok command))
@@ -155,7 +155,8 @@ unknown-words word argument none =
       | inr unknown ↦ unknown.1
     ]
 
--- a bad argument stands behind a verb that is offered and isn't BDAT, and what spells no command is one
+-- a bad argument stands behind a verb that is offered and isn't BDAT, and what spells no command is
+-- one
 bad_argument-verb : (word argument : List ℕ) → reading_of_words word argument ≡ Err BadArgument
     → IsVerb true word × (¬ IsSameWord word (codes "BDAT"))
 bad_argument-verb word argument e =

@@ -1,22 +1,16 @@
 -- Replies cut from octets: in one way, and what is cut stays cut.
-use Rattle.std.proofs.Common.{◌≡◌, ◌≢◌, ℕ, ◌+◌, ◌-◌, ◌<◌, ◌≤◌, ◌⊎◌, ◌&&◌, Bool, true, false, List, [], ◌∷◌, ◌++◌, length, take, inl, inr, refl, sym, ap, ◌∙◌, subst, arith, append_assoc}
+use Rattle.std.proofs.Common.{◌≡◌, ◌≢◌, ℕ, List, [], ◌∷◌, ◌++◌, length, inl, inr, refl, sym, ap, ◌∙◌, subst, arith, append_assoc}
 use Rattle.std.specs.List.{AllByRecursion}
-use Rattle.std.proofs.Math.Bool.{and-false}
-use Rattle.std.proofs.lemmas.List.{append-nil, length-append, take_at}
-use Rattle.std.proofs.Math.Seq.{take-append-add}
-use Rattle.relay_octets.specs.Line.{crlf, HasNoCrlf, ReadsLine, ends_in_cr}
-use Rattle.relay_octets.proofs.Theorems.{no_crlf_joined, no_crlf_front, no_crlf_one, first_line_is_one, first_line_stays}
-use Rattle.relay_lines.specs.Reply.{Reply, IsReply, IsReplyLine, IsCode, ReadsReply, IsBehindCode, code_digits, followed_lines, middle_line, reply_text}
+use Rattle.std.proofs.lemmas.List.{length-append}
+use Rattle.relay_octets.specs.Line.{crlf}
+use Rattle.relay_lines.specs.Reply.{Reply, IsReply, ReadsReply, followed_lines, reply_text}
 use Rattle.relay_lines.specs.Reply.{written_replies}
-use Rattle.relay_lines.specs.ReplyReading.{Breaks, CutsReplies, EndsCut, HasFault, IsLineOf, IsUnfinished, ShowsLine}
-use Rattle.relay_lines.specs.ReplyLaws.{BeginningIsCut, BeginningIsUnfinished, CutIsOne, FaultIsOne, FaultStays, HeldIsUnfinished, ReplyHasNoFault, UnfinishedHasNoFault, UnfinishedHasNoReply}
+use Rattle.relay_lines.specs.ReplyReading.{CutsReplies, EndsCut, HasFault, IsUnfinished}
+use Rattle.relay_lines.specs.ReplyLaws.{BeginningIsCut, CutIsOne}
 use Rattle.relay_lines.specs.declared.reply_reader.ReplyFault.{ReplyFault}
-use Rattle.relay_lines.specs.declared.reply_reader.ReplyFault.TheVariants.{BadLine, MixedCodes, TooLong, NoMemory}
-use Rattle.relay_lines.proofs.ReplyLawLemmas.{middle_has_none, digits_are_one, first_of_followed, GoesFurther, Agree, agree, reply_parts, last_reads, reply_split, ends_there, further_line, no_reply_begins_another, written_is_read}
+use Rattle.relay_lines.proofs.ReplyLawLemmas.{no_reply_begins_another, written_is_read}
 use Rattle.relay_lines.specs.ReplyReading.{CutsAllReplies}
 use Rattle.relay_lines.specs.ReplyLaws.{CutGoesOn, CutStays, ReadIsCut}
-use Rattle.relay_lines.specs.ReplySteps.{HasRead}
-use Rattle.relay_lines.specs.declared.reply_reader.ReplyReader.{ReplyReader}
 use Rattle.relay_lines.proofs.ReplyReadingLemmas.{cut_more}
 use Rattle.relay_lines.proofs.ReplyFaultLemmas.{fault_stays, held_is_unfinished, reply_has_no_fault, unfinished_has_no_reply}
 

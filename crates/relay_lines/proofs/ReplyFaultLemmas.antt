@@ -1,18 +1,17 @@
 -- Replies in octets: a fault is none where a reply stands or goes on.
-use Rattle.std.proofs.Common.{◌≡◌, ◌≢◌, ℕ, ◌+◌, ◌-◌, ◌<◌, ◌≤◌, ◌⊎◌, ◌&&◌, Bool, true, false, List, [], ◌∷◌, ◌++◌, length, take, inl, inr, refl, sym, ap, ◌∙◌, subst, arith, append_assoc}
+use Rattle.std.proofs.Common.{◌≡◌, ℕ, ◌+◌, ◌-◌, ◌<◌, ◌≤◌, ◌⊎◌, true, false, List, [], ◌∷◌, ◌++◌, length, take, inl, inr, refl, sym, ap, ◌∙◌, subst, arith, append_assoc}
 use Rattle.std.specs.List.{AllByRecursion}
 use Rattle.std.proofs.Math.Bool.{and-false}
 use Rattle.std.proofs.lemmas.List.{append-nil, length-append, take_at}
 use Rattle.std.proofs.Math.Seq.{take-append-add}
 use Rattle.relay_octets.specs.Line.{crlf, HasNoCrlf, ReadsLine, ends_in_cr}
 use Rattle.relay_octets.proofs.Theorems.{no_crlf_joined, no_crlf_front, no_crlf_one, first_line_is_one, first_line_stays}
-use Rattle.relay_lines.specs.Reply.{Reply, IsReply, IsReplyLine, IsCode, ReadsReply, IsBehindCode, code_digits, followed_lines, middle_line, reply_text}
-use Rattle.relay_lines.specs.Reply.{written_replies}
-use Rattle.relay_lines.specs.ReplyReading.{Breaks, CutsReplies, EndsCut, HasFault, IsLineOf, IsUnfinished, ShowsLine}
-use Rattle.relay_lines.specs.ReplyLaws.{BeginningIsCut, BeginningIsUnfinished, CutIsOne, FaultIsOne, FaultStays, HeldIsUnfinished, ReplyHasNoFault, UnfinishedHasNoFault, UnfinishedHasNoReply}
+use Rattle.relay_lines.specs.Reply.{Reply, IsReplyLine, IsCode, ReadsReply, IsBehindCode, code_digits, followed_lines, middle_line}
+use Rattle.relay_lines.specs.ReplyReading.{Breaks, HasFault, IsLineOf, IsUnfinished, ShowsLine}
+use Rattle.relay_lines.specs.ReplyLaws.{BeginningIsUnfinished, FaultIsOne, FaultStays, HeldIsUnfinished, ReplyHasNoFault, UnfinishedHasNoFault, UnfinishedHasNoReply}
 use Rattle.relay_lines.specs.declared.reply_reader.ReplyFault.{ReplyFault}
 use Rattle.relay_lines.specs.declared.reply_reader.ReplyFault.TheVariants.{BadLine, MixedCodes, TooLong, NoMemory}
-use Rattle.relay_lines.proofs.ReplyLawLemmas.{middle_has_none, digits_are_one, first_of_followed, GoesFurther, Agree, agree, reply_parts, last_reads, reply_split, ends_there, further_line, no_reply_begins_another, written_is_read}
+use Rattle.relay_lines.proofs.ReplyLawLemmas.{middle_has_none, digits_are_one, first_of_followed, GoesFurther, Agree, agree, reply_parts, last_reads, reply_split, ends_there, further_line}
 
 -- where a short line ends, no other shows
 short_shows : (octets line other rest : List ℕ) → ShowsLine octets line

@@ -35,7 +35,8 @@ lines_of_reply code (text ∷ next ∷ more) = middle_line code text ++ lines_of
 abbrev pub reply_text : Reply → List ℕ
 reply_text reply = lines_of_reply reply.code reply.lines
 
--- any octets but CR LF; a line has at most 2,048 octets with its code, the mark behind it and its CR LF
+-- any octets but CR LF; a line has at most 2,048 octets with its code, the mark behind it and its
+-- CR LF
 pub record IsReplyLine (text : List ℕ) : Type 0 where
   pub line : HasNoCrlf text
   pub short : length text ≤ 2042

@@ -14,11 +14,11 @@ WrittenIsRead = (reply : Reply) → IsReply reply → ReadsReply (reply_text rep
 -- No reply begins another, and octets are one reply at most.
 abbrev pub NoReplyBeginsAnother : Type 0
 NoReplyBeginsAnother =
-    (text other behind rest : List ℕ) (reply second : Reply) → ReadsReply text reply → ReadsReply other second
-    → text ++ behind ≡ other ++ rest → (text ≡ other) × (behind ≡ rest) × (reply ≡ second)
+    (text other behind rest : List ℕ) (reply second : Reply) → ReadsReply text reply
+    → ReadsReply other second → text ++ behind ≡ other ++ rest → (text ≡ other) × (behind ≡ rest) × (reply ≡ second)
 
--- Where octets begin replies as they are written, what is cut from the octets is a beginning of those replies, and the
--- rest has no fault.
+-- Where octets begin replies as they are written, what is cut from the octets is a beginning of
+-- those replies, and the rest has no fault.
 abbrev pub BeginningIsCut : Type 0
 BeginningIsCut =
     (octets more rest : List ℕ) (cut replies : List Reply) → AllByRecursion IsReply replies
@@ -28,11 +28,13 @@ BeginningIsCut =
 -- Octets that begin with a reply have no fault.
 abbrev pub ReplyHasNoFault : Type 0
 ReplyHasNoFault =
-    (text rest : List ℕ) (reply : Reply) (fault : ReplyFault) → ReadsReply text reply → ¬ HasFault (text ++ rest) fault
+    (text rest : List ℕ) (reply : Reply) (fault : ReplyFault) → ReadsReply text reply
+    → ¬ HasFault (text ++ rest) fault
 
 -- A rest that isn't whole has no fault.
 abbrev pub UnfinishedHasNoFault : Type 0
-UnfinishedHasNoFault = (octets : List ℕ) (fault : ReplyFault) → IsUnfinished octets → ¬ HasFault octets fault
+UnfinishedHasNoFault =
+    (octets : List ℕ) (fault : ReplyFault) → IsUnfinished octets → ¬ HasFault octets fault
 
 -- A rest that isn't whole begins with no reply.
 abbrev pub UnfinishedHasNoReply : Type 0
@@ -63,8 +65,8 @@ HeldIsUnfinished = (reader : ReplyReader) (rest : List ℕ) → HoldsRest reader
 -- What a reader has used is cut into all its whole replies, and its rest is what it holds.
 abbrev pub ReadIsCut : Type 0
 ReadIsCut =
-    (reader : ReplyReader) (octets rest : List ℕ) (replies : List Reply) → HasRead reader octets replies rest
-    → CutsAllReplies octets replies rest
+    (reader : ReplyReader) (octets rest : List ℕ) (replies : List Reply)
+    → HasRead reader octets replies rest → CutsAllReplies octets replies rest
 
 -- Octets are cut into all their whole replies in one way.
 abbrev pub CutIsOne : Type 0
@@ -78,7 +80,8 @@ CutGoesOn =
     (octets rest more : List ℕ) (replies : List Reply) → CutsReplies octets replies rest
     → CutsReplies (octets ++ more) replies (rest ++ more)
 
--- What is cut stays cut when more comes behind: the further replies are those of the rest and what came.
+-- What is cut stays cut when more comes behind: the further replies are those of the rest and what
+-- came.
 abbrev pub CutStays : Type 0
 CutStays =
     (octets rest more left : List ℕ) (replies others : List Reply) → CutsReplies octets replies rest

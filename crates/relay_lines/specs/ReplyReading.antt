@@ -1,4 +1,5 @@
--- Replies that are read (RFC 5321, section 4.2): whole ones, a rest that isn't whole, and where a rest has a fault.
+-- Replies that are read (RFC 5321, section 4.2): whole ones, a rest that isn't whole, and where a
+-- rest has a fault.
 use Rattle.std.specs.Prelude.{◌≡◌, ◌≢◌, ◌⊎◌, ℕ, ◌<◌, ◌≤◌, Bool, List, [], ◌∷◌, ◌++◌, length}
 use Rattle.std.specs.List.{AllByRecursion}
 use Rattle.relay_octets.specs.Line.{HasNoCrlf, ReadsLine}
@@ -12,9 +13,9 @@ pub record AreFollowed (code : ℕ) (lines : List (List ℕ)) : Type 0 where
   pub few : length lines ≤ 100
   pub each : AllByRecursion IsReplyLine lines
 
--- The octets begin a reply and aren't whole: lines that another follows, and a part of the next line,
--- which may still be short enough. profile: a line is judged when it is whole, or 2,048 octets of it
--- have come
+-- The octets begin a reply and aren't whole: lines that another follows, and a part of the next
+-- line, which may still be short enough. profile: a line is judged when it is whole, or 2,048
+-- octets of it have come
 pub record IsUnfinished (octets : List ℕ) : Type 0 where
   pub code : ℕ
   pub lines : List (List ℕ)
@@ -31,7 +32,8 @@ ShowsLine octets line =
     ((rest : List ℕ) × ReadsLine octets line rest × (length line ≤ 2046))
     ⊎ ((rest : List ℕ) × (octets ≡ line ++ rest) × HasNoCrlf line × (length line ≡ 2048))
 
--- the line is none of a reply: it has no code, or another octet behind that than a hyphen or a space
+-- the line is none of a reply: it has no code, or another octet behind that than a hyphen or a
+-- space
 pub record IsNoReplyLine (line : List ℕ) : Type 0 where
   pub none : (code : ℕ) (is_last : Bool) (text : List ℕ) → ¬ SpellsLine line code is_last text
 
@@ -41,8 +43,8 @@ pub record IsLineOf (line : List ℕ) (code : ℕ) : Type 0 where
   pub text : List ℕ
   pub spells : SpellsLine line code is_last text
 
--- The rule that a line breaks behind these lines of a reply. Of two that it breaks the first counts: a
--- line that is none, then another code, then a line that is too long or the 101st.
+-- The rule that a line breaks behind these lines of a reply. Of two that it breaks the first
+-- counts: a line that is none, then another code, then a line that is too long or the 101st.
 abbrev pub Breaks : ReplyFault → ℕ → List (List ℕ) → List ℕ → Type 0
 Breaks BadLine code lines line = IsNoReplyLine line
 Breaks MixedCodes code lines line =

@@ -59,7 +59,8 @@ pub record GivesLines (old new : ReplyReader) : Type 0 where
   pub is_open : new.has_failed ≡ old.has_failed
 
 -- the reader has used these octets: they are these replies, and a rest, which it holds
-pub record HasRead (reader : ReplyReader) (octets : List ℕ) (replies : List Reply) (rest : List ℕ) : Type 0 where
+pub record HasRead
+    (reader : ReplyReader) (octets : List ℕ) (replies : List Reply) (rest : List ℕ) : Type 0 where
   pub cut : CutsReplies octets replies rest
   pub holds : HoldsRest reader rest
 

@@ -1,5 +1,5 @@
--- Commands as a client writes them (RFC 5321, section 4.1.1; RFC 3030, section 2): the verb in upper case, then what it
--- asks for.
+-- Commands as a client writes them (RFC 5321, section 4.1.1; RFC 3030, section 2): the verb in
+-- upper case, then what it asks for.
 use Rattle.std.specs.Prelude.{◌≡◌, ℕ, ◌+◌, ◌^◌, ◌<◌, ◌≤◌, Bool, true, false, List, [], ◌++◌, codes, decimal, length, Ok}
 use Rattle.std.specs.List.{AllPass, suffix_len}
 use Rattle.relay_octets.specs.Line.{HasNoCrlf}
@@ -25,7 +25,8 @@ written_command Vrfy = codes "VRFY"
 written_command Help = codes "HELP"
 written_command Quit = codes "QUIT"
 
--- the text may follow this front of a line: it is printable, ends in no blank, and the line with its CR LF is short enough
+-- the text may follow this front of a line: it is printable, ends in no blank, and the line with
+-- its CR LF is short enough
 pub record MayFollow (front text : List ℕ) : Type 0 where
   pub printable : AllPass is_printable text
   pub ends_in_no_blank : suffix_len is_blank text ≡ 0
@@ -45,7 +46,8 @@ MayBeWritten Vrfy = Unit {0}
 MayBeWritten Help = Unit {0}
 MayBeWritten Quit = Unit {0}
 
--- the line is one of this command: read as it, without a CR LF, and with its own at most 2,048 octets
+-- the line is one of this command: read as it, without a CR LF, and with its own at most 2,048
+-- octets
 pub record IsCommandLine (line : List ℕ) (command : Command) : Type 0 where
   pub is_read : reading_of line ≡ Ok command
   pub has_no_crlf : HasNoCrlf line
@@ -53,4 +55,5 @@ pub record IsCommandLine (line : List ℕ) (command : Command) : Type 0 where
 
 -- What is written of a command is a line of it.
 abbrev pub WrittenCommandIsRead : Type 0
-WrittenCommandIsRead = (command : Command) → MayBeWritten command → IsCommandLine (written_command command) command
+WrittenCommandIsRead =
+    (command : Command) → MayBeWritten command → IsCommandLine (written_command command) command

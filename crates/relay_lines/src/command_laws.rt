@@ -13,7 +13,8 @@ pub fn split_is_one()
     ensures { SplitIsOne }
 {}
 
-/// A line's reading is that of its word and its argument, and the spaces between them and behind them say nothing.
+/// A line's reading is that of its word and its argument, and the spaces between them and behind
+/// them say nothing.
 pub fn reading_is_of_words()
     ensures { ReadingIsOfWords }
 {}
@@ -33,8 +34,8 @@ pub fn unknown_is_found()
     ensures { UnknownIsFound }
 {}
 
-/// An argument is bad exactly where the line is printable, its word is a verb that is offered but not BDAT, and the two
-/// spell no command.
+/// An argument is bad exactly where the line is printable, its word is a verb that is offered but
+/// not BDAT, and the two spell no command.
 pub fn bad_argument_is_found()
     ensures { BadArgumentIsFound }
 {}
@@ -59,7 +60,8 @@ pub fn command_has_no_crlf()
     ensures { CommandHasNoCrlf }
 {}
 
-/// What a client writes of a command is read as that command, has no CR LF in it, and is no longer than a line may be.
+/// What a client writes of a command is read as that command, has no CR LF in it, and is no longer
+/// than a line may be.
 pub fn written_command_is_read()
     ensures { WrittenCommandIsRead }
 {}

@@ -15,8 +15,8 @@ pub const REPLY_LINES: usize = 100;
 /// What a reply line has beside its text: the code, the mark behind it, and CR LF.
 const LINE_FRAME: usize = 6;
 
-/// A reply (RFC 5321, 4.2): a code of three digits, the first 2 to 5, and 1 to 100 lines of text. A text is any
-/// octets but CR LF, 2,042 of them at most.
+/// A reply (RFC 5321, 4.2): a code of three digits, the first 2 to 5, and 1 to 100 lines of text. A
+/// text is any octets but CR LF, 2,042 of them at most.
 #[derive(Debug, Drop)]
 pub struct Reply {
     code: u16,
@@ -111,11 +111,12 @@ fn is_reply_line(text: &[u8]) -> bool
     text.len() <= LINE_LIMIT - LINE_FRAME && find_crlf(text).is_none()
 }
 
-/// Writes a reply of one line at the end of `out`: the code, and the text in two parts, each of which may be empty.
-/// Where memory runs out, nothing is written.
+/// Writes a reply of one line at the end of `out`: the code, and the text in two parts, each of
+/// which may be empty. Where memory runs out, nothing is written.
 pub fn write_line(out: &mut Vec<u8>, code: u16, text: &[u8], more: &[u8]) -> Result<(), AllocError>
     requires { code < 1000 }
-    ensures ok { OnOk result (out.new.items ≡ out.old.items ++ reply_text (one_line code (text.now ++ more.now))) }
+    ensures ok { OnOk result (out.new.items ≡ out.old.items
+        ++ reply_text (one_line code (text.now ++ more.now))) }
     ensures err { OnErr result (out.new.items ≡ out.old.items) }
 {
     let start = out.len();
@@ -126,8 +127,8 @@ pub fn write_line(out: &mut Vec<u8>, code: u16, text: &[u8], more: &[u8]) -> Res
     written
 }
 
-/// Writes a line of a reply that another follows at the end of `out`: the code, a hyphen, and the text. Where memory
-/// runs out, nothing is written.
+/// Writes a line of a reply that another follows at the end of `out`: the code, a hyphen, and the
+/// text. Where memory runs out, nothing is written.
 pub fn write_middle_line(out: &mut Vec<u8>, code: u16, text: &[u8]) -> Result<(), AllocError>
     requires { code < 1000 }
     ensures ok { OnOk result (out.new.items ≡ out.old.items ++ middle_line code text.now) }
@@ -178,7 +179,8 @@ fn push_line(
     more: &[u8],
 ) -> Result<(), AllocError>
     requires { code < 1000 }
-    ensures ok { OnOk result (out.new.items ≡ out.old.items ++ (code_digits code ++ mark.now ++ text.now ++ more.now ++ crlf)) }
+    ensures ok { OnOk result (out.new.items ≡ out.old.items
+        ++ (code_digits code ++ mark.now ++ text.now ++ more.now ++ crlf)) }
     ensures front { Begins out.old.items out.new.items }
 {
     let digit = |n: u16| b'0' + n as u8;

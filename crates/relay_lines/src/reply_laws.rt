@@ -11,8 +11,8 @@ pub fn no_reply_begins_another()
     ensures { NoReplyBeginsAnother }
 {}
 
-/// Where octets begin replies as they are written, what is cut from the octets is a beginning of those replies, and the
-/// rest has no fault.
+/// Where octets begin replies as they are written, what is cut from the octets is a beginning of
+/// those replies, and the rest has no fault.
 pub fn beginning_is_cut()
     ensures { BeginningIsCut }
 {}
@@ -32,7 +32,8 @@ pub fn cut_goes_on()
     ensures { CutGoesOn }
 {}
 
-/// What is cut stays cut when more comes behind: the further replies are those of the rest and what came.
+/// What is cut stays cut when more comes behind: the further replies are those of the rest and what
+/// came.
 pub fn cut_stays()
     ensures { CutStays }
 {}

@@ -45,13 +45,15 @@ has_crlf (octet ∷ octets) = (octet == 13 && begins_with_lf octets) || has_crlf
 -- the first line of a stream, and what follows it, are fixed by the stream
 abbrev pub FirstLineIsOne : Type 0
 FirstLineIsOne =
-    (stream line rest other more : List ℕ) → ReadsLine stream line rest → ReadsLine stream other more
+    (stream line rest other more : List ℕ) → ReadsLine stream line rest
+    → ReadsLine stream other more
     → (line ≡ other) × (rest ≡ more)
 
 -- what comes behind a whole line doesn't change it
 abbrev pub FirstLineStays : Type 0
 FirstLineStays =
-    (stream line rest more : List ℕ) → ReadsLine stream line rest → ReadsLine (stream ++ more) line (rest ++ more)
+    (stream line rest more : List ℕ) → ReadsLine stream line rest
+    → ReadsLine (stream ++ more) line (rest ++ more)
 
 -- The test of CR LF fails exactly where none stands in the octets.
 abbrev pub CrlfIsTested : Type 0
