@@ -3,6 +3,8 @@ mod RowLemmas
 mod PathLemmas
 mod PartLemmas
 mod ParameterLemmas
+mod HostNameLemmas
+mod ValidityLemmas
 mod MailLemmas
 mod WrittenLemmas
 mod ValidLemmas

@@ -1,5 +1,10 @@
 //! What is true of envelopes that may be stored, whoever writes and reads them.
-ghost use Rattle.relay_envelope.specs.Envelope.{MailIsReadAgain, RcptIsReadAgain, ReadMailIsValid, ReadRcptIsValid, MailFits, RcptFits};
+ghost use Rattle.relay_envelope.specs.Envelope.{ReversePathIsForward, MailIsReadAgain, RcptIsReadAgain, ReadMailIsValid, ReadRcptIsValid, MailFits, RcptFits};
+
+/// A reverse path that isn't `<>` is a forward path.
+pub fn reverse_path_is_forward()
+    ensures { ReversePathIsForward }
+{}
 
 /// What is written of an envelope that may be stored is read again as the same.
 pub fn mail_is_read_again()

@@ -7,6 +7,7 @@ mod value;
 
 use crate::fault::EnvelopeFault;
 use crate::part::{first_part, is_word, keyword_and_value};
+pub(crate) use value::type_and_address;
 pub use value::{is_envid, is_orcpt};
 
 /// How much of a message a report returns (RFC 3461, section 4.3).
