@@ -6,9 +6,11 @@ mod ParameterLemmas
 mod HostNameLemmas
 mod ValidityLemmas
 mod MailLemmas
+mod GraphicLemmas
 mod WrittenLemmas
 mod ValidLemmas
 mod FitLemmas
+mod CommandLineLemmas
 mod RowOfWordsLemmas
 mod MailRowLemmas
 mod RcptRowLemmas

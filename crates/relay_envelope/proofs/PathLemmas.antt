@@ -32,7 +32,7 @@ lacks_by_place octet text nowhere =
     list_any_none (λ other. other == octet) text (λ k d h. false_by _ (λ e. nowhere k h (ap (λ o. o == octet) (get_or_default text k 0 d h) ∙ e)))
 
 -- an octet that a test refuses does not stand where all pass
-pub lacks_by_test : (test : ℕ → Bool) (octet : ℕ) (text : List ℕ) → test octet ≡ false → AllPass test text → stands_in octet text ≡ false
+lacks_by_test : (test : ℕ → Bool) (octet : ℕ) (text : List ℕ) → test octet ≡ false → AllPass test text → stands_in octet text ≡ false
 lacks_by_test test octet text refused all =
     lacks_by_place octet text (λ k h e. false≢true (sym refused ∙ ap test (sym (eqb-true (get_or text k 0) octet e)) ∙ all k 0 h))
 

@@ -10,4 +10,4 @@ pub use Rattle.relay_envelope.proofs.HostNameLemmas.{host_name_is_host_word, hos
 pub use Rattle.relay_envelope.proofs.ValidityLemmas.{reverse_path_is_forward}
 pub use Rattle.relay_envelope.proofs.ValidLemmas.{read_mail_is_valid, read_rcpt_is_valid}
 pub use Rattle.relay_envelope.proofs.WrittenLemmas.{mail_is_read_again, rcpt_is_read_again}
-pub use Rattle.relay_envelope.proofs.FitLemmas.{mail_fits, rcpt_fits}
+pub use Rattle.relay_envelope.proofs.CommandLineLemmas.{mail_is_command_line, rcpt_is_command_line}

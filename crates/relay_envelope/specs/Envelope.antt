@@ -1,6 +1,8 @@
 -- Envelopes (RFC 5321, section 2.3.1; RFC 3461, section 4), and how MAIL and RCPT are written.
-use Rattle.std.specs.Prelude.{◌≡◌, ◌≢◌, ℕ, ◌+◌, ◌≤◌, Bool, true, ◌||◌, List, [], ◌∷◌, ◌++◌, codes, length, Option, Some, None, Ok, if◌then◌else◌}
+use Rattle.std.specs.Prelude.{◌≡◌, ◌≢◌, ℕ, ◌≤◌, Bool, true, ◌||◌, List, [], ◌∷◌, ◌++◌, codes, length, Option, Some, None, Ok, if◌then◌else◌}
 use Rattle.std.specs.List.{AllByRecursion, join_with_byte}
+use Rattle.relay_lines.specs.Command.{Mail as MailCommand, Rcpt as RcptCommand}
+use Rattle.relay_lines.specs.WrittenCommand.{IsCommandLine}
 use Rattle.relay_envelope.specs.Path.{Path, IsPath, is_forward, is_reverse, path_text}
 use Rattle.relay_envelope.specs.Parameters.{is_envid, is_orcpt}
 use Rattle.relay_envelope.specs.Mail.{Mail, Rcpt, ReadsMail, ReadsRcpt}
@@ -145,10 +147,16 @@ ReadMailIsValid =
 abbrev pub ReadRcptIsValid : Type 0
 ReadRcptIsValid = (text : List ℕ) (rcpt : Rcpt) → ReadsRcpt text (Ok rcpt) → IsRecipient (recipient_from rcpt)
 
--- A MAIL that is written of what may be stored has at most 2,048 octets with its CR LF.
-abbrev pub MailFits : Type 0
-MailFits = (envelope : Envelope) → IsEnvelope envelope → length (codes "MAIL FROM:" ++ mail_text envelope) + 2 ≤ 2048
+-- The line of MAIL that is written of an envelope that may be stored is one of that MAIL, with its parameters and with none.
+abbrev pub MailIsCommandLine : Type 0
+MailIsCommandLine =
+    (envelope : Envelope) → IsEnvelope envelope
+    → IsCommandLine (codes "MAIL FROM:" ++ mail_text envelope) (MailCommand (mail_text envelope))
+    × IsCommandLine (codes "MAIL FROM:" ++ envelope.reverse_path) (MailCommand envelope.reverse_path)
 
--- A RCPT that is written of what may be stored has at most 2,048 octets with its CR LF.
-abbrev pub RcptFits : Type 0
-RcptFits = (recipient : Recipient) → IsRecipient recipient → length (codes "RCPT TO:" ++ rcpt_text recipient) + 2 ≤ 2048
+-- The line of RCPT that is written of a recipient that may be stored is one of that RCPT, with its parameters and with none.
+abbrev pub RcptIsCommandLine : Type 0
+RcptIsCommandLine =
+    (recipient : Recipient) → IsRecipient recipient
+    → IsCommandLine (codes "RCPT TO:" ++ rcpt_text recipient) (RcptCommand (rcpt_text recipient))
+    × IsCommandLine (codes "RCPT TO:" ++ recipient.path) (RcptCommand recipient.path)

@@ -1,10 +1,10 @@
 ghost use Rattle.std.specs.Prelude.{◌≡◌};
 ghost use Rattle.std.specs.List.{list_all};
-ghost use Rattle.relay_lines.specs.Word.{is_printable as printable};
 ghost use Rattle.relay_envelope.specs.Parameters.{address_of, address_type_of, is_address_type, is_envid, is_orcpt, is_original_address, is_readable_xtext, is_type_octet};
 
 use crate::part::first_part;
 use crate::xtext::first_octet;
+use relay_lines::word::is_printable;
 
 /// The most octets of ENVID as it is written (RFC 3461, section 4.4).
 const ENVID_LIMIT: usize = 100;
@@ -79,10 +79,4 @@ fn is_type_octet(octet: u8) -> bool
     ensures { result ≡ is_type_octet octet }
 {
     octet.is_ascii_alphanumeric() || octet == b'-'
-}
-
-fn is_printable(octet: u8) -> bool
-    ensures { result ≡ printable octet }
-{
-    matches!(octet, b' '..=b'~')
 }
