@@ -1,5 +1,5 @@
 // A file of the operating system as a disk. Nothing can be said of what a real file holds, so it is not honest.
-ghost use Rattle.std.specs.Prelude.{◌≡◌, [], None, false, IfOk};
+ghost use Rattle.std.specs.Prelude.{◌≡◌, false, IfOk};
 
 use crate::disk::counted;
 use crate::{Disk, DiskFault};
@@ -69,19 +69,11 @@ fn folder_of(path: &str) -> &str {
 impl Disk for FileDisk {
     ghost use Rattle.std.specs.Prelude.{◌≡◌, ◌||◌, IsTrue, IsErr, is_err};
     ghost use Rattle.relay_disk.specs.Device.{CountsFailure};
-    ghost use Rattle.relay_disk.specs.File.{failures_of, sync_failed};
+    ghost use Rattle.relay_disk.specs.File.{file_words, sync_failed};
 
     ghost honest = { ⊥ };
 
-    ghost seen = { λ _. [] };
-
-    ghost may_leave = { λ _ _. ⊥ };
-
-    ghost moment = { λ _. 0 };
-
-    ghost left_since = { λ _ _ _. ⊥ };
-
-    ghost failed = { failures_of };
+    ghost words = { file_words };
 
     ghost sees_now = { λ honest. absurd honest };
 
@@ -94,7 +86,7 @@ impl Disk for FileDisk {
     }
 
     fn size(&mut self) -> Result<usize, DiskFault>
-        ensures failures { CountsFailure (failures_of self.old) (failures_of self.new) result }
+        ensures failures { CountsFailure file_words self.old self.new result }
         ensures syncs { sync_failed self.new ≡ sync_failed self.old }
     {
         let size = self.file.metadata().map(|metadata| metadata.len() as usize);
@@ -102,7 +94,7 @@ impl Disk for FileDisk {
     }
 
     fn read(&mut self, place: usize, into: &mut [u8]) -> Result<(), DiskFault>
-        ensures failures { CountsFailure (failures_of self.old) (failures_of self.new) result }
+        ensures failures { CountsFailure file_words self.old self.new result }
         ensures syncs { sync_failed self.new ≡ sync_failed self.old }
     {
         let answer = self.file.read_exact_at(into, place as u64);
@@ -110,7 +102,7 @@ impl Disk for FileDisk {
     }
 
     fn write_at(&mut self, place: usize, octets: &[u8]) -> Result<(), DiskFault>
-        ensures failures { CountsFailure (failures_of self.old) (failures_of self.new) result }
+        ensures failures { CountsFailure file_words self.old self.new result }
         ensures syncs { sync_failed self.new ≡ sync_failed self.old }
     {
         let answer = self.file.write_all_at(octets, place as u64);
@@ -118,7 +110,7 @@ impl Disk for FileDisk {
     }
 
     fn cut(&mut self, size: usize) -> Result<(), DiskFault>
-        ensures failures { CountsFailure (failures_of self.old) (failures_of self.new) result }
+        ensures failures { CountsFailure file_words self.old self.new result }
         ensures syncs { sync_failed self.new ≡ sync_failed self.old }
     {
         let answer = self.file.set_len(size as u64);
@@ -126,7 +118,7 @@ impl Disk for FileDisk {
     }
 
     fn sync(&mut self) -> Result<(), DiskFault>
-        ensures failures { CountsFailure (failures_of self.old) (failures_of self.new) result }
+        ensures failures { CountsFailure file_words self.old self.new result }
         ensures behind { IsTrue (sync_failed self.old) → IsErr result }
         ensures syncs { sync_failed self.new ≡ (sync_failed self.old || is_err result) }
     {
@@ -139,7 +131,7 @@ impl Disk for FileDisk {
     }
 
     fn pass(&mut self) -> Result<(), DiskFault>
-        ensures failures { CountsFailure (failures_of self.old) (failures_of self.new) result }
+        ensures failures { CountsFailure file_words self.old self.new result }
         ensures syncs { sync_failed self.new ≡ sync_failed self.old }
     {
         Ok(())
