@@ -1,4 +1,3 @@
 mod DeviceLemmas
-mod ImageLemmas
 mod CallLemmas
 mod PickLemmas

@@ -4,5 +4,6 @@ mod LinkLemmas
 mod WalkLemmas
 mod SpoolLemmas
 mod BlockLemmas
+mod HeadLemmas
 mod ChainLemmas
 mod ReadingLemmas

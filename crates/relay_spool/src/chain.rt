@@ -1,16 +1,20 @@
 // The chain of one disk, read from gate to gate.
-ghost use Rattle.std.specs.Prelude.{◌≡◌, ◌+◌, ◌<◌, ◌≤◌, ℕ, List, [], ◌++◌, length, take, drop, IfOk, IfErr, OnOk, MatchResult};
-ghost use Rattle.relay_disk.specs.Device.{CountsFailure, Only};
-ghost use Rattle.relay_spool.specs.Blocks.{GoesTo, IsAt, Lies, PassesGate, RefusesBody, RefusesLink};
+ghost use Rattle.std.specs.Prelude.{◌≡◌, ◌+◌, ◌^◌, ◌<◌, ◌≤◌, ℕ, List, ◌++◌, length, take, IfOk, IfErr, OnOk, MatchResult};
+ghost use Rattle.relay_disk.specs.Device.{FailsNot, IsSettled};
+ghost use Rattle.relay_spool.specs.Blocks.{GoesOn, GoesTo, IsAt, IsNoReading, Lies, PassesGate, RefusesBody, RefusesChain, RefusesLink};
 ghost use Rattle.relay_spool.specs.Image.{IsHead, IsImageOf, number_of, size_of};
-ghost use Rattle.relay_spool.specs.Spool.{FailsBy, Keeps, RefusesToOpen, texts_of};
+ghost use Rattle.relay_spool.specs.Spool.{FailsBy, OnlyReads, RefusesToOpen, texts_of};
 
 use crate::SpoolFault;
+use crate::fault::ReadFault;
 use crate::gate::OPEN;
 use crate::head::{HEAD_SIZE, read_head};
 use crate::reader::Reader;
-use relay_disk::{Disk, DiskFault};
+use relay_disk::Disk;
 use std::alloc::Global;
+
+/// The size, in octets, that no spool passes.
+pub(crate) const MAX_SIZE: usize = 1 << 40;
 
 /// What a disk holds.
 #[derive(Drop)]
@@ -23,13 +27,14 @@ pub(crate) struct Found {
 /// Reads the image of a disk, behind a sync.
 pub(crate) fn read_image<D: Disk>(alloc: Global, disk: &mut D) -> Result<Found, SpoolFault>
     ensures image { D.honest → IfOk result
-        (λ found. IsImageOf (D.seen disk.old) (texts_of found.bodies)) }
-    ensures settled { D.honest → OnOk result (Only (D.seen disk.old) (D.may_leave disk.new)) }
-    ensures size { IfOk result (λ found. found.size ≡ size_of (texts_of found.bodies)) }
-    ensures refused { IfErr result (RefusesToOpen D.honest (D.seen disk.old)) }
-    ensures keeps { D.honest → Keeps D.seen D.may_leave D.moment D.left_since disk.old disk.new }
-    ensures failures { MatchResult result (λ _. D.failed disk.new ≡ D.failed disk.old)
-        (FailsBy (D.failed disk.old) (D.failed disk.new)) }
+        (λ found. IsImageOf (D.words.seen disk.old) (texts_of found.bodies)) }
+    ensures settled { D.honest → OnOk result (IsSettled D.words disk.new) }
+    ensures size { IfOk result (λ found. (found.size ≡ size_of (texts_of found.bodies))
+        × (found.size ≤ 2 ^ 40)) }
+    ensures refused { IfErr result (RefusesToOpen D.honest (D.words.seen disk.old)) }
+    ensures keeps { D.honest → OnlyReads D.words disk.old disk.new }
+    ensures failures { MatchResult result (λ _. FailsNot D.words disk.old disk.new)
+        (FailsBy D.words disk.old disk.new) }
 {
     disk.sync()?;
     let size = disk.size()?;
@@ -42,20 +47,24 @@ pub(crate) fn read_image<D: Disk>(alloc: Global, disk: &mut D) -> Result<Found, 
 /// Reads the image of a disk of this size.
 fn read_bodies<D: Disk>(alloc: Global, disk: &mut D, size: usize) -> Result<Found, SpoolFault>
     requires more { 17 < size }
-    requires size { D.honest → size ≡ length (D.seen disk.old) }
+    requires size { D.honest → size ≡ length (D.words.seen disk.old) }
     ensures image { D.honest → IfOk result
-        (λ found. IsImageOf (D.seen disk.old) (texts_of found.bodies)) }
-    ensures size { IfOk result (λ found. found.size ≡ size_of (texts_of found.bodies)) }
-    ensures refused { IfErr result (RefusesToOpen D.honest (D.seen disk.old)) }
-    ensures keeps { D.honest → Keeps D.seen D.may_leave D.moment D.left_since disk.old disk.new }
-    ensures failures { MatchResult result (λ _. D.failed disk.new ≡ D.failed disk.old)
-        (FailsBy (D.failed disk.old) (D.failed disk.new)) }
+        (λ found. IsImageOf (D.words.seen disk.old) (texts_of found.bodies)) }
+    ensures size { IfOk result (λ found. (found.size ≡ size_of (texts_of found.bodies))
+        × (found.size ≤ 2 ^ 40)) }
+    ensures refused { IfErr result (RefusesToOpen D.honest (D.words.seen disk.old)) }
+    ensures keeps { D.honest → OnlyReads D.words disk.old disk.new }
+    ensures failures { MatchResult result (λ _. FailsNot D.words disk.old disk.new)
+        (FailsBy D.words disk.old disk.new) }
 {
     let mut reader = Reader::new(alloc, size)?;
     if !read_head(alloc, disk, &mut reader)? {
         return Err(SpoolFault::NotASpool);
     }
     let bodies = read_chain(alloc, disk, &mut reader)?;
+    if reader.place > MAX_SIZE {
+        return Err(SpoolFault::Full);
+    }
     Ok(Found {
         bodies,
         size: reader.place,
@@ -67,17 +76,13 @@ fn read_chain<D: Disk>(
     alloc: Global,
     disk: &mut D,
     reader: &mut Reader,
-) -> Result<Vec<Vec<u8>>, SpoolFault>
-    requires start { reader.old.place ≡ 17 }
-    requires more { reader.old.place < reader.old.size }
-    requires at { D.honest → IsAt (D.seen disk.old) reader.old }
-    requires head { D.honest → IsHead (take 17 (D.seen disk.old)) }
-    ensures image { D.honest → IfOk result (λ bodies. IsImageOf (D.seen disk.old) (texts_of bodies)) }
+) -> Result<Vec<Vec<u8>>, ReadFault>
+    requires start { (reader.old.place ≡ 17) × (17 < reader.old.size) }
+    requires at { D.honest → IsAt (D.words.seen disk.old) reader.old × IsHead (take 17 (D.words.seen disk.old)) }
+    ensures image { D.honest → IfOk result (λ bodies. IsImageOf (D.words.seen disk.old) (texts_of bodies)) }
     ensures size { IfOk result (λ bodies. reader.new.place ≡ size_of (texts_of bodies)) }
-    ensures refused { IfErr result (RefusesToOpen D.honest (D.seen disk.old)) }
-    ensures keeps { D.honest → Keeps D.seen D.may_leave D.moment D.left_since disk.old disk.new }
-    ensures failures { MatchResult result (λ _. D.failed disk.new ≡ D.failed disk.old)
-        (FailsBy (D.failed disk.old) (D.failed disk.new)) }
+    ensures refused { IfErr result (RefusesChain D.honest (D.words.seen disk.old)) }
+    ensures goes_on { GoesOn D.honest D.words disk.old disk.new reader.old reader.new result }
 {
     let mut bodies = Vec::new(alloc);
     while let Some(body) = next_body(alloc, disk, reader)? {
@@ -91,18 +96,14 @@ fn next_body<D: Disk>(
     alloc: Global,
     disk: &mut D,
     reader: &mut Reader,
-) -> Result<Option<Vec<u8>>, SpoolFault>
+) -> Result<Option<Vec<u8>>, ReadFault>
     requires more { reader.old.place < reader.old.size }
-    requires at { D.honest → IsAt (D.seen disk.old) reader.old }
+    requires at { D.honest → IsAt (D.words.seen disk.old) reader.old }
     ensures link { D.honest → IfOk result
-        (PassesGate (D.seen disk.old) reader.old.place reader.new.place) }
-    ensures place { (reader.new.size ≡ reader.old.size)
-        × IfOk result (GoesTo reader.old.size reader.old.place reader.new.place) }
-    ensures at { D.honest → OnOk result (IsAt (D.seen disk.old) reader.new) }
-    ensures refused { IfErr result (RefusesLink D.honest (D.seen disk.old) reader.old.place) }
-    ensures keeps { D.honest → Keeps D.seen D.may_leave D.moment D.left_since disk.old disk.new }
-    ensures failures { MatchResult result (λ _. D.failed disk.new ≡ D.failed disk.old)
-        (FailsBy (D.failed disk.old) (D.failed disk.new)) }
+        (PassesGate (D.words.seen disk.old) reader.old.place reader.new.place) }
+    ensures place { IfOk result (GoesTo reader.old.size reader.old.place reader.new.place) }
+    ensures refused { IfErr result (RefusesLink D.honest (D.words.seen disk.old) reader.old.place) }
+    ensures goes_on { GoesOn D.honest D.words disk.old disk.new reader.old reader.new result }
 {
     if reader.next(disk)? != OPEN {
         return Ok(None);
@@ -116,45 +117,39 @@ fn read_body<D: Disk>(
     alloc: Global,
     disk: &mut D,
     reader: &mut Reader,
-) -> Result<Vec<u8>, SpoolFault>
+) -> Result<Vec<u8>, ReadFault>
     requires behind { 0 < reader.old.place }
-    requires at { D.honest → IsAt (D.seen disk.old) reader.old }
+    requires at { D.honest → IsAt (D.words.seen disk.old) reader.old }
     ensures body { D.honest → IfOk result (λ body. (size : List ℕ) × (length size ≡ 4)
         × (number_of size ≡ length body.items)
-        × Lies (D.seen disk.old) reader.old.place reader.new.place (size ++ body.items)) }
-    ensures place { (reader.new.size ≡ reader.old.size)
-        × IfOk result (λ body. (reader.new.place ≡ reader.old.place + 4 + length body.items)
-        × (reader.new.place < reader.new.size)) }
-    ensures at { D.honest → OnOk result (IsAt (D.seen disk.old) reader.new) }
-    ensures refused { IfErr result (RefusesBody D.honest (D.seen disk.old) reader.old.place) }
-    ensures keeps { D.honest → Keeps D.seen D.may_leave D.moment D.left_since disk.old disk.new }
-    ensures failures { MatchResult result (λ _. D.failed disk.new ≡ D.failed disk.old)
-        (FailsBy (D.failed disk.old) (D.failed disk.new)) }
+        × Lies (D.words.seen disk.old) reader.old.place reader.new.place (size ++ body.items)) }
+    ensures place { IfOk result (λ body. (reader.new.place ≡ reader.old.place + 4 + length body.items)
+        × (reader.new.place < reader.old.size)) }
+    ensures refused { IfErr result (RefusesBody D.honest (D.words.seen disk.old) reader.old.place) }
+    ensures goes_on { GoesOn D.honest D.words disk.old disk.new reader.old reader.new result }
 {
     let gate = reader.place - 1;
     if reader.size - reader.place < 4 {
-        return Err(SpoolFault::Damaged(gate));
+        return Err(ReadFault::Damaged(gate));
     }
     let size = read_size(disk, reader)? as usize;
     if reader.size - reader.place <= size {
-        return Err(SpoolFault::Damaged(gate));
+        return Err(ReadFault::Damaged(gate));
     }
     let body = reader.take(alloc, disk, size)?;
     Ok(body)
 }
 
 /// Reads the length of a body.
-fn read_size<D: Disk>(disk: &mut D, reader: &mut Reader) -> Result<u32, DiskFault>
+fn read_size<D: Disk>(disk: &mut D, reader: &mut Reader) -> Result<u32, ReadFault>
     requires more { reader.old.place + 4 ≤ reader.old.size }
-    requires at { D.honest → IsAt (D.seen disk.old) reader.old }
+    requires at { D.honest → IsAt (D.words.seen disk.old) reader.old }
     ensures number { D.honest → IfOk result (λ size. (octets : List ℕ) × (length octets ≡ 4)
         × (number_of octets ≡ size)
-        × Lies (D.seen disk.old) reader.old.place reader.new.place octets) }
-    ensures place { (reader.new.size ≡ reader.old.size)
-        × OnOk result (reader.new.place ≡ reader.old.place + 4) }
-    ensures at { D.honest → OnOk result (IsAt (D.seen disk.old) reader.new) }
-    ensures keeps { D.honest → Keeps D.seen D.may_leave D.moment D.left_since disk.old disk.new }
-    ensures failures { CountsFailure (D.failed disk.old) (D.failed disk.new) result }
+        × Lies (D.words.seen disk.old) reader.old.place reader.new.place octets) }
+    ensures place { OnOk result (reader.new.place ≡ reader.old.place + 4) }
+    ensures refused { IfErr result IsNoReading }
+    ensures goes_on { GoesOn D.honest D.words disk.old disk.new reader.old reader.new result }
 {
     let first = reader.next(disk)?;
     let second = reader.next(disk)?;

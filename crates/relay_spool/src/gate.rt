@@ -1,7 +1,7 @@
 // Gates: single octets that say whether what stands behind them counts. Each is written by itself,
 // between two syncs.
 ghost use Rattle.std.specs.Prelude.{◌≡◌, ◌<◌, ◌≤◌, [], ◌∷◌, length, OnOk, MatchResult};
-ghost use Rattle.relay_disk.specs.Device.{written, Writes, Only, CountsFailure};
+ghost use Rattle.relay_disk.specs.Device.{written, Writes, IsSettled, CountsFailure};
 ghost use Rattle.relay_spool.specs.Spool.{AtEachMoment, Makes};
 
 use relay_disk::{Disk, DiskFault};
@@ -18,15 +18,14 @@ pub(crate) fn write_through<D: Disk>(
     place: usize,
     octets: &[u8],
 ) -> Result<(), DiskFault>
-    requires { D.honest → place ≤ length (D.seen disk.old) }
+    requires { D.honest → place ≤ length (D.words.seen disk.old) }
     ensures written { D.honest → OnOk result
-        (D.seen disk.new ≡ written (D.seen disk.old) place octets.now) }
-    ensures settled { D.honest → OnOk result (Only (D.seen disk.new) (D.may_leave disk.new)) }
-    ensures stop { D.honest → Only (D.seen disk.old) (D.may_leave disk.old)
-        → AtEachMoment D.may_leave D.moment D.left_since disk.old disk.new
-        (Writes place (length octets.now) (D.seen disk.old)) }
-    ensures failures { CountsFailure (D.failed disk.old) (D.failed disk.new) result }
-    ensures calls { Makes 2 (D.calls_left disk.old) (D.calls_left disk.new) result }
+        (D.words.seen disk.new ≡ written (D.words.seen disk.old) place octets.now) }
+    ensures settled { D.honest → OnOk result (IsSettled D.words disk.new) }
+    ensures stop { D.honest → IsSettled D.words disk.old
+        → AtEachMoment D.words disk.old disk.new (Writes place (length octets.now) (D.words.seen disk.old)) }
+    ensures failures { CountsFailure D.words disk.old disk.new result }
+    ensures calls { Makes D.words 2 disk.old disk.new result }
 {
     disk.write_at(place, octets)?;
     disk.sync()?;
@@ -35,15 +34,14 @@ pub(crate) fn write_through<D: Disk>(
 
 /// Opens the gate at this place, and syncs.
 pub(crate) fn open_gate<D: Disk>(disk: &mut D, place: usize) -> Result<(), DiskFault>
-    requires { D.honest → place ≤ length (D.seen disk.old) }
+    requires { D.honest → place ≤ length (D.words.seen disk.old) }
     ensures written { D.honest → OnOk result
-        (D.seen disk.new ≡ written (D.seen disk.old) place (1 ∷ [])) }
-    ensures settled { D.honest → OnOk result (Only (D.seen disk.new) (D.may_leave disk.new)) }
-    ensures stop { D.honest → Only (D.seen disk.old) (D.may_leave disk.old)
-        → AtEachMoment D.may_leave D.moment D.left_since disk.old disk.new
-        (Writes place 1 (D.seen disk.old)) }
-    ensures failures { CountsFailure (D.failed disk.old) (D.failed disk.new) result }
-    ensures calls { Makes 2 (D.calls_left disk.old) (D.calls_left disk.new) result }
+        (D.words.seen disk.new ≡ written (D.words.seen disk.old) place (1 ∷ [])) }
+    ensures settled { D.honest → OnOk result (IsSettled D.words disk.new) }
+    ensures stop { D.honest → IsSettled D.words disk.old
+        → AtEachMoment D.words disk.old disk.new (Writes place 1 (D.words.seen disk.old)) }
+    ensures failures { CountsFailure D.words disk.old disk.new result }
+    ensures calls { Makes D.words 2 disk.old disk.new result }
 {
     write_through(disk, place, &[OPEN])
 }
