@@ -17,7 +17,7 @@ test:
 	tests/spool_on_a_file.sh crates/relay_spool_steps/out/relay_spool_steps
 	tail -n 1 build/gate.log
 
-# Builds the program, and holds its first dialogue.
+# Proves and builds the program, a line a crate, and holds its first dialogue.
 demo: relayd
 	build/relayd session < crates/relayd/stdin
 
@@ -31,11 +31,9 @@ instructions: relayd relay_bench
 
 # Proves and links a program. It runs once, on its stored input.
 relayd:
-	mkdir -p build
-	cd crates/relayd && rt run -- session > ../../build/relayd.log 2>&1 || { cat ../../build/relayd.log; exit 1; }
+	tools/prove.sh relayd session
 	cp crates/relayd/out/relayd build/relayd
 
 relay_bench:
-	mkdir -p build
-	cd crates/relay_bench && rt run > ../../build/relay_bench.log 2>&1 || { cat ../../build/relay_bench.log; exit 1; }
+	tools/prove.sh relay_bench
 	cp crates/relay_bench/out/relay_bench build/relay_bench

@@ -1,5 +1,6 @@
 -- Chunks: what has come of them fixes them and their reader, however it was cut.
 use Rattle.std.proofs.Common.{◌≡◌, ℕ, ◌+◌, ◌<◌, ◌≤◌, List, [], ◌∷◌, ◌++◌, length, map, take, Option, None, Some, nat_le, replicate, refl, sym, ap, subst, ◌∙◌, arith, append_assoc}
+use Rattle.std.proofs.SliceLists.{all_by_recursion_push}
 use Rattle.std.proofs.lemmas.List.{append-nil, append_cancel_left, flat_map_more, length-replicate, take_at, take_all}
 use Rattle.std.proofs.lemmas.Bool.{cond-true, cond-false, le-leb, lt-leb}
 use Rattle.std.proofs.Props.{props}
@@ -22,14 +23,9 @@ whole_is_between reader limit chunks chunk inside = (
       inside.awaits ∙ ap Awaits none,
 )
 
--- one whole chunk more
-each_more : (chunks : List Chunk) (chunk : Chunk) → AreWhole chunks → IsWhole chunk → AreWhole (chunks ++ chunk ∷ [])
-each_more [] chunk each one = (one, tt)
-each_more (first ∷ chunks) chunk each one = (each.0, each_more chunks chunk each.1 one)
-
 pub whole_is_one_more : WholeIsOneMore
 whole_is_one_more reader limit chunks chunk inside whole = record {
-  each = each_more chunks chunk inside.each whole;
+  each = all_by_recursion_push IsWhole chunks chunk inside.each whole;
   between = (whole_is_between reader limit chunks chunk inside).1 whole;
   gathers = rw (flat_map_more octets_of [] chunks chunk) at inside.gathers;
 }

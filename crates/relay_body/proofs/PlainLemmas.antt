@@ -1,5 +1,6 @@
 -- Reading and writing a dot text octet by octet.
 use Rattle.std.proofs.Common.{◌≡◌, ◌≢◌, ℕ, ◌+◌, ◌<◌, Bool, true, false, ◌&&◌, ◌==◌, if◌then◌else◌, List, [], ◌∷◌, ◌++◌, length, map, take, get_or, inl, inr, refl, sym, ap, subst, ◌∙◌, arith, append_assoc}
+use Rattle.std.proofs.SliceLists.{all_by_recursion_push}
 use Rattle.std.proofs.lemmas.List.{append-nil, map_push, take_more}
 use Rattle.std.proofs.lemmas.Bool.{cases_Bool, and_parts, eqb-true, ne_eqb}
 use Rattle.relay_octets.specs.Line.{crlf, HasNoCrlf, AreLines, lines_text, ends_in_cr}
@@ -14,7 +15,7 @@ use Rattle.relay_body.specs.declared.dot_reader.Phase.TheVariants.{LineStart, Pe
 use Rattle.relay_body.specs.declared.dot_reader.DotReader.{DotReader}
 use Rattle.relay_body.proofs.DotTextLemmas.{ends_behind_lines, nothing_ends_so}
 use Rattle.relay_body.proofs.ReadingLemmas.{begins_more, begun_is_some, cr_off, ends_in_cr-append, is_part_by, line_goes_on, lines_text-more, uses_both, without_period-append}
-use Rattle.relay_body.proofs.WritingLemmas.{each_more, with_period-crlf}
+use Rattle.relay_body.proofs.WritingLemmas.{with_period-crlf}
 
 -- what comes behind the octets that were used is used
 pub uses_octet : (old between new : DotReader) (piece : List ℕ) (used : ℕ) (done : Bool) → Uses old between (take used piece) false → Uses between new (get_or piece used 0 ∷ []) done → used < length piece → Uses old new (take (used + 1) piece) done
@@ -140,7 +141,7 @@ writes_octet front text written begins behind_cr octet so_far adds =
           record {
             lines = so_far.lines ++ line ∷ [];
             part = [];
-            each = each_more so_far.lines line so_far.each (no_crlf_front line (13 ∷ []) (subst (λ (p : List ℕ). HasNoCrlf p) shorter.1 so_far.none));
+            each = all_by_recursion_push HasNoCrlf so_far.lines line so_far.each (no_crlf_front line (13 ∷ []) (subst (λ (p : List ℕ). HasNoCrlf p) shorter.1 so_far.none));
             none = no_crlf_nil;
             front_is = fronts ∙ ap (λ p. lines_text so_far.lines ++ p) whole ∙ lines_text-more so_far.lines line ∙ sym (append-nil (lines_text (so_far.lines ++ line ∷ [])));
             text_is = texts ∙ ap (λ p. sent ++ with_period p) whole ∙ ap (λ p. sent ++ p) (with_period-crlf line) ∙ lines_text-more (map with_period so_far.lines) (with_period line) ∙ ap lines_text (sym (map_push with_period so_far.lines line)) ∙ sym (append-nil (lines_text (map with_period (so_far.lines ++ line ∷ []))));

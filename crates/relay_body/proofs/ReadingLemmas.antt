@@ -1,5 +1,6 @@
 -- What a reader has in hand, phase by phase, behind the octets that it uses.
 use Rattle.std.proofs.Common.{◌≡◌, ◌≢◌, ℕ, suc, ◌+◌, ◌-◌, ◌<◌, ◌≤◌, Bool, true, false, ◌&&◌, ◌==◌, if◌then◌else◌, List, [], ◌∷◌, ◌++◌, length, map, take, drop, get_or, refl, sym, ap, subst, ◌∙◌, arith, append_assoc, length-append, eq-eqb}
+use Rattle.std.proofs.SliceLists.{all_by_recursion_push}
 use Rattle.std.proofs.lemmas.List.{append-nil, map_push, flat_map_more, take_at, take_all, length-take-le, take-take, drop-take, take-append-drop, take_rest}
 use Rattle.std.proofs.lemmas.Bool.{eqb-true, false≢true, ne_eqb}
 use Rattle.relay_octets.specs.Line.{crlf, HasNoCrlf, ReadsLine, line_text, lines_text, ends_in_cr, begins_with_lf}
@@ -13,11 +14,6 @@ use Rattle.relay_body.specs.declared.dot_reader.Phase.{Phase}
 use Rattle.relay_body.specs.declared.dot_reader.Phase.TheVariants.{LineStart, Period, PeriodCr, Within, WithinCr, Done, Failed}
 use Rattle.relay_body.specs.declared.dot_reader.DotCut.{DotCut}
 use Rattle.relay_body.specs.declared.dot_reader.DotReader.{DotReader}
-
--- one line more
-each_more : (lines : List (List ℕ)) (line : List ℕ) → AreTextLines lines → IsTextLine line → AreTextLines (lines ++ line ∷ [])
-each_more [] line h one = (one, tt)
-each_more (first ∷ lines) line h one = (h.0, each_more lines line h.1 one)
 
 -- the text of one line more
 pub lines_text-more : (lines : List (List ℕ)) (line : List ℕ) → lines_text lines ++ (line ++ crlf) ≡ lines_text (lines ++ line ∷ [])
@@ -34,7 +30,7 @@ line_ends old gathering limit before line used added reading text_line joined co
   lines = reading.lines ++ line ∷ [];
   part = [];
   content = [];
-  each = each_more reading.lines line reading.each text_line;
+  each = all_by_recursion_push IsTextLine reading.lines line reading.each text_line;
   octets_are = ap (λ t. t ++ used) reading.octets_are ∙ append_assoc (lines_text reading.lines) reading.part used ∙ ap (λ t. lines_text reading.lines ++ t) joined ∙ lines_text-more reading.lines line ∙ sym (append-nil (lines_text (reading.lines ++ line ∷ [])));
   part_is = (refl, refl);
   keeps =

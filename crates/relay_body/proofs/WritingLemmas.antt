@@ -1,14 +1,10 @@
 -- What is written of a content, line by line.
 use Rattle.std.proofs.Common.{◌≡◌, ℕ, suc, ◌-◌, ◌<◌, Bool, true, false, ◌&&◌, ◌==◌, if◌then◌else◌, List, [], ◌∷◌, ◌++◌, length, drop, inl, inr, refl, sym, ap, ◌∙◌, arith, eq-eqb}
 use lib.Pointwise.{pointwise}
+use Rattle.std.proofs.Math.Bool.{and-false, and-true}
 use Rattle.std.proofs.lemmas.Bool.{cases_Bool, eqb-true, eqb-false, ne_eqb}
 use Rattle.relay_octets.specs.Line.{crlf, HasNoCrlf, AreLines}
 use Rattle.relay_body.specs.DotText.{ends_in_line_end, with_period}
-
--- one line more
-pub each_more : (lines : List (List ℕ)) (line : List ℕ) → AreLines lines → HasNoCrlf line → AreLines (lines ++ line ∷ [])
-each_more [] line h one = (one, tt)
-each_more (first ∷ lines) line h one = (h.0, each_more lines line h.1 one)
 
 -- a period before a line doesn't touch its line end
 period_before : (test : Bool) (octet : ℕ) (octets : List ℕ) → ◌≡◌ {A = List ℕ} (if test then 46 ∷ octet ∷ (octets ++ crlf) else octet ∷ (octets ++ crlf)) ((if test then 46 ∷ octet ∷ octets else octet ∷ octets) ++ crlf)
@@ -25,14 +21,6 @@ eqb-comm one two = elim (cases_Bool (one == two)) [
   | inl same ↦ same ∙ sym (eq-eqb two one (sym (eqb-true one two same)))
   | inr other ↦ other ∙ sym (ne_eqb two one (λ e. eqb-false one two other (sym e)))
 ]
-
-and-true : (test : Bool) → test && true ≡ test
-and-true true = refl
-and-true false = refl
-
-and-false : (test : Bool) → test && false ≡ false
-and-false true = refl
-and-false false = refl
 
 -- of what isn't empty, the last two octets decide
 pub last_two_decide : (octets : List ℕ) → 0 < length octets → pointwise ◌==◌ crlf (drop (length octets - 2) octets) ≡ ends_in_line_end octets

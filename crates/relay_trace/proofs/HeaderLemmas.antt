@@ -1,5 +1,6 @@
 -- The lines of a text, and what they say of its header section.
 use Rattle.std.proofs.Common.{◌≡◌, ℕ, ◌+◌, ◌<◌, Bool, true, false, ◌&&◌, ◌||◌, ◌==◌, cond, min, List, [], ◌∷◌, ◌++◌, length, refl, sym, ap, ◌∙◌, arith, append_assoc, length-append, zero-add}
+use Rattle.std.proofs.Math.Bool.{and-false}
 use Rattle.std.proofs.lemmas.List.Sums.{sum_by-cons}
 use Rattle.std.specs.List.{count_by}
 use Rattle.relay_octets.specs.Line.{crlf, HasNoCrlf, ReadsLine, lines_text}
@@ -10,10 +11,6 @@ use Rattle.relay_trace.specs.HeaderSection.{lines_of, before_lines, before_empty
 not_here : (here later : Bool) → here || later ≡ false → here ≡ false
 not_here true later e = e
 not_here false later e = refl
-
-and-false : (b : Bool) → b && false ≡ false
-and-false true = refl
-and-false false = refl
 
 -- an octet that begins no CR LF belongs to the first line
 pub lines_of-octet : (octet next : ℕ) (rest : List ℕ) → (octet == 13 && next == 10) ≡ false → lines_of (octet ∷ next ∷ rest) ≡ before_lines octet (lines_of (next ∷ rest))

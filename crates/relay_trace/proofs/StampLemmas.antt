@@ -1,5 +1,6 @@
 -- The time stamp line: what its writes leave, and its lines.
 use Rattle.std.proofs.Common.{◌≡◌, ℕ, zero, suc, ◌+◌, ◌-◌, ◌^◌, ◌<◌, ◌/◌, ◌%◌, Bool, true, false, not, ◌&&◌, ◌||◌, ◌==◌, cond, List, [], ◌∷◌, ◌++◌, length, take, inl, inr, refl, sym, ap, ◌∙◌, subst, arith, get_or, append_assoc, append-nil, unsigned_abs}
+use Rattle.std.proofs.Math.Bool.{and-false}
 use Rattle.std.proofs.lemmas.Bool.{cases_Bool, and_parts, eqb-true}
 use Rattle.std.proofs.lemmas.Fmt.{decimal_is_IsNumeral}
 use Rattle.std.proofs.lemmas.List.Folds.{list_all-append}
@@ -53,10 +54,6 @@ no_lf_first octet text free =
           let e : false ≡ true = ap not (sym here) ∙ parts.0 in cc
       | inr elsewhere ↦ elsewhere
     ]
-
-and-false : (b : Bool) → b && false ≡ false
-and-false true = refl
-and-false false = refl
 
 no_lf_no_crlf : (text : List ℕ) → list_all is_no_lf text ≡ true → has_crlf text ≡ false
 no_lf_no_crlf [] free = refl
