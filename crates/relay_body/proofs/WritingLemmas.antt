@@ -7,7 +7,9 @@ use Rattle.relay_octets.specs.Line.{crlf, HasNoCrlf, AreLines}
 use Rattle.relay_body.specs.DotText.{ends_in_line_end, with_period}
 
 -- a period before a line doesn't touch its line end
-period_before : (test : Bool) (octet : ℕ) (octets : List ℕ) → ◌≡◌ {A = List ℕ} (if test then 46 ∷ octet ∷ (octets ++ crlf) else octet ∷ (octets ++ crlf)) ((if test then 46 ∷ octet ∷ octets else octet ∷ octets) ++ crlf)
+period_before : (test : Bool) (octet : ℕ) (octets : List ℕ)
+    → ◌≡◌ {A = List ℕ} (if test then 46 ∷ octet ∷ (octets ++ crlf) else octet ∷ (octets ++ crlf))
+    ((if test then 46 ∷ octet ∷ octets else octet ∷ octets) ++ crlf)
 period_before true octet octets = refl
 period_before false octet octets = refl
 
@@ -23,11 +25,15 @@ eqb-comm one two = elim (cases_Bool (one == two)) [
 ]
 
 -- of what isn't empty, the last two octets decide
-pub last_two_decide : (octets : List ℕ) → 0 < length octets → pointwise ◌==◌ crlf (drop (length octets - 2) octets) ≡ ends_in_line_end octets
+pub last_two_decide : (octets : List ℕ) → 0 < length octets
+    → pointwise ◌==◌ crlf (drop (length octets - 2) octets) ≡ ends_in_line_end octets
 last_two_decide [] some = absurd (omega arith)
 last_two_decide (one ∷ []) some = and-false (13 == one)
 last_two_decide (one ∷ next ∷ []) some =
-    ap (λ b. (13 == one) && b) (and-true (10 == next)) ∙ ap (λ b. b && (10 == next)) (eqb-comm 13 one) ∙ ap (λ b. (one == 13) && b) (eqb-comm 10 next)
+    ap (λ b. (13 == one) && b) (and-true (10 == next))
+    ∙ ap (λ b. b && (10 == next)) (eqb-comm 13 one) ∙ ap (λ b. (one == 13) && b) (eqb-comm 10 next)
 last_two_decide (one ∷ next ∷ third ∷ more) some =
-    let down : length (one ∷ next ∷ third ∷ more) - 2 ≡ suc (length (next ∷ third ∷ more) - 2) = omega arith in
-    ap (λ n. pointwise ◌==◌ crlf (drop n (one ∷ next ∷ third ∷ more))) down ∙ last_two_decide (next ∷ third ∷ more) (omega arith)
+    let down : length (one ∷ next ∷ third ∷ more) - 2 ≡ suc (length (next ∷ third ∷ more) - 2) =
+    omega arith in
+    ap (λ n. pointwise ◌==◌ crlf (drop n (one ∷ next ∷ third ∷ more))) down
+    ∙ last_two_decide (next ∷ third ∷ more) (omega arith)

@@ -7,7 +7,8 @@ use Rattle.relay_body.specs.DotReading.{HasFailed, IsDone, IsReading, held_by, l
 
 -- a text has one content
 abbrev pub OneContent : Type 0
-OneContent = (text content other : List ℕ) → ReadsDotText text content → ReadsDotText text other → content ≡ other
+OneContent =
+    (text content other : List ℕ) → ReadsDotText text content → ReadsDotText text other → content ≡ other
 
 -- no dot text begins another
 abbrev pub NoTextBeginsAnother : Type 0
@@ -21,11 +22,13 @@ WrittenIsRead = (content text : List ℕ) → WritesDotText content text → Rea
 
 -- a content has one text
 abbrev pub OneText : Type 0
-OneText = (content text other : List ℕ) → WritesDotText content text → WritesDotText content other → text ≡ other
+OneText =
+    (content text other : List ℕ) → WritesDotText content text → WritesDotText content other → text ≡ other
 
 -- what is empty or ends in CR LF can be written
 abbrev pub EachContentIsWritten : Type 0
-EachContentIsWritten = (content : List ℕ) → ends_in_line_end content ≡ true → (text : List ℕ) × WritesDotText content text
+EachContentIsWritten =
+    (content : List ℕ) → ends_in_line_end content ≡ true → (text : List ℕ) × WritesDotText content text
 
 -- whatever is read is empty or ends in CR LF
 abbrev pub ContentEndsInLineEnd : Type 0
@@ -33,7 +36,8 @@ ContentEndsInLineEnd = (text content : List ℕ) → ReadsDotText text content �
 
 -- the test of line ends is true of no octets, and of octets with CR LF behind them
 abbrev pub LineEndIsSeen : Type 0
-LineEndIsSeen = (content front : List ℕ) → (content ≡ []) ⊎ (content ≡ front ++ crlf) → ends_in_line_end content ≡ true
+LineEndIsSeen =
+    (content front : List ℕ) → (content ≡ []) ⊎ (content ≡ front ++ crlf) → ends_in_line_end content ≡ true
 
 -- and it is true of nothing else
 abbrev pub SeenIsLineEnd : Type 0

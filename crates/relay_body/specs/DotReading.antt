@@ -20,11 +20,13 @@ IsPart LineStart part content = (part ≡ []) × (content ≡ [])
 IsPart Period part content = (part ≡ 46 ∷ []) × (content ≡ [])
 IsPart PeriodCr part content = (part ≡ 46 ∷ 13 ∷ []) × (content ≡ [])
 IsPart Within part content = BeginsTextLine part × (ends_in_cr part ≡ false) × (content ≡ without_period part)
-IsPart WithinCr part content = BeginsTextLine part × (ends_in_cr part ≡ true) × (content ≡ without_period part)
+IsPart WithinCr part content =
+    BeginsTextLine part × (ends_in_cr part ≡ true) × (content ≡ without_period part)
 IsPart Done part content = ⊥
 IsPart Failed part content = ⊥
 
--- the reader has used these octets, lines of mail text and a part of one, and keeps their content up to the limit
+-- the reader has used these octets, lines of mail text and a part of one, and keeps their content
+-- up to the limit
 pub record IsReading (reader : DotReader) (limit : ℕ) (octets : List ℕ) : Type 0 where
   pub lines : List (List ℕ)
   pub part : List ℕ
@@ -53,11 +55,14 @@ abbrev pub HasUsed : Bool → DotReader → ℕ → List ℕ → Type 0
 HasUsed done reader limit octets =
     MatchBool done ((content : List ℕ) × HasRead reader limit octets content) (IsReading reader limit octets)
 
--- whatever the reader had used before, it has used these octets behind it, and is done exactly where a dot text ends
+-- whatever the reader had used before, it has used these octets behind it, and is done exactly
+-- where a dot text ends
 pub record Uses (old new : DotReader) (octets : List ℕ) (done : Bool) : Type 0 where
-  pub stands : (limit : ℕ) (before : List ℕ) → IsReading old limit before → HasUsed done new limit (before ++ octets)
+  pub stands : (limit : ℕ) (before : List ℕ) → IsReading old limit before → HasUsed done new limit
+  (before ++ octets)
 
--- an answered feed: what it has used, all of the piece up to the end of a text, and whether that is reached
+-- an answered feed: what it has used, all of the piece up to the end of a text, and whether that is
+-- reached
 pub record Feeds (old new : DotReader) (piece : List ℕ) (cut : DotCut) : Type 0 where
   pub uses : Uses old new (take cut.used piece) cut.done
   pub whole : cut.done ≡ false → cut.used ≡ length piece

@@ -52,7 +52,8 @@ period_line = 13 ∷ 10 ∷ 46 ∷ []
 pub record HasNoPeriodLine (octets : List ℕ) : Type 0 where
   pub nowhere : (before after : List ℕ) → octets ≢ before ++ period_line ++ after
 
--- up to this place the octets are lines of which no other than the first begins with a period, and behind it one does
+-- up to this place the octets are lines of which no other than the first begins with a period, and
+-- behind it one does
 pub record EndsRun (octets : List ℕ) (end : ℕ) : Type 0 where
   pub some : 0 < end
   pub within : end ≤ length octets
@@ -65,7 +66,8 @@ pub record EndsRun (octets : List ℕ) (end : ℕ) : Type 0 where
 abbrev pub period_for : List ℕ → List ℕ
 period_for lines = if begins_with_period lines then 46 ∷ [] else []
 
--- Behind what stood there is sent what the content's lines in front of this rest are sent as, and the rest's period.
+-- Behind what stood there is sent what the content's lines in front of this rest are sent as, and
+-- the rest's period.
 pub record AddsSoFar (content old new rest : List ℕ) : Type 0 where
   pub lines : List (List ℕ)
   pub each : AreLines lines

@@ -14,7 +14,8 @@ ends_in_line_end (octet ∷ []) = false
 ends_in_line_end (octet ∷ next ∷ []) = octet == 13 && next == 10
 ends_in_line_end (octet ∷ next ∷ third ∷ more) = ends_in_line_end (next ∷ third ∷ more)
 
--- a line of mail text as it is received: no CR LF stands in it, and it isn't composed of a single period
+-- a line of mail text as it is received: no CR LF stands in it, and it isn't composed of a single
+-- period
 pub record IsTextLine (line : List ℕ) : Type 0 where
   pub no_crlf : HasNoCrlf line
   pub not_end : line ≢ 46 ∷ []
@@ -28,7 +29,8 @@ abbrev pub without_period : List ℕ → List ℕ
 without_period [] = []
 without_period (octet ∷ octets) = if octet == 46 then octets else octet ∷ octets
 
--- a line as the sender sends it: if its first character is a period, one additional period is inserted before it
+-- a line as the sender sends it: if its first character is a period, one additional period is
+-- inserted before it
 abbrev pub with_period : List ℕ → List ℕ
 with_period [] = []
 with_period (octet ∷ octets) = if octet == 46 then 46 ∷ octet ∷ octets else octet ∷ octets
@@ -37,14 +39,16 @@ with_period (octet ∷ octets) = if octet == 46 then 46 ∷ octet ∷ octets els
 abbrev pub content_of : List (List ℕ) → List ℕ
 content_of lines = lines_text (map without_period lines)
 
--- the text is lines and the end of mail data, and the content is those lines as the receiver takes them
+-- the text is lines and the end of mail data, and the content is those lines as the receiver takes
+-- them
 pub record ReadsDotText (text content : List ℕ) : Type 0 where
   pub lines : List (List ℕ)
   pub each : AreTextLines lines
   pub text_is : text ≡ lines_text lines ++ end_of_data
   pub content_is : content ≡ content_of lines
 
--- the content is lines, and the text is those lines as the sender sends them and the end of mail data
+-- the content is lines, and the text is those lines as the sender sends them and the end of mail
+-- data
 pub record WritesDotText (content text : List ℕ) : Type 0 where
   pub lines : List (List ℕ)
   pub each : AreLines lines

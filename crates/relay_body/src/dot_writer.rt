@@ -1,4 +1,5 @@
-ghost use Rattle.std.specs.Prelude.{◌≡◌, ℕ, ◌++◌, IfOk, IsTrue, List, MatchOption, OnErr, OnOk};
+ghost use Rattle.std.specs.Prelude.{◌≡◌, ◌++◌, IfOk, IsTrue, MatchOption, OnErr, OnOk};
+ghost use Rattle.relay_octets.specs.Beginning.{Begins};
 ghost use Rattle.relay_body.specs.DotText.{AddsDotText, WritesDotText, ends_in_line_end};
 ghost use Rattle.relay_body.specs.DotSteps.{EndsRun, HasNoPeriodLine, period_for};
 
@@ -25,8 +26,9 @@ pub fn write_dots(alloc: Global, content: &[u8]) -> Result<Vec<u8>, AllocError>
     Ok(text)
 }
 
-/// Puts the dot text of a content behind what stands in `out` (RFC 5321, section 4.5.2). It grows once where at most one
-/// line begins with a period. It fails where memory runs out, and then `out` stays as it was.
+/// Puts the dot text of a content behind what stands in `out` (RFC 5321, section 4.5.2). It grows
+/// once where at most one line begins with a period. It fails where memory runs out, and then `out`
+/// stays as it was.
 pub fn push_dots(out: &mut Vec<u8>, content: &[u8]) -> Result<(), AllocError>
     requires { IsTrue (ends_in_line_end content.now) }
     ensures ok { OnOk result (AddsDotText content.now out.old.items out.new.items) }
@@ -40,12 +42,12 @@ pub fn push_dots(out: &mut Vec<u8>, content: &[u8]) -> Result<(), AllocError>
     pushed
 }
 
-/// Puts the dot text of a content behind what stands in `out`, or a beginning of it. What stands between two periods to be
-/// put is copied as one run.
+/// Puts the dot text of a content behind what stands in `out`, or a beginning of it. What stands
+/// between two periods to be put is copied as one run.
 fn push_runs(out: &mut Vec<u8>, content: &[u8]) -> Result<(), AllocError>
     requires { IsTrue (ends_in_line_end content.now) }
     ensures ok { OnOk result (AddsDotText content.now out.old.items out.new.items) }
-    ensures begins { (more : List ℕ) × (out.new.items ≡ out.old.items ++ more) }
+    ensures front { Begins out.old.items out.new.items }
 {
     out.reserve(content.len() + 4)?;
     push_period(out, content)?;

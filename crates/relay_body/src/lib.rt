@@ -1,4 +1,5 @@
-//! The body of a mail: dot texts, read in any pieces and written (RFC 5321, section 4.5.2), and chunks (RFC 3030).
+//! The body of a mail: dot texts, read in any pieces and written (RFC 5321, section 4.5.2), and
+//! chunks (RFC 3030).
 #![tactic(auto)]
 
 pub mod chunk_laws;

@@ -22,13 +22,15 @@ pub date_text_has_31_octets : DateTextHas31Octets
 date_text_has_31_octets seconds text is = ap length (is.text_is ∙ date_time_text-octets is.shown)
 
 -- an octet has at most three digits
-octet_is_short : (peer : List ℕ) (place : ℕ) → place < length peer → All (λ octet. octet < 256) peer → length (decimal (slice_index peer place)) ≤ 3
+octet_is_short : (peer : List ℕ) (place : ℕ) → place < length peer → All (λ octet. octet < 256) peer
+    → length (decimal (slice_index peer place)) ≤ 3
 octet_is_short peer place within octets =
     let small : slice_index peer place < 256 = All-get_or (λ octet. octet < 256) peer place 0 within octets in
     length-decimal-le 3 (slice_index peer place) (omega arith) (omega arith) (omega arith)
 
 -- an address has at most 15 octets
-address_is_short : (peer : List ℕ) → length peer ≡ 4 → All (λ octet. octet < 256) peer → length (address_text peer) ≤ 15
+address_is_short : (peer : List ℕ) → length peer ≡ 4 → All (λ octet. octet < 256) peer
+    → length (address_text peer) ≤ 15
 unfolding address_text
 address_is_short peer long octets =
     let one = octet_is_short peer 0 (omega arith) octets in
@@ -41,7 +43,8 @@ protocol_is_short : (protocol : Protocol) → length (protocol_word protocol) �
 protocol_is_short Smtp = omega arith
 protocol_is_short Esmtp = omega arith
 
-from_is_short : (stamp : Stamp) → IsStamp stamp → length (from_line stamp) ≤ length stamp.client + 35
+from_is_short : (stamp : Stamp) → IsStamp stamp
+    → length (from_line stamp) ≤ length stamp.client + 35
 from_is_short stamp is =
     let address = address_is_short stamp.peer is.four is.octets in
     simp length-append (omega arith)
@@ -54,7 +57,8 @@ by_is_short stamp is =
     simp length-append (omega arith)
 
 -- three lines, with their line ends
-length-three_lines : (one two three : List ℕ) → length (lines_text (one ∷ two ∷ three ∷ [])) ≡ length one + length two + length three + 6
+length-three_lines : (one two three : List ℕ)
+    → length (lines_text (one ∷ two ∷ three ∷ [])) ≡ length one + length two + length three + 6
 length-three_lines one two three = simp length-append (omega arith)
 
 pub time_stamp_is_short : TimeStampIsShort
@@ -62,8 +66,11 @@ time_stamp_is_short stamp line is stands =
     let from = from_is_short stamp is in
     let by = by_is_short stamp is in
     let date = date_text_has_31_octets stamp.accepted stands.date stands.date_is in
-    let whole = ap length stands.line_is ∙ length-three_lines (from_line stamp) (by_line stamp) (date_line stands.date) in
-    let last : length (date_line stands.date) ≡ 1 + length stands.date = length-append (codes " ") stands.date in
+    let whole =
+    ap length stands.line_is
+    ∙ length-three_lines (from_line stamp) (by_line stamp) (date_line stands.date) in
+    let last : length (date_line stands.date) ≡ 1 + length stands.date =
+    length-append (codes " ") stands.date in
     omega arith
 
 -- 31 December 9998

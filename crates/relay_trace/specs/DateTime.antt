@@ -1,4 +1,5 @@
--- Dates and times (RFC 5322, section 3.3): the text of what calendar and clock show in UTC at a moment.
+-- Dates and times (RFC 5322, section 3.3): the text of what calendar and clock show in UTC at a
+-- moment.
 use Rattle.std.specs.Prelude.{◌≡◌, ℕ, ◌+◌, ◌-◌, ◌/◌, ◌%◌, pos, unsigned_abs, List, [], ◌∷◌, ◌++◌, length, codes, slice_index_or}
 use Rattle.jiff.specs.Words.{weekday_of, civil_seconds}
 use Rattle.jiff_core.specs.declared.civil.date.Date.{Date}
@@ -43,7 +44,8 @@ abbrev pub time_part : Time → List ℕ
 time_part time =
     two_digits time.hour ++ codes ":" ++ two_digits time.minute ++ codes ":" ++ two_digits time.second
 
--- date-time: day-of-week "," date time-of-day zone; profile: the day of the week is there, and the zone is UTC
+-- date-time: day-of-week "," date time-of-day zone; profile: the day of the week is there, and the
+-- zone is UTC
 unfoldable pub date_time_text : DateTime → List ℕ
 date_time_text shown =
     day_name (weekday_of shown.date) ++ codes ", " ++ date_part shown.date ++ codes " "
