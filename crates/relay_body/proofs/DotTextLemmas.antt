@@ -313,8 +313,7 @@ each_content_is_written content ends =
     let cut = splits content in
     let nothing =
     nothing_ends_so cut.part cut.none
-    (sym (ends_behind_lines cut.lines cut.part) ∙ ap ends_in_line_end (sym cut.octets_are) ∙ ends) in
-    (
+    (sym (ends_behind_lines cut.lines cut.part) ∙ ap ends_in_line_end (sym cut.octets_are) ∙ ends) in (
       lines_text (map with_period cut.lines) ++ end_of_data,
       record {
         lines = cut.lines;

@@ -87,9 +87,9 @@ run_of_search octets (Some place) first = run_found octets place first.0 first.1
 with_period-is : (line : List ℕ) → with_period line ≡ period_for line ++ line
 with_period-is [] = refl
 with_period-is (octet ∷ octets) = by_test (octet == 46) octet octets where
-  by_test : (test : Bool) (octet : ℕ) (octets : List ℕ) → ◌≡◌ {A = List ℕ}
-  (if test then 46 ∷ octet ∷ octets else octet ∷ octets)
-  ((if test then 46 ∷ [] else []) ++ (octet ∷ octets))
+  by_test : (test : Bool) (octet : ℕ) (octets : List ℕ)
+      → ◌≡◌ {A = List ℕ} (if test then 46 ∷ octet ∷ octets else octet ∷ octets)
+      ((if test then 46 ∷ [] else []) ++ (octet ∷ octets))
   by_test true octet octets = refl
   by_test false octet octets = refl
 

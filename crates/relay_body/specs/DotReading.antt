@@ -58,8 +58,8 @@ HasUsed done reader limit octets =
 -- whatever the reader had used before, it has used these octets behind it, and is done exactly
 -- where a dot text ends
 pub record Uses (old new : DotReader) (octets : List ℕ) (done : Bool) : Type 0 where
-  pub stands : (limit : ℕ) (before : List ℕ) → IsReading old limit before → HasUsed done new limit
-  (before ++ octets)
+  pub stands : (limit : ℕ) (before : List ℕ) → IsReading old limit before
+      → HasUsed done new limit (before ++ octets)
 
 -- an answered feed: what it has used, all of the piece up to the end of a text, and whether that is
 -- reached

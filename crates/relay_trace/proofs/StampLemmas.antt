@@ -242,12 +242,11 @@ behind : (stamp : Stamp) (line content : List ℕ) → IsStamp stamp → IsTimeS
     (header_end_of (line ++ content) ≡ length line + header_end_of content)
 behind stamp line content valid is =
     let text = line_is stamp line is in
-    let goes = header_goes_on (stamp_lines stamp is.date) content (stamp_lines_filled stamp line valid is) in
-    (
+    let goes = header_goes_on (stamp_lines stamp is.date) content (stamp_lines_filled stamp line valid is) in (
       ap (λ l. received_count_of (l ++ content)) text ∙ goes.0
-      ∙ ap (λ n. n + received_count_of content) (stamp_lines_count stamp is.date),
+          ∙ ap (λ n. n + received_count_of content) (stamp_lines_count stamp is.date),
       ap (λ l. header_end_of (l ++ content)) text ∙ goes.1
-      ∙ ap (λ l. length l + header_end_of content) (sym text),
+          ∙ ap (λ l. length l + header_end_of content) (sym text),
     )
 
 is_received-nil : is_received [] ≡ false

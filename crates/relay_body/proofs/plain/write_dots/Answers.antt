@@ -18,8 +18,8 @@ loop-place-preserved c =
     record {
       within = omega arith;
       writes = subst
-      (λ (b : Bool). WritesFront (take (place + 1) content) c.write_octet.new.text.items b (octet == 13))
-      (sym begins)
+          (λ (b : Bool). WritesFront (take (place + 1) content) c.write_octet.new.text.items b (octet == 13))
+          (sym begins)
           (writes_next content c.loop-place.text.items c.write_octet.new.text.items place c.loop-place.begins_line c.loop-place.behind_cr c.loop-place.invariant.writes c.loop-place-test.true c.in_ok-write_octet.ensures);
     }
 
