@@ -228,7 +228,8 @@ impl Disk for MemoryDisk {
 
     fn read(&mut self, place: usize, into: &mut [u8]) -> Result<(), DiskFault>
         requires { place + length into.old ≤ length (image_of self.old) }
-        ensures read { OnOk result (into.new ≡ take (length into.old) (drop place (image_of self.old))) }
+        ensures read { OnOk result
+            (into.new ≡ take (length into.old) (drop place (image_of self.old))) }
         ensures kept { KeepsAll self.old self.new }
         ensures cause { IsErr result → IsBlown self.old }
         ensures failures { CountsFailure memory_words self.old self.new result }
@@ -241,13 +242,14 @@ impl Disk for MemoryDisk {
 
     fn write_at(&mut self, place: usize, octets: &[u8]) -> Result<(), DiskFault>
         requires { place ≤ length (image_of self.old) }
-        ensures image { image_of self.new
-            ≡ (if is_ok result then written (image_of self.old) place octets.now else image_of self.old) }
+        ensures image { image_of self.new ≡ (if is_ok result
+            then written (image_of self.old) place octets.now else image_of self.old) }
         ensures stored { OnOk result ((copy : _) × (copy.items ≡ octets.now)
             × Stores (Write place copy) self.old self.new) }
         ensures cause { IsErr result → IsBlown self.old ⊎ TakesMemory self.old octets.now }
         // Of a write that failed nothing but its range is stored, and that only where memory allows.
-        ensures torn { OnErr result (Stores (FailedWrite place (length octets.now)) self.old self.new
+        ensures torn { OnErr result
+            (Stores (FailedWrite place (length octets.now)) self.old self.new
             ⊎ KeepsAll self.old self.new) }
         ensures failures { CountsFailure memory_words self.old self.new result }
         ensures fuse { Burns memory_words self.old self.new result }

@@ -38,7 +38,12 @@ impl<D: Disk> Model for Spool<D> {
 
     ghost coded = { stored_code D.code };
 
-    ghost view = { λ s. record { bodies = bodies_of (D.words.seen s.disk); size = s.size; live = s.live; disk = s.disk } };
+    ghost view = { λ s. record {
+      bodies = bodies_of (D.words.seen s.disk);
+      size = s.size;
+      live = s.live;
+      disk = s.disk;
+    } };
 
     ghost invariant = { λ s. IsSound D.honest D.words s.size s.live s.disk };
 }
@@ -55,7 +60,8 @@ impl<D: Disk> Spool<D> {
     pub fn create(alloc: Global, disk: D) -> Result<Spool<D>, Refused<D>>
         ensures created { D.honest → IfOk result (IsCreated D.words disk) }
         ensures live { IfOk result (λ spool. (spool.size ≡ 18) × (spool.live ≡ true)) }
-        ensures refused { IfErr result (λ refused. RefusesToCreate D.honest D.words disk refused.disk refused.fault) }
+        ensures refused { IfErr result (λ refused.
+            RefusesToCreate D.honest D.words disk refused.disk refused.fault) }
         ensures stop { D.honest → Only [] (D.words.may_leave disk) → MatchResult result
             (λ spool. AtEachMoment D.words disk spool.disk HasNoBody)
             (λ refused. AtEachMoment D.words disk refused.disk HasNoBody) }
@@ -84,7 +90,8 @@ impl<D: Disk> Spool<D> {
             (λ opened. IsOpened D.words disk (texts_of opened.bodies) opened.spool) }
         ensures live { IfOk result (λ opened. (opened.spool.live ≡ true)
             × (opened.spool.size ≡ size_of (texts_of opened.bodies))) }
-        ensures refused { IfErr result (λ refused. RefusesToOpen D.honest (D.words.seen disk) refused.fault) }
+        ensures refused { IfErr result
+            (λ refused. RefusesToOpen D.honest (D.words.seen disk) refused.fault) }
         ensures keeps { D.honest → MatchResult result
             (λ opened. OnlyReads D.words disk opened.spool.disk)
             (λ refused. OnlyReads D.words disk refused.disk) }
