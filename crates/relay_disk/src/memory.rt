@@ -127,8 +127,8 @@ fn write(
     ensures ok { OnOk result (image.new.items ≡ written image.old.items place octets.now) }
     ensures stored { OnOk result ((copy : _) × (copy.items ≡ octets.now)
         × (reverse calls.new.items ≡ Write place copy ∷ reverse calls.old.items)) }
-    ensures err { OnErr result (image.new.items ≡ image.old.items) }
-    ensures kept { OnErr result (calls.new.items ≡ calls.old.items) }
+    ensures kept { OnErr result ((image.new.items ≡ image.old.items)
+        × (calls.new.items ≡ calls.old.items)) }
     ensures cause { IsErr result
         → (0 < length octets.now) ⊎ (vec_capacity calls.old ≤ vec_len calls.old) }
 {
@@ -157,8 +157,8 @@ fn try_write(
     ensures ok { OnOk result (image.new.items ≡ written image.old.items place octets.now) }
     ensures stored { OnOk result ((copy : _) × (copy.items ≡ octets.now)
         × (reverse calls.new.items ≡ Write place copy ∷ reverse calls.old.items)) }
-    ensures err { OnErr result (image.new.items ≡ image.old.items) }
-    ensures kept { OnErr result (calls.new.items ≡ calls.old.items) }
+    ensures kept { OnErr result ((image.new.items ≡ image.old.items)
+        × (calls.new.items ≡ calls.old.items)) }
     ensures cause { IsErr result → (fuse.old ≡ Some 0)
         ⊎ (0 < length octets.now) ⊎ (vec_capacity calls.old ≤ vec_len calls.old) }
     ensures burnt { fuse.new ≡ option_map (λ calls. calls - 1) fuse.old }
@@ -185,8 +185,8 @@ fn note(calls: &mut Vec<Call>, call: Call)
 fn cut_to(calls: &mut Vec<Call>, image: &mut Vec<u8>, size: usize) -> Result<(), AllocError>
     ensures ok { OnOk result (image.new.items ≡ take size image.old.items) }
     ensures stored { OnOk result (reverse calls.new.items ≡ Cut size ∷ reverse calls.old.items) }
-    ensures err { OnErr result (image.new.items ≡ image.old.items) }
-    ensures kept { OnErr result (calls.new.items ≡ calls.old.items) }
+    ensures kept { OnErr result ((image.new.items ≡ image.old.items)
+        × (calls.new.items ≡ calls.old.items)) }
     ensures cause { IsErr result → vec_capacity calls.old ≤ vec_len calls.old }
 {
     store(calls, Call::Cut { size })?;

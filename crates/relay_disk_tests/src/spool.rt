@@ -229,7 +229,12 @@ fn a_stop_inside_create_leaves_no_body(rt: HostRuntime) -> Result<(), Fail> {
     for calls in 0..5 {
         for pick in 0..24 {
             match Spool::open(alloc, stopped_in_create(alloc, calls, pick)?) {
-                Ok(Opened { spool: _spool, bodies }) => {
+                Ok(
+                    Opened {
+                        spool: _spool,
+                        bodies,
+                    },
+                ) => {
                     assert_eq!(rt; bodies.len(), 0, "{calls} calls, pick {pick}");
                 }
                 Err(Refused { fault, disk: _disk }) => {

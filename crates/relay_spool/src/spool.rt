@@ -56,7 +56,8 @@ impl<D: Disk> Spool<D> {
     ghost use Rattle.relay_spool.specs.Spool.{AtEachMoment, Calls, CallsUpTo, FailsBy, IsAppended, IsBeforeOrWith, IsCreated, IsOpened, Makes, OnlyReads, RefusesToAppend, RefusesToCreate, RefusesToOpen, texts_of};
 
     /// Makes an empty spool on a disk of size 0. A disk that isn't empty comes back unchanged, and one
-    /// that failed with any octets.
+    /// that failed with any octets. Where a stop left nothing of the disk before, it leaves no body at
+    /// any moment of this call.
     pub fn create(alloc: Global, disk: D) -> Result<Spool<D>, Refused<D>>
         ensures created { D.honest → IfOk result (IsCreated D.words disk) }
         ensures live { IfOk result (λ spool. (spool.size ≡ 18) × (spool.live ≡ true)) }
@@ -84,7 +85,8 @@ impl<D: Disk> Spool<D> {
 
     /// Opens the spool that this disk holds. It syncs the disk first, reads each octet once and writes
     /// none: at each moment a stop leaves what it might have left before. A disk that is refused comes
-    /// back, as it was. It needs memory for the bodies, and for one block beside them.
+    /// back, as it was; so does one that holds a spool of more than 2^40 octets. It needs memory for the
+    /// bodies, and for one block beside them.
     pub fn open(alloc: Global, disk: D) -> Result<Opened<D>, Refused<D>>
         ensures opened { D.honest → IfOk result
             (λ opened. IsOpened D.words disk (texts_of opened.bodies) opened.spool) }
