@@ -1,3 +1,4 @@
 mod DeviceLemmas
 mod CallLemmas
 mod PickLemmas
+pub mod Theorems

@@ -56,7 +56,8 @@ pub trait Disk {
     /// Fills `into` with the octets from `place` on. At a fault it may hold any octets.
     fn read(&mut self, place: usize, into: &mut [u8]) -> Result<(), DiskFault>
         requires { honest → place + length into.old ≤ length (words.seen self.old) }
-        ensures read { honest → OnOk result (into.new ≡ take (length into.old) (drop place (words.seen self.old))) }
+        ensures read { honest → OnOk result
+            (into.new ≡ take (length into.old) (drop place (words.seen self.old))) }
         ensures seen { honest → words.seen self.new ≡ words.seen self.old }
         ensures stop { honest → AddsNoImage words self.old self.new }
         ensures failures { CountsFailure words self.old self.new result }
@@ -66,7 +67,8 @@ pub trait Disk {
     /// A write that failed may have changed its range, as one may that a stop interrupts.
     fn write_at(&mut self, place: usize, octets: &[u8]) -> Result<(), DiskFault>
         requires { honest → place ≤ length (words.seen self.old) }
-        ensures ok { honest → OnOk result (words.seen self.new ≡ written (words.seen self.old) place octets.now) }
+        ensures ok { honest → OnOk result
+            (words.seen self.new ≡ written (words.seen self.old) place octets.now) }
         ensures fault { honest → OnErr result
             (Writes place (length octets.now) (words.seen self.old) (words.seen self.new)) }
         ensures stop { honest → Steps words (Writes place (length octets.now))
@@ -78,7 +80,8 @@ pub trait Disk {
     fn cut(&mut self, size: usize) -> Result<(), DiskFault>
         requires { honest → size ≤ length (words.seen self.old) }
         ensures ok { honest → OnOk result (words.seen self.new ≡ take size (words.seen self.old)) }
-        ensures fault { honest → OnErr result (Cuts size (words.seen self.old) (words.seen self.new)) }
+        ensures fault { honest → OnErr result
+            (Cuts size (words.seen self.old) (words.seen self.new)) }
         ensures stop { honest → Steps words (Cuts size) self.old self.new }
         ensures failures { CountsFailure words self.old self.new result }
         ensures fuse { Burns words self.old self.new result };
@@ -104,8 +107,9 @@ pub trait Disk {
     ghost sees_now: { honest → (disk : Self) → words.may_leave disk (words.seen disk) };
 
     /// This moment is one of those since an earlier one.
-    ghost counts_now: { honest → (disk : Self) (since : ℕ) (image : List ℕ) → since ≤ words.moment disk
-        → words.may_leave disk image → words.left_since disk since image };
+    ghost counts_now: { honest → (disk : Self) (since : ℕ) (image : List ℕ)
+        → since ≤ words.moment disk → words.may_leave disk image
+        → words.left_since disk since image };
 
     /// Since this moment there is no other.
     ghost only_now: { honest → (disk : Self) (image : List ℕ)
@@ -117,7 +121,8 @@ pub trait Reboot: Disk {
     /// Lets that many calls of `size`, `read`, `write_at`, `cut` and `sync` pass. Each later one fails.
     fn fuse(&mut self, calls: u64)
         ensures fuse { Self.Disk.words.calls_left self.new ≡ Some calls }
-        ensures seen { Self.Disk.honest → Self.Disk.words.seen self.new ≡ Self.Disk.words.seen self.old }
+        ensures seen { Self.Disk.honest
+            → Self.Disk.words.seen self.new ≡ Self.Disk.words.seen self.old }
         ensures stop { Self.Disk.honest → AddsNoImage Self.Disk.words self.old self.new }
         ensures failures { FailsNot Self.Disk.words self.old self.new };
 

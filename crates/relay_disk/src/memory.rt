@@ -127,8 +127,8 @@ fn write(
     ensures ok { OnOk result (image.new.items ≡ written image.old.items place octets.now) }
     ensures stored { OnOk result ((copy : _) × (copy.items ≡ octets.now)
         × (reverse calls.new.items ≡ Write place copy ∷ reverse calls.old.items)) }
-    ensures err { OnErr result (image.new.items ≡ image.old.items) }
-    ensures kept { OnErr result (calls.new.items ≡ calls.old.items) }
+    ensures kept { OnErr result ((image.new.items ≡ image.old.items)
+        × (calls.new.items ≡ calls.old.items)) }
     ensures cause { IsErr result
         → (0 < length octets.now) ⊎ (vec_capacity calls.old ≤ vec_len calls.old) }
 {
@@ -157,8 +157,8 @@ fn try_write(
     ensures ok { OnOk result (image.new.items ≡ written image.old.items place octets.now) }
     ensures stored { OnOk result ((copy : _) × (copy.items ≡ octets.now)
         × (reverse calls.new.items ≡ Write place copy ∷ reverse calls.old.items)) }
-    ensures err { OnErr result (image.new.items ≡ image.old.items) }
-    ensures kept { OnErr result (calls.new.items ≡ calls.old.items) }
+    ensures kept { OnErr result ((image.new.items ≡ image.old.items)
+        × (calls.new.items ≡ calls.old.items)) }
     ensures cause { IsErr result → (fuse.old ≡ Some 0)
         ⊎ (0 < length octets.now) ⊎ (vec_capacity calls.old ≤ vec_len calls.old) }
     ensures burnt { fuse.new ≡ option_map (λ calls. calls - 1) fuse.old }
@@ -185,8 +185,8 @@ fn note(calls: &mut Vec<Call>, call: Call)
 fn cut_to(calls: &mut Vec<Call>, image: &mut Vec<u8>, size: usize) -> Result<(), AllocError>
     ensures ok { OnOk result (image.new.items ≡ take size image.old.items) }
     ensures stored { OnOk result (reverse calls.new.items ≡ Cut size ∷ reverse calls.old.items) }
-    ensures err { OnErr result (image.new.items ≡ image.old.items) }
-    ensures kept { OnErr result (calls.new.items ≡ calls.old.items) }
+    ensures kept { OnErr result ((image.new.items ≡ image.old.items)
+        × (calls.new.items ≡ calls.old.items)) }
     ensures cause { IsErr result → vec_capacity calls.old ≤ vec_len calls.old }
 {
     store(calls, Call::Cut { size })?;
@@ -228,7 +228,8 @@ impl Disk for MemoryDisk {
 
     fn read(&mut self, place: usize, into: &mut [u8]) -> Result<(), DiskFault>
         requires { place + length into.old ≤ length (image_of self.old) }
-        ensures read { OnOk result (into.new ≡ take (length into.old) (drop place (image_of self.old))) }
+        ensures read { OnOk result
+            (into.new ≡ take (length into.old) (drop place (image_of self.old))) }
         ensures kept { KeepsAll self.old self.new }
         ensures cause { IsErr result → IsBlown self.old }
         ensures failures { CountsFailure memory_words self.old self.new result }
@@ -241,13 +242,14 @@ impl Disk for MemoryDisk {
 
     fn write_at(&mut self, place: usize, octets: &[u8]) -> Result<(), DiskFault>
         requires { place ≤ length (image_of self.old) }
-        ensures image { image_of self.new
-            ≡ (if is_ok result then written (image_of self.old) place octets.now else image_of self.old) }
+        ensures image { image_of self.new ≡ (if is_ok result
+            then written (image_of self.old) place octets.now else image_of self.old) }
         ensures stored { OnOk result ((copy : _) × (copy.items ≡ octets.now)
             × Stores (Write place copy) self.old self.new) }
         ensures cause { IsErr result → IsBlown self.old ⊎ TakesMemory self.old octets.now }
         // Of a write that failed nothing but its range is stored, and that only where memory allows.
-        ensures torn { OnErr result (Stores (FailedWrite place (length octets.now)) self.old self.new
+        ensures torn { OnErr result
+            (Stores (FailedWrite place (length octets.now)) self.old self.new
             ⊎ KeepsAll self.old self.new) }
         ensures failures { CountsFailure memory_words self.old self.new result }
         ensures fuse { Burns memory_words self.old self.new result }

@@ -7,3 +7,4 @@ mod BlockLemmas
 mod HeadLemmas
 mod ChainLemmas
 mod ReadingLemmas
+pub mod Theorems

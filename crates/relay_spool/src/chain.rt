@@ -78,8 +78,10 @@ fn read_chain<D: Disk>(
     reader: &mut Reader,
 ) -> Result<Vec<Vec<u8>>, ReadFault>
     requires start { (reader.old.place ≡ 17) × (17 < reader.old.size) }
-    requires at { D.honest → IsAt (D.words.seen disk.old) reader.old × IsHead (take 17 (D.words.seen disk.old)) }
-    ensures image { D.honest → IfOk result (λ bodies. IsImageOf (D.words.seen disk.old) (texts_of bodies)) }
+    requires at { D.honest → IsAt (D.words.seen disk.old) reader.old
+        × IsHead (take 17 (D.words.seen disk.old)) }
+    ensures image { D.honest → IfOk result
+        (λ bodies. IsImageOf (D.words.seen disk.old) (texts_of bodies)) }
     ensures size { IfOk result (λ bodies. reader.new.place ≡ size_of (texts_of bodies)) }
     ensures refused { IfErr result (RefusesChain D.honest (D.words.seen disk.old)) }
     ensures goes_on { GoesOn D.honest D.words disk.old disk.new reader.old reader.new result }
@@ -123,7 +125,8 @@ fn read_body<D: Disk>(
     ensures body { D.honest → IfOk result (λ body. (size : List ℕ) × (length size ≡ 4)
         × (number_of size ≡ length body.items)
         × Lies (D.words.seen disk.old) reader.old.place reader.new.place (size ++ body.items)) }
-    ensures place { IfOk result (λ body. (reader.new.place ≡ reader.old.place + 4 + length body.items)
+    ensures place { IfOk result (λ body.
+        (reader.new.place ≡ reader.old.place + 4 + length body.items)
         × (reader.new.place < reader.old.size)) }
     ensures refused { IfErr result (RefusesBody D.honest (D.words.seen disk.old) reader.old.place) }
     ensures goes_on { GoesOn D.honest D.words disk.old disk.new reader.old reader.new result }

@@ -30,7 +30,8 @@ impl Reader {
     /// A reader at the start of a disk of this size.
     pub(crate) fn new(alloc: Global, size: usize) -> Result<Reader, AllocError>
         ensures start { IfOk result (λ reader. (reader.place ≡ 0) × (reader.size ≡ size)) }
-        ensures at { IfOk result (λ reader. (image : List ℕ) → size ≡ length image → IsAt image reader) }
+        ensures at { IfOk result
+            (λ reader. (image : List ℕ) → size ≡ length image → IsAt image reader) }
     {
         let block = vec![in alloc; 0; size.min(BLOCK)]?;
         let used = block.len();
@@ -92,7 +93,8 @@ impl Reader {
         ensures place { (self.new.size ≡ self.old.size) × OnOk result
             (self.new.place + length octets.old.items ≡ self.old.place + length octets.new.items) }
         ensures count { OnOk result (length octets.new.items ≤ length octets.old.items + most) }
-        ensures some { OnOk result (0 < most → 0 < held_count self.old → self.old.place < self.new.place) }
+        ensures some { OnOk result
+            (0 < most → 0 < held_count self.old → self.old.place < self.new.place) }
     {
         let count = most.min(self.block.len() - self.used);
         octets.extend_from_slice(&self.block[self.used..self.used + count])?;

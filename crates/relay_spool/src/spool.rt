@@ -38,7 +38,12 @@ impl<D: Disk> Model for Spool<D> {
 
     ghost coded = { stored_code D.code };
 
-    ghost view = { λ s. record { bodies = bodies_of (D.words.seen s.disk); size = s.size; live = s.live; disk = s.disk } };
+    ghost view = { λ s. record {
+      bodies = bodies_of (D.words.seen s.disk);
+      size = s.size;
+      live = s.live;
+      disk = s.disk;
+    } };
 
     ghost invariant = { λ s. IsSound D.honest D.words s.size s.live s.disk };
 }
@@ -51,11 +56,13 @@ impl<D: Disk> Spool<D> {
     ghost use Rattle.relay_spool.specs.Spool.{AtEachMoment, Calls, CallsUpTo, FailsBy, IsAppended, IsBeforeOrWith, IsCreated, IsOpened, Makes, OnlyReads, RefusesToAppend, RefusesToCreate, RefusesToOpen, texts_of};
 
     /// Makes an empty spool on a disk of size 0. A disk that isn't empty comes back unchanged, and one
-    /// that failed with any octets.
+    /// that failed with any octets. Where a stop left nothing of the disk before, it leaves no body at
+    /// any moment of this call.
     pub fn create(alloc: Global, disk: D) -> Result<Spool<D>, Refused<D>>
         ensures created { D.honest → IfOk result (IsCreated D.words disk) }
         ensures live { IfOk result (λ spool. (spool.size ≡ 18) × (spool.live ≡ true)) }
-        ensures refused { IfErr result (λ refused. RefusesToCreate D.honest D.words disk refused.disk refused.fault) }
+        ensures refused { IfErr result (λ refused.
+            RefusesToCreate D.honest D.words disk refused.disk refused.fault) }
         ensures stop { D.honest → Only [] (D.words.may_leave disk) → MatchResult result
             (λ spool. AtEachMoment D.words disk spool.disk HasNoBody)
             (λ refused. AtEachMoment D.words disk refused.disk HasNoBody) }
@@ -78,13 +85,15 @@ impl<D: Disk> Spool<D> {
 
     /// Opens the spool that this disk holds. It syncs the disk first, reads each octet once and writes
     /// none: at each moment a stop leaves what it might have left before. A disk that is refused comes
-    /// back, as it was. It needs memory for the bodies, and for one block beside them.
+    /// back, as it was; so does one that holds a spool of more than 2^40 octets. It needs memory for the
+    /// bodies, and for one block beside them.
     pub fn open(alloc: Global, disk: D) -> Result<Opened<D>, Refused<D>>
         ensures opened { D.honest → IfOk result
             (λ opened. IsOpened D.words disk (texts_of opened.bodies) opened.spool) }
         ensures live { IfOk result (λ opened. (opened.spool.live ≡ true)
             × (opened.spool.size ≡ size_of (texts_of opened.bodies))) }
-        ensures refused { IfErr result (λ refused. RefusesToOpen D.honest (D.words.seen disk) refused.fault) }
+        ensures refused { IfErr result
+            (λ refused. RefusesToOpen D.honest (D.words.seen disk) refused.fault) }
         ensures keeps { D.honest → MatchResult result
             (λ opened. OnlyReads D.words disk opened.spool.disk)
             (λ refused. OnlyReads D.words disk refused.disk) }
