@@ -1,6 +1,7 @@
 mod XtextLemmas
 mod RowLemmas
 mod PathLemmas
+mod StoredPathLemmas
 mod PartLemmas
 mod ParameterLemmas
 mod HostNameLemmas
@@ -12,7 +13,6 @@ mod ValidLemmas
 mod FitLemmas
 mod CommandLineLemmas
 mod RowOfWordsLemmas
-mod MailRowLemmas
-mod RcptRowLemmas
+mod RowIsReadLemmas
 mod RowIsOneLemmas
 pub mod Theorems

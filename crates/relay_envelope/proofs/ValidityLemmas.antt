@@ -16,7 +16,7 @@ begins text path valid e = record {
 }
 
 -- a text is written of one path at most
-same_path : (text : List ℕ) (one other : Path) → IsPath one → text ≡ path_text one → IsPath other → text ≡ path_text other → one ≡ other
+pub same_path : (text : List ℕ) (one other : Path) → IsPath one → text ≡ path_text one → IsPath other → text ≡ path_text other → one ≡ other
 same_path text one other v e w f = (path_is_one text one [] other [] (begins text one v e) (begins text other w f)).0
 
 -- where the path may not stand there, the text is none that may

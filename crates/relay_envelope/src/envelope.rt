@@ -1,4 +1,4 @@
-ghost use Rattle.std.specs.Prelude.{◌≡◌, ℕ, List, [], ◌∷◌, ◌++◌, length, IfOk, OnOk, OnErr, IsTrue, ◌↔◌};
+ghost use Rattle.std.specs.Prelude.{◌≡◌, ◌≤◌, ℕ, List, [], ◌∷◌, ◌++◌, length, IfOk, OnOk, OnErr, IsTrue, ◌↔◌};
 ghost use Rattle.std.specs.Option.{option_copied};
 ghost use Rattle.relay_envelope.specs.Path.{path_text, value_of};
 ghost use Rattle.relay_envelope.specs.Parameters.{address_of, address_type_of};
@@ -21,11 +21,13 @@ pub struct PathBuf {
 }
 
 impl Model for PathBuf {
-    ghost use Rattle.std.specs.Prelude.{List, ℕ};
+    ghost use Rattle.std.specs.Prelude.{◌≤◌, List, ℕ, length};
 
     ghost Value = { List ℕ };
 
     ghost view = { λ path. path.text };
+
+    ghost invariant = { λ path. length path.text ≤ 256 };
 }
 
 impl PathBuf {
@@ -40,7 +42,8 @@ impl PathBuf {
 
     /// The path with its brackets.
     pub fn as_slice(&self) -> &[u8]
-        ensures { result.now ≡ self.now }
+        ensures value { result.now ≡ self.now }
+        ensures within { length self.now ≤ 256 }
     {
         self.text.as_slice()
     }

@@ -25,7 +25,7 @@ pub use fault::EnvelopeFault;
 pub use host_name::is_host_name;
 pub use mail::{Mail, read_mail};
 pub use parameters::{Notify, Outcomes, Ret, is_envid, is_orcpt};
-pub use path::{Mailbox, Path, Postmaster, domain_of, is_domain};
+pub use path::{Mailbox, Path, Postmaster, domain_in, domain_of, is_domain};
 pub use rcpt::{Rcpt, read_rcpt};
 pub use validity::{is_envelope, is_forward_path, is_recipient, is_reverse_path, may_be_notify};
 pub use write::{write_mail, write_rcpt};

@@ -1,5 +1,6 @@
-ghost use Rattle.std.specs.Prelude.{◌≡◌, ◌≢◌, ◌<◌, ◌≤◌, ◌↔◌, ◌++◌, ◌∷◌, [], false, length, List, ℕ, IsTrue, MatchOption};
-ghost use Rattle.relay_envelope.specs.Mailbox.{IsDomain, IsDomainName, IsLocalPart, IsMailbox, SplitsAtLast, SplitsRoute, mailbox_text, stands_in};
+ghost use Rattle.std.specs.Prelude.{◌≡◌, ◌≢◌, ◌<◌, ◌≤◌, ◌↔◌, ◌++◌, ◌∷◌, [], true, false, length, List, ℕ, IsTrue, MatchOption};
+ghost use Rattle.std.specs.List.{after_last, list_any};
+ghost use Rattle.relay_envelope.specs.Mailbox.{IsDomain, IsDomainName, IsLocalPart, IsMailbox, SplitsAtLast, SplitsRoute, is_at, mailbox_text, stands_in};
 
 use super::brackets::inside_brackets;
 use crate::row::{is_row, row_before};
@@ -83,6 +84,17 @@ fn split_at_last_at(body: &[u8]) -> Option<(&[u8], &[u8])>
 {
     let place = memrchr(b'@', body)?;
     Some((&body[..place], &body[place + 1..]))
+}
+
+/// What stands behind the last `@`.
+pub(super) fn behind_last_at(text: &[u8]) -> Option<&[u8]>
+    ensures { MatchOption result
+        (list_any is_at text.now ≡ false)
+        (λ behind. (list_any is_at text.now ≡ true) × (behind.now ≡ after_last is_at text.now)
+        × (length behind.now ≤ length text.now)) }
+{
+    let (_, behind) = split_at_last_at(text)?;
+    Some(behind)
 }
 
 /// A local part is not empty, and a row of plain octets and quoted strings.
