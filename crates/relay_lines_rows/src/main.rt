@@ -1,0 +1,101 @@
+//! Plays each row of data/ over the calls on lines, commands and replies, and compares what it
+//! comes to with what is written down: once whole, and, where octets come in pieces, in pieces of
+//! every length.
+#![tactic(auto)]
+
+mod command_play;
+mod line_play;
+mod pieces;
+mod play;
+mod reply_play;
+mod row;
+mod verdict;
+
+use relay_body::BodyFault;
+use relay_lines::{LINE_LIMIT, LineBuffer, LineFault, ReplyFault};
+use relay_octets::{Octets, find_crlf};
+use row::Row;
+use std::alloc::{AllocError, Global};
+use std::test::Fail;
+use std::{env, fs, mem};
+use verdict::verdict_of;
+
+/// The word is the folder of the rows. Without one they lie where the program runs.
+fn main(rt: HostRuntime) -> Result<(), Fail> {
+    let alloc = rt.alloc();
+    let words: Vec<String> = env::args(&rt)?.collect(alloc)?;
+    let folder = match words.get(1) {
+        Some(word) => word.as_str(),
+        None => ".",
+    };
+    let rows = fs::read_to_string(&rt, format!(in alloc; "{folder}/rows.in")?.as_str())?;
+    for line in rows.as_str().lines() {
+        let Some(row) = Row::read(alloc, line)? else {
+            println!(rt; "{line}: no row")?;
+            continue;
+        };
+        let verdict = verdict_of(alloc, &row.play, row.wanted.as_slice())?;
+        println!(rt; "{}: {verdict}", row.name)?;
+    }
+    say_texts(&rt)?;
+    println!(rt; "octets: {}", handle_octets(alloc)?)?;
+    println!(rt; "a line of 10,000,000 octets: {}", hold_long_line())?;
+    Ok(())
+}
+
+/// Says the text of each fault.
+fn say_texts(rt: &HostRuntime) -> Result<(), Fail> {
+    println!(rt; "fault: {}", LineFault::Unknown)?;
+    println!(rt; "fault: {}", LineFault::BadByte)?;
+    println!(rt; "fault: {}", LineFault::BadArgument)?;
+    println!(rt; "fault: {}", LineFault::NotOffered)?;
+    println!(rt; "fault: {}", LineFault::BadChunkSize)?;
+    println!(rt; "fault: {}", ReplyFault::BadLine)?;
+    println!(rt; "fault: {}", ReplyFault::MixedCodes)?;
+    println!(rt; "fault: {}", ReplyFault::TooLong)?;
+    println!(rt; "fault: {}", ReplyFault::NoMemory)?;
+    println!(rt; "fault: {}", BodyFault::NoMemory)?;
+    Ok(())
+}
+
+/// Each call on octets, once.
+fn handle_octets(alloc: Global) -> Result<&'static str, AllocError> {
+    let mut octets = Octets::from_slice(alloc, b"a\r")?;
+    octets.push_slice(b"\nb")?;
+    let are_there = octets.as_slice() == b"a\r\nb".as_slice()
+        && octets.len() == 4
+        && !octets.is_empty();
+    let has_end = find_crlf(octets.as_slice()) == Some(1);
+    let again = Octets::new(octets.into_vec());
+    let is_same = again.as_slice() == b"a\r\nb".as_slice();
+    let is_none = Octets::from_slice(alloc, b"")?.is_empty();
+    Ok(if are_there && has_end && is_same && is_none {
+        "as written down"
+    } else {
+        "differ"
+    })
+}
+
+/// Feeds a line of 1,000 pieces of 10,000 octets, and then a short one.
+fn hold_long_line() -> &'static str {
+    let mut buffer = LineBuffer::new();
+    let piece = [b'x'; 10_000];
+    for _ in 0..1_000 {
+        if buffer.feed(&piece).is_some() {
+            return "ends early";
+        }
+    }
+    let is_ended = buffer.feed(b"\r\nQUIT\r\n") == Some(2);
+    let is_kept = buffer.is_long() && buffer.octets() == &piece[..LINE_LIMIT];
+    buffer.clear();
+    let is_next = buffer.feed(b"QUIT\r\n") == Some(6);
+    let is_short = !buffer.is_long() && buffer.octets() == b"QUIT".as_slice();
+    if mem::size_of::<LineBuffer>() > LINE_LIMIT + 24 {
+        return "takes more than its array";
+    }
+    if is_ended && is_kept && is_next && is_short {
+        "takes no more than its array"
+    } else {
+        "differs"
+    }
+}
