@@ -146,6 +146,6 @@ printf '\x01\x00\x00\x10\x00%04096d' 0 > "$room/link"
 compare "library: a spool of 256 MB that is opened" octets "$(stat -c %s "$room/spool")" \
     "$bench open $room/spool" "cat $room/spool | wc -c" "cat | wc -c"
 # A device's syncs take from one to ten times their least: many short runs.
-runs=31 compare "library: appends to a spool on a file" appends 200 \
-    "rm -f $disk/a; $bench append $disk/a 200" "rm -f $disk/b; $bench syncs $disk/b 200" "two bare syncs"
+runs=31 compare "library: appends to a spool on a file" appends 500 \
+    "rm -f $disk/a; $bench append $disk/a 500" "rm -f $disk/b; $bench syncs $disk/b 500" "two bare syncs"
 look_ups "library: look-ups in a table of 100,000 routes" 1000000 100000 100

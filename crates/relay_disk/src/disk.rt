@@ -9,7 +9,8 @@ use thiserror::Error;
 /// Why a call of a disk failed.
 #[derive(Clone, Copy, Debug, PartialEq, Eq, Error)]
 pub enum DiskFault {
-    /// The device failed, and the disk has counted it. What the call was to do may be done, or not, or in part.
+    /// The device failed, and the disk has counted it. What the call was to do may be done, or not,
+    /// or in part.
     #[error("device")]
     Device,
 }
@@ -31,9 +32,10 @@ pub(crate) fn counted<T, E: Drop>(failures: &mut u64, answer: Result<T, E>) -> R
 
 /// A row of octets that outlives a stop. Places and sizes are in octets, from 0.
 ///
-/// Between two syncs a stop leaves each range that a write was given, and what lies past the old end, with any
-/// octets; a cut has happened, or not, or in part; the other octets stay. After a sync that succeeds it leaves
-/// what a read gives. This is promised of a disk that says it is honest, and of no other.
+/// Between two syncs a stop leaves each range that a write was given, and what lies past the old
+/// end, with any octets; a cut has happened, or not, or in part; the other octets stay. After a
+/// sync that succeeds it leaves what a read gives. This is promised of a disk that says it is
+/// honest, and of no other.
 pub trait Disk {
     /// The promises on octets hold: `Unit` for a type that says so, `⊥` for one that doesn't.
     ghost honest: { Type 0 };
@@ -126,8 +128,8 @@ pub trait Reboot: Disk {
         ensures stop { Self.Disk.honest → AddsNoImage Self.Disk.words self.old self.new }
         ensures failures { FailsNot Self.Disk.words self.old self.new };
 
-    /// The disk after a stop at this moment, without a fuse. `pick` chooses the image among those that a stop may
-    /// leave. Where memory runs out, the disk comes back.
+    /// The disk after a stop at this moment, without a fuse. `pick` chooses the image among those
+    /// that a stop may leave. Where memory runs out, the disk comes back.
     fn after_stop(self, pick: u64) -> Result<Self, AllocFailed<Self>>
         ensures left { Self.Disk.honest → IfOk result
             (λ disk. Self.Disk.words.may_leave self (Self.Disk.words.seen disk)) }

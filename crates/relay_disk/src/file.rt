@@ -1,4 +1,5 @@
-// A file of the operating system as a disk. Nothing can be said of what a real file holds, so it is not honest.
+// A file of the operating system as a disk. Nothing can be said of what a real file holds, so it is
+// not honest.
 ghost use Rattle.std.specs.Prelude.{◌≡◌, false, IfOk};
 
 use crate::disk::counted;
@@ -9,14 +10,15 @@ use std::os::unix::fs::{FileExt, OpenOptionsExt};
 use std::path::Path;
 use std::rt::Files;
 
-/// Who may read and write a file that `FileDisk::open` makes: its owner alone, since the mail of others stands in it.
+/// Who may read and write a file that `FileDisk::open` makes: its owner alone, since the mail of
+/// others stands in it.
 const OWNER_ALONE: u32 = 0o600;
 
 /// An open file. Reads and writes are positioned, and `sync` hands its octets and its length to the device.
 ///
-/// Want of space is a failure like any other: the octets that were there stay. Behind a failed sync each later one
-/// fails, until the file is opened anew: the system may have dropped octets that it couldn't write, and would answer
-/// the second sync well.
+/// Want of space is a failure like any other: the octets that were there stay. Behind a failed sync
+/// each later one fails, until the file is opened anew: the system may have dropped octets that it
+/// couldn't write, and would answer the second sync well.
 #[derive(Drop)]
 pub struct FileDisk {
     file: File,
@@ -27,8 +29,8 @@ pub struct FileDisk {
 impl FileDisk {
     ghost use Rattle.relay_disk.specs.File.{failures_of, sync_failed};
 
-    /// Opens the file at this path, or makes an empty one where none is, which only its owner may read and write. Its
-    /// folder is synced, so that a file that was made outlives a stop.
+    /// Opens the file at this path, or makes an empty one where none is, which only its owner may
+    /// read and write. Its folder is synced, so that a file that was made outlives a stop.
     pub fn open<R: Files<File = File>>(rt: &R, path: &str) -> io::Result<FileDisk>
         ensures failures { IfOk result (λ disk. failures_of disk ≡ 0) }
         ensures syncs { IfOk result (λ disk. sync_failed disk ≡ false) }
@@ -47,8 +49,8 @@ impl FileDisk {
         })
     }
 
-    /// Takes the file for this disk alone, until the disk is dropped. It waits for nobody: `false` says that another
-    /// open of the file holds it. Who doesn't ask isn't kept out.
+    /// Takes the file for this disk alone, until the disk is dropped. It waits for nobody: `false`
+    /// says that another open of the file holds it. Who doesn't ask isn't kept out.
     pub fn try_lock(&self) -> io::Result<bool> {
         match self.file.try_lock() {
             Ok(()) => Ok(true),

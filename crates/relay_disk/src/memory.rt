@@ -15,10 +15,11 @@ use std::alloc::{AllocError, AllocFailed, Global};
 /// A disk in memory, and an honest one. A call that fails changes nothing that a read gives, and a disk that
 /// can't grow is a device that failed.
 ///
-/// It stores each write, cut and sync for as long as it lives: its memory grows with all that was ever written to
-/// it, and not with its size alone. `read` and `write_at` take time by their range, but for growth, which may move
-/// all octets. A stop takes time by the octets that were ever written, and by the octets of its image times the
-/// calls since the last sync; it drops the stored calls.
+/// It stores each write, cut and sync for as long as it lives: its memory grows with all that was
+/// ever written to it, and not with its size alone. `read` and `write_at` take time by their range,
+/// but for growth, which may move all octets. A stop takes time by the octets that were ever
+/// written, and by the octets of its image times the calls since the last sync; it drops the stored
+/// calls.
 #[derive(Drop)]
 pub struct MemoryDisk {
     start: Vec<u8>,

@@ -1,5 +1,6 @@
-//! Takes steps on a spool in a file: one line of standard input each, and a line of what came of it. The file is the
-//! first word. tests/spool_on_a_file.sh runs it, with the calls that it makes of the device written down.
+//! Takes steps on a spool in a file: one line of standard input each, and a line of what came of
+//! it. The file is the first word. tests/spool_on_a_file.sh runs it, with the calls that it makes
+//! of the device written down.
 //!
 //! - `remove`: removes the file, where there is one;
 //! - `create`: opens the file, which is to be empty, and makes a spool there;
