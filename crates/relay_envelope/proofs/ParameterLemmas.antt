@@ -1,4 +1,5 @@
 -- Parameters: from left to right, and lists of outcomes.
+use Rattle.std.proofs.Math.Bool.{and-false}
 use Rattle.std.proofs.Common.{◌≡◌, ℕ, ◌==◌, Bool, true, false, ◌&&◌, List, [], ◌∷◌, length, Option, None, Some, Result, Ok, Err, refl, sym, ap, ◌∙◌, arith}
 use Rattle.std.specs.List.{slice_split}
 use Rattle.std.specs.Option.{option_and_then}
@@ -42,10 +43,6 @@ some_then (Some outcomes) = refl
 
 pub outcomes_last : (text : List ℕ) (old : Outcomes) → OnePart 44 text → with_outcomes (slice_split (is_octet 44) text) old ≡ with_outcome text old
 outcomes_last text old one = ap (λ parts. with_outcomes parts old) one.parts ∙ some_then (with_outcome text old)
-
-and-false : (b : Bool) → b && false ≡ false
-and-false true = refl
-and-false false = refl
 
 readable-joined : (octet : ℕ) (octets : Option (List ℕ)) → are_readable (joined_octets (octet ∷ []) octets) ≡ is_printable octet && are_readable octets
 readable-joined octet None = sym (and-false (is_printable octet))

@@ -3,6 +3,7 @@ use Rattle.std.proofs.Common.{◌≡◌, ◌≢◌, ℕ, suc, ◌+◌, ◌<◌, 
 use Rattle.std.specs.List.{AllPass, list_all, prefix_len}
 use Rattle.std.specs.Int.{is_in_range}
 use Rattle.std.specs.Char.{to_ascii_lowercase}
+use Rattle.std.proofs.Math.Bool.{or-true}
 use Rattle.std.proofs.lemmas.List.{get_or-take, get_or-drop, get_or_default, length-take, length-drop, take-append-drop, drop_more, same_from_push}
 use Rattle.std.proofs.lemmas.List.Sums.{list_all-from_AllPass, AllPass-from_list_all, prefix_len_passes}
 use Rattle.std.proofs.lemmas.List.Folds.{list_any-append, list_any_none}
@@ -20,11 +21,6 @@ use Rattle.relay_envelope.proofs.RowLemmas.{row_is_one, row_joined, row_weaker, 
 false_by : (b : Bool) → (b ≡ true → ⊥) → b ≡ false
 false_by true never = absurd (never refl)
 false_by false never = refl
-
--- one or true is true
-or-true : (b : Bool) → b || true ≡ true
-or-true true = refl
-or-true false = refl
 
 -- an octet that stands at no place does not stand in the text
 lacks_by_place : (octet : ℕ) (text : List ℕ) → ((k : ℕ) → k < length text → get_or text k 0 == octet ≡ true → ⊥) → stands_in octet text ≡ false

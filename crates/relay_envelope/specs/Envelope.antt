@@ -129,7 +129,8 @@ ReversePathIsForward = (text : List ℕ) → IsReversePath text → text ≢ cod
 abbrev pub MailIsReadAgain : Type 0
 MailIsReadAgain =
     (envelope : Envelope) → IsEnvelope envelope
-    → (mail : Mail) × ReadsMail (mail_text envelope) (Ok mail) × (envelope_from mail ≡ record envelope { recipients = [] })
+    → (mail : Mail) × ReadsMail (mail_text envelope) (Ok mail)
+    × (envelope_from mail ≡ record envelope { recipients = [] })
 
 -- What is written of a recipient that may be stored is read again as the same.
 abbrev pub RcptIsReadAgain : Type 0
@@ -147,14 +148,14 @@ ReadMailIsValid =
 abbrev pub ReadRcptIsValid : Type 0
 ReadRcptIsValid = (text : List ℕ) (rcpt : Rcpt) → ReadsRcpt text (Ok rcpt) → IsRecipient (recipient_from rcpt)
 
--- The line of MAIL that is written of an envelope that may be stored is one of that MAIL, with its parameters and with none.
+-- The line of MAIL that is written of what may be stored is one of that MAIL, with its parameters and with none.
 abbrev pub MailIsCommandLine : Type 0
 MailIsCommandLine =
     (envelope : Envelope) → IsEnvelope envelope
     → IsCommandLine (codes "MAIL FROM:" ++ mail_text envelope) (MailCommand (mail_text envelope))
     × IsCommandLine (codes "MAIL FROM:" ++ envelope.reverse_path) (MailCommand envelope.reverse_path)
 
--- The line of RCPT that is written of a recipient that may be stored is one of that RCPT, with its parameters and with none.
+-- The line of RCPT that is written of what may be stored is one of that RCPT, with its parameters and with none.
 abbrev pub RcptIsCommandLine : Type 0
 RcptIsCommandLine =
     (recipient : Recipient) → IsRecipient recipient

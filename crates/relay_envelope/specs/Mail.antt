@@ -1,4 +1,5 @@
--- What stands behind the colon of `MAIL FROM:` and of `RCPT TO:` (RFC 5321, sections 4.1.1.2 and 4.1.1.3; RFC 3461, section 4).
+-- What stands behind the colon of `MAIL FROM:` and of `RCPT TO:` (RFC 5321, sections 4.1.1.2 and 4.1.1.3; RFC 3461,
+-- section 4).
 use Rattle.std.specs.Prelude.{◌≡◌, ℕ, Bool, true, false, ◌⊎◌, List, Result, Ok, Err}
 use Rattle.std.specs.Option.{option_copied}
 use Rattle.relay_envelope.specs.Path.{Path, BeginsWithPath, is_forward, is_reverse, value_of}
@@ -28,12 +29,14 @@ rcpt_of path (Ok parameters) = Ok (record { path = path; parameters = parameters
 rcpt_of path (Err fault) = Err fault
 
 -- the text begins with no path that may stand there, so the path is bad
-pub record HasBadPath {A : Type 0} (is_allowed : Path → Bool) (text : List ℕ) (result : Result A EnvelopeFault) : Type 0 where
+pub record HasBadPath {A : Type 0} (is_allowed : Path → Bool) (text : List ℕ) (result : Result A EnvelopeFault)
+    : Type 0 where
   pub none_allowed : (path : Path) (rest : List ℕ) → BeginsWithPath text path rest → is_allowed path ≡ false
   pub result_is : result ≡ Err BadPath
 
 -- the text begins with a path that may stand there, and what follows it gives the result
-pub record IsBehindPath {A : Type 0} (is_allowed : Path → Bool) (read_rest : Path → List ℕ → Result A EnvelopeFault) (text : List ℕ) (result : Result A EnvelopeFault) : Type 0 where
+pub record IsBehindPath {A : Type 0} (is_allowed : Path → Bool) (read_rest : Path → List ℕ → Result A EnvelopeFault)
+    (text : List ℕ) (result : Result A EnvelopeFault) : Type 0 where
   pub path : Path
   pub rest : List ℕ
   pub begins : BeginsWithPath text path rest
@@ -75,8 +78,10 @@ rcpt_reading (Err fault) = Err fault
 
 -- A text of MAIL has one value or one fault.
 abbrev pub MailIsOne : Type 0
-MailIsOne = (text : List ℕ) (one two : Result Mail EnvelopeFault) → ReadsMail text one → ReadsMail text two → one ≡ two
+MailIsOne =
+    (text : List ℕ) (one two : Result Mail EnvelopeFault) → ReadsMail text one → ReadsMail text two → one ≡ two
 
 -- A text of RCPT has one value or one fault.
 abbrev pub RcptIsOne : Type 0
-RcptIsOne = (text : List ℕ) (one two : Result Rcpt EnvelopeFault) → ReadsRcpt text one → ReadsRcpt text two → one ≡ two
+RcptIsOne =
+    (text : List ℕ) (one two : Result Rcpt EnvelopeFault) → ReadsRcpt text one → ReadsRcpt text two → one ≡ two

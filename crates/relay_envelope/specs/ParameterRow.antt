@@ -21,7 +21,8 @@ abbrev pub NoneHas : List ℕ → List (List ℕ) → Type 0
 NoneHas keyword words = AllByRecursion (λ word. has_keyword keyword word ≡ false) words
 
 -- just one word is a parameter of this keyword, and its value is read as this
-pub record OneHas {V : Type 0} (keyword : List ℕ) (read : List ℕ → Option V) (words : List (List ℕ)) (value : V) : Type 0 where
+pub record OneHas {V : Type 0} (keyword : List ℕ) (read : List ℕ → Option V) (words : List (List ℕ)) (value : V)
+    : Type 0 where
   pub before : List (List ℕ)
   pub word : List ℕ
   pub behind : List (List ℕ)
@@ -41,14 +42,16 @@ abbrev pub IsKnown : List ℕ → List ℕ → List ℕ → Type 0
 IsKnown first second word = (word ≡ []) ⊎ ((has_keyword first word ≡ true) ⊎ (has_keyword second word ≡ true))
 
 -- the row gives these values to its two keywords, and holds nothing else
-pub record Gives {V W : Type 0} (first second : List ℕ) (read_first : List ℕ → Option V) (read_second : List ℕ → Option W) (words : List (List ℕ)) (one : Option V) (two : Option W) : Type 0 where
+pub record Gives {V W : Type 0} (first second : List ℕ) (read_first : List ℕ → Option V) (read_second : List ℕ → Option W)
+    (words : List (List ℕ)) (one : Option V) (two : Option W) : Type 0 where
   pub known : AllByRecursion (IsKnown first second) words
   pub first_is : IsGiven first read_first words one
   pub second_is : IsGiven second read_second words two
 
 -- the keyword was given before
 abbrev pub IsRepeated : {V : Type 0} → List ℕ → (List ℕ → Option V) → List (List ℕ) → List ℕ → Type 0
-IsRepeated {V = V} keyword read before word = (has_keyword keyword word ≡ true) × ((value : V) × OneHas keyword read before value)
+IsRepeated {V = V} keyword read before word =
+    (has_keyword keyword word ≡ true) × ((value : V) × OneHas keyword read before value)
 
 -- the keyword wasn't given before, and its value is none
 abbrev pub HasBadValue : {V : Type 0} → List ℕ → (List ℕ → Option V) → List (List ℕ) → List ℕ → Type 0
@@ -56,7 +59,9 @@ HasBadValue keyword read before word =
     (has_keyword keyword word ≡ true) × NoneHas keyword before × (read (value_of_word word) ≡ None)
 
 -- behind these words the word has this fault
-abbrev pub IsFaulty : {V W : Type 0} → List ℕ → List ℕ → (List ℕ → Option V) → (List ℕ → Option W) → List (List ℕ) → List ℕ → EnvelopeFault → Type 0
+abbrev pub IsFaulty :
+    {V W : Type 0} → List ℕ → List ℕ → (List ℕ → Option V) → (List ℕ → Option W) → List (List ℕ) → List ℕ
+    → EnvelopeFault → Type 0
 IsFaulty first second read_first read_second before word UnknownParameter =
     (word ≢ []) × (has_keyword first word ≡ false) × (has_keyword second word ≡ false)
 IsFaulty first second read_first read_second before word Repeated =
@@ -66,7 +71,8 @@ IsFaulty first second read_first read_second before word BadValue =
 IsFaulty first second read_first read_second before word BadPath = ⊥
 
 -- the row begins with words that give values, and the word behind them is faulty
-pub record HasFault {V W : Type 0} (first second : List ℕ) (read_first : List ℕ → Option V) (read_second : List ℕ → Option W) (words : List (List ℕ)) (fault : EnvelopeFault) : Type 0 where
+pub record HasFault {V W : Type 0} (first second : List ℕ) (read_first : List ℕ → Option V)
+    (read_second : List ℕ → Option W) (words : List (List ℕ)) (fault : EnvelopeFault) : Type 0 where
   pub before : List (List ℕ)
   pub word : List ℕ
   pub behind : List (List ℕ)
@@ -91,24 +97,31 @@ SaysMail words (Err fault) = HasFault (codes "RET") (codes "ENVID") ret_of read_
 
 -- what the row of RCPT says
 abbrev pub SaysRcpt : List (List ℕ) → Result RcptParameters EnvelopeFault → Type 0
-SaysRcpt words (Ok given) = Gives (codes "NOTIFY") (codes "ORCPT") notify_of read_orcpt words given.notify given.orcpt
+SaysRcpt words (Ok given) =
+    Gives (codes "NOTIFY") (codes "ORCPT") notify_of read_orcpt words given.notify given.orcpt
 SaysRcpt words (Err fault) = HasFault (codes "NOTIFY") (codes "ORCPT") notify_of read_orcpt words fault
 
 -- What is read behind a path of MAIL is what the row says: each keyword once at most, with its value, or a first fault.
 abbrev pub MailRowIsRead : Type 0
-MailRowIsRead = (text : List ℕ) (words : List (List ℕ)) → IsRowOf text words → SaysMail words (mail_parameters_of text)
+MailRowIsRead =
+    (text : List ℕ) (words : List (List ℕ)) → IsRowOf text words → SaysMail words (mail_parameters_of text)
 
 -- What is read behind a path of RCPT is what the row says.
 abbrev pub RcptRowIsRead : Type 0
-RcptRowIsRead = (text : List ℕ) (words : List (List ℕ)) → IsRowOf text words → SaysRcpt words (rcpt_parameters_of text)
+RcptRowIsRead =
+    (text : List ℕ) (words : List (List ℕ)) → IsRowOf text words → SaysRcpt words (rcpt_parameters_of text)
 
 -- A row of MAIL says one thing: its values, or one fault.
 abbrev pub MailRowSaysOne : Type 0
-MailRowSaysOne = (words : List (List ℕ)) (one two : Result MailParameters EnvelopeFault) → SaysMail words one → SaysMail words two → one ≡ two
+MailRowSaysOne =
+    (words : List (List ℕ)) (one two : Result MailParameters EnvelopeFault)
+    → SaysMail words one → SaysMail words two → one ≡ two
 
 -- A row of RCPT says one thing.
 abbrev pub RcptRowSaysOne : Type 0
-RcptRowSaysOne = (words : List (List ℕ)) (one two : Result RcptParameters EnvelopeFault) → SaysRcpt words one → SaysRcpt words two → one ≡ two
+RcptRowSaysOne =
+    (words : List (List ℕ)) (one two : Result RcptParameters EnvelopeFault)
+    → SaysRcpt words one → SaysRcpt words two → one ≡ two
 
 -- Each text is a row of words.
 abbrev pub TextIsRow : Type 0

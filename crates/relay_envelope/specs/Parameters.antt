@@ -69,7 +69,8 @@ address_of value = after_first (is_octet 59) value
 -- a value of ORCPT: a type, ";" and an address (section 4.2), of at most 500 octets
 unfoldable pub is_orcpt : List ℕ → Bool
 is_orcpt value =
-    nat_le (length value) 500 && is_address_type (address_type_of value) && is_original_address (address_of value)
+    nat_le (length value) 500
+    && is_address_type (address_type_of value) && is_original_address (address_of value)
 
 -- no outcome is to be reported yet
 abbrev pub no_outcomes : Outcomes
@@ -150,17 +151,20 @@ and_then next (Ok value) = next value
 and_then next (Err fault) = Err fault
 
 -- the parameters from left to right; the first fault is the line's
-abbrev pub with_each : {A : Type 0} → (List ℕ → A → Result A EnvelopeFault) → List (List ℕ) → A → Result A EnvelopeFault
+abbrev pub with_each :
+    {A : Type 0} → (List ℕ → A → Result A EnvelopeFault) → List (List ℕ) → A → Result A EnvelopeFault
 with_each with_one [] old = Ok old
 with_each with_one (word ∷ words) old = and_then (λ new. with_each with_one words new) (with_one word old)
 
 -- what stands behind a path of MAIL: parameters with spaces between them
 unfoldable pub mail_parameters_of : List ℕ → Result MailParameters EnvelopeFault
-mail_parameters_of text = with_each with_mail_parameter (slice_split (is_octet 32) text) (record { ret = None; envid = None })
+mail_parameters_of text =
+    with_each with_mail_parameter (slice_split (is_octet 32) text) (record { ret = None; envid = None })
 
 -- what stands behind a path of RCPT
 unfoldable pub rcpt_parameters_of : List ℕ → Result RcptParameters EnvelopeFault
-rcpt_parameters_of text = with_each with_rcpt_parameter (slice_split (is_octet 32) text) (record { notify = None; orcpt = None })
+rcpt_parameters_of text =
+    with_each with_rcpt_parameter (slice_split (is_octet 32) text) (record { notify = None; orcpt = None })
 
 -- the octets of the parameters that the code answers
 abbrev pub mail_value : MailSliced → MailParameters

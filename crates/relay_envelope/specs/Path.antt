@@ -27,7 +27,8 @@ path_text path = in_brackets (body_of path)
 abbrev pub IsPath : Path → Type 0
 IsPath Null = Unit {0}
 IsPath (Postmaster word) = IsPostmaster word
-IsPath (Mailbox route local domain) = IsMailbox route local domain × (length (mailbox_text route local domain) ≤ 256)
+IsPath (Mailbox route local domain) =
+    IsMailbox route local domain × (length (mailbox_text route local domain) ≤ 256)
 
 -- nothing follows, or a space does
 abbrev pub stands_apart : List ℕ → Bool

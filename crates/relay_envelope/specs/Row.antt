@@ -6,7 +6,8 @@ use Rattle.relay_lines.specs.Word.{is_printable}
 
 -- profile: a plain octet is printable, no space, and none of `<`, `>`, `"` and `\`
 abbrev pub is_plain : ℕ → Bool
-is_plain octet = is_in_range 33 126 octet && not (octet == 60) && not (octet == 62) && not (octet == 34) && not (octet == 92)
+is_plain octet =
+    is_in_range 33 126 octet && not (octet == 60) && not (octet == 62) && not (octet == 34) && not (octet == 92)
 
 -- qtextSMTP: a printable octet but `"` and `\`
 abbrev pub is_text_octet : ℕ → Bool

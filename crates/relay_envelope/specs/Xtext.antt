@@ -81,7 +81,8 @@ pub record FirstOctet (text : List ℕ) (octet : ℕ) (rest : List ℕ) : Type 0
 
 -- how an octet is encoded: by itself where it may be
 abbrev pub encoded_octet : ℕ → List ℕ
-encoded_octet octet = if is_xchar octet then octet ∷ [] else 43 ∷ digit_of (octet / 16) ∷ digit_of (octet % 16) ∷ []
+encoded_octet octet =
+    if is_xchar octet then octet ∷ [] else 43 ∷ digit_of (octet / 16) ∷ digit_of (octet % 16) ∷ []
 
 -- the encoding of octets
 abbrev pub encoded : List ℕ → List ℕ
@@ -93,4 +94,5 @@ DecodedIsSpelled = (text octets : List ℕ) → (decoded text ≡ Some octets) �
 
 -- What is encoded stands for the octets that it was made of.
 abbrev pub EncodedIsDecoded : Type 0
-EncodedIsDecoded = (octets : List ℕ) → AllByRecursion (λ octet. octet < 2 ^ 8) octets → decoded (encoded octets) ≡ Some octets
+EncodedIsDecoded =
+    (octets : List ℕ) → AllByRecursion (λ octet. octet < 2 ^ 8) octets → decoded (encoded octets) ≡ Some octets

@@ -1,8 +1,9 @@
 -- What comes of a row: its first word says what is done with the rest.
-use Rattle.std.specs.Prelude.{◌≡◌, ◌≢◌, ℕ, List, ◌++◌, codes, Option, Some, None, Result, Ok, Err}
+use Rattle.std.specs.Prelude.{◌≡◌, ◌≢◌, ◌↔◌, ℕ, Bool, true, false, IsTrue, List, ◌++◌, codes, Option, Some, None, Result, Ok, Err}
 use Rattle.relay_envelope.specs.Xtext.{decoded, encoded}
+use Rattle.relay_envelope.specs.HostName.{IsHostName}
 use Rattle.relay_envelope.specs.Mail.{Mail, Rcpt, ReadsMail, ReadsRcpt}
-use Rattle.relay_envelope.specs.Envelope.{envelope_from, mail_text, rcpt_text, recipient_from}
+use Rattle.relay_envelope.specs.Envelope.{IsForwardPath, IsReversePath, envelope_from, mail_text, rcpt_text, recipient_from}
 use Rattle.relay_envelope.specs.declared.fault.EnvelopeFault.{EnvelopeFault}
 use Rattle.relay_envelope.specs.declared.fault.EnvelopeFault.TheVariants.{BadPath, BadValue, Repeated, UnknownParameter}
 
@@ -39,6 +40,27 @@ IsRcptOutcome text outcome = (read : Result Rcpt EnvelopeFault) × ReadsRcpt tex
 abbrev pub LacksWord : List ℕ → List ℕ → Type 0
 LacksWord word row = (text : List ℕ) → row ≢ word ++ text
 
+-- a decision in a word
+abbrev pub decision_text : Option Bool → List ℕ
+decision_text (Some true) = codes "yes"
+decision_text (Some false) = codes "no"
+decision_text None = codes "no row"
+
+-- the decision says whether it is so
+abbrev pub Says : Option Bool → Type 0 → Type 0
+Says decision IsSo = (is_so : Bool) × (decision ≡ Some is_so) × (IsTrue is_so ↔ IsSo)
+
+-- the row asks whether a text is what its first word names, and this is the answer
+pub record IsDecision (row : List ℕ) (decision : Option Bool) : Type 0 where
+  pub reverse : (text : List ℕ) → row ≡ codes "REVERSE " ++ text → Says decision (IsReversePath text)
+  pub forward : (text : List ℕ) → row ≡ codes "FORWARD " ++ text → Says decision (IsForwardPath text)
+  pub host : (text : List ℕ) → row ≡ codes "HOST " ++ text → Says decision (IsHostName text)
+  pub other : LacksWord (codes "REVERSE ") row → LacksWord (codes "FORWARD ") row → LacksWord (codes "HOST ") row → decision ≡ None
+
+-- the outcome is the word of such an answer
+abbrev pub IsAnswer : List ℕ → List ℕ → Type 0
+IsAnswer row outcome = (decision : Option Bool) × IsDecision row decision × (outcome ≡ decision_text decision)
+
 -- the row comes to this outcome, by the word that it begins with
 pub record IsOutcome (row outcome : List ℕ) : Type 0 where
   pub mail : (text : List ℕ) → row ≡ codes "MAIL FROM:" ++ text → IsMailOutcome text outcome
@@ -47,7 +69,7 @@ pub record IsOutcome (row outcome : List ℕ) : Type 0 where
   pub encode : (text : List ℕ) → row ≡ codes "ENCODE " ++ text → outcome ≡ encoded text
   pub other :
       LacksWord (codes "MAIL FROM:") row → LacksWord (codes "RCPT TO:") row
-      → LacksWord (codes "DECODE ") row → LacksWord (codes "ENCODE ") row → outcome ≡ codes "no row"
+      → LacksWord (codes "DECODE ") row → LacksWord (codes "ENCODE ") row → IsAnswer row outcome
 
 -- the line shows what the row came to, and what is written down for it where that is another text
 pub record IsLine (row wanted line : List ℕ) : Type 0 where

@@ -1,11 +1,12 @@
-//! What comes of a row: a text of MAIL or RCPT is read and written again, xtext is decoded, octets are encoded.
+//! What comes of a row: a text of MAIL or RCPT is read and written again, xtext is decoded, octets are encoded, and a text
+//! is said to be a path or a host's name, or not.
 ghost use Rattle.std.specs.Prelude.{◌≡◌, IfOk};
 ghost use Rattle.relay_envelope.specs.Xtext.{decoded as decoded_octets};
-ghost use Rattle.relay_envelope_rows.specs.Outcome.{IsMailOutcome, IsOutcome, IsRcptOutcome, decoding_outcome, word_of};
+ghost use Rattle.relay_envelope_rows.specs.Outcome.{IsAnswer, IsDecision, IsMailOutcome, IsOutcome, IsRcptOutcome, decision_text, decoding_outcome, word_of};
 
 use relay_envelope::{
-    Envelope, EnvelopeFault, Recipient, Xtext, XtextFault, read_mail, read_rcpt, write_mail,
-    write_rcpt,
+    Envelope, EnvelopeFault, Recipient, Xtext, XtextFault, is_forward_path, is_host_name,
+    is_reverse_path, read_mail, read_rcpt, write_mail, write_rcpt,
 };
 use relay_octets::Octets;
 use std::alloc::{AllocError, Global};
@@ -24,7 +25,41 @@ pub fn outcome_of(alloc: Global, row: &str) -> Result<Octets, AllocError>
         let xtext = Xtext::encode(alloc, text.as_bytes())?;
         Octets::from_slice(alloc, xtext.as_slice())
     } else {
-        Octets::from_slice(alloc, b"no row")
+        answer_of(alloc, row)
+    }
+}
+
+/// Whether the text of a row is what its first word names, in a word.
+fn answer_of(alloc: Global, row: &str) -> Result<Octets, AllocError>
+    ensures { IfOk result (IsAnswer row.now) }
+{
+    let text = decision_text(decision_of(row));
+    Octets::from_slice(alloc, text)
+}
+
+/// Whether the text of a row is what its first word names, where that is a word of these.
+fn decision_of(row: &str) -> Option<bool>
+    ensures { IsDecision row.now result }
+{
+    if let Some(text) = row.strip_prefix("REVERSE ") {
+        Some(is_reverse_path(text.as_bytes()))
+    } else if let Some(text) = row.strip_prefix("FORWARD ") {
+        Some(is_forward_path(text.as_bytes()))
+    } else if let Some(text) = row.strip_prefix("HOST ") {
+        Some(is_host_name(text.as_bytes()))
+    } else {
+        None
+    }
+}
+
+/// A decision in a word.
+fn decision_text(decision: Option<bool>) -> &'static [u8]
+    ensures { result.now ≡ decision_text decision }
+{
+    match decision {
+        Some(true) => b"yes",
+        Some(false) => b"no",
+        None => b"no row",
     }
 }
 

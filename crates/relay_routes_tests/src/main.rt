@@ -3,8 +3,8 @@
 //! behind `=>`, that it differs.
 #![tactic(auto)]
 
-use relay_envelope::Path;
-use relay_routes::{Config, ConfigFault, HostName};
+use relay_envelope::{Path, PathBuf};
+use relay_routes::{Config, Hop, HostName, Table};
 use std::alloc::{AllocError, Global};
 use std::test::Fail;
 use std::{env, fs, str};
@@ -66,16 +66,47 @@ fn outcome_of(alloc: Global, text: &str) -> Result<String, Fail> {
     }
 }
 
-/// The hop of a path by a configuration.
+/// The hop of a path by a configuration, and that of the path as it is stored where that is another.
 fn hop_of(alloc: Global, text: &str, path: &[u8]) -> Result<String, Fail> {
-    let config = match Config::read(alloc, text) {
-        Ok(config) => config,
-        Err(fault) => return Ok(format!(in alloc; "{fault}")?),
-    };
-    let Some(path) = Path::read(path) else {
-        return Ok(String::from_str(alloc, "no path")?);
-    };
-    match config.routes.hop(&path) {
+    match Config::read(alloc, text) {
+        Ok(config) => hop_by(alloc, &config.routes, path),
+        Err(fault) => Ok(format!(in alloc; "{fault}")?),
+    }
+}
+
+/// The same by these routes.
+fn hop_by(alloc: Global, routes: &Table, path: &[u8]) -> Result<String, Fail> {
+    match Path::read(path) {
+        Some(path) => both_hops(alloc, routes, path),
+        None => Ok(String::from_str(alloc, "no path")?),
+    }
+}
+
+fn both_hops(alloc: Global, routes: &Table, path: Path<'_>) -> Result<String, Fail> {
+    let stored = PathBuf::new(alloc, path)?;
+    let own = routes.hop(&path);
+    let found = routes.hop_at(&stored);
+    if are_one(routes, own, found) {
+        text_of_hop(alloc, own)
+    } else {
+        Ok(String::from_str(alloc, "two hops")?)
+    }
+}
+
+/// Whether two look-ups found one hop, or none, and the first has the place of its name.
+fn are_one(routes: &Table, one: Option<&Hop>, other: Option<&Hop>) -> bool {
+    match (one, other) {
+        (None, None) => true,
+        (Some(one), Some(other)) => {
+            one.name.as_slice() == other.name.as_slice()
+                && routes.place_of(other.name.as_slice()) == Some(one.at)
+        }
+        _ => false,
+    }
+}
+
+fn text_of_hop(alloc: Global, hop: Option<&Hop>) -> Result<String, Fail> {
+    match hop {
         Some(hop) => {
             let (name, at) = (text_of(&hop.name)?, hop.at);
             Ok(format!(in alloc; "{name} {at}")?)
