@@ -109,7 +109,7 @@ impl Dialogue {
     /// Whether the replies and the offers of the play are those that are written down.
     fn is_as_written(&self, play: &Play<'_>) -> bool
         ensures { IsTrue result
-            ↔ ((play.now.replies ≡ self.now.replies.items) × (play.now.offers ≡ self.now.offers.items)) }
+            ↔ ((play.now.replies.items ≡ self.now.replies.items) × (play.now.offers ≡ self.now.offers.items)) }
     {
         play.replies() == self.replies.as_slice() && play.offers() == self.offers.as_slice()
     }

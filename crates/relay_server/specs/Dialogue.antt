@@ -118,6 +118,10 @@ more_said said input answers output offers = record {
   offers = said.offers ++ offers;
 }
 
+-- what was said, and octets behind it that nobody reads
+abbrev pub unread_behind : Said → List ℕ → Said
+unread_behind said octets = record said { input = said.input ++ octets }
+
 -- what is left of the input is a unit whose offer is unanswered, and stands behind the others
 pub record IsUnanswered (setup : Setup) (state : State) (rest : List ℕ) (unanswered : List Offered) : Type 0 where
   pub client : Client

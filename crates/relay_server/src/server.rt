@@ -5,7 +5,7 @@ ghost use Rattle.relay_body.specs.ChunkText.{Chunk as ChunkText, HasChunks, IsBe
 ghost use Rattle.relay_body.specs.DotText.{IsReading, gathered_of};
 ghost use Rattle.relay_server.specs.Dialogue.{row_of_answer};
 ghost use Rattle.relay_server.specs.ReplyTable.{course_of, course_of_chunks, course_of_content, course_of_text};
-ghost use Rattle.relay_server.specs.Session.{EndsBy, EntersBy, GathersChunk, IsGiven, KeepsText, Moves, RefusesChunk, offers_at};
+ghost use Rattle.relay_server.specs.Machine.{EndsBy, EntersBy, GathersChunk, IsGiven, KeepsText, Moves, RefusesChunk, offers_at};
 ghost use Rattle.relay_server.specs.Setup.{setup_of};
 ghost use Rattle.relay_server.specs.State as standing;
 ghost use Rattle.relay_server.specs.Unit.{asked_of_long};

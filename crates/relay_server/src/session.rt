@@ -1,8 +1,9 @@
-ghost use Rattle.std.specs.Prelude.{◌≡◌, ℕ, List, [], ◌∷◌, ◌++◌, ◌≤◌, ◌<◌, length, take, true, false, IfOk, OnOk, OnErr, IsErr, MatchOption};
+ghost use Rattle.std.specs.Prelude.{◌≡◌, ℕ, List, [], ◌∷◌, ◌++◌, ◌+◌, ◌≤◌, ◌<◌, length, take, slice_range, true, false, IfOk, OnOk, OnErr, IsErr, MatchOption};
 ghost use Rattle.relay_octets.specs.Line.{HasNoCrlf, crlf};
 ghost use Rattle.relay_body.specs.DotText.{IsReading};
 ghost use Rattle.relay_server.specs.Dialogue.{Said, more_said};
-ghost use Rattle.relay_server.specs.Session.{Advances, GathersChunk, HasFailed, HasOffer, IsGiven, Moves, RefusesChunk, Stands, Steps, Waits, is_reading, new_offers, next_of, offered, offers_since, open_offers};
+ghost use Rattle.relay_server.specs.Machine.{Advances, GathersChunk, IsGiven, Moves, RefusesChunk, Steps, is_reading};
+ghost use Rattle.relay_server.specs.Session.{Answered, HasFailed, HasOffer, Hears, Stands, Waits, next_of, offered, offers_since, open_offers};
 ghost use Rattle.relay_server.specs.Setup.{Setup, setup_of};
 ghost use Rattle.relay_server.specs.State as standing;
 ghost use Rattle.relay_server.specs.Values.{IsHeld, command_state_of};
@@ -63,10 +64,11 @@ impl Drop for Session {
 impl Session {
     /// A session, and the greeting for the client. It fails where memory runs out.
     pub fn new(alloc: Global, config: &Config) -> Result<(Self, Vec<u8>), AllocError>
-        ensures { IfOk result (λ made. (setup : Setup) → setup.host ≡ config.now.host
+        ensures stands { IfOk result (λ made. (setup : Setup) → setup.host ≡ config.now.host
             → setup.max_content ≡ config.now.max_content
             → Stands setup made.0
             (record { input = []; answers = []; output = made.1.items; offers = [] })) }
+        ensures settled { IfOk result (λ made. open_offers made.0 ≡ []) }
     {
         let server = Server {
             alloc,
@@ -93,19 +95,51 @@ impl Session {
         ensures within { IfOk result (λ fed. fed.used ≤ length piece.now) }
         ensures whole { IfOk result (λ fed. fed.next ≡ Next.More → fed.used ≡ length piece.now) }
         ensures next { IfOk result (λ fed. fed.next ≡ next_of self.new) }
+        // No offer opens without an octet.
+        ensures progress { IfOk result (λ fed. open_offers self.old ≡ [] → fed.next ≡ Next.Offer
+            → 0 < fed.used) }
         // While an offer is open, and after a close, it uses nothing.
         ensures waits { Waits self.old → (self.new ≡ self.old)
             × IfOk result (λ fed. (fed.used ≡ 0) × (fed.out.items ≡ [])) }
         ensures failed { OnErr result (HasFailed self.new) }
         ensures again { HasFailed self.old → IsErr result }
     {
+        let mut used = 0;
+        let mut out = Vec::new(self.server.alloc);
+        let next = self.hear(table, piece, &mut used, &mut out)?;
+        Ok(Fed { used, out, next })
+    }
+
+    /// Feeds what is left of a piece behind the octets that are used, counts those that it uses, and puts the replies
+    /// behind `out`: for a loop over a whole piece, which answers each offer on its way. It answers what the caller
+    /// does next. Where memory runs out, `out` may have lost its end.
+    pub fn hear(
+        &mut self,
+        table: &Table,
+        piece: &[u8],
+        used: &mut usize,
+        out: &mut Vec<u8>,
+    ) -> Result<Next, AllocError>
+        requires { used.old ≤ length piece.now }
+        ensures hears { IfOk result (λ next. (setup : Setup) (said : Said)
+            → setup.routes ≡ table.now → Stands setup self.old said
+            → Hears setup said self.old self.new (slice_range piece.now used.old used.new) out.old.items out.new.items) }
+        ensures within { IfOk result (λ next. (used.old ≤ used.new) × (used.new ≤ length piece.now)) }
+        ensures whole { IfOk result (λ next. next ≡ Next.More → used.new ≡ length piece.now) }
+        ensures next { IfOk result (λ next. next ≡ next_of self.new) }
+        // No offer opens without an octet: behind each answer the next round uses some.
+        ensures progress { IfOk result (λ next. next ≡ Next.Offer
+            → used.old < used.new + length (open_offers self.old)) }
+        ensures waits { Waits self.old → (self.new ≡ self.old)
+            × IfOk result (λ next. (used.new ≡ used.old) × (out.new.items ≡ out.old.items)) }
+        ensures failed { OnErr result (HasFailed self.new) }
+        ensures again { HasFailed self.old → IsErr result }
+    {
         if let Stage::Failed = self.stage {
             return Err(AllocError);
         }
-        let mut out = Vec::new(self.server.alloc);
-        let used = self.read(table, piece, &mut out)?;
-        let next = self.next();
-        Ok(Fed { used, out, next })
+        *used += self.read(table, &piece[*used..], out)?;
+        Ok(self.next())
     }
 
     /// The offer that is open. It takes no memory.
@@ -133,15 +167,29 @@ impl Session {
         requires { HasOffer self.old }
         ensures stands { IfOk result (λ out. (setup : Setup) (said : Said) → Stands setup self.old said
             → Stands setup self.new (more_said said [] (answer ∷ []) out.items [])) }
+        ensures settled { IfOk result (λ out. open_offers self.new ≡ []) }
+        ensures failed { OnErr result (HasFailed self.new) }
+    {
+        let mut out = Vec::new(self.server.alloc);
+        self.reply(answer, &mut out)?;
+        Ok(out)
+    }
+
+    /// Answers the offer that is open, and puts what goes to the client behind `out`. Where memory runs out, `out` may
+    /// have lost its end.
+    pub fn reply(&mut self, answer: Answer, out: &mut Vec<u8>) -> Result<(), AllocError>
+        requires { HasOffer self.old }
+        ensures answered { OnOk result ((setup : Setup) (said : Said) → Stands setup self.old said
+            → Answered setup said self.new answer out.old.items out.new.items) }
+        ensures settled { OnOk result (open_offers self.new ≡ []) }
         ensures failed { OnErr result (HasFailed self.new) }
     {
         let Stage::Offering(transaction, _) = self.leave() else {
             unreachable!()
         };
-        let mut out = Vec::new(self.server.alloc);
-        row_of_answer(answer).write(self.server.host.as_slice(), &mut out)?;
+        row_of_answer(answer).write(self.server.host.as_slice(), out)?;
         self.enter(Stage::Command(CommandState::Greeted(transaction.client)));
-        Ok(out)
+        Ok(())
     }
 
     /// Takes the stage out. Until it enters another, the session has failed.
@@ -176,12 +224,14 @@ impl Session {
 
     /// Uses octets of a piece up to an offer or a close, or all of them, and answers how many.
     fn read(&mut self, table: &Table, piece: &[u8], out: &mut Vec<u8>) -> Result<usize, AllocError>
-        ensures stands { IfOk result (λ used. (setup : Setup) (said : Said) → setup.routes ≡ table.now → Stands setup self.old said
-            → (more : List ℕ) × (out.new.items ≡ out.old.items ++ more)
-            × Stands setup self.new (more_said said (take used piece.now) [] more (new_offers self.old.stage self.new.stage))) }
+        ensures stands { IfOk result (λ used. (setup : Setup) (said : Said)
+            → setup.routes ≡ table.now → Stands setup self.old said
+            → Hears setup said self.old self.new (take used piece.now) out.old.items out.new.items) }
+        ensures idle { IfOk result (λ used. used ≡ 0 → self.new ≡ self.old) }
         ensures within { IfOk result (λ used. used ≤ length piece.now) }
         ensures whole { IfOk result (λ used. is_reading self.new.stage ≡ true → used ≡ length piece.now) }
-        ensures waits { is_reading self.old.stage ≡ false → (self.new ≡ self.old) × (out.new.items ≡ out.old.items) × IfOk result (λ used. used ≡ 0) }
+        ensures waits { is_reading self.old.stage ≡ false → (self.new ≡ self.old)
+            × (out.new.items ≡ out.old.items) × IfOk result (λ used. used ≡ 0) }
         ensures failed { OnErr result (self.new.stage ≡ Stage.Failed) }
     {
         let mut used = 0;

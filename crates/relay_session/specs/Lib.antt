@@ -2,4 +2,4 @@ pub mod Kept
 pub mod Exchange
 pub mod Served
 pub mod Rounds
-pub mod Theorems
+pub mod Laws

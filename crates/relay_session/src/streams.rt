@@ -101,7 +101,6 @@ fn converse<R: Read, W: Write>(
     reader: &mut R,
     writer: &mut W,
 ) -> Result<(), SessionFault>
-    requires rests { (said : Said) × Rests (setup_of_config config.now) peer.now exchange.old said }
     ensures served { IfOk result (λ _. (left held : Option (List ℕ))
         → HasSaid (setup_of_config config.now) peer.now left (R.remaining reader.old) held (W.contents writer.old) exchange.old
         → IsServed (setup_of_config config.now) peer.now left (R.remaining reader.new) held (W.contents writer.new) exchange.new.messages) }
@@ -137,8 +136,7 @@ fn exchange_block<R: Read, W: Write>(
     reader: &mut R,
     writer: &mut W,
 ) -> Result<bool, SessionFault>
-    requires room { 0 < length block.old }
-    requires rests { (said : Said) × Rests (setup_of_config config.now) peer.now exchange.old said }
+    requires { 0 < length block.old }
     ensures ok { IfOk result (λ is_last. (said : Said) → Rests (setup_of_config config.now) peer.now exchange.old said
         → GoesRound (setup_of_config config.now) peer.now (R.remaining reader.old) (R.remaining reader.new) (W.contents writer.old) (W.contents writer.new) said exchange.new is_last) }
     ensures err { OnErr result ((said : Said) → Rests (setup_of_config config.now) peer.now exchange.old said
