@@ -5,8 +5,8 @@ SHELL := bash
 .PHONY: test demo bench instructions relayd relay_bench
 
 # The whole gate: the sample configuration beside its tested copy; then every proof from nothing, the edits that must fail
-# and the tests; then the program that these have built, over two pipes and short of memory. The gate's own last line is
-# the last.
+# and the tests; then the programs that these have built, over two pipes, short of memory, and on a device that fails. The
+# gate's own last line is the last.
 test:
 	cmp relayd.toml crates/relay_routes_tests/data/relayd.toml
 	mkdir -p build
@@ -14,9 +14,10 @@ test:
 	cp crates/relayd/out/relayd build/relayd
 	tests/one_line_at_a_time.sh build/relayd
 	tests/each_allocation_refused.sh build/relayd
+	tests/spool_on_a_file.sh crates/relay_spool_steps/out/relay_spool_steps
 	tail -n 1 build/gate.log
 
-# Builds the program, and holds its first dialogue.
+# Proves and builds the program, a line a crate, and holds its first dialogue.
 demo: relayd
 	build/relayd session < crates/relayd/stdin
 
@@ -30,11 +31,9 @@ instructions: relayd relay_bench
 
 # Proves and links a program. It runs once, on its stored input.
 relayd:
-	mkdir -p build
-	cd crates/relayd && rt run -- session > ../../build/relayd.log 2>&1 || { cat ../../build/relayd.log; exit 1; }
+	tools/prove.sh relayd session
 	cp crates/relayd/out/relayd build/relayd
 
 relay_bench:
-	mkdir -p build
-	cd crates/relay_bench && rt run > ../../build/relay_bench.log 2>&1 || { cat ../../build/relay_bench.log; exit 1; }
+	tools/prove.sh relay_bench
 	cp crates/relay_bench/out/relay_bench build/relay_bench

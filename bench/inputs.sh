@@ -102,3 +102,8 @@ header_section() {
     yes "X-Field: $(printf '%065d' 0)"$'\r' | head -n "$1" || true
     printf '\r\n'
 }
+
+# A content of lines of 76 octets, of which every fourth begins with a period.
+content_with_periods() {
+    yes "$(printf '%074d\r\n%074d\r\n%074d\r\n.%073d\r' 0 0 0 0)" | head -n $((4 * $1)) || true
+}

@@ -109,6 +109,12 @@ for ((time = 0; time < 20; time++)); do
     cat "$room/header"
 done > "$room/headers"
 
+# A content of 16 MB, of which every fourth line begins with a period, and 20 times its octets for `wc`.
+content_with_periods 52632 > "$room/content"
+for ((time = 0; time < 20; time++)); do
+    cat "$room/content"
+done > "$room/contents"
+
 measure "session: mail data that is refused" octets "$(stat -c %s "$room/refused")" "$room/refused" -l 7 "$relayd" session
 measure "session: 200 messages of 1 MiB that are kept" octets "$(stat -c %s "$room/kept")" "$room/kept" -l 803 "$relayd" session
 measure "session: 200 messages of 16 chunks that are kept" octets "$(stat -c %s "$room/chunks")" "$room/chunks" -c 3806 "$relayd" session
@@ -122,6 +128,8 @@ measure "library: RCPT lines that are parsed" commands 2000000 "$room/commands" 
 measure "library: short replies that are read" replies 4369000 "$room/replies" -l 1 "$bench" replies
 against=$room/headers
 measure "library: a header section, counted and cut" octets "$(stat -c %s "$room/headers")" "$room/header" -l 1 "$bench" header
+against=$room/contents
+measure "library: a dot text that is written" octets "$(stat -c %s "$room/contents")" "$room/content" -l 1 "$bench" dots
 
 # A spool of 62,430 bodies of 4,096 octets: its head, the links, and the last gate.
 printf '\x01\x00\x00\x10\x00%04096d' 0 > "$room/link"
@@ -137,6 +145,7 @@ printf '\x01\x00\x00\x10\x00%04096d' 0 > "$room/link"
 } > "$room/spool"
 compare "library: a spool of 256 MB that is opened" octets "$(stat -c %s "$room/spool")" \
     "$bench open $room/spool" "cat $room/spool | wc -c" "cat | wc -c"
-compare "library: appends to a spool on a file" appends 1000 \
-    "rm -f $disk/a; $bench append $disk/a 1000" "rm -f $disk/b; $bench syncs $disk/b 1000" "two bare syncs"
+# A device's syncs take from one to ten times their least: many short runs.
+runs=31 compare "library: appends to a spool on a file" appends 200 \
+    "rm -f $disk/a; $bench append $disk/a 200" "rm -f $disk/b; $bench syncs $disk/b 200" "two bare syncs"
 look_ups "library: look-ups in a table of 100,000 routes" 1000000 100000 100

@@ -1,5 +1,6 @@
 use std::alloc::Global;
 use std::io::{self, Read};
+use std::test::Fail;
 
 /// How many octets one read takes at most.
 const BLOCK: usize = 65_536;
@@ -23,4 +24,18 @@ impl Blocks {
         let count = reader.read(self.block.as_mut_slice())?;
         Ok(self.block.as_slice().get(..count).unwrap_or(&[]))
     }
+}
+
+/// The whole input.
+pub fn read_all<R: Read>(alloc: Global, reader: &mut R) -> Result<Vec<u8>, Fail> {
+    let mut text: Vec<u8> = Vec::new(alloc);
+    let mut blocks = Blocks::new(alloc)?;
+    for _ in 0..u64::MAX {
+        let block = blocks.next(reader)?;
+        if block.is_empty() {
+            break;
+        }
+        text.extend_from_slice(block)?;
+    }
+    Ok(text)
 }

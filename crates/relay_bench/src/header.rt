@@ -1,4 +1,4 @@
-use crate::blocks::Blocks;
+use crate::blocks::read_all;
 use relay_trace::{header_end, received_count};
 use std::alloc::Global;
 use std::io::Read;
@@ -9,15 +9,7 @@ const TIMES: u64 = 20;
 
 /// Reads the whole input as one text, and looks through its header section many times.
 pub fn look_through_header<R: Read>(alloc: Global, reader: &mut R) -> Result<String, Fail> {
-    let mut text: Vec<u8> = Vec::new(alloc);
-    let mut blocks = Blocks::new(alloc)?;
-    for _ in 0..u64::MAX {
-        let block = blocks.next(reader)?;
-        if block.is_empty() {
-            break;
-        }
-        text.extend_from_slice(block)?;
-    }
+    let text = read_all(alloc, reader)?;
     let mut fields: u64 = 0;
     let mut end: u64 = 0;
     for _ in 0..TIMES {

@@ -19,7 +19,7 @@ use std::alloc::Global;
 use std::io::Read;
 use std::test::Fail;
 use std::{env, fs};
-use texts::{count_plain, count_texts};
+use texts::{count_plain, count_texts, write_texts};
 
 /// Two commands and a fault for the run without a word.
 const COMMANDS: &[u8] = b"HELO x\r\nXYZZY\r\nQUIT\r\n";
@@ -29,6 +29,9 @@ const REPLIES: &[u8] = b"250-x\r\n250 DSN\r\n354 go\r\n";
 
 /// A header section of one time stamp line for the run without a word.
 const HEADER: &[u8] = b"Received: x\r\nSubject: y\r\n\r\n";
+
+/// A content of two lines for the run without a word.
+const CONTENT: &[u8] = b"a\r\n.\r\n";
 
 /// Two dot texts for the run without a word.
 const TEXTS: &[u8] = b"..\r\na\r\n.\r\n.\r\n";
@@ -47,12 +50,13 @@ fn main(rt: HostRuntime) -> Result<(), Fail> {
         println!(rt; "{}", line.as_str())?;
         return Ok(());
     }
-    let samples: [(&str, &[u8]); 5] = [
+    let samples: [(&str, &[u8]); 6] = [
         ("commands", COMMANDS),
         ("replies", REPLIES),
         ("header", HEADER),
         ("texts", TEXTS),
         ("plain", TEXTS),
+        ("dots", CONTENT),
     ];
     for (name, mut octets) in samples {
         let line = measure(alloc, name, &mut octets)?;
@@ -103,7 +107,9 @@ fn measure<R: Read>(alloc: Global, name: &str, reader: &mut R) -> Result<String,
         count_texts(alloc, reader)
     } else if name == "plain" {
         count_plain(alloc, reader)
+    } else if name == "dots" {
+        write_texts(alloc, reader)
     } else {
-        Err(Fail::new("the measurements are: commands, replies, header, texts, plain"))
+        Err(Fail::new("the measurements are: commands, replies, header, texts, plain, dots"))
     }
 }

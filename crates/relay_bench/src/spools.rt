@@ -1,9 +1,14 @@
-use relay_disk::{Disk, FileDisk};
+use relay_disk::FileDisk;
 use relay_spool::{Opened, Spool};
+use std::fs::OpenOptions;
+use std::os::unix::fs::FileExt;
 use std::test::Fail;
 
 /// The octets of each body that is appended.
 const BODY: usize = 4_096;
+
+/// How many octets an append adds to the file: the length, the body and a gate.
+const LINK: usize = BODY + 5;
 
 /// Opens the spool in this file, and counts its bodies and their octets.
 pub fn open_spool(rt: &HostRuntime, path: &str) -> Result<String, Fail> {
@@ -31,29 +36,24 @@ pub fn append_bodies(rt: &HostRuntime, path: &str, count: u64) -> Result<String,
     Ok(format!(in rt.alloc(); "append: {count} bodies, {size} octets")?)
 }
 
-/// Does what the device does for so many appends, and no more: as many octets, a sync, one octet, a sync.
+/// Does on a bare file what the device does for so many appends, and no more: as many octets, a sync, an octet before
+/// them, a sync.
 pub fn sync_twice(rt: &HostRuntime, path: &str, count: u64) -> Result<String, Fail> {
-    let octets: Vec<u8> = vec![in rt.alloc(); 7; BODY + 5]?;
-    let mut disk = FileDisk::open(rt, path)?;
+    let octets: Vec<u8> = vec![in rt.alloc(); 7; LINK]?;
+    let file = OpenOptions::new()
+        .write(true)
+        .create(true)
+        .open(rt, path)?;
     for turn in 0..count {
-        let Some(place) = place_of(turn) else {
+        let Some(place) = turn.checked_mul(LINK as u64) else {
             return Err(Fail::new("too many octets"));
         };
-        if disk.write_at(place, octets.as_slice()).is_err()
-            || disk.sync().is_err()
-            || disk.write_at(place, b"1").is_err()
-            || disk.sync().is_err()
-        {
-            return Err(Fail::new("the device failed"));
-        }
+        let place = place.saturating_add(1);
+        file.write_all_at(octets.as_slice(), place)?;
+        file.sync_data()?;
+        file.write_all_at(b"1", place.saturating_sub(1))?;
+        file.sync_data()?;
     }
-    let Ok(size) = disk.size() else {
-        return Err(Fail::new("the device failed"));
-    };
+    let size = file.metadata()?.len();
     Ok(format!(in rt.alloc(); "syncs: {count} times two, {size} octets")?)
-}
-
-/// Where the octets of a turn stand.
-fn place_of(turn: u64) -> Option<usize> {
-    usize::try_from(turn).ok()?.checked_mul(BODY + 5)
 }

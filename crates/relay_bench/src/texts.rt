@@ -1,11 +1,14 @@
-use crate::blocks::Blocks;
-use relay_body::{DotReader, Gathered, plain};
+use crate::blocks::{Blocks, read_all};
+use relay_body::{DotReader, Gathered, ends_in_line_end, plain, push_dots};
 use std::alloc::Global;
 use std::io::Read;
 use std::test::Fail;
 
 /// The most octets of a content.
 const LIMIT: usize = 1_048_576;
+
+/// How often a dot text is written.
+const TIMES: u64 = 20;
 
 /// What was counted of dot texts.
 #[derive(Drop)]
@@ -53,6 +56,22 @@ pub fn count_plain<R: Read>(alloc: Global, reader: &mut R) -> Result<String, Fai
     }
     let ending = if text.is_done() { "ended" } else { "open" };
     Ok(format!(in alloc; "plain: a text of {octets} octets, {ending}")?)
+}
+
+/// Reads the whole input as one content, and writes its dot text many times into one row of octets.
+pub fn write_texts<R: Read>(alloc: Global, reader: &mut R) -> Result<String, Fail> {
+    let content = read_all(alloc, reader)?;
+    if !ends_in_line_end(content.as_slice()) {
+        return Err(Fail::new("the content doesn't end in CR LF"));
+    }
+    let mut text: Vec<u8> = Vec::new(alloc);
+    let mut octets: u64 = 0;
+    for _ in 0..TIMES {
+        text.clear();
+        push_dots(&mut text, content.as_slice())?;
+        octets = octets.saturating_add(text.len() as u64);
+    }
+    Ok(format!(in alloc; "dots: {octets} octets, in {TIMES} times")?)
 }
 
 /// Reads one block, and gives the reader of the text that it ends in.

@@ -1,11 +1,12 @@
--- Chunks (RFC 3030, section 2): behind each BDAT come as many octets as it says, and they are content as they are.
+-- Chunks (RFC 3030, section 2): behind each BDAT come as many octets as it says, and they are
+-- content as they are.
 use Rattle.std.specs.Prelude.{◌≡◌, ℕ, ◌+◌, ◌≤◌, ◌↔◌, ◌++◌, ◌∷◌, [], List, false, IsTrue, length, map, take}
 use Rattle.std.specs.Option.{option_map_or}
 use Rattle.std.specs.List.{flat_map, AllByRecursion}
 use Rattle.relay_body.specs.declared.chunk_reader.Stage.TheVariants.{Awaits, Failed}
 use Rattle.relay_body.specs.declared.chunk_reader.ChunkCut.{ChunkCut}
 use Rattle.relay_body.specs.declared.chunk_reader.ChunkReader.{ChunkReader}
-use Rattle.relay_body.specs.DotText.{KeepsContent}
+use Rattle.relay_body.specs.Gathering.{KeepsContent}
 
 -- a chunk as far as it has come: its chunk-size, and its octets
 pub record Chunk : Type 0 where
@@ -67,7 +68,8 @@ pub record BeginsChunk (old new : ChunkReader) (size : ℕ) : Type 0 where
   pub begins : (limit : ℕ) (chunks : List Chunk) → HasChunks old limit chunks
       → IsInChunk new limit chunks (new_chunk size)
 
--- an answered feed: the chunk has these octets too, which are all of the piece up to the chunk's end
+-- an answered feed: the chunk has these octets too, which are all of the piece up to the chunk's
+-- end
 pub record FeedsChunk (old new : ChunkReader) (piece : List ℕ) (cut : ChunkCut) : Type 0 where
   pub uses : (limit : ℕ) (chunks : List Chunk) (chunk : Chunk) → IsInChunk old limit chunks chunk
       → IsInChunk new limit chunks (with_octets chunk (take cut.used piece))
@@ -96,19 +98,22 @@ joined pieces = flat_map (λ piece. piece) pieces
 -- A chunk in hand has come whole exactly where its reader stands between chunks.
 abbrev pub WholeIsBetween : Type 0
 WholeIsBetween =
-    (reader : ChunkReader) (limit : ℕ) (chunks : List Chunk) (chunk : Chunk) → IsInChunk reader limit chunks chunk
+    (reader : ChunkReader) (limit : ℕ) (chunks : List Chunk)
+    (chunk : Chunk) → IsInChunk reader limit chunks chunk
     → IsBetweenChunks reader ↔ IsWhole chunk
 
 -- A chunk that has come whole is one more of the chunks.
 abbrev pub WholeIsOneMore : Type 0
 WholeIsOneMore =
-    (reader : ChunkReader) (limit : ℕ) (chunks : List Chunk) (chunk : Chunk) → IsInChunk reader limit chunks chunk
+    (reader : ChunkReader) (limit : ℕ) (chunks : List Chunk)
+    (chunk : Chunk) → IsInChunk reader limit chunks chunk
     → IsWhole chunk → HasChunks reader limit (chunks ++ chunk ∷ [])
 
 -- Of a chunk no more comes than its size says.
 abbrev pub NoMoreThanItsSize : Type 0
 NoMoreThanItsSize =
-    (reader : ChunkReader) (limit : ℕ) (chunks : List Chunk) (chunk : Chunk) → IsInChunk reader limit chunks chunk
+    (reader : ChunkReader) (limit : ℕ) (chunks : List Chunk)
+    (chunk : Chunk) → IsInChunk reader limit chunks chunk
     → length chunk.octets ≤ chunk.size
 
 -- Octets fall in one way into whole chunks of these sizes.
@@ -121,8 +126,10 @@ SizesCutOnce =
 -- The same octets, cut into any pieces, leave the same reader behind, with the same content.
 abbrev pub CuttingSaysNothing : Type 0
 CuttingSaysNothing =
-    (old new other : ChunkReader) (limit : ℕ) (chunks : List Chunk) (chunk : Chunk) (pieces cuts : List (List ℕ))
-    → IsInChunk old limit chunks chunk → IsFed old pieces new → IsFed old cuts other → joined pieces ≡ joined cuts
+    (old new other : ChunkReader) (limit : ℕ) (chunks : List Chunk) (chunk : Chunk)
+    (pieces cuts : List (List ℕ))
+    → IsInChunk old limit chunks chunk → IsFed old pieces new → IsFed old cuts other
+    → joined pieces ≡ joined cuts
     → new ≡ other
 
 -- A reader holds no more octets of content than its limit, whatever it has answered.
@@ -136,7 +143,8 @@ ChunksHaveMemory =
     → (HasChunks reader limit chunks → ¬ HasNoMemory reader)
     × ((chunk : Chunk) → IsInChunk reader limit chunks chunk → ¬ HasNoMemory reader)
 
--- Each reader that has met no want of memory was given chunks, so that what is promised of them is promised of it.
+-- Each reader that has met no want of memory was given chunks, so that what is promised of them is
+-- promised of it.
 abbrev pub EachReaderWasGivenChunks : Type 0
 EachReaderWasGivenChunks =
     (reader : ChunkReader) → ¬ HasNoMemory reader

@@ -1,6 +1,6 @@
 -- Single steps of reading and writing a dot text, for the contracts inside this crate.
-use Rattle.std.specs.Prelude.{◌≡◌, ◌≢◌, ℕ, Bool, true, false, ◌==◌, if◌then◌else◌, List, [], ◌∷◌, ◌++◌, map}
-use Rattle.relay_octets.specs.Line.{AreLines, lines_text}
+use Rattle.std.specs.Prelude.{◌≡◌, ◌≢◌, ℕ, Bool, true, false, ◌==◌, if◌then◌else◌, List, [], ◌∷◌, ◌++◌, ◌<◌, ◌≤◌, length, take, drop, map}
+use Rattle.relay_octets.specs.Line.{crlf, AreLines, lines_text}
 use Rattle.relay_body.specs.declared.dot_reader.Phase.{Phase}
 use Rattle.relay_body.specs.declared.dot_reader.Phase.TheVariants.{LineStart, Period, PeriodCr, Within, WithinCr, Done, Failed}
 use Rattle.relay_body.specs.DotText.{ends_in_line_end, with_period}
@@ -44,10 +44,33 @@ StandsForItself Failed octet = ⊥
 abbrev pub phase_behind : ℕ → Phase
 phase_behind octet = if octet == 13 then WithinCr else Within
 
--- the text so far is what is sent for the lines in front of this rest, which is whole lines too
-pub record WritesSoFar (content text rest : List ℕ) : Type 0 where
+-- a line end, and a period that begins the next line
+abbrev pub period_line : List ℕ
+period_line = 13 ∷ 10 ∷ 46 ∷ []
+
+-- no line of the octets but the first begins with a period
+pub record HasNoPeriodLine (octets : List ℕ) : Type 0 where
+  pub nowhere : (before after : List ℕ) → octets ≢ before ++ period_line ++ after
+
+-- up to this place the octets are lines of which no other than the first begins with a period, and
+-- behind it one does
+pub record EndsRun (octets : List ℕ) (end : ℕ) : Type 0 where
+  pub some : 0 < end
+  pub within : end ≤ length octets
+  pub front : List ℕ
+  pub run_is : take end octets ≡ front ++ crlf
+  pub no_period : HasNoPeriodLine (take end octets)
+  pub period : begins_with_period (drop end octets) ≡ true
+
+-- the period that is put before lines which begin with one
+abbrev pub period_for : List ℕ → List ℕ
+period_for lines = if begins_with_period lines then 46 ∷ [] else []
+
+-- Behind what stood there is sent what the content's lines in front of this rest are sent as, and
+-- the rest's period.
+pub record AddsSoFar (content old new rest : List ℕ) : Type 0 where
   pub lines : List (List ℕ)
   pub each : AreLines lines
   pub content_is : content ≡ lines_text lines ++ rest
-  pub text_is : text ≡ lines_text (map with_period lines)
+  pub added : new ≡ old ++ (lines_text (map with_period lines) ++ period_for rest)
   pub rest_ends : ends_in_line_end rest ≡ true

@@ -1,3 +1,6 @@
 pub mod DotText
+pub mod Gathering
+pub mod DotReading
 pub mod DotSteps
+pub mod DotLaws
 pub mod ChunkText

@@ -1,6 +1,6 @@
 ghost use Rattle.std.specs.Prelude.{◌≡◌, ◌<◌, ◌≤◌, ◌↔◌, ℕ, List, [], true, length, nat_lt, Ok, IfOk, OnErr, IsErr, IsTrue};
 ghost use Rattle.relay_body.specs.ChunkText.{Chunk, BeginsChunk, FeedsChunk, Gathers, HasChunks, HasNoMemory, IsBetweenChunks, chunk_limit_of, content_of_chunks};
-ghost use Rattle.relay_body.specs.DotText.{gathered_of};
+ghost use Rattle.relay_body.specs.Gathering.{gathered_of};
 
 use crate::gathered::{BodyFault, Gathered, Gathering};
 use std::alloc::Global;
@@ -31,8 +31,8 @@ pub struct ChunkReader {
 }
 
 impl ChunkReader {
-    /// A reader that awaits no chunk yet. The limit is the greatest length of the content in octets, all chunks
-    /// together. It takes no memory.
+    /// A reader that awaits no chunk yet. The limit is the greatest length of the content in
+    /// octets, all chunks together. It takes no memory.
     pub fn new(alloc: Global, limit: usize) -> Self
         ensures { HasChunks result limit [] }
     {
@@ -66,13 +66,14 @@ impl ChunkReader {
         self.stage = Stage::Awaits(size);
     }
 
-    /// Uses the next piece up to the end of the chunk, and nothing where no chunk is awaited. Where the content passes
-    /// the limit, what was kept is dropped, and the chunk is read on all the same. Where memory runs out, the reader
-    /// fails and answers that from then on.
+    /// Uses the next piece up to the end of the chunk, and nothing where no chunk is awaited. Where
+    /// the content passes the limit, what was kept is dropped, and the chunk is read on all the
+    /// same. Where memory runs out, the reader fails and answers that from then on.
     pub fn feed(&mut self, piece: &[u8]) -> Result<ChunkCut, BodyFault>
         ensures feeds { IfOk result (FeedsChunk self.old self.new piece.now) }
         ensures within { IfOk result (λ cut. cut.used ≤ length piece.now) }
-        ensures progress { 0 < length piece.now → ¬ IsBetweenChunks self.old → IfOk result (λ cut. 0 < cut.used) }
+        ensures progress { 0 < length piece.now → ¬ IsBetweenChunks self.old
+            → IfOk result (λ cut. 0 < cut.used) }
         ensures behind { IsBetweenChunks self.old
             → (result ≡ Ok (record { used = 0; done = true })) × (self.new ≡ self.old) }
         ensures failed { OnErr result (HasNoMemory self.new) }

@@ -1,6 +1,7 @@
 ghost use Rattle.std.specs.Prelude.{◌≡◌, ◌<◌, ◌≤◌, ◌↔◌, ℕ, List, [], ◌∷◌, true, false, length, take, Ok, IfOk, OnOk, OnErr, IsErr, IsTrue, MatchBool};
 ghost use Rattle.relay_body.specs.DotSteps.{IsOpen, RunsOn, phase_behind};
-ghost use Rattle.relay_body.specs.DotText.{IsReading, IsDone, HasFailed, HasRead, Feeds, Uses, gathered_of, limit_of};
+ghost use Rattle.relay_body.specs.Gathering.{gathered_of};
+ghost use Rattle.relay_body.specs.DotReading.{IsReading, IsDone, HasFailed, HasRead, Feeds, Uses, limit_of};
 
 use crate::gathered::{BodyFault, Gathered, Gathering};
 use relay_octets::find_crlf;
@@ -84,7 +85,8 @@ impl DotReader {
     pub fn feed(&mut self, piece: &[u8]) -> Result<DotCut, BodyFault>
         ensures feeds { IfOk result (Feeds self.old self.new piece.now) }
         ensures within { IfOk result (λ cut. cut.used ≤ length piece.now) }
-        ensures progress { 0 < length piece.now → ¬ IsDone self.old → IfOk result (λ cut. 0 < cut.used) }
+        ensures progress { 0 < length piece.now → ¬ IsDone self.old
+            → IfOk result (λ cut. 0 < cut.used) }
         ensures behind { IsDone self.old
             → (result ≡ Ok (record { used = 0; done = true })) × (self.new ≡ self.old) }
         ensures failed { OnErr result (HasFailed self.new) }
@@ -152,9 +154,11 @@ impl DotReader {
     fn step(&mut self, rest: &[u8]) -> Result<DotCut, BodyFault>
         requires phase { IsOpen self.old.phase }
         requires some { 0 < length rest.now }
-        ensures uses { IfOk result (λ cut. Uses self.old self.new (take cut.used rest.now) cut.done) }
+        ensures uses { IfOk result
+            (λ cut. Uses self.old self.new (take cut.used rest.now) cut.done) }
         ensures within { IfOk result (λ cut. (0 < cut.used) × (cut.used ≤ length rest.now)) }
-        ensures done { IfOk result (λ cut. MatchBool cut.done (IsDone self.new) (IsOpen self.new.phase)) }
+        ensures done { IfOk result
+            (λ cut. MatchBool cut.done (IsDone self.new) (IsOpen self.new.phase)) }
         ensures limit { limit_of self.new ≡ limit_of self.old }
     {
         match self.phase {
@@ -233,12 +237,13 @@ impl DotReader {
         }
     }
 
-    /// Uses the octet behind a period and a CR that a line begins with. The CR was held back, and is
-    /// content where no LF comes.
+    /// Uses the octet behind a period and a CR that a line begins with. The CR was held back, and
+    /// is content where no LF comes.
     fn behind_period_cr(&mut self, octet: u8) -> Result<bool, AllocError>
         requires { self.old.phase ≡ Phase.PeriodCr }
         ensures uses { IfOk result (λ done. Uses self.old self.new (octet ∷ []) done) }
-        ensures done { IfOk result (λ done. MatchBool done (IsDone self.new) (IsOpen self.new.phase)) }
+        ensures done { IfOk result
+            (λ done. MatchBool done (IsDone self.new) (IsOpen self.new.phase)) }
         ensures limit { limit_of self.new ≡ limit_of self.old }
     {
         if octet == b'\n' {

@@ -1,8 +1,13 @@
-ghost use Rattle.std.specs.Prelude.{◌≡◌, ◌++◌, IfOk, IsTrue, OnOk};
-ghost use Rattle.relay_body.specs.DotText.{WritesDotText, ends_in_line_end, with_period};
+ghost use Rattle.std.specs.Prelude.{◌≡◌, ◌++◌, IfOk, IsTrue, MatchOption, OnErr, OnOk};
+ghost use Rattle.relay_octets.specs.Beginning.{Begins};
+ghost use Rattle.relay_body.specs.DotText.{AddsDotText, WritesDotText, ends_in_line_end};
+ghost use Rattle.relay_body.specs.DotSteps.{EndsRun, HasNoPeriodLine, period_for};
 
-use relay_octets::find_crlf;
+use memchr::memmem;
 use std::alloc::{AllocError, Global};
+
+/// A line end, and the period that begins the next line.
+const PERIOD_LINE: &[u8; 3] = b"\r\n.";
 
 /// Whether a content is empty or ends in CR LF, so that it can be written as a dot text.
 pub fn ends_in_line_end(content: &[u8]) -> bool
@@ -16,23 +21,64 @@ pub fn write_dots(alloc: Global, content: &[u8]) -> Result<Vec<u8>, AllocError>
     requires { IsTrue (ends_in_line_end content.now) }
     ensures { IfOk result (λ text. WritesDotText content.now text.items) }
 {
-    let mut text = Vec::with_capacity(alloc, content.len() + 3)?;
-    let mut rest = content;
-    while let Some(place) = find_crlf(rest) {
-        write_line(&mut text, &rest[..place + 2])?;
-        rest = &rest[place + 2..];
-    }
-    text.extend_from_slice(b".\r\n")?;
+    let mut text = Vec::new(alloc);
+    push_dots(&mut text, content)?;
     Ok(text)
 }
 
-/// Writes a line, with its CR LF, and a period before it where it begins with one.
-fn write_line(text: &mut Vec<u8>, line: &[u8]) -> Result<(), AllocError>
-    ensures { OnOk result (text.new.items ≡ text.old.items ++ with_period line.now) }
+/// Puts the dot text of a content behind what stands in `out` (RFC 5321, section 4.5.2). It grows
+/// once where at most one line begins with a period. It fails where memory runs out, and then `out`
+/// stays as it was.
+pub fn push_dots(out: &mut Vec<u8>, content: &[u8]) -> Result<(), AllocError>
+    requires { IsTrue (ends_in_line_end content.now) }
+    ensures ok { OnOk result (AddsDotText content.now out.old.items out.new.items) }
+    ensures err { OnErr result (out.new.items ≡ out.old.items) }
 {
-    if let [b'.', ..] = line {
-        text.push(b'.')?;
+    let before = out.len();
+    let pushed = push_runs(out, content);
+    if pushed.is_err() {
+        out.truncate(before);
     }
-    text.extend_from_slice(line)?;
+    pushed
+}
+
+/// Puts the dot text of a content behind what stands in `out`, or a beginning of it. What stands
+/// between two periods to be put is copied as one run.
+fn push_runs(out: &mut Vec<u8>, content: &[u8]) -> Result<(), AllocError>
+    requires { IsTrue (ends_in_line_end content.now) }
+    ensures ok { OnOk result (AddsDotText content.now out.old.items out.new.items) }
+    ensures front { Begins out.old.items out.new.items }
+{
+    out.reserve(content.len() + 4)?;
+    push_period(out, content)?;
+    let mut rest = content;
+    while let Some(end) = run_end(rest) {
+        out.extend_from_slice(&rest[..end])?;
+        out.push(b'.')?;
+        rest = &rest[end..];
+    }
+    out.extend_from_slice(rest)?;
+    out.extend_from_slice(b".\r\n")?;
     Ok(())
+}
+
+/// Puts a period behind what stands in `out` where these lines begin with one.
+fn push_period(out: &mut Vec<u8>, lines: &[u8]) -> Result<(), AllocError>
+    ensures ok { OnOk result (out.new.items ≡ out.old.items ++ period_for lines.now) }
+    ensures err { OnErr result (out.new.items ≡ out.old.items) }
+{
+    if let [b'.', ..] = lines {
+        out.push(b'.')?;
+    }
+    Ok(())
+}
+
+/// The place behind the first line end that a period follows.
+fn run_end(octets: &[u8]) -> Option<usize>
+    ensures ends { MatchOption result (HasNoPeriodLine octets.now) (λ end. EndsRun octets.now end) }
+{
+    match memmem::find(octets, PERIOD_LINE) {
+        Some(place) => Some(place + 2),
+        None => None,
+    }
 }

@@ -45,7 +45,7 @@ pub(crate) struct Gathering {
 
 impl Gathering {
     ghost use Rattle.std.specs.Prelude.{◌≡◌, ℕ, List, [], ◌++◌, nat_lt, OnOk};
-    ghost use Rattle.relay_body.specs.DotText.{KeepsContent, gathered_of};
+    ghost use Rattle.relay_body.specs.Gathering.{KeepsContent, gathered_of};
 
     /// Nothing of a content yet. It takes no memory.
     pub(crate) fn new(alloc: Global, limit: usize) -> Self

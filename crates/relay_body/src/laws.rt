@@ -1,5 +1,5 @@
 //! What is true of dot texts, whoever reads or writes them.
-ghost use Rattle.relay_body.specs.DotText.{ContentEndsInLineEnd, EachContentIsWritten, HoldsWithinLimit, LineEndIsSeen, NoTextBeginsAnother, NoTextIsEmpty, OneContent, OneText, ReadingHasNoDotText, ReadingIsOpen, SeenIsLineEnd, WrittenIsRead};
+ghost use Rattle.relay_body.specs.DotLaws.{ContentEndsInLineEnd, EachContentIsWritten, HoldsWithinLimit, LineEndIsSeen, NoTextBeginsAnother, NoTextIsEmpty, OneContent, OneText, ReadingHasNoDotText, ReadingIsOpen, SeenIsLineEnd, WrittenIsRead};
 
 /// A text has one content.
 pub fn one_content()

@@ -1,4 +1,5 @@
-//! The body of a mail: dot texts, read in any pieces and written (RFC 5321, section 4.5.2), and chunks (RFC 3030).
+//! The body of a mail: dot texts, read in any pieces and written (RFC 5321, section 4.5.2), and
+//! chunks (RFC 3030).
 #![tactic(auto)]
 
 pub mod chunk_laws;
@@ -11,5 +12,5 @@ pub mod plain;
 
 pub use chunk_reader::{ChunkCut, ChunkReader};
 pub use dot_reader::{DotCut, DotReader};
-pub use dot_writer::{ends_in_line_end, write_dots};
+pub use dot_writer::{ends_in_line_end, push_dots, write_dots};
 pub use gathered::{BodyFault, Gathered};

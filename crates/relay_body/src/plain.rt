@@ -1,8 +1,10 @@
-//! The reader and the writer of dot texts once more, octet by octet: slow, and each rule stands in one place. They keep
-//! the contracts of the fast ones, for tests that run both.
+//! The reader and the writer of dot texts once more, octet by octet: slow, and each rule stands in
+//! one place. They keep the contracts of the fast ones, for tests that run both.
 ghost use Rattle.std.specs.Prelude.{◌≡◌, ◌<◌, ◌≤◌, ◌↔◌, ◌++◌, ℕ, List, [], ◌∷◌, true, false, Ok, length, IfOk, OnErr, OnOk, IsErr, IsTrue, MatchBool, if◌then◌else◌};
 ghost use Rattle.relay_body.specs.DotSteps.{IsOpen, StandsForItself};
-ghost use Rattle.relay_body.specs.DotText.{IsReading, IsDone, HasFailed, HasRead, Feeds, Uses, WritesDotText, ends_in_line_end, gathered_of, limit_of, with_period};
+ghost use Rattle.relay_body.specs.DotText.{WritesDotText, ends_in_line_end, with_period};
+ghost use Rattle.relay_body.specs.Gathering.{gathered_of};
+ghost use Rattle.relay_body.specs.DotReading.{IsReading, IsDone, HasFailed, HasRead, Feeds, Uses, limit_of};
 
 use crate::dot_reader::{self, DotCut, Phase};
 use crate::gathered::{BodyFault, Gathered};
@@ -24,8 +26,8 @@ impl Model for DotReader {
 }
 
 impl DotReader {
-    /// A reader of one text. The limit is the greatest length of its content in octets, counted without the periods that
-    /// are taken off. It takes no memory.
+    /// A reader of one text. The limit is the greatest length of its content in octets, counted
+    /// without the periods that are taken off. It takes no memory.
     pub fn new(alloc: Global, limit: usize) -> Self
         ensures { IsReading result limit [] }
     {
@@ -41,13 +43,14 @@ impl DotReader {
         self.reader.is_done()
     }
 
-    /// Uses the next piece up to the end of the text, octet by octet. Where the content passes the limit, what was kept
-    /// is dropped, and the text is read on all the same. Where memory runs out, the reader fails and answers that from
-    /// then on.
+    /// Uses the next piece up to the end of the text, octet by octet. Where the content passes the
+    /// limit, what was kept is dropped, and the text is read on all the same. Where memory runs
+    /// out, the reader fails and answers that from then on.
     pub fn feed(&mut self, piece: &[u8]) -> Result<DotCut, BodyFault>
         ensures feeds { IfOk result (Feeds self.old self.new piece.now) }
         ensures within { IfOk result (λ cut. cut.used ≤ length piece.now) }
-        ensures progress { 0 < length piece.now → ¬ IsDone self.old → IfOk result (λ cut. 0 < cut.used) }
+        ensures progress { 0 < length piece.now → ¬ IsDone self.old
+            → IfOk result (λ cut. 0 < cut.used) }
         ensures behind { IsDone self.old
             → (result ≡ Ok (record { used = 0; done = true })) × (self.new ≡ self.old) }
         ensures failed { OnErr result (HasFailed self.new) }
@@ -72,7 +75,8 @@ impl DotReader {
 fn feed(reader: &mut dot_reader::DotReader, piece: &[u8]) -> Result<DotCut, BodyFault>
     ensures feeds { IfOk result (Feeds reader.old reader.new piece.now) }
     ensures within { IfOk result (λ cut. cut.used ≤ length piece.now) }
-    ensures progress { 0 < length piece.now → ¬ IsDone reader.old → IfOk result (λ cut. 0 < cut.used) }
+    ensures progress { 0 < length piece.now → ¬ IsDone reader.old
+        → IfOk result (λ cut. 0 < cut.used) }
     ensures behind { IsDone reader.old
         → (result ≡ Ok (record { used = 0; done = true })) × (reader.new ≡ reader.old) }
     ensures failed { OnErr result (HasFailed reader.new) }
@@ -119,7 +123,8 @@ fn read(reader: &mut dot_reader::DotReader, piece: &[u8]) -> Result<DotCut, Body
 fn step(reader: &mut dot_reader::DotReader, octet: u8) -> Result<bool, AllocError>
     requires { IsOpen reader.old.phase }
     ensures uses { IfOk result (λ done. Uses reader.old reader.new (octet ∷ []) done) }
-    ensures done { IfOk result (λ done. MatchBool done (IsDone reader.new) (IsOpen reader.new.phase)) }
+    ensures done { IfOk result
+        (λ done. MatchBool done (IsDone reader.new) (IsOpen reader.new.phase)) }
     ensures limit { limit_of reader.new ≡ limit_of reader.old }
 {
     match reader.phase {
@@ -165,7 +170,8 @@ fn stay(reader: &mut dot_reader::DotReader, octet: u8) -> Result<(), AllocError>
     Ok(())
 }
 
-/// The dot text of a content (RFC 5321, section 4.5.2), octet by octet. It fails where memory runs out.
+/// The dot text of a content (RFC 5321, section 4.5.2), octet by octet. It fails where memory runs
+/// out.
 pub fn write_dots(alloc: Global, content: &[u8]) -> Result<Vec<u8>, AllocError>
     requires { IsTrue (ends_in_line_end content.now) }
     ensures { IfOk result (λ text. WritesDotText content.now text.items) }

@@ -1,5 +1,6 @@
 ghost use Rattle.std.specs.Prelude.{◌≡◌, ◌≢◌, ◌↔◌, ℕ, List, IfOk, IsTrue, MatchOption};
-ghost use Rattle.relay_body.specs.DotText.{HasRead, IsDone, gathered_of};
+ghost use Rattle.relay_body.specs.Gathering.{gathered_of};
+ghost use Rattle.relay_body.specs.DotReading.{HasRead, IsDone};
 ghost use Rattle.relay_body_rows.specs.Player.{ReadsChunk, found_of};
 
 use crate::cutting::Cutting;

@@ -1,4 +1,4 @@
 mod DeviceLemmas
-mod ImageLemmas
 mod CallLemmas
 mod PickLemmas
+pub mod Theorems

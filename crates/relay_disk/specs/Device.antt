@@ -3,6 +3,21 @@ use Rattle.std.specs.Prelude.{◌≡◌, ◌⊎◌, ℕ, ◌+◌, ◌-◌, ◌^�
 use Rattle.std.specs.Option.{option_map}
 use Rattle.relay_disk.specs.declared.disk.DiskFault.{DiskFault}
 
+-- What contracts say of the disks of a type.
+pub record DiskWords (D : Type 0) : Type 1 where
+  -- the octets that a read gives
+  pub seen : D → List ℕ
+  -- the images that a stop at this moment may leave
+  pub may_leave : D → List ℕ → Type 0
+  -- the moment, as a number that doesn't fall
+  pub moment : D → ℕ
+  -- the images that a stop at that moment or at one since might have left, during a call or between two
+  pub left_since : D → ℕ → List ℕ → Type 0
+  -- how many calls have failed
+  pub failed : D → ℕ
+  -- how many calls pass before each one fails; none where no fuse is set
+  pub calls_left : D → Option ℕ
+
 -- the octets of a disk with these written at this place
 abbrev pub written : List ℕ → ℕ → List ℕ → List ℕ
 written old place octets = take place old ++ octets ++ drop (place + length octets) old
@@ -33,55 +48,63 @@ CutsLeaveAFront = (size : ℕ) (old new : List ℕ) → Cuts size old new → ne
 abbrev pub Only : List ℕ → (List ℕ → Type 0) → Type 0
 Only image images = (other : List ℕ) → images other → other ≡ image
 
--- each image that a stop may leave now is one that it might have left before, after this step
-abbrev pub Follows : (List ℕ → List ℕ → Type 0) → (List ℕ → Type 0) → (List ℕ → Type 0) → Type 0
-Follows step before now = (image : List ℕ) → now image → (old : List ℕ) × before old × step old image
-
--- Time goes on: what a stop since some moment might have left, it might have left before, or it may leave now.
-pub record Elapses (before now : ℕ) (past since : ℕ → List ℕ → Type 0) (images : List ℕ → Type 0) : Type 0 where
-  pub later : before ≤ now
-  pub nothing_else : (moment : ℕ) (image : List ℕ) → moment ≤ before → since moment image → past moment image ⊎ images image
-  pub keeps : (moment : ℕ) (image : List ℕ) → moment ≤ before → past moment image → since moment image
-
--- The words below take the ghost members of a disk type, and then the disk before and after.
-module _ {D : Type 0} (may_leave : D → List ℕ → Type 0) where
-  -- what a stop may leave of the new disk, it may leave of the old one
-  abbrev pub ImagesWithin : D → D → Type 0
-  ImagesWithin old new = (image : List ℕ) → may_leave new image → may_leave old image
-
-  -- every image that a stop may leave of the disk has P
-  abbrev pub EveryImage : D → (List ℕ → Type 0) → Type 0
-  EveryImage disk P = (image : List ℕ) → may_leave disk image → P image
-
-module _ {D : Type 0} (may_leave : D → List ℕ → Type 0) (moment : D → ℕ) (left_since : D → ℕ → List ℕ → Type 0) where
-  -- a call that changes the octets by this step, as far as a stop lets it
-  pub record Steps (step : List ℕ → List ℕ → Type 0) (old new : D) : Type 0 where
-    pub images : Follows step (may_leave old) (may_leave new)
-    pub time : Elapses (moment old) (moment new) (left_since old) (left_since new) (may_leave new)
-
-  -- a call that adds no image
-  pub record Stays (old new : D) : Type 0 where
-    pub images : ImagesWithin may_leave old new
-    pub time : Elapses (moment old) (moment new) (left_since old) (left_since new) (may_leave new)
-
--- every image that a stop at a moment since the old disk might have left has P
-pub record EveryImageSince {D : Type 0} (moment : D → ℕ) (left_since : D → ℕ → List ℕ → Type 0) (old new : D) (P : List ℕ → Type 0) : Type 0 where
-  pub later : moment old ≤ moment new
-  pub each : (image : List ℕ) → left_since new (moment old) image → P image
-  -- for a run that began earlier
-  pub earlier : (since : ℕ) (image : List ℕ) → since ≤ moment old → left_since new since image → left_since old since image ⊎ P image
-
--- the count of failures rises; one of 64 bits stays at its greatest value
+-- a count of failures rises; one of 64 bits stays at its greatest value
 pub record Rises (before now : ℕ) : Type 0 where
   pub no_less : before ≤ now
   pub more : before < 2 ^ 64 - 1 → before < now
 
--- a call that is answered by a fault has failed, and no other
-pub record CountsFailure {T : Type 0} (before now : ℕ) (result : Result T DiskFault) : Type 0 where
-  pub ok : OnOk result (now ≡ before)
-  pub fault : OnErr result (Rises before now)
+-- The words below take those of a disk's type, and then the disk, or the disk before and after.
+module _ {D : Type 0} (words : DiskWords D) where
+  -- a stop leaves just what a read gives
+  abbrev pub IsSettled : D → Type 0
+  IsSettled disk = Only (words.seen disk) (words.may_leave disk)
 
--- a fuse passes one call less, and one that passes no call fails this one
-pub record Burns {T : Type 0} (before now : Option ℕ) (result : Result T DiskFault) : Type 0 where
-  pub burnt : now ≡ option_map (λ calls. calls - 1) before
-  pub blown : before ≡ Some 0 → IsErr result
+  -- what a stop may leave of the new disk, it may leave of the old one
+  abbrev pub ImagesWithin : D → D → Type 0
+  ImagesWithin old new = (image : List ℕ) → words.may_leave new image → words.may_leave old image
+
+  -- each image that a stop may leave of the disk has P
+  abbrev pub EachImage : D → (List ℕ → Type 0) → Type 0
+  EachImage disk P = (image : List ℕ) → words.may_leave disk image → P image
+
+  -- Time goes on: what a stop since some moment might have left, it might have left before, or it may leave now.
+  pub record Elapses (old new : D) : Type 0 where
+    pub later : words.moment old ≤ words.moment new
+    pub nothing_else : (moment : ℕ) (image : List ℕ) → moment ≤ words.moment old → words.left_since new moment image
+        → words.left_since old moment image ⊎ words.may_leave new image
+    pub keeps : (moment : ℕ) (image : List ℕ) → moment ≤ words.moment old → words.left_since old moment image → words.left_since new moment image
+
+  -- a call that changes the octets by this step, as far as a stop lets it
+  pub record Steps (step : List ℕ → List ℕ → Type 0) (old new : D) : Type 0 where
+    pub images : (image : List ℕ) → words.may_leave new image → (before : List ℕ) × words.may_leave old before × step before image
+    pub time : Elapses old new
+
+  -- a call that adds no image
+  pub record AddsNoImage (old new : D) : Type 0 where
+    pub images : ImagesWithin old new
+    pub time : Elapses old new
+
+  -- each image that a stop at a moment since the old disk might have left has P
+  pub record EachImageSince (old new : D) (P : List ℕ → Type 0) : Type 0 where
+    pub later : words.moment old ≤ words.moment new
+    pub each : (image : List ℕ) → words.left_since new (words.moment old) image → P image
+    -- for a run that began earlier
+    pub earlier : (since : ℕ) (image : List ℕ) → since ≤ words.moment old → words.left_since new since image → words.left_since old since image ⊎ P image
+
+  -- no call has failed
+  abbrev pub FailsNot : D → D → Type 0
+  FailsNot old new = words.failed new ≡ words.failed old
+
+  -- a call has failed, and was counted
+  abbrev pub Fails : D → D → Type 0
+  Fails old new = Rises (words.failed old) (words.failed new)
+
+  -- a call that is answered by a fault has failed, and no other
+  pub record CountsFailure {T : Type 0} (old new : D) (result : Result T DiskFault) : Type 0 where
+    pub ok : OnOk result (FailsNot old new)
+    pub fault : OnErr result (Fails old new)
+
+  -- a fuse passes one call less, and one that passes no call fails this one
+  pub record Burns {T : Type 0} (old new : D) (result : Result T DiskFault) : Type 0 where
+    pub burnt : words.calls_left new ≡ option_map (λ calls. calls - 1) (words.calls_left old)
+    pub blown : words.calls_left old ≡ Some 0 → IsErr result

@@ -1,7 +1,9 @@
 -- A memory disk: what it holds, what it has stored, and what a stop may leave of it.
-use Rattle.std.specs.Prelude.{◌≡◌, ℕ, List, [], ◌∷◌, reverse, length, Option, None}
+use Rattle.std.specs.Prelude.{◌≡◌, ◌⊎◌, ℕ, ◌<◌, ◌≤◌, List, [], ◌∷◌, reverse, length, Option, None, Some}
+use Rattle.std.specs.Vec.{vec_len, vec_capacity}
 use Rattle.relay_disk.specs.declared.call.Call.{Call}
 use Rattle.relay_disk.specs.declared.memory.MemoryDisk.{MemoryDisk}
+use Rattle.relay_disk.specs.Device.{DiskWords}
 use Rattle.relay_disk.specs.MayLeave.{MayLeave, LeftSince, synced_after}
 use Rattle.relay_disk.specs.Pick.{IsPicked}
 
@@ -40,6 +42,29 @@ failures_of disk = disk.failures
 -- how many calls its fuse lets pass
 abbrev pub fuse_of : MemoryDisk → Option ℕ
 fuse_of disk = disk.fuse
+
+-- what contracts say of it
+abbrev pub memory_words : DiskWords MemoryDisk
+memory_words = record {
+  seen = image_of;
+  may_leave = images_of;
+  moment = moment_of;
+  left_since = images_since;
+  failed = failures_of;
+  calls_left = fuse_of;
+}
+
+-- its fuse lets no call pass
+abbrev pub IsBlown : MemoryDisk → Type 0
+IsBlown disk = fuse_of disk ≡ Some 0
+
+-- it has to take memory before it can store one more call
+abbrev pub IsFull : MemoryDisk → Type 0
+IsFull disk = vec_capacity disk.calls ≤ vec_len disk.calls
+
+-- it has to take memory to store a write of these octets: it keeps a copy of them
+abbrev pub TakesMemory : MemoryDisk → List ℕ → Type 0
+TakesMemory disk octets = (0 < length octets) ⊎ IsFull disk
 
 -- it holds these octets, all of them synced, has stored no call, and has no fuse
 pub record IsFresh (octets : List ℕ) (disk : MemoryDisk) : Type 0 where

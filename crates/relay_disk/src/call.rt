@@ -1,4 +1,4 @@
-ghost use Rattle.std.specs.Prelude.{◌≡◌, ◌≤◌, length, OnOk, OnErr};
+ghost use Rattle.std.specs.Prelude.{◌≡◌, ◌<◌, ◌≤◌, length, IsErr, OnOk, OnErr};
 ghost use Rattle.relay_disk.specs.Device.{written};
 
 use std::alloc::AllocError;
@@ -58,6 +58,7 @@ pub(crate) fn overwrite(image: &mut Vec<u8>, place: usize, octets: &[u8]) -> Res
     requires { place ≤ length image.old.items }
     ensures ok { OnOk result (image.new.items ≡ written image.old.items place octets.now) }
     ensures err { OnErr result (image.new.items ≡ image.old.items) }
+    ensures cause { IsErr result → 0 < length octets.now }
 {
     let room = image.len() - place;
     if octets.len() <= room {

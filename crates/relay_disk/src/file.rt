@@ -1,48 +1,79 @@
 // A file of the operating system as a disk. Nothing can be said of what a real file holds, so it is not honest.
-ghost use Rattle.std.specs.Prelude.{◌≡◌, [], IfOk};
+ghost use Rattle.std.specs.Prelude.{◌≡◌, false, IfOk};
 
 use crate::disk::counted;
 use crate::{Disk, DiskFault};
-use std::fs::{File, OpenOptions};
+use std::fs::{File, OpenOptions, TryLockError};
 use std::io;
-use std::os::unix::fs::FileExt;
+use std::os::unix::fs::{FileExt, OpenOptionsExt};
+use std::path::Path;
 use std::rt::Files;
 
-/// An open file. Reads and writes are positioned, and `sync` is an fsync of its octets and its length.
+/// Who may read and write a file that `FileDisk::open` makes: its owner alone, since the mail of others stands in it.
+const OWNER_ALONE: u32 = 0o600;
+
+/// An open file. Reads and writes are positioned, and `sync` hands its octets and its length to the device.
+///
+/// Want of space is a failure like any other: the octets that were there stay. Behind a failed sync each later one
+/// fails, until the file is opened anew: the system may have dropped octets that it couldn't write, and would answer
+/// the second sync well.
 #[derive(Drop)]
 pub struct FileDisk {
     file: File,
     failures: u64,
+    sync_failed: bool,
 }
 
 impl FileDisk {
-    ghost use Rattle.relay_disk.specs.File.{failures_of};
+    ghost use Rattle.relay_disk.specs.File.{failures_of, sync_failed};
 
-    /// Opens the file at this path, or makes an empty one where none is.
+    /// Opens the file at this path, or makes an empty one where none is, which only its owner may read and write. Its
+    /// folder is synced, so that a file that was made outlives a stop.
     pub fn open<R: Files<File = File>>(rt: &R, path: &str) -> io::Result<FileDisk>
-        ensures { IfOk result (λ disk. failures_of disk ≡ 0) }
+        ensures failures { IfOk result (λ disk. failures_of disk ≡ 0) }
+        ensures syncs { IfOk result (λ disk. sync_failed disk ≡ false) }
     {
         let file = OpenOptions::new()
             .read(true)
             .write(true)
             .create(true)
+            .mode(OWNER_ALONE)
             .open(rt, path)?;
-        Ok(FileDisk { file, failures: 0 })
+        File::open(rt, folder_of(path))?.sync_all()?;
+        Ok(FileDisk {
+            file,
+            failures: 0,
+            sync_failed: false,
+        })
+    }
+
+    /// Takes the file for this disk alone, until the disk is dropped. It waits for nobody: `false` says that another
+    /// open of the file holds it. Who doesn't ask isn't kept out.
+    pub fn try_lock(&self) -> io::Result<bool> {
+        match self.file.try_lock() {
+            Ok(()) => Ok(true),
+            Err(TryLockError::WouldBlock) => Ok(false),
+            Err(TryLockError::Error(error)) => Err(error),
+        }
+    }
+}
+
+// The folder that the file at this path stands in.
+fn folder_of(path: &str) -> &str {
+    match Path::new(path).parent() {
+        Some(folder) if !folder.as_str().is_empty() => folder.as_str(),
+        _ => ".",
     }
 }
 
 impl Disk for FileDisk {
+    ghost use Rattle.std.specs.Prelude.{◌≡◌, ◌||◌, IsTrue, IsErr, is_err};
+    ghost use Rattle.relay_disk.specs.Device.{CountsFailure};
+    ghost use Rattle.relay_disk.specs.File.{file_words, sync_failed};
+
     ghost honest = { ⊥ };
 
-    ghost seen = { λ _. [] };
-
-    ghost may_leave = { λ _ _. ⊥ };
-
-    ghost moment = { λ _. 0 };
-
-    ghost left_since = { λ _ _ _. ⊥ };
-
-    ghost failed = { λ disk. disk.failures };
+    ghost words = { file_words };
 
     ghost sees_now = { λ honest. absurd honest };
 
@@ -54,32 +85,55 @@ impl Disk for FileDisk {
         self.failures
     }
 
-    fn size(&mut self) -> Result<usize, DiskFault> {
+    fn size(&mut self) -> Result<usize, DiskFault>
+        ensures failures { CountsFailure file_words self.old self.new result }
+        ensures syncs { sync_failed self.new ≡ sync_failed self.old }
+    {
         let size = self.file.metadata().map(|metadata| metadata.len() as usize);
         counted(&mut self.failures, size)
     }
 
-    fn read(&mut self, place: usize, into: &mut [u8]) -> Result<(), DiskFault> {
+    fn read(&mut self, place: usize, into: &mut [u8]) -> Result<(), DiskFault>
+        ensures failures { CountsFailure file_words self.old self.new result }
+        ensures syncs { sync_failed self.new ≡ sync_failed self.old }
+    {
         let answer = self.file.read_exact_at(into, place as u64);
         counted(&mut self.failures, answer)
     }
 
-    fn write_at(&mut self, place: usize, octets: &[u8]) -> Result<(), DiskFault> {
+    fn write_at(&mut self, place: usize, octets: &[u8]) -> Result<(), DiskFault>
+        ensures failures { CountsFailure file_words self.old self.new result }
+        ensures syncs { sync_failed self.new ≡ sync_failed self.old }
+    {
         let answer = self.file.write_all_at(octets, place as u64);
         counted(&mut self.failures, answer)
     }
 
-    fn cut(&mut self, size: usize) -> Result<(), DiskFault> {
+    fn cut(&mut self, size: usize) -> Result<(), DiskFault>
+        ensures failures { CountsFailure file_words self.old self.new result }
+        ensures syncs { sync_failed self.new ≡ sync_failed self.old }
+    {
         let answer = self.file.set_len(size as u64);
         counted(&mut self.failures, answer)
     }
 
-    fn sync(&mut self) -> Result<(), DiskFault> {
-        let answer = self.file.sync_all();
+    fn sync(&mut self) -> Result<(), DiskFault>
+        ensures failures { CountsFailure file_words self.old self.new result }
+        ensures behind { IsTrue (sync_failed self.old) → IsErr result }
+        ensures syncs { sync_failed self.new ≡ (sync_failed self.old || is_err result) }
+    {
+        if self.sync_failed {
+            return counted(&mut self.failures, Err(DiskFault::Device));
+        }
+        let answer = self.file.sync_data();
+        self.sync_failed = answer.is_err();
         counted(&mut self.failures, answer)
     }
 
-    fn pass(&mut self) -> Result<(), DiskFault> {
+    fn pass(&mut self) -> Result<(), DiskFault>
+        ensures failures { CountsFailure file_words self.old self.new result }
+        ensures syncs { sync_failed self.new ≡ sync_failed self.old }
+    {
         Ok(())
     }
 }

@@ -110,7 +110,7 @@ fn burn(fuse: &mut Option<u64>) -> Result<(), DiskFault>
 fn store(calls: &mut Vec<Call>, call: Call) -> Result<(), AllocError>
     ensures ok { OnOk result (reverse calls.new.items ≡ call ∷ reverse calls.old.items) }
     ensures err { OnErr result (calls.new.items ≡ calls.old.items) }
-    ensures full { OnErr result (vec_capacity calls.old ≤ vec_len calls.old) }
+    ensures cause { IsErr result → vec_capacity calls.old ≤ vec_len calls.old }
 {
     calls.push(call)?;
     Ok(())
@@ -127,10 +127,13 @@ fn write(
     ensures ok { OnOk result (image.new.items ≡ written image.old.items place octets.now) }
     ensures stored { OnOk result ((copy : _) × (copy.items ≡ octets.now)
         × (reverse calls.new.items ≡ Write place copy ∷ reverse calls.old.items)) }
-    ensures err { OnErr result (image.new.items ≡ image.old.items) }
-    ensures kept { OnErr result (calls.new.items ≡ calls.old.items) }
+    ensures kept { OnErr result ((image.new.items ≡ image.old.items)
+        × (calls.new.items ≡ calls.old.items)) }
+    ensures cause { IsErr result
+        → (0 < length octets.now) ⊎ (vec_capacity calls.old ≤ vec_len calls.old) }
 {
-    let copy = Vec::from_slice(*calls.allocator(), octets)?;
+    let mut copy = Vec::new(*calls.allocator());
+    copy.extend_from_slice(octets)?;
     calls.reserve(1)?;
     overwrite(image, place, octets)?;
     calls
@@ -154,8 +157,10 @@ fn try_write(
     ensures ok { OnOk result (image.new.items ≡ written image.old.items place octets.now) }
     ensures stored { OnOk result ((copy : _) × (copy.items ≡ octets.now)
         × (reverse calls.new.items ≡ Write place copy ∷ reverse calls.old.items)) }
-    ensures err { OnErr result (image.new.items ≡ image.old.items) }
-    ensures kept { OnErr result (calls.new.items ≡ calls.old.items) }
+    ensures kept { OnErr result ((image.new.items ≡ image.old.items)
+        × (calls.new.items ≡ calls.old.items)) }
+    ensures cause { IsErr result → (fuse.old ≡ Some 0)
+        ⊎ (0 < length octets.now) ⊎ (vec_capacity calls.old ≤ vec_len calls.old) }
     ensures burnt { fuse.new ≡ option_map (λ calls. calls - 1) fuse.old }
     ensures blown { fuse.old ≡ Some 0 → IsErr result }
 {
@@ -180,8 +185,9 @@ fn note(calls: &mut Vec<Call>, call: Call)
 fn cut_to(calls: &mut Vec<Call>, image: &mut Vec<u8>, size: usize) -> Result<(), AllocError>
     ensures ok { OnOk result (image.new.items ≡ take size image.old.items) }
     ensures stored { OnOk result (reverse calls.new.items ≡ Cut size ∷ reverse calls.old.items) }
-    ensures err { OnErr result (image.new.items ≡ image.old.items) }
-    ensures kept { OnErr result (calls.new.items ≡ calls.old.items) }
+    ensures kept { OnErr result ((image.new.items ≡ image.old.items)
+        × (calls.new.items ≡ calls.old.items)) }
+    ensures cause { IsErr result → vec_capacity calls.old ≤ vec_len calls.old }
 {
     store(calls, Call::Cut { size })?;
     image.truncate(size);
@@ -191,23 +197,13 @@ fn cut_to(calls: &mut Vec<Call>, image: &mut Vec<u8>, size: usize) -> Result<(),
 impl Disk for MemoryDisk {
     ghost use Rattle.std.specs.Prelude.{◌≡◌, ◌⊎◌, ◌≤◌, ◌+◌, if◌then◌else◌, length, take, drop, Some, is_ok, IfOk, IsErr, OnOk, OnErr};
     ghost use Rattle.relay_disk.specs.declared.call.Call.TheVariants.{Write, FailedWrite, Cut, Sync, Pass};
-    ghost use Rattle.relay_disk.specs.Device.{written, Stays, CountsFailure, Burns};
-    ghost use Rattle.relay_disk.specs.Memory.{image_of, images_of, moment_of, images_since, failures_of, fuse_of, Stores, KeepsAll};
+    ghost use Rattle.relay_disk.specs.Device.{written, AddsNoImage, CountsFailure, Burns};
+    ghost use Rattle.relay_disk.specs.Memory.{image_of, fuse_of, memory_words, IsBlown, IsFull, TakesMemory, Stores, KeepsAll};
     ghost use Rattle.relay_disk.specs.MemoryLaws.{sees_image, counts_image, leaves_image};
 
     ghost honest = { Unit {0} };
 
-    ghost seen = { image_of };
-
-    ghost may_leave = { images_of };
-
-    ghost moment = { moment_of };
-
-    ghost left_since = { images_since };
-
-    ghost failed = { failures_of };
-
-    ghost calls_left = { fuse_of };
+    ghost words = { memory_words };
 
     ghost sees_now = { λ _. sees_image };
 
@@ -222,9 +218,9 @@ impl Disk for MemoryDisk {
     fn size(&mut self) -> Result<usize, DiskFault>
         ensures size { IfOk result (λ size. size ≡ length (image_of self.old)) }
         ensures kept { KeepsAll self.old self.new }
-        ensures cause { IsErr result → fuse_of self.old ≡ Some 0 }
-        ensures failures { CountsFailure (failures_of self.old) (failures_of self.new) result }
-        ensures fuse { Burns (fuse_of self.old) (fuse_of self.new) result }
+        ensures cause { IsErr result → IsBlown self.old }
+        ensures failures { CountsFailure memory_words self.old self.new result }
+        ensures fuse { Burns memory_words self.old self.new result }
     {
         counted(&mut self.failures, burn(&mut self.fuse))?;
         Ok(self.image.len())
@@ -232,11 +228,12 @@ impl Disk for MemoryDisk {
 
     fn read(&mut self, place: usize, into: &mut [u8]) -> Result<(), DiskFault>
         requires { place + length into.old ≤ length (image_of self.old) }
-        ensures read { OnOk result (into.new ≡ take (length into.old) (drop place (image_of self.old))) }
+        ensures read { OnOk result
+            (into.new ≡ take (length into.old) (drop place (image_of self.old))) }
         ensures kept { KeepsAll self.old self.new }
-        ensures cause { IsErr result → fuse_of self.old ≡ Some 0 }
-        ensures failures { CountsFailure (failures_of self.old) (failures_of self.new) result }
-        ensures fuse { Burns (fuse_of self.old) (fuse_of self.new) result }
+        ensures cause { IsErr result → IsBlown self.old }
+        ensures failures { CountsFailure memory_words self.old self.new result }
+        ensures fuse { Burns memory_words self.old self.new result }
     {
         counted(&mut self.failures, burn(&mut self.fuse))?;
         into.copy_from_slice(&self.image[place..place + into.len()]);
@@ -245,15 +242,17 @@ impl Disk for MemoryDisk {
 
     fn write_at(&mut self, place: usize, octets: &[u8]) -> Result<(), DiskFault>
         requires { place ≤ length (image_of self.old) }
-        ensures image { image_of self.new
-            ≡ (if is_ok result then written (image_of self.old) place octets.now else image_of self.old) }
+        ensures image { image_of self.new ≡ (if is_ok result
+            then written (image_of self.old) place octets.now else image_of self.old) }
         ensures stored { OnOk result ((copy : _) × (copy.items ≡ octets.now)
             × Stores (Write place copy) self.old self.new) }
+        ensures cause { IsErr result → IsBlown self.old ⊎ TakesMemory self.old octets.now }
         // Of a write that failed nothing but its range is stored, and that only where memory allows.
-        ensures torn { OnErr result (Stores (FailedWrite place (length octets.now)) self.old self.new
+        ensures torn { OnErr result
+            (Stores (FailedWrite place (length octets.now)) self.old self.new
             ⊎ KeepsAll self.old self.new) }
-        ensures failures { CountsFailure (failures_of self.old) (failures_of self.new) result }
-        ensures fuse { Burns (fuse_of self.old) (fuse_of self.new) result }
+        ensures failures { CountsFailure memory_words self.old self.new result }
+        ensures fuse { Burns memory_words self.old self.new result }
     {
         match try_write(
             &mut self.fuse,
@@ -276,8 +275,9 @@ impl Disk for MemoryDisk {
         ensures ok { OnOk result (Stores (Cut size) self.old self.new
             × (image_of self.new ≡ take size (image_of self.old))) }
         ensures err { OnErr result (KeepsAll self.old self.new) }
-        ensures failures { CountsFailure (failures_of self.old) (failures_of self.new) result }
-        ensures fuse { Burns (fuse_of self.old) (fuse_of self.new) result }
+        ensures cause { IsErr result → IsBlown self.old ⊎ IsFull self.old }
+        ensures failures { CountsFailure memory_words self.old self.new result }
+        ensures fuse { Burns memory_words self.old self.new result }
     {
         counted(&mut self.failures, burn(&mut self.fuse))?;
         counted(
@@ -291,9 +291,10 @@ impl Disk for MemoryDisk {
         ensures ok { OnOk result (Stores Sync self.old self.new
             × (image_of self.new ≡ image_of self.old)) }
         ensures err { OnErr result (KeepsAll self.old self.new) }
-        ensures stop { Stays images_of moment_of images_since self.old self.new }
-        ensures failures { CountsFailure (failures_of self.old) (failures_of self.new) result }
-        ensures fuse { Burns (fuse_of self.old) (fuse_of self.new) result }
+        ensures cause { IsErr result → IsBlown self.old ⊎ IsFull self.old }
+        ensures stop { AddsNoImage memory_words self.old self.new }
+        ensures failures { CountsFailure memory_words self.old self.new result }
+        ensures fuse { Burns memory_words self.old self.new result }
     {
         counted(&mut self.failures, burn(&mut self.fuse))?;
         counted(&mut self.failures, store(&mut self.calls, Call::Sync))
@@ -303,7 +304,8 @@ impl Disk for MemoryDisk {
         ensures ok { OnOk result (Stores Pass self.old self.new
             × (image_of self.new ≡ image_of self.old)) }
         ensures err { OnErr result (KeepsAll self.old self.new) }
-        ensures failures { CountsFailure (failures_of self.old) (failures_of self.new) result }
+        ensures cause { IsErr result → IsFull self.old }
+        ensures failures { CountsFailure memory_words self.old self.new result }
         ensures fuse { fuse_of self.new ≡ fuse_of self.old }
     {
         counted(&mut self.failures, store(&mut self.calls, Call::Pass))
@@ -313,7 +315,7 @@ impl Disk for MemoryDisk {
 impl Reboot for MemoryDisk {
     ghost use Rattle.std.specs.Prelude.{◌≡◌, IfOk, IfErr};
     ghost use Rattle.relay_disk.specs.Device.{Only, ImagesWithin};
-    ghost use Rattle.relay_disk.specs.Memory.{image_of, images_of, failures_of, IsFresh, LeavesByPick};
+    ghost use Rattle.relay_disk.specs.Memory.{image_of, images_of, memory_words, failures_of, IsFresh, LeavesByPick};
 
     fn fuse(&mut self, calls: u64) {
         self.fuse = Some(calls);
@@ -322,7 +324,7 @@ impl Reboot for MemoryDisk {
     fn after_stop(self, pick: u64) -> Result<Self, AllocFailed<Self>>
         ensures image { IfOk result (λ disk. LeavesByPick self pick (image_of disk)) }
         ensures left { IfOk result (λ disk. images_of self (image_of disk)) }
-        ensures within { IfOk result (λ disk. ImagesWithin images_of self disk) }
+        ensures within { IfOk result (λ disk. ImagesWithin memory_words self disk) }
         ensures fresh { IfOk result (λ disk. IsFresh (image_of disk) disk) }
         ensures settled { IfOk result (λ disk. Only (image_of disk) (images_of disk)) }
         ensures same { IfErr result (λ refused. refused.value ≡ self) }

@@ -134,8 +134,8 @@ pub(crate) fn picked(
     pick: u64,
 ) -> Result<Vec<u8>, AllocError>
     requires { are_within start.now (reverse calls.now) ≡ true }
-    ensures { IfOk result (λ image. IsPicked pick (synced_after start.now (reverse calls.now)) now.now
-        (reverse calls.now) image.items) }
+    ensures { IfOk result (λ image. IsPicked pick
+        (synced_after start.now (reverse calls.now)) now.now (reverse calls.now) image.items) }
 {
     if pick == 1 {
         return Vec::from_slice(alloc, now);

@@ -10,6 +10,8 @@ use std::test::Fail;
 
 const CREATED: [u8; 18] = *b"RELAYQ01\x01\0\0\0\0\0\0\0\x01\0";
 
+const CLOSED: [u8; 18] = *b"RELAYQ01\0\0\0\0\0\0\0\0\x01\0";
+
 const WITH_ABC: [u8; 26] = *b"RELAYQ01\x01\0\0\0\0\0\0\0\x01\x01\0\0\0\x03abc\0";
 
 fn created(alloc: Global) -> Result<Spool<MemoryDisk>, Fail>
@@ -205,6 +207,49 @@ fn each_call_of_create_may_fail(rt: HostRuntime) -> Result<(), Fail> {
         assert_eq!(rt; fault, SpoolFault::Device);
         assert_eq!(rt; disk.failures(), 1);
     }
+    Ok(())
+}
+
+// What a stop leaves of the disk on which a spool was being made, when it had answered so many calls.
+fn stopped_in_create(alloc: Global, calls: u64, pick: u64) -> Result<MemoryDisk, Fail> {
+    let mut disk = MemoryDisk::new(alloc);
+    disk.fuse(calls);
+    let Err(Refused { fault: _, disk }) = Spool::create(alloc, disk) else {
+        return Err(Fail::new("created"));
+    };
+    match disk.after_stop(pick) {
+        Ok(stopped) => Ok(stopped),
+        Err(_) => Err(Fail::new("no memory")),
+    }
+}
+
+#[test]
+fn a_stop_inside_create_leaves_no_body(rt: HostRuntime) -> Result<(), Fail> {
+    let alloc = rt.alloc();
+    for calls in 0..5 {
+        for pick in 0..24 {
+            match Spool::open(alloc, stopped_in_create(alloc, calls, pick)?) {
+                Ok(
+                    Opened {
+                        spool: _spool,
+                        bodies,
+                    },
+                ) => {
+                    assert_eq!(rt; bodies.len(), 0, "{calls} calls, pick {pick}");
+                }
+                Err(Refused { fault, disk: _disk }) => {
+                    assert_eq!(rt; fault, SpoolFault::NotASpool, "{calls} calls, pick {pick}");
+                }
+            }
+        }
+    }
+    Ok(())
+}
+
+#[test]
+fn before_its_second_write_create_leaves_both_gates_closed(rt: HostRuntime) -> Result<(), Fail> {
+    let stopped = stopped_in_create(rt.alloc(), 2, 1)?;
+    assert_eq!(rt; stopped.image(), CLOSED.as_slice());
     Ok(())
 }
 

@@ -1,14 +1,18 @@
 mod XtextLemmas
 mod RowLemmas
 mod PathLemmas
+mod StoredPathLemmas
 mod PartLemmas
 mod ParameterLemmas
+mod HostNameLemmas
+mod ValidityLemmas
 mod MailLemmas
+mod GraphicLemmas
 mod WrittenLemmas
 mod ValidLemmas
 mod FitLemmas
+mod CommandLineLemmas
 mod RowOfWordsLemmas
-mod MailRowLemmas
-mod RcptRowLemmas
+mod RowIsReadLemmas
 mod RowIsOneLemmas
 pub mod Theorems

@@ -87,7 +87,7 @@ letter_no_at : (octet : ℕ) → is_in_range 97 122 (to_ascii_lowercase octet) �
 letter_no_at octet test = grind (arith, nat_tests)
 
 -- a domain has no `@`
-domain_lacks_at : (domain : List ℕ) → IsDomain domain → stands_in 64 domain ≡ false
+pub domain_lacks_at : (domain : List ℕ) → IsDomain domain → stands_in 64 domain ≡ false
 unfolding are_domain_octets
 domain_lacks_at domain (inl name) = lacks_by_test is_domain_octet 64 domain refl (AllPass-from_list_all is_domain_octet domain name.octets)
 domain_lacks_at domain (inr literal) =
@@ -255,10 +255,13 @@ letters_lack (octet ∷ text) (head ∷ other) e all =
     let no_at : octet == 64 ≡ false = letter_no_at octet (ap (is_in_range 97 122) first ∙ parts.0) in
     ap (λ b. b || stands_in 64 text) no_at ∙ letters_lack text other later parts.1
 
+pub postmaster_lacks_at : (word : List ℕ) → IsPostmaster word → stands_in 64 word ≡ false
+postmaster_lacks_at word valid = letters_lack word (map to_ascii_lowercase (codes "postmaster")) valid refl
+
 -- the postmaster's word is no mailbox
 postmaster_or_mailbox : (word route local domain : List ℕ) → IsPostmaster word → word ≡ route ++ address_text local domain → ⊥
 postmaster_or_mailbox word route local domain valid e =
-    false≢true (sym (letters_lack word (map to_ascii_lowercase (codes "postmaster")) valid refl) ∙ ap (stands_in 64) (e ∙ sym (append_assoc route local (64 ∷ domain))) ∙ stands_between 64 (route ++ local) domain)
+    false≢true (sym (postmaster_lacks_at word valid) ∙ ap (stands_in 64) (e ∙ sym (append_assoc route local (64 ∷ domain))) ∙ stands_between 64 (route ++ local) domain)
 
 no_mailbox : (route local domain : List ℕ) → [] ≡ route ++ address_text local domain → ⊥
 no_mailbox route local domain e =

@@ -56,6 +56,10 @@ pub record IsMailbox (route local domain : List ℕ) : Type 0 where
   pub is_local_part : IsLocalPart local
   pub is_domain : IsDomain domain
 
+-- the octet is `@`
+abbrev pub is_at : ℕ → Bool
+is_at octet = octet == 64
+
 -- the octet stands in the text
 abbrev pub stands_in : ℕ → List ℕ → Bool
 stands_in octet text = list_any (λ other. other == octet) text

@@ -1,8 +1,9 @@
 -- Paths (RFC 5321, section 4.1.2): the null reverse path, the postmaster's, and mailboxes with or without a source route.
-use Rattle.std.specs.Prelude.{◌≡◌, ℕ, ◌≤◌, Bool, true, false, List, [], ◌∷◌, ◌++◌, length, Option, Some, None}
-use Rattle.std.specs.List.{AllPass}
+use Rattle.std.specs.Prelude.{◌≡◌, ℕ, ◌≤◌, Bool, true, false, List, [], ◌∷◌, ◌++◌, length, Option, Some, None, if◌then◌else◌}
+use Rattle.std.specs.List.{AllPass, after_last, list_any}
+use Rattle.std.specs.Ffi.{without_last}
 use Rattle.relay_lines.specs.Word.{is_space}
-use Rattle.relay_envelope.specs.Mailbox.{IsMailbox, IsPostmaster, address_text, in_brackets, mailbox_text}
+use Rattle.relay_envelope.specs.Mailbox.{IsMailbox, IsPostmaster, address_text, in_brackets, is_at, mailbox_text}
 use Rattle.relay_envelope.specs.declared.path.Path.{Path as Sliced}
 use Rattle.relay_envelope.specs.declared.path.Path.TheVariants as sliced
 
@@ -59,6 +60,10 @@ domain_of Null = None
 domain_of (Postmaster word) = None
 domain_of (Mailbox route local domain) = Some domain
 
+-- the domain in a path as it is stored: what stands behind its last `@`, but for the octet at its end
+abbrev pub domain_in : List ℕ → Option (List ℕ)
+domain_in text = if list_any is_at text then Some (without_last (after_last is_at text)) else None
+
 -- the octets of a path that the code answers
 abbrev pub value_of : Sliced → Path
 value_of sliced.Null = Null
@@ -70,3 +75,7 @@ abbrev pub PathIsOne : Type 0
 PathIsOne =
     (text : List ℕ) (path : Path) (rest : List ℕ) (other : Path) (more : List ℕ)
     → BeginsWithPath text path rest → BeginsWithPath text other more → (path ≡ other) × (rest ≡ more)
+
+-- The domain in a path as it is stored is the path's.
+abbrev pub DomainInIsDomainOf : Type 0
+DomainInIsDomainOf = (path : Path) → IsPath path → domain_in (path_text path) ≡ domain_of path

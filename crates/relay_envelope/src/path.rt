@@ -1,18 +1,19 @@
 //! Paths of MAIL and RCPT (RFC 5321, section 4.1.2).
-ghost use Rattle.std.specs.Prelude.{◌≡◌, ◌≢◌, ◌≤◌, ◌++◌, ◌∷◌, ℕ, List, length, drop, MatchOption};
+ghost use Rattle.std.specs.Prelude.{◌≡◌, ◌≢◌, ◌≤◌, ◌++◌, ◌∷◌, ℕ, List, length, drop, IfSome, MatchOption};
 ghost use Rattle.std.specs.List.{prefix_len};
 ghost use Rattle.std.specs.Option.{option_copied};
 ghost use Rattle.relay_lines.specs.Word.{is_space};
 ghost use Rattle.relay_envelope.specs.Row.{IsRow};
 ghost use Rattle.relay_envelope.specs.Mailbox.{SplitsBehindBracket};
-ghost use Rattle.relay_envelope.specs.Path.{Path as PathText, BeginsWithPath, IsPath, domain_of, path_text, stands_apart, value_of};
+ghost use Rattle.relay_envelope.specs.Path.{Path as PathText, BeginsWithPath, IsPath, domain_in, domain_of, path_text, stands_apart, value_of};
 
 mod brackets;
 mod mailbox;
 mod postmaster;
 
 use crate::row::row_before;
-pub use mailbox::Mailbox;
+use mailbox::behind_last_at;
+pub use mailbox::{Mailbox, is_domain};
 pub use postmaster::Postmaster;
 
 /// A path that a reader cut out of a text: slices of that text, which nothing else makes.
@@ -57,6 +58,18 @@ pub fn domain_of<'a>(path: &Path<'a>) -> Option<&'a [u8]>
         Path::Null => None,
         Path::Postmaster(_) => None,
         Path::Mailbox(mailbox) => Some(mailbox.domain()),
+    }
+}
+
+/// The domain in a path as it is stored, with its brackets; `<>` and `<Postmaster>` have none. It takes no memory.
+pub fn domain_in(path: &[u8]) -> Option<&[u8]>
+    ensures value { option_copied result ≡ domain_in path.now }
+    ensures within { IfSome result (λ domain. length domain.now ≤ length path.now) }
+{
+    let behind = behind_last_at(path)?;
+    match behind {
+        [] => Some(behind),
+        [domain @ .., _] => Some(domain),
     }
 }
 

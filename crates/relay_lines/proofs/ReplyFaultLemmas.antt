@@ -1,18 +1,21 @@
--- Replies in octets: a fault is none where a reply stands or goes on, and octets are cut in one way.
-use Rattle.std.proofs.Common.{◌≡◌, ◌≢◌, ℕ, ◌+◌, ◌-◌, ◌<◌, ◌≤◌, ◌⊎◌, ◌&&◌, Bool, true, false, List, [], ◌∷◌, ◌++◌, length, take, inl, inr, refl, sym, ap, ◌∙◌, subst, arith, append_assoc}
+-- Replies in octets: a fault is none where a reply stands or goes on.
+use Rattle.std.proofs.Common.{◌≡◌, ℕ, ◌+◌, ◌-◌, ◌<◌, ◌≤◌, ◌⊎◌, true, false, List, [], ◌∷◌, ◌++◌, length, take, inl, inr, refl, sym, ap, ◌∙◌, subst, arith, append_assoc}
 use Rattle.std.specs.List.{AllByRecursion}
+use Rattle.std.proofs.Math.Bool.{and-false}
 use Rattle.std.proofs.lemmas.List.{append-nil, length-append, take_at}
 use Rattle.std.proofs.Math.Seq.{take-append-add}
 use Rattle.relay_octets.specs.Line.{crlf, HasNoCrlf, ReadsLine, ends_in_cr}
 use Rattle.relay_octets.proofs.Theorems.{no_crlf_joined, no_crlf_front, no_crlf_one, first_line_is_one, first_line_stays}
-use Rattle.relay_lines.specs.Reply.{Reply, IsReply, IsReplyLine, IsCode, ReadsReply, IsBehindCode, code_digits, followed_lines, middle_line, reply_text}
-use Rattle.relay_lines.specs.ReplyReading.{BeginningIsCut, BeginningIsUnfinished, Breaks, CutIsOne, CutsReplies, EndsCut, FaultIsOne, FaultStays, HasFault, HeldIsUnfinished, IsLineOf, IsUnfinished, ReplyHasNoFault, ShowsLine, UnfinishedHasNoFault, UnfinishedHasNoReply, written_replies}
+use Rattle.relay_lines.specs.Reply.{Reply, IsReplyLine, IsCode, ReadsReply, IsBehindCode, code_digits, followed_lines, middle_line}
+use Rattle.relay_lines.specs.ReplyReading.{Breaks, HasFault, IsLineOf, IsUnfinished, ShowsLine}
+use Rattle.relay_lines.specs.ReplyLaws.{BeginningIsUnfinished, FaultIsOne, FaultStays, HeldIsUnfinished, ReplyHasNoFault, UnfinishedHasNoFault, UnfinishedHasNoReply}
 use Rattle.relay_lines.specs.declared.reply_reader.ReplyFault.{ReplyFault}
 use Rattle.relay_lines.specs.declared.reply_reader.ReplyFault.TheVariants.{BadLine, MixedCodes, TooLong, NoMemory}
-use Rattle.relay_lines.proofs.ReplyLawLemmas.{middle_has_none, digits_are_one, first_of_followed, GoesFurther, Agree, agree, reply_parts, last_reads, reply_split, ends_there, further_line, no_reply_begins_another, written_is_read}
+use Rattle.relay_lines.proofs.ReplyLawLemmas.{middle_has_none, digits_are_one, first_of_followed, GoesFurther, Agree, agree, reply_parts, last_reads, reply_split, ends_there, further_line}
 
 -- where a short line ends, no other shows
-short_shows : (octets line other rest : List ℕ) → ShowsLine octets line → ReadsLine octets other rest → length other ≤ 2046 → line ≡ other
+short_shows : (octets line other rest : List ℕ) → ShowsLine octets line
+    → ReadsLine octets other rest → length other ≤ 2046 → line ≡ other
 short_shows octets line other rest (inl shows) reads short =
     let same = first_line_is_one octets line shows.0 other rest shows.1 reads in
     same.0
@@ -21,22 +24,26 @@ short_shows octets line other rest (inr shows) reads short =
     let room = 2048 - length (other ++ crlf) in
     let n : 2048 ≡ length (other ++ crlf) + room = omega (arith, size) in
     let whole : line ≡ (other ++ crlf) ++ take room rest =
-    sym (take_at line shows.0 2048 shows.3) ∙ ap (take 2048) (sym shows.1 ∙ reads.text) ∙ ap (λ m. take m ((other ++ crlf) ++ rest)) n ∙ take-append-add (other ++ crlf) rest room in
+    sym (take_at line shows.0 2048 shows.3) ∙ ap (take 2048) (sym shows.1 ∙ reads.text)
+    ∙ ap (λ m. take m ((other ++ crlf) ++ rest)) n ∙ take-append-add (other ++ crlf) rest room in
     absurd (shows.2.nowhere other (take room rest) whole)
 
 -- a line that another follows, and a last line, are lines of their code, and short enough
-middle_is_line : (code : ℕ) (text : List ℕ) → IsCode code → IsLineOf (code_digits code ++ 45 ∷ text) code
+middle_is_line : (code : ℕ) (text : List ℕ) → IsCode code
+    → IsLineOf (code_digits code ++ 45 ∷ text) code
 middle_is_line code text is = record {
   is_last = false;
   text = text;
   spells = record { behind = 45 ∷ text; code_is = is; behind_is = refl; line_is = refl };
 }
 
-behind_is_short : (text behind : List ℕ) → IsBehindCode true text behind → length behind ≤ length text + 1
+behind_is_short : (text behind : List ℕ) → IsBehindCode true text behind
+    → length behind ≤ length text + 1
 behind_is_short text behind (inl is) = let size = ap length is in omega arith
 behind_is_short text behind (inr is) = let size = ap length is.0 in omega arith
 
-last_is_short : (octets : List ℕ) (reply : Reply) (reads : ReadsReply octets reply) → length reads.line ≤ 2046
+last_is_short : (octets : List ℕ) (reply : Reply) (reads : ReadsReply octets reply)
+    → length reads.line ≤ 2046
 last_is_short octets reply reads =
     let parts = reply_parts octets reply reads in
     let short = parts.1.short in
@@ -45,72 +52,104 @@ last_is_short octets reply reads =
     omega arith
 
 -- two codes of one line are one
-line_has_one_code : (line : List ℕ) (code other : ℕ) → IsLineOf line code → IsLineOf line other → code ≡ other
+line_has_one_code : (line : List ℕ) (code other : ℕ) → IsLineOf line code → IsLineOf line other
+    → code ≡ other
 line_has_one_code line code other is is_other =
     let one = is.spells in
     let two = is_other.spells in
-    let same = digits_are_one code other one.behind two.behind one.code_is two.code_is (sym one.line_is ∙ two.line_is) in
+    let same =
+    digits_are_one code other one.behind two.behind one.code_is two.code_is
+    (sym one.line_is ∙ two.line_is) in
     same.0
 
 -- a line that may stand behind these breaks no rule
-breaks_none : (fault : ReplyFault) (c d : ℕ) (lines : List (List ℕ)) (line : List ℕ) → IsLineOf line d → length line ≤ 2046 → (0 < length lines → c ≡ d) → length lines < 100 → Breaks fault c lines line → ⊥
-breaks_none BadLine c d lines line is short same few breaks = let spells = is.spells in breaks.none d is.is_last is.text spells
+breaks_none : (fault : ReplyFault) (c d : ℕ) (lines : List (List ℕ)) (line : List ℕ)
+    → IsLineOf line d → length line ≤ 2046 → (0 < length lines → c ≡ d) → length lines < 100
+    → Breaks fault c lines line → ⊥
+breaks_none BadLine c d lines line is short same few breaks =
+    let spells = is.spells in breaks.none d is.is_last is.text spells
 breaks_none MixedCodes c d lines line is short same few breaks =
     breaks.3 (line_has_one_code line breaks.0 d breaks.1 is ∙ sym (same breaks.2))
-breaks_none TooLong c d lines line is short same few breaks = elim breaks.3 [ inl long ↦ omega arith | inr many ↦ omega arith ]
+breaks_none TooLong c d lines line is short same few breaks =
+    elim breaks.3 [ inl long ↦ omega arith | inr many ↦ omega arith ]
 breaks_none NoMemory c d lines line is short same few breaks = breaks
 
 -- the same of the line that shows
-shows_none : (fault : ReplyFault) (c d : ℕ) (lines : List (List ℕ)) (octets line other rest : List ℕ) → ShowsLine octets line → ReadsLine octets other rest → IsLineOf other d → length other ≤ 2046 → (0 < length lines → c ≡ d) → length lines < 100 → Breaks fault c lines line → ⊥
+shows_none : (fault : ReplyFault) (c d : ℕ) (lines : List (List ℕ))
+    (octets line other rest : List ℕ)
+    → ShowsLine octets line → ReadsLine octets other rest → IsLineOf other d → length other ≤ 2046
+    → (0 < length lines → c ≡ d) → length lines < 100 → Breaks fault c lines line → ⊥
 shows_none fault c d lines octets line other rest shows reads is short same few breaks =
     let P : List ℕ → Type 0 = λ l. Breaks fault c lines l in
-    breaks_none fault c d lines other is short same few (subst P (short_shows octets line other rest shows reads short) breaks)
+    breaks_none fault c d lines other is short same few
+    (subst P (short_shows octets line other rest shows reads short) breaks)
 
 -- where lines go further, the next one breaks no rule
-further_none : (fault : ReplyFault) (c d : ℕ) (lines others : List (List ℕ)) (rest more line : List ℕ) (further : GoesFurther c d lines others rest more) → IsCode d → AllByRecursion IsReplyLine others → length others ≤ 100 → ShowsLine rest line → Breaks fault c lines line → ⊥
+further_none : (fault : ReplyFault) (c d : ℕ) (lines others : List (List ℕ))
+    (rest more line : List ℕ) (further : GoesFurther c d lines others rest more)
+    → IsCode d → AllByRecursion IsReplyLine others → length others ≤ 100 → ShowsLine rest line
+    → Breaks fault c lines line → ⊥
 further_none fault c d lines others rest more line further is each few shows breaks =
     let one = further_line c d lines others rest more further each in
     let short = one.short in
-    let P : List ℕ → Type 0 = λ l. ReadsLine l (code_digits d ++ 45 ∷ further.text) (followed_lines d further.later ++ more) in
+    let P : List ℕ → Type 0 =
+    λ l. ReadsLine l (code_digits d ++ 45 ∷ further.text) (followed_lines d further.later ++ more) in
     let reads = subst P (sym further.rest_is) (first_of_followed d further.text further.later more one) in
     let count = ap length further.others_are ∙ length-append lines (further.text ∷ further.later) in
-    shows_none fault c d lines rest line (code_digits d ++ 45 ∷ further.text) (followed_lines d further.later ++ more) shows reads (middle_is_line d further.text is) (omega arith) further.code_is (omega arith) breaks
+    shows_none fault c d lines rest line (code_digits d ++ 45 ∷ further.text)
+    (followed_lines d further.later ++ more) shows reads (middle_is_line d further.text is)
+    (omega arith) further.code_is (omega arith) breaks
 
 -- where lines go further, a line ends
-further_ends : (c d : ℕ) (lines others : List (List ℕ)) (part more : List ℕ) (further : GoesFurther c d lines others part more) → AllByRecursion IsReplyLine others → HasNoCrlf part → ⊥
+further_ends : (c d : ℕ) (lines others : List (List ℕ)) (part more : List ℕ)
+    (further : GoesFurther c d lines others part more)
+    → AllByRecursion IsReplyLine others → HasNoCrlf part → ⊥
 further_ends c d lines others part more further each none =
     let one = further_line c d lines others part more further each in
     let reads = first_of_followed d further.text further.later more one in
-    none.nowhere (code_digits d ++ 45 ∷ further.text) (followed_lines d further.later ++ more) (further.rest_is ∙ reads.text)
+    none.nowhere (code_digits d ++ 45 ∷ further.text) (followed_lines d further.later ++ more)
+    (further.rest_is ∙ reads.text)
 
 -- how many lines of a reply others follow
-few_middle : (octets : List ℕ) (reply : Reply) (reads : ReadsReply octets reply) → length reads.middle < 100
+few_middle : (octets : List ℕ) (reply : Reply) (reads : ReadsReply octets reply)
+    → length reads.middle < 100
 few_middle octets reply reads =
     let few = reads.is_reply.few_lines in
     let count = ap length reads.lines_are ∙ length-append reads.middle (reads.last ∷ []) in
     omega arith
 
-reply_none : (text rest : List ℕ) (reply : Reply) (fault : ReplyFault) (reads : ReadsReply text reply) (has : HasFault (text ++ rest) fault) → Agree has.code reply.code has.lines reads.middle has.rest ((reads.line ++ crlf) ++ rest) → ⊥
+reply_none : (text rest : List ℕ) (reply : Reply) (fault : ReplyFault)
+    (reads : ReadsReply text reply) (has : HasFault (text ++ rest) fault)
+    → Agree has.code reply.code has.lines reads.middle has.rest ((reads.line ++ crlf) ++ rest) → ⊥
 reply_none text rest reply fault reads has (inl same) =
     let P : List ℕ → Type 0 = λ l. ReadsLine l reads.line rest in
     let few = few_middle text reply reads in
     let count = ap length same.lines_are in
-    let line : IsLineOf reads.line reply.code = record { is_last = true; text = reads.last; spells = reads.last_is } in
-    shows_none fault has.code reply.code has.lines has.rest has.line reads.line rest has.shows (subst P (sym same.rest_is) (last_reads text rest reply reads)) line (last_is_short text reply reads) same.code_is (omega arith) has.breaks
+    let line : IsLineOf reads.line reply.code =
+    record { is_last = true; text = reads.last; spells = reads.last_is } in
+    shows_none fault has.code reply.code has.lines has.rest has.line reads.line rest has.shows
+    (subst P (sym same.rest_is) (last_reads text rest reply reads)) line
+    (last_is_short text reply reads) same.code_is (omega arith) has.breaks
 reply_none text rest reply fault reads has (inr (inl further)) =
     let parts = reply_parts text reply reads in
     let few = few_middle text reply reads in
-    further_none fault has.code reply.code has.lines reads.middle has.rest ((reads.line ++ crlf) ++ rest) has.line further reads.last_is.code_is parts.0 (omega arith) has.shows has.breaks
+    further_none fault has.code reply.code has.lines reads.middle has.rest
+    ((reads.line ++ crlf) ++ rest) has.line further reads.last_is.code_is parts.0
+    (omega arith) has.shows has.breaks
 reply_none text rest reply fault reads has (inr (inr further)) =
-    ends_there text rest has.rest reply has.code further.text further.later reads has.followed.code_is (further_line reply.code has.code reads.middle has.lines ((reads.line ++ crlf) ++ rest) has.rest further has.followed.each) further.rest_is
+    ends_there text rest has.rest reply has.code further.text further.later reads has.followed.code_is
+    (further_line reply.code has.code reads.middle has.lines ((reads.line ++ crlf) ++ rest) has.rest further has.followed.each) further.rest_is
 
 -- octets that begin with a reply have no fault
 pub reply_has_no_fault : ReplyHasNoFault
 reply_has_no_fault text rest reply fault reads has =
     let parts = reply_parts text reply reads in
-    reply_none text rest reply fault reads has (agree has.code reply.code has.lines reads.middle has.rest ((reads.line ++ crlf) ++ rest) has.followed.code_is reads.last_is.code_is has.followed.each parts.0 (sym has.octets_are ∙ reply_split text rest reply reads))
+    reply_none text rest reply fault reads has
+    (agree has.code reply.code has.lines reads.middle has.rest ((reads.line ++ crlf) ++ rest) has.followed.code_is reads.last_is.code_is has.followed.each parts.0 (sym has.octets_are ∙ reply_split text rest reply reads))
 
-unfinished_none : (octets : List ℕ) (fault : ReplyFault) (rests : IsUnfinished octets) (has : HasFault octets fault) → Agree has.code rests.code has.lines rests.lines has.rest rests.part → ⊥
+unfinished_none : (octets : List ℕ) (fault : ReplyFault) (rests : IsUnfinished octets)
+    (has : HasFault octets fault)
+    → Agree has.code rests.code has.lines rests.lines has.rest rests.part → ⊥
 unfinished_none octets fault rests has (inl same) = elim has.shows [
   | inl whole ↦ rests.unended.nowhere has.line whole.0 (sym same.rest_is ∙ whole.1.text)
   | inr long ↦
@@ -127,24 +166,33 @@ unfinished_none octets fault rests has (inr (inr further)) =
 -- a rest that isn't whole has no fault
 pub unfinished_has_no_fault : UnfinishedHasNoFault
 unfinished_has_no_fault octets fault rests has =
-    unfinished_none octets fault rests has (agree has.code rests.code has.lines rests.lines has.rest rests.part has.followed.code_is rests.followed.code_is has.followed.each rests.followed.each (sym has.octets_are ∙ rests.octets_are))
+    unfinished_none octets fault rests has
+    (agree has.code rests.code has.lines rests.lines has.rest rests.part has.followed.code_is rests.followed.code_is has.followed.each rests.followed.each (sym has.octets_are ∙ rests.octets_are))
 
-unfinished_no_reply : (text rest : List ℕ) (reply : Reply) (reads : ReadsReply text reply) (rests : IsUnfinished (text ++ rest)) → Agree reply.code rests.code reads.middle rests.lines ((reads.line ++ crlf) ++ rest) rests.part → ⊥
-unfinished_no_reply text rest reply reads rests (inl same) = rests.unended.nowhere reads.line rest (sym same.rest_is)
+unfinished_no_reply : (text rest : List ℕ) (reply : Reply) (reads : ReadsReply text reply)
+    (rests : IsUnfinished (text ++ rest))
+    → Agree reply.code rests.code reads.middle rests.lines ((reads.line ++ crlf) ++ rest) rests.part
+    → ⊥
+unfinished_no_reply text rest reply reads rests (inl same) =
+    rests.unended.nowhere reads.line rest (sym same.rest_is)
 unfinished_no_reply text rest reply reads rests (inr (inl further)) =
-    ends_there text rest rests.part reply rests.code further.text further.later reads rests.followed.code_is (further_line reply.code rests.code reads.middle rests.lines ((reads.line ++ crlf) ++ rest) rests.part further rests.followed.each) further.rest_is
+    ends_there text rest rests.part reply rests.code further.text further.later reads rests.followed.code_is
+    (further_line reply.code rests.code reads.middle rests.lines ((reads.line ++ crlf) ++ rest) rests.part further rests.followed.each) further.rest_is
 unfinished_no_reply text rest reply reads rests (inr (inr further)) =
     let parts = reply_parts text reply reads in
-    further_ends rests.code reply.code rests.lines reads.middle rests.part ((reads.line ++ crlf) ++ rest) further parts.0 rests.unended
+    further_ends rests.code reply.code rests.lines reads.middle rests.part
+    ((reads.line ++ crlf) ++ rest) further parts.0 rests.unended
 
 -- a rest that isn't whole begins with no reply
 pub unfinished_has_no_reply : UnfinishedHasNoReply
 unfinished_has_no_reply text rest reply reads rests =
     let parts = reply_parts text reply reads in
-    unfinished_no_reply text rest reply reads rests (agree reply.code rests.code reads.middle rests.lines ((reads.line ++ crlf) ++ rest) rests.part reads.last_is.code_is rests.followed.code_is parts.0 rests.followed.each (sym (reply_split text rest reply reads) ∙ rests.octets_are))
+    unfinished_no_reply text rest reply reads rests
+    (agree reply.code rests.code reads.middle rests.lines ((reads.line ++ crlf) ++ rest) rests.part reads.last_is.code_is rests.followed.code_is parts.0 rests.followed.each (sym (reply_split text rest reply reads) ∙ rests.octets_are))
 
 shows_more : (octets line more : List ℕ) → ShowsLine octets line → ShowsLine (octets ++ more) line
-shows_more octets line more (inl shows) = inl (shows.0 ++ more, first_line_stays octets line shows.0 more shows.1, shows.2)
+shows_more octets line more (inl shows) =
+    inl (shows.0 ++ more, first_line_stays octets line shows.0 more shows.1, shows.2)
 shows_more octets line more (inr shows) = inr (
   shows.0 ++ more,
   ap (λ l. l ++ more) shows.1 ∙ append_assoc line shows.0 more,
@@ -160,103 +208,68 @@ fault_stays octets more fault has = record {
   line = has.line;
   rest = has.rest ++ more;
   followed = has.followed;
-  octets_are = ap (λ l. l ++ more) has.octets_are ∙ append_assoc (followed_lines has.code has.lines) has.rest more;
+  octets_are =
+      ap (λ l. l ++ more) has.octets_are
+      ∙ append_assoc (followed_lines has.code has.lines) has.rest more;
   shows = shows_more has.rest has.line more has.shows;
   breaks = has.breaks;
 }
 
--- no octets have no fault
-nothing_has_no_fault : (octets : List ℕ) (fault : ReplyFault) → octets ≡ [] → ¬ HasFault octets fault
-nothing_has_no_fault octets fault nothing has =
-    let size = ap length (sym nothing ∙ has.octets_are) ∙ length-append (followed_lines has.code has.lines) has.rest in
-    elim has.shows [
-      | inl whole ↦
-          let long = ap length whole.1.text ∙ length-append (has.line ++ crlf) whole.0 in
-          let end = length-append has.line crlf in
-          omega arith
-      | inr long ↦
-          let full = ap length long.1 ∙ length-append has.line long.0 in
-          let count = long.3 in
-          omega arith
-    ]
-
--- a part of no octets is none
-front_of_none : (front back : List ℕ) → front ++ back ≡ [] → front ≡ []
-front_of_none [] back none = refl
-front_of_none (octet ∷ front) back none = cc
-
--- octets that begin written replies have no fault
-written_has_no_fault : (octets more : List ℕ) (replies : List Reply) (fault : ReplyFault) → AllByRecursion IsReply replies → octets ++ more ≡ written_replies replies → ¬ HasFault octets fault
-written_has_no_fault octets more [] fault each e has = nothing_has_no_fault octets fault (front_of_none octets more e) has
-written_has_no_fault octets more (reply ∷ replies) fault each e has =
-    let P : List ℕ → Type 0 = λ l. HasFault l fault in
-    reply_has_no_fault (reply_text reply) (written_replies replies) reply fault (written_is_read reply each.0) (subst P e (fault_stays octets more fault has))
-
--- no reply is empty
-reply_is_some : (octets : List ℕ) (reply : Reply) → ReadsReply octets reply → octets ≢ []
-reply_is_some octets reply reads none =
-    let size = ap length (sym none ∙ reads.octets_are) ∙ length-append (followed_lines reply.code reads.middle) (reads.line ++ crlf) in
-    let end = length-append reads.line crlf in
-    omega arith
-
--- what is cut from the beginning of written replies begins those
-pub beginning_is_cut : BeginningIsCut
-beginning_is_cut octets more rest [] replies each e cut = (
-  (replies, refl),
-  λ fault has.
-      let P : List ℕ → Type 0 = λ l. HasFault l fault in
-      written_has_no_fault octets more replies fault each e (subst P (sym cut) has),
-)
-beginning_is_cut octets more rest (reply ∷ cut) [] each e cuts =
-    absurd (reply_is_some cuts.0 reply cuts.2 (front_of_none cuts.0 (cuts.1 ++ more) (sym (append_assoc cuts.0 cuts.1 more) ∙ ap (λ l. l ++ more) (sym cuts.3) ∙ e)))
-beginning_is_cut octets more rest (reply ∷ cut) (first ∷ replies) each e cuts =
-    let all = sym (append_assoc cuts.0 cuts.1 more) ∙ ap (λ l. l ++ more) (sym cuts.3) ∙ e in
-    let same = no_reply_begins_another cuts.0 (reply_text first) (cuts.1 ++ more) (written_replies replies) reply first cuts.2 (written_is_read first each.0) all in
-    let later = beginning_is_cut cuts.1 more rest cut replies each.1 same.1 cuts.4 in (
-      (later.0.0, ap (λ r. r ∷ replies) (sym same.2) ∙ ap (λ rs. reply ∷ rs) later.0.1),
-      later.1,
-    )
-
 -- what shows is one line
-one_shows : (octets line other : List ℕ) → ShowsLine octets line → ShowsLine octets other → line ≡ other
+one_shows : (octets line other : List ℕ) → ShowsLine octets line → ShowsLine octets other
+    → line ≡ other
 one_shows octets line other shows (inl two) = short_shows octets line other two.0 shows two.1 two.2
-one_shows octets line other (inl one) (inr two) = sym (short_shows octets other line one.0 (inr two) one.1 one.2)
+one_shows octets line other (inl one) (inr two) =
+    sym (short_shows octets other line one.0 (inr two) one.1 one.2)
 one_shows octets line other (inr one) (inr two) =
     sym (take_at line one.0 2048 one.3) ∙ ap (take 2048) (sym one.1 ∙ two.1) ∙ take_at other two.0 2048 two.3
 
 -- a line breaks one rule
-one_breaks : (fault other : ReplyFault) (c d : ℕ) (lines : List (List ℕ)) (line : List ℕ) → (0 < length lines → c ≡ d) → Breaks fault c lines line → Breaks other d lines line → fault ≡ other
+one_breaks : (fault other : ReplyFault) (c d : ℕ) (lines : List (List ℕ)) (line : List ℕ)
+    → (0 < length lines → c ≡ d) → Breaks fault c lines line → Breaks other d lines line
+    → fault ≡ other
 one_breaks BadLine BadLine c d lines line same one two = refl
-one_breaks BadLine MixedCodes c d lines line same one two = let is = two.1 in absurd (one.none two.0 is.is_last is.text is.spells)
-one_breaks BadLine TooLong c d lines line same one two = let is = two.1 in absurd (one.none two.0 is.is_last is.text is.spells)
-one_breaks MixedCodes BadLine c d lines line same one two = let is = one.1 in absurd (two.none one.0 is.is_last is.text is.spells)
+one_breaks BadLine MixedCodes c d lines line same one two =
+    let is = two.1 in absurd (one.none two.0 is.is_last is.text is.spells)
+one_breaks BadLine TooLong c d lines line same one two =
+    let is = two.1 in absurd (one.none two.0 is.is_last is.text is.spells)
+one_breaks MixedCodes BadLine c d lines line same one two =
+    let is = one.1 in absurd (two.none one.0 is.is_last is.text is.spells)
 one_breaks MixedCodes MixedCodes c d lines line same one two = refl
 one_breaks MixedCodes TooLong c d lines line same one two =
     absurd (one.3 (line_has_one_code line one.0 two.0 one.1 two.1 ∙ two.2 one.2 ∙ sym (same one.2)))
-one_breaks TooLong BadLine c d lines line same one two = let is = one.1 in absurd (two.none one.0 is.is_last is.text is.spells)
+one_breaks TooLong BadLine c d lines line same one two =
+    let is = one.1 in absurd (two.none one.0 is.is_last is.text is.spells)
 one_breaks TooLong MixedCodes c d lines line same one two =
     absurd (two.3 (line_has_one_code line two.0 one.0 two.1 one.1 ∙ one.2 two.2 ∙ same two.2))
 one_breaks TooLong TooLong c d lines line same one two = refl
 one_breaks NoMemory other c d lines line same one two = absurd one
 one_breaks fault NoMemory c d lines line same one two = absurd two
 
-one_fault : (octets : List ℕ) (fault other : ReplyFault) (has : HasFault octets fault) (second : HasFault octets other) → Agree has.code second.code has.lines second.lines has.rest second.rest → fault ≡ other
+one_fault : (octets : List ℕ) (fault other : ReplyFault) (has : HasFault octets fault)
+    (second : HasFault octets other)
+    → Agree has.code second.code has.lines second.lines has.rest second.rest → fault ≡ other
 one_fault octets fault other has second (inl same) =
     let P : List ℕ → Type 0 = λ l. ShowsLine l has.line in
     let Q : List ℕ → Type 0 = λ l. Breaks fault has.code second.lines l in
     let R : List (List ℕ) → Type 0 = λ ls. Breaks fault has.code ls has.line in
     let S : List (List ℕ) → Type 0 = λ ls. 0 < length ls → has.code ≡ second.code in
     let line = one_shows second.rest has.line second.line (subst P same.rest_is has.shows) second.shows in
-    one_breaks fault other has.code second.code second.lines second.line (subst S same.lines_are same.code_is) (subst Q line (subst R same.lines_are has.breaks)) second.breaks
+    one_breaks fault other has.code second.code second.lines second.line
+    (subst S same.lines_are same.code_is)
+    (subst Q line (subst R same.lines_are has.breaks)) second.breaks
 one_fault octets fault other has second (inr (inl further)) =
-    absurd (further_none fault has.code second.code has.lines second.lines has.rest second.rest has.line further second.followed.code_is second.followed.each second.followed.few has.shows has.breaks)
+    absurd
+    (further_none fault has.code second.code has.lines second.lines has.rest second.rest has.line further second.followed.code_is second.followed.each second.followed.few has.shows has.breaks)
 one_fault octets fault other has second (inr (inr further)) =
-    absurd (further_none other second.code has.code second.lines has.lines second.rest has.rest second.line further has.followed.code_is has.followed.each has.followed.few second.shows second.breaks)
+    absurd
+    (further_none other second.code has.code second.lines has.lines second.rest has.rest second.line further has.followed.code_is has.followed.each has.followed.few second.shows second.breaks)
 
 -- octets have one fault
 pub fault_is_one : FaultIsOne
 fault_is_one octets fault other has second =
-    one_fault octets fault other has second (agree has.code second.code has.lines second.lines has.rest second.rest has.followed.code_is second.followed.code_is has.followed.each second.followed.each (sym has.octets_are ∙ second.octets_are))
+    one_fault octets fault other has second
+    (agree has.code second.code has.lines second.lines has.rest second.rest has.followed.code_is second.followed.code_is has.followed.each second.followed.each (sym has.octets_are ∙ second.octets_are))
 
 -- what a reader holds isn't whole
 pub held_is_unfinished : HeldIsUnfinished
@@ -269,10 +282,6 @@ held_is_unfinished reader rest held = record {
   short = held.short;
   octets_are = held.rest_is;
 }
-
-and_false : (b : Bool) → b && false ≡ false
-and_false true = refl
-and_false false = refl
 
 is_nothing : (octets : List ℕ) → length octets ≡ 0 → octets ≡ []
 is_nothing [] none = refl
@@ -289,9 +298,11 @@ record GoesAsFar (front back other rest : List ℕ) : Type 0 where
   front_is : front ≡ other ++ gap
   rest_is : rest ≡ gap ++ back
 
-fronts : (front back other rest : List ℕ) → front ++ back ≡ other ++ rest → IsShorter front other ⊎ GoesAsFar front back other rest
+fronts : (front back other rest : List ℕ) → front ++ back ≡ other ++ rest
+    → IsShorter front other ⊎ GoesAsFar front back other rest
 fronts front back [] rest e = inr record { gap = front; front_is = refl; rest_is = sym e }
-fronts [] back (octet ∷ other) rest e = inl record { gap = octet ∷ other; other_is = refl; some = omega arith }
+fronts [] back (octet ∷ other) rest e =
+    inl record { gap = octet ∷ other; other_is = refl; some = omega arith }
 fronts (first ∷ front) back (octet ∷ other) rest e =
     let head : first ≡ octet = cc in
     let tail : front ++ back ≡ other ++ rest = cc in
@@ -309,15 +320,19 @@ fronts (first ∷ front) back (octet ∷ other) rest e =
     ]
 
 -- what is shorter than a line with its CR LF has no CR LF
-front_of_line : (part line gap : List ℕ) → HasNoCrlf line → line ++ crlf ≡ part ++ gap → 0 < length gap → HasNoCrlf part
+front_of_line : (part line gap : List ℕ) → HasNoCrlf line → line ++ crlf ≡ part ++ gap
+    → 0 < length gap → HasNoCrlf part
 front_of_line part line gap none e some =
-    let with_cr = no_crlf_joined line (13 ∷ []) none (no_crlf_one 13) (and_false (ends_in_cr line)) in
-    let all : part ++ gap ≡ (line ++ 13 ∷ []) ++ 10 ∷ [] = sym e ∙ sym (append_assoc line (13 ∷ []) (10 ∷ [])) in
+    let with_cr = no_crlf_joined line (13 ∷ []) none (no_crlf_one 13) (and-false (ends_in_cr line)) in
+    let all : part ++ gap ≡ (line ++ 13 ∷ []) ++ 10 ∷ [] =
+    sym e ∙ sym (append_assoc line (13 ∷ []) (10 ∷ [])) in
     elim (fronts part gap (line ++ 13 ∷ []) (10 ∷ []) all) [
       | inl shorter ↦ no_crlf_front part shorter.gap (subst HasNoCrlf shorter.other_is with_cr)
       | inr far ↦
           let one = ap length far.rest_is ∙ length-append far.gap gap in
-          let same = far.front_is ∙ ap (λ l. (line ++ 13 ∷ []) ++ l) (is_nothing far.gap (omega arith)) ∙ append-nil (line ++ 13 ∷ []) in
+          let same =
+          far.front_is ∙ ap (λ l. (line ++ 13 ∷ []) ++ l) (is_nothing far.gap (omega arith))
+          ∙ append-nil (line ++ 13 ∷ []) in
           subst HasNoCrlf (sym same) with_cr
     ]
 
@@ -332,7 +347,8 @@ record Parts (code : ℕ) (count : ℕ) (octets : List ℕ) : Type 0 where
   octets_are : octets ≡ followed_lines code lines ++ part
 
 -- a front of a line with its CR LF is a part
-part_alone : (code count : ℕ) (octets line gap : List ℕ) → HasNoCrlf line → length line ≤ 2046 → line ++ crlf ≡ octets ++ gap → 0 < length gap → Parts code count octets
+part_alone : (code count : ℕ) (octets line gap : List ℕ) → HasNoCrlf line → length line ≤ 2046
+    → line ++ crlf ≡ octets ++ gap → 0 < length gap → Parts code count octets
 part_alone code count octets line gap none short e some =
     let size = ap length e ∙ length-append octets gap in
     let all = length-append line crlf in
@@ -347,16 +363,24 @@ part_alone code count octets line gap none short e some =
     }
 
 -- a front of lines and a last line, shorter than these, is such lines and a part
-front_parts : (code : ℕ) (middle : List (List ℕ)) (octets more line : List ℕ) → AllByRecursion IsReplyLine middle → HasNoCrlf line → length line ≤ 2046 → octets ++ more ≡ followed_lines code middle ++ (line ++ crlf) → 0 < length more → Parts code (length middle) octets
-front_parts code [] octets more line each none short e some = part_alone code 0 octets line more none short (sym e) some
+front_parts : (code : ℕ) (middle : List (List ℕ)) (octets more line : List ℕ)
+    → AllByRecursion IsReplyLine middle → HasNoCrlf line → length line ≤ 2046
+    → octets ++ more ≡ followed_lines code middle ++ (line ++ crlf) → 0 < length more
+    → Parts code (length middle) octets
+front_parts code [] octets more line each none short e some =
+    part_alone code 0 octets line more none short (sym e) some
 front_parts code (text ∷ middle) octets more line each none short e some =
     let first = middle_line code text in
     let rest = followed_lines code middle ++ (line ++ crlf) in
-    let all : octets ++ more ≡ first ++ rest = e ∙ append_assoc first (followed_lines code middle) (line ++ crlf) in
+    let all : octets ++ more ≡ first ++ rest =
+    e ∙ append_assoc first (followed_lines code middle) (line ++ crlf) in
     let text_line = each.0 in
     let long = text_line.short in
     elim (fronts octets more first rest all) [
-      | inl shorter ↦ part_alone code (length (text ∷ middle)) octets (code_digits code ++ 45 ∷ text) shorter.gap (middle_has_none code text text_line.line) (omega arith) shorter.other_is shorter.some
+      | inl shorter ↦
+          part_alone code (length (text ∷ middle)) octets
+          (code_digits code ++ 45 ∷ text) shorter.gap (middle_has_none code text text_line.line)
+          (omega arith) shorter.other_is shorter.some
       | inr far ↦
           let later = front_parts code middle far.gap more line each.1 none short (sym far.rest_is) some in
           let few = later.few in
@@ -367,7 +391,9 @@ front_parts code (text ∷ middle) octets more line each none short e some =
             few = omega arith;
             unended = later.unended;
             short = later.short;
-            octets_are = far.front_is ∙ ap (λ l. first ++ l) later.octets_are ∙ sym (append_assoc first (followed_lines code later.lines) later.part);
+            octets_are =
+                far.front_is ∙ ap (λ l. first ++ l) later.octets_are
+                ∙ sym (append_assoc first (followed_lines code later.lines) later.part);
           }
     ]
 
@@ -376,7 +402,9 @@ pub beginning_is_unfinished : BeginningIsUnfinished
 beginning_is_unfinished octets more reply reads some =
     let parts = reply_parts (octets ++ more) reply reads in
     let last = last_reads (octets ++ more) [] reply reads in
-    let found = front_parts reply.code reads.middle octets more reads.line parts.0 last.first (last_is_short (octets ++ more) reply reads) reads.octets_are some in
+    let found =
+    front_parts reply.code reads.middle octets more reads.line parts.0 last.first
+    (last_is_short (octets ++ more) reply reads) reads.octets_are some in
     let count = few_middle (octets ++ more) reply reads in
     let few = found.few in
     record {
@@ -388,23 +416,3 @@ beginning_is_unfinished octets more reply reads some =
       short = found.short;
       octets_are = found.octets_are;
     }
-
--- where a cut ends there is no reply
-no_reply_there : (octets text more : List ℕ) (reply : Reply) → EndsCut octets → ReadsReply text reply → octets ≡ text ++ more → ⊥
-no_reply_there octets text more reply (inl rests) reads e = unfinished_has_no_reply text more reply reads (subst IsUnfinished e rests)
-no_reply_there octets text more reply (inr has) reads e =
-    let P : List ℕ → Type 0 = λ l. HasFault l has.0 in
-    reply_has_no_fault text more reply has.0 reads (subst P e has.1)
-
--- octets are cut in one way
-pub cut_is_one : CutIsOne
-cut_is_one octets rest more [] [] cut second ends ends_second = (refl, sym cut ∙ second)
-cut_is_one octets rest more [] (other ∷ others) cut second ends ends_second =
-    absurd (no_reply_there rest second.0 second.1 other ends second.2 (sym cut ∙ second.3))
-cut_is_one octets rest more (reply ∷ replies) [] cut second ends ends_second =
-    absurd (no_reply_there more cut.0 cut.1 reply ends_second cut.2 (sym second ∙ cut.3))
-cut_is_one octets rest more (reply ∷ replies) (other ∷ others) cut second ends ends_second =
-    let same = no_reply_begins_another cut.0 second.0 cut.1 second.1 reply other cut.2 second.2 (sym cut.3 ∙ second.3) in
-    let P : List ℕ → Type 0 = λ l. CutsReplies l replies rest in
-    let later = cut_is_one second.1 rest more replies others (subst P same.1 cut.4) second.4 ends ends_second in
-    (ap (λ r. r ∷ replies) same.2 ∙ ap (λ rs. other ∷ rs) later.0, later.1)

@@ -1,5 +1,6 @@
--- The argument of BDAT (RFC 3030, section 2): its chunk-size, and LAST at the last chunk of a message.
-use Rattle.std.specs.Prelude.{◌≡◌, ◌↔◌, ℕ, ◌<◌, ◌≤◌, ◌^◌, ◌==◌, nat_lt, Bool, true, false, IsTrue, ◌&&◌, List, [], ◌++◌, codes, length, take, Option, Some, None, option_map, if◌then◌else◌}
+-- The argument of BDAT (RFC 3030, section 2): its chunk-size, and LAST at the last chunk of a
+-- message.
+use Rattle.std.specs.Prelude.{◌≡◌, ◌↔◌, ℕ, ◌<◌, ◌≤◌, ◌^◌, ◌==◌, nat_lt, Bool, true, false, IsTrue, ◌&&◌, List, [], ◌++◌, codes, decimal, length, take, Option, Some, None, option_map, if◌then◌else◌}
 use Rattle.std.specs.List.{list_all, AllPass}
 use Rattle.std.specs.Int.{is_in_range}
 use Rattle.std.specs.Char.{is_ascii_digit}
@@ -8,7 +9,8 @@ use Rattle.relay_octets.specs.LetterCase.{IsSameWord}
 use Rattle.relay_lines.specs.Word.{is_space, is_word, first_word, argument_of}
 use Rattle.relay_lines.specs.declared.chunk_argument.BdatArgument.{BdatArgument}
 
--- chunk-size ::= 1*DIGIT; profile: 1 to 10 digits, leading zeros among them, that write at most 4,294,967,295
+-- chunk-size ::= 1*DIGIT; profile: 1 to 10 digits, leading zeros among them, that write at most
+-- 4,294,967,295
 pub record IsChunkSize (text : List ℕ) (size : ℕ) : Type 0 where
   pub some : 1 ≤ length text
   pub few : length text ≤ 10
@@ -48,7 +50,8 @@ are_size_digits text = is_in_range 1 10 (length text) && are_digits text
 
 -- the number of digits, where it is a chunk-size
 unfoldable pub size_of_digits : List ℕ → Option ℕ
-size_of_digits digits = if nat_lt (digits_value 10 digits) 4294967296 then Some (digits_value 10 digits) else None
+size_of_digits digits =
+    let size = digits_value 10 digits in if nat_lt size 4294967296 then Some size else None
 
 -- the chunk-size that a text is
 unfoldable pub chunk_size_of : List ℕ → Option ℕ
@@ -62,7 +65,8 @@ with_size last size = record { size = size; last = last }
 unfoldable pub bdat_argument_of : List ℕ → Option BdatArgument
 bdat_argument_of text =
     if length (first_word text) == length text then option_map (with_size false) (chunk_size_of text)
-    else if is_word (argument_of text) (codes "LAST") then option_map (with_size true) (chunk_size_of (first_word text))
+    else if is_word (argument_of text) (codes "LAST")
+    then option_map (with_size true) (chunk_size_of (first_word text))
     else None
 
 -- the line begins with BDAT, in any letter case, and a space
@@ -79,7 +83,8 @@ begins_with_bdat line = is_word (take 5 line) (codes "BDAT ")
 -- What is read is spelled so, and what is spelled so is read.
 abbrev pub BdatArgumentIsOfSpelling : Type 0
 BdatArgumentIsOfSpelling =
-    (text : List ℕ) (argument : BdatArgument) → (bdat_argument_of text ≡ Some argument) ↔ SpellsBdat text argument
+    (text : List ℕ) (argument : BdatArgument)
+    → (bdat_argument_of text ≡ Some argument) ↔ SpellsBdat text argument
 
 -- A text spells one argument at most.
 abbrev pub OneBdatArgument : Type 0
@@ -96,7 +101,12 @@ ElevenDigitsAreTooMany =
 -- A zero before the digits of a chunk-size says nothing, as long as there are at most 10 digits.
 abbrev pub LeadingZeroSaysNothing : Type 0
 LeadingZeroSaysNothing =
-    (digits : List ℕ) (size : ℕ) → IsChunkSize digits size → length digits < 10 → IsChunkSize (codes "0" ++ digits) size
+    (digits : List ℕ) (size : ℕ) → IsChunkSize digits size → length digits < 10
+    → IsChunkSize (codes "0" ++ digits) size
+
+-- The decimal of a number of 32 bits is its chunk-size.
+abbrev pub DecimalIsChunkSize : Type 0
+DecimalIsChunkSize = (size : ℕ) → size < 2 ^ 32 → IsChunkSize (decimal size) size
 
 -- The test of BDAT passes exactly where a line begins with it.
 abbrev pub BdatBeginningIsTested : Type 0

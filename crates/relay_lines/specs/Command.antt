@@ -1,8 +1,10 @@
--- Command lines (RFC 5321, section 4.1.1): the command that a line, without its CR LF, gives, or its first fault.
+-- Command lines (RFC 5321, section 4.1.1): the command that a line, without its CR LF, gives, or
+-- its first fault.
 use Rattle.std.specs.Prelude.{◌≡◌, ◌↔◌, ◌==◌, List, [], ◌∷◌, ◌++◌, ℕ, Bool, true, false, ◌||◌, length, codes, Option, Some, None, option_map, ok_or, find, Result, Ok, Err, if◌then◌else◌}
-use Rattle.std.specs.List.{AllPass, suffix_len}
+use Rattle.std.specs.List.{AllPass}
+use Rattle.relay_octets.specs.Line.{HasNoCrlf}
 use Rattle.relay_octets.specs.LetterCase.{IsSameWord}
-use Rattle.relay_lines.specs.Word.{is_printable, is_blank, is_word, are_printable, without_trailing_blanks, first_word, argument_of, behind_keyword, is_host_word, SplitsLine, BeginsWithKeyword, IsHostWord}
+use Rattle.relay_lines.specs.Word.{is_printable, is_word, are_printable, without_trailing_blanks, first_word, argument_of, behind_keyword, is_host_word, SplitsLine, BeginsWithKeyword, IsHostWord}
 use Rattle.relay_lines.specs.declared.command.LineFault.{LineFault}
 use Rattle.relay_lines.specs.declared.command.LineFault.TheVariants.{Unknown, BadByte, BadArgument, NotOffered, BadChunkSize}
 use Rattle.relay_lines.specs.declared.chunk_argument.BdatArgument.{BdatArgument}
@@ -45,8 +47,8 @@ word_of verb.Quit = codes "QUIT"
 -- the verbs
 abbrev pub verbs : List Verb
 verbs =
-    verb.Helo ∷ verb.Ehlo ∷ verb.Mail ∷ verb.Rcpt ∷ verb.Data ∷ verb.Bdat ∷ verb.Rset ∷ verb.Noop ∷ verb.Vrfy ∷ verb.Help
-    ∷ verb.Expn ∷ verb.Turn ∷ verb.Quit ∷ []
+    verb.Helo ∷ verb.Ehlo ∷ verb.Mail ∷ verb.Rcpt ∷ verb.Data ∷ verb.Bdat ∷ verb.Rset ∷ verb.Noop
+    ∷ verb.Vrfy ∷ verb.Help ∷ verb.Expn ∷ verb.Turn ∷ verb.Quit ∷ []
 
 -- profile: EXPN and TURN aren't offered
 abbrev pub is_offered : Verb → Bool
@@ -97,11 +99,12 @@ reading_of_words word argument = reading_of_verb (verb_of word) argument
 abbrev pub is_bdat : List ℕ → Bool
 is_bdat word = is_word word (codes "BDAT")
 
--- the reading of a text without blanks at its end: a bad octet is found before the verb, but behind BDAT, where it makes a
--- bad chunk size; the verb is found before its argument
+-- the reading of a text without blanks at its end: a bad octet is found before the verb, but behind
+-- BDAT, where it makes a bad chunk size; the verb is found before its argument
 unfoldable pub reading_of_text : List ℕ → Result Command LineFault
 reading_of_text text =
-    if are_printable text || is_bdat (first_word text) then reading_of_words (first_word text) (argument_of text)
+    if are_printable text || is_bdat (first_word text)
+    then reading_of_words (first_word text) (argument_of text)
     else Err BadByte
 
 -- the reading of a line
@@ -129,10 +132,14 @@ answer_of (Err fault) = Err fault
 
 -- how each command is spelled: its verb, in any letter case, and its argument
 abbrev pub IsSpelled : Command → List ℕ → List ℕ → Type 0
-IsSpelled (Helo host) word argument = IsSameWord word (codes "HELO") × IsHostWord host × (argument ≡ host)
-IsSpelled (Ehlo host) word argument = IsSameWord word (codes "EHLO") × IsHostWord host × (argument ≡ host)
-IsSpelled (Mail path) word argument = IsSameWord word (codes "MAIL") × BeginsWithKeyword argument (codes "FROM:") path
-IsSpelled (Rcpt path) word argument = IsSameWord word (codes "RCPT") × BeginsWithKeyword argument (codes "TO:") path
+IsSpelled (Helo host) word argument =
+    IsSameWord word (codes "HELO") × IsHostWord host × (argument ≡ host)
+IsSpelled (Ehlo host) word argument =
+    IsSameWord word (codes "EHLO") × IsHostWord host × (argument ≡ host)
+IsSpelled (Mail path) word argument =
+    IsSameWord word (codes "MAIL") × BeginsWithKeyword argument (codes "FROM:") path
+IsSpelled (Rcpt path) word argument =
+    IsSameWord word (codes "RCPT") × BeginsWithKeyword argument (codes "TO:") path
 IsSpelled Data word argument = IsSameWord word (codes "DATA") × (argument ≡ [])
 IsSpelled (Bdat chunk) word argument = IsSameWord word (codes "BDAT") × SpellsBdat argument chunk
 IsSpelled Rset word argument = IsSameWord word (codes "RSET") × (argument ≡ [])
@@ -151,24 +158,28 @@ pub record ReadsCommand (line : List ℕ) (command : Command) : Type 0 where
 
 -- A line has a word and an argument.
 abbrev pub EveryLineSplits : Type 0
-EveryLineSplits = (line : List ℕ) → (word : List ℕ) × (argument : List ℕ) × SplitsLine line word argument
+EveryLineSplits =
+    (line : List ℕ) → (word : List ℕ) × (argument : List ℕ) × SplitsLine line word argument
 
 -- A line has no other word and no other argument.
 abbrev pub SplitIsOne : Type 0
 SplitIsOne =
-    (line word argument other more : List ℕ) → SplitsLine line word argument → SplitsLine line other more
-    → (word ≡ other) × (argument ≡ more)
+    (line word argument other more : List ℕ) → SplitsLine line word argument
+    → SplitsLine line other more → (word ≡ other) × (argument ≡ more)
 
--- A line's reading is that of its word and its argument, and the spaces between them and behind them say nothing.
+-- A line's reading is that of its word and its argument, and the spaces between them and behind
+-- them say nothing.
 abbrev pub ReadingIsOfWords : Type 0
 ReadingIsOfWords =
     (line word argument : List ℕ) → SplitsLine line word argument
     → reading_of line
-    ≡ (if are_printable (word ++ argument) || is_bdat word then reading_of_words word argument else Err BadByte)
+    ≡ (if are_printable (word ++ argument) || is_bdat word then reading_of_words word argument
+    else Err BadByte)
 
 -- What is read is spelled so, and what is spelled so is read.
 abbrev pub ReadingIsOfSpelling : Type 0
-ReadingIsOfSpelling = (line : List ℕ) (command : Command) → (reading_of line ≡ Ok command) ↔ ReadsCommand line command
+ReadingIsOfSpelling =
+    (line : List ℕ) (command : Command) → (reading_of line ≡ Ok command) ↔ ReadsCommand line command
 
 -- A bad octet is found exactly where the word isn't BDAT, and it or the argument holds one.
 abbrev pub BadByteIsFound : Type 0
@@ -188,8 +199,8 @@ UnknownIsFound =
 abbrev pub IsVerb : Bool → List ℕ → Type 0
 IsVerb offered word = (verb : Verb) × IsSameWord word (word_of verb) × (is_offered verb ≡ offered)
 
--- An argument is bad exactly where the line is printable, its word is a verb that is offered but not BDAT, and the two
--- spell no command.
+-- An argument is bad exactly where the line is printable, its word is a verb that is offered but
+-- not BDAT, and the two spell no command.
 abbrev pub BadArgumentIsFound : Type 0
 BadArgumentIsFound =
     (line word argument : List ℕ) → SplitsLine line word argument
@@ -201,58 +212,24 @@ BadArgumentIsFound =
 abbrev pub NotOfferedIsFound : Type 0
 NotOfferedIsFound =
     (line word argument : List ℕ) → SplitsLine line word argument
-    → (reading_of line ≡ Err NotOffered) ↔ (AllPass is_printable (word ++ argument) × IsVerb false word)
+    → (reading_of line ≡ Err NotOffered)
+    ↔ (AllPass is_printable (word ++ argument) × IsVerb false word)
 
 -- The letter case of a verb says nothing.
 abbrev pub LetterCaseIsFree : Type 0
 LetterCaseIsFree =
-    (line other word again argument : List ℕ) → SplitsLine line word argument → SplitsLine other again argument
-    → IsSameWord word again → reading_of line ≡ reading_of other
+    (line other word again argument : List ℕ) → SplitsLine line word argument
+    → SplitsLine other again argument → IsSameWord word again → reading_of line ≡ reading_of other
 
--- A bad chunk size is found exactly where the word is BDAT, and the argument spells no chunk, whatever octets it holds.
+-- A bad chunk size is found exactly where the word is BDAT, and the argument spells no chunk,
+-- whatever octets it holds.
 abbrev pub BadChunkSizeIsFound : Type 0
 BadChunkSizeIsFound =
     (line word argument : List ℕ) → SplitsLine line word argument
     → (reading_of line ≡ Err BadChunkSize)
     ↔ (IsSameWord word (codes "BDAT") × ((chunk : BdatArgument) → ¬ SpellsBdat argument chunk))
 
--- A client's BDAT is read as it was written, in any letter case.
-abbrev pub BdatIsRead : Type 0
-BdatIsRead =
-    (verb text : List ℕ) (chunk : BdatArgument) → IsSameWord verb (codes "BDAT") → SpellsBdat text chunk
-    → reading_of (verb ++ codes " " ++ text) ≡ Ok (Bdat chunk)
-
--- A client's MAIL is read as it was written, in any letter case.
-abbrev pub MailIsRead : Type 0
-MailIsRead =
-    (verb keyword path : List ℕ) → IsSameWord verb (codes "MAIL") → IsSameWord keyword (codes "FROM:")
-    → AllPass is_printable path → suffix_len is_blank path ≡ 0
-    → reading_of (verb ++ codes " " ++ (keyword ++ path)) ≡ Ok (Mail path)
-
--- A client's RCPT is read as it was written, in any letter case.
-abbrev pub RcptIsRead : Type 0
-RcptIsRead =
-    (verb keyword path : List ℕ) → IsSameWord verb (codes "RCPT") → IsSameWord keyword (codes "TO:")
-    → AllPass is_printable path → suffix_len is_blank path ≡ 0
-    → reading_of (verb ++ codes " " ++ (keyword ++ path)) ≡ Ok (Rcpt path)
-
--- A client's HELO is read as it was written, in any letter case.
-abbrev pub HeloIsRead : Type 0
-HeloIsRead =
-    (verb host : List ℕ) → IsSameWord verb (codes "HELO") → IsHostWord host
-    → reading_of (verb ++ codes " " ++ host) ≡ Ok (Helo host)
-
--- A client's EHLO is read as it was written, in any letter case.
-abbrev pub EhloIsRead : Type 0
-EhloIsRead =
-    (verb host : List ℕ) → IsSameWord verb (codes "EHLO") → IsHostWord host
-    → reading_of (verb ++ codes " " ++ host) ≡ Ok (Ehlo host)
-
--- A client's line of a verb alone is read, in any letter case.
-pub record BareVerbsAreRead : Type 0 where
-  pub data_is : (verb : List ℕ) → IsSameWord verb (codes "DATA") → reading_of verb ≡ Ok Data
-  pub rset_is : (verb : List ℕ) → IsSameWord verb (codes "RSET") → reading_of verb ≡ Ok Rset
-  pub noop_is : (verb : List ℕ) → IsSameWord verb (codes "NOOP") → reading_of verb ≡ Ok Noop
-  pub vrfy_is : (verb : List ℕ) → IsSameWord verb (codes "VRFY") → reading_of verb ≡ Ok Vrfy
-  pub help_is : (verb : List ℕ) → IsSameWord verb (codes "HELP") → reading_of verb ≡ Ok Help
-  pub quit_is : (verb : List ℕ) → IsSameWord verb (codes "QUIT") → reading_of verb ≡ Ok Quit
+-- A line that is read as a command has no CR LF in it.
+abbrev pub CommandHasNoCrlf : Type 0
+CommandHasNoCrlf =
+    (line : List ℕ) (command : Command) → reading_of line ≡ Ok command → HasNoCrlf line

@@ -2,6 +2,9 @@ pub mod LineCut
 pub mod HeldLine
 pub mod Word
 pub mod Command
+pub mod WrittenCommand
 pub mod Reply
 pub mod ReplyReading
+pub mod ReplySteps
+pub mod ReplyLaws
 pub mod ChunkArgument

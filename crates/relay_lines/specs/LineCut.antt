@@ -1,4 +1,5 @@
--- The next line of a stream (RFC 5321, sections 2.3.8 and 4.5.3.1.4), of at most a number of octets with its CR LF.
+-- The next line of a stream (RFC 5321, sections 2.3.8 and 4.5.3.1.4), of at most a number of octets
+-- with its CR LF.
 use Rattle.std.specs.Prelude.{◌≡◌, ℕ, ◌+◌, ◌<◌, ◌≤◌, List, length, take}
 use Rattle.relay_octets.specs.Line.{HasNoCrlf, ReadsLine}
 use Rattle.relay_lines.specs.declared.line.LineCut.{LineCut}

@@ -35,15 +35,20 @@ lines_of_reply code (text ∷ next ∷ more) = middle_line code text ++ lines_of
 abbrev pub reply_text : Reply → List ℕ
 reply_text reply = lines_of_reply reply.code reply.lines
 
--- any octets but CR LF; a line has at most 2,048 octets with its code, the mark behind it and its CR LF
+-- any octets but CR LF; a line has at most 2,048 octets with its code, the mark behind it and its
+-- CR LF
 pub record IsReplyLine (text : List ℕ) : Type 0 where
   pub line : HasNoCrlf text
   pub short : length text ≤ 2042
 
--- three digits, the first 2 to 5; profile: at most 100 lines
+-- Reply-code: three digits, the first 2 to 5
+pub record IsCode (code : ℕ) : Type 0 where
+  pub low : 200 ≤ code
+  pub high : code < 600
+
+-- a code, and 1 line or more; profile: at most 100 lines
 pub record IsReply (reply : Reply) : Type 0 where
-  pub code_low : 200 ≤ reply.code
-  pub code_high : reply.code < 600
+  pub code_is : IsCode reply.code
   pub some_line : 0 < length reply.lines
   pub few_lines : length reply.lines ≤ 100
   pub each : AllByRecursion IsReplyLine reply.lines
@@ -52,17 +57,18 @@ pub record IsReply (reply : Reply) : Type 0 where
 abbrev pub one_line : ℕ → List ℕ → Reply
 one_line code text = made_of code (text ∷ [])
 
--- the octets begin with these, and some may have come behind them
-abbrev pub Begins : List ℕ → List ℕ → Type 0
-Begins front octets = (rest : List ℕ) × (octets ≡ front ++ rest)
+-- the text of the last line
+abbrev pub last_text : List (List ℕ) → List ℕ
+last_text [] = []
+last_text (text ∷ []) = text
+last_text (text ∷ next ∷ more) = last_text (next ∷ more)
 
--- Reply-code: three digits, the first 2 to 5
-pub record IsCode (code : ℕ) : Type 0 where
-  pub low : 200 ≤ code
-  pub high : code < 600
+-- replies as they are written, one after another
+abbrev pub written_replies : List Reply → List ℕ
+written_replies replies = flat_map reply_text replies
 
--- what follows the code in a line with this text: where it is the last line, SP and the text, or nothing where there is
--- no text; else a hyphen and the text
+-- what follows the code in a line with this text: where it is the last line, SP and the text, or
+-- nothing where there is no text; else a hyphen and the text
 abbrev pub IsBehindCode : Bool → List ℕ → List ℕ → Type 0
 IsBehindCode true text behind = (behind ≡ 32 ∷ text) ⊎ ((behind ≡ []) × (text ≡ []))
 IsBehindCode false text behind = behind ≡ 45 ∷ text
@@ -78,8 +84,9 @@ pub record SpellsLine (line : List ℕ) (code : ℕ) (is_last : Bool) (text : Li
 abbrev pub followed_lines : ℕ → List (List ℕ) → List ℕ
 followed_lines code lines = flat_map (middle_line code) lines
 
--- The octets are this reply as it may come: Reply-code "-" text CRLF any number of times, and then Reply-code [ SP text ] CRLF.
--- That is its written form, or this with a space behind the last code where no text follows.
+-- The octets are this reply as it may come: Reply-code "-" text CRLF any number of times, and then
+-- Reply-code [ SP text ] CRLF. That is its written form, or this with a space behind the last code
+-- where no text follows.
 pub record ReadsReply (octets : List ℕ) (reply : Reply) : Type 0 where
   pub middle : List (List ℕ)
   pub last : List ℕ

@@ -1,4 +1,5 @@
--- Words of a command line (RFC 5321, sections 2.4 and 4.1.1): how a line, without its CR LF, falls into parts.
+-- Words of a command line (RFC 5321, sections 2.4 and 4.1.1): how a line, without its CR LF, falls
+-- into parts.
 use Rattle.std.specs.Prelude.{◌≡◌, ◌↔◌, ℕ, ◌-◌, ◌≤◌, ◌==◌, nat_lt, Bool, IsTrue, not, ◌&&◌, ◌||◌, ◌⊎◌, List, [], ◌++◌, codes, length, take, drop, slice_index, slice_range, Option, Some, None, if◌then◌else◌}
 use Rattle.std.specs.List.{list_all, position_or_len, prefix_len, suffix_len, AllPass}
 use Rattle.std.specs.Int.{is_in_range}
@@ -42,7 +43,8 @@ are_domain_octets text = list_all is_domain_octet text
 unfoldable pub are_literal_octets : List ℕ → Bool
 are_literal_octets text = list_all is_literal_octet text
 
--- the line without the spaces and tabs before its CR LF (section 4.1.1: trailing white space is tolerated)
+-- the line without the spaces and tabs before its CR LF (section 4.1.1: trailing white space is
+-- tolerated)
 unfoldable pub without_trailing_blanks : List ℕ → List ℕ
 without_trailing_blanks line = take (length line - suffix_len is_blank line) line
 
@@ -81,7 +83,8 @@ is_address_literal text =
 unfoldable pub is_host_word : List ℕ → Bool
 is_host_word text = is_in_range 1 255 (length text) && (are_domain_octets text || is_address_literal text)
 
--- the line is a word, spaces, an argument, and spaces and tabs at its end; an argument stands behind a space
+-- the line is a word, spaces, an argument, and spaces and tabs at its end; an argument stands
+-- behind a space
 pub record SplitsLine (line word argument : List ℕ) : Type 0 where
   pub spaces : List ℕ
   pub blanks : List ℕ

@@ -16,15 +16,15 @@ pub struct BdatArgument {
     pub last: bool,
 }
 
-/// A text behind BDAT that is neither a size nor a size and LAST. A size is 1 to 10 digits, leading zeros among them, and
-/// at most 4,294,967,295.
+/// A text behind BDAT that is neither a size nor a size and LAST. A size is 1 to 10 digits, leading
+/// zeros among them, and at most 4,294,967,295.
 #[derive(Clone, Copy, Debug, PartialEq, Eq, Error)]
 #[error("bad chunk size")]
 pub struct BadChunkSize;
 
 impl BdatArgument {
-    /// Reads what stands behind BDAT and its spaces: `size` or `size LAST`, with LAST in any letter case and one space
-    /// before it or several. No blanks stand behind it.
+    /// Reads what stands behind BDAT and its spaces: `size` or `size LAST`, with LAST in any letter
+    /// case and one space before it or several. No blanks stand behind it.
     pub fn parse(text: &[u8]) -> Result<BdatArgument, BadChunkSize>
         ensures value { MatchResult result (λ argument. bdat_argument_of text.now ≡ Some argument)
             (λ _. bdat_argument_of text.now ≡ None) }
@@ -95,8 +95,8 @@ fn size_of_digits(digits: &[u8]) -> Option<u32>
     }
 }
 
-/// Whether a line begins with BDAT, in any letter case, and a space. A line that is too long and begins so has a bad
-/// chunk size.
+/// Whether a line begins with BDAT, in any letter case, and a space. A line that is too long and
+/// begins so has a bad chunk size.
 #[tactic(auto, using(crate::proofs::ChunkArgumentLemmas::bdat_is_found))]
 pub fn begins_with_bdat(line: &[u8]) -> bool
     ensures value { result ≡ begins_with_bdat line.now }

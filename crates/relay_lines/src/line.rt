@@ -13,8 +13,8 @@ pub enum LineCut {
     More,
 }
 
-/// Cuts the first line off a stream (RFC 5321, 2.3.8), where a line has at most `limit` octets with its CR LF.
-/// It takes no memory.
+/// Cuts the first line off a stream (RFC 5321, 2.3.8), where a line has at most `limit` octets with
+/// its CR LF. It takes no memory.
 pub fn next_line(octets: &[u8], limit: usize) -> LineCut
     ensures { CutsLine result octets.now limit }
 {

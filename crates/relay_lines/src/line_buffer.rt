@@ -5,12 +5,12 @@ ghost use Rattle.relay_lines.specs.HeldLine.{HeldLine, Holds, HoldsLine, EndsLin
 use relay_octets::find_crlf;
 use std::marker::Model;
 
-/// The most octets that a command line or a reply line has, with its CR LF. A command line may so have more
-/// than the 512 octets of RFC 5321, 4.5.3.1.4, which the extensions raise.
+/// The most octets that a command line or a reply line has, with its CR LF. A command line may so
+/// have more than the 512 octets of RFC 5321, 4.5.3.1.4, which the extensions raise.
 pub const LINE_LIMIT: usize = 2048;
 
-/// A line that comes in pieces. It stands in a fixed array: of a longer line the first 2,048 octets are kept,
-/// and the others are counted as too many and dropped.
+/// A line that comes in pieces. It stands in a fixed array: of a longer line the first 2,048 octets
+/// are kept, and the others are counted as too many and dropped.
 #[derive(Drop)]
 pub struct LineBuffer {
     octets: [u8; LINE_LIMIT],
@@ -40,12 +40,15 @@ impl LineBuffer {
         }
     }
 
-    /// Takes the next octets of the line, up to the line's end where it comes, and answers how many they are then.
-    /// Where it doesn't come, all of the piece is taken. A buffer whose line has ended is cleared first.
+    /// Takes the next octets of the line, up to the line's end where it comes, and answers how many
+    /// they are then. Where it doesn't come, all of the piece is taken. A buffer whose line has
+    /// ended is cleared first.
     pub fn feed(&mut self, piece: &[u8]) -> Option<usize>
-        ensures taken { (octets : List ℕ) → Holds self.old octets → MatchOption result (Holds self.new (octets ++ piece.now))
+        ensures taken { (octets : List ℕ) → Holds self.old octets
+            → MatchOption result (Holds self.new (octets ++ piece.now))
             (λ used. EndsLine octets (take used piece.now) self.new) }
-        ensures within { MatchOption result (Unit {0}) (λ used. (0 < used) × (used ≤ length piece.now)) }
+        ensures within { MatchOption result (Unit {0})
+            (λ used. (0 < used) × (used ≤ length piece.now)) }
     {
         if self.is_ended_by(piece) {
             self.drop_cr();

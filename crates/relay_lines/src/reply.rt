@@ -1,7 +1,8 @@
 ghost use Rattle.std.specs.Prelude.{◌≡◌, ◌<◌, ◌↔◌, ◌++◌, IsTrue, OnOk, OnErr};
 ghost use Rattle.std.specs.List.{AllByRecursion};
+ghost use Rattle.relay_octets.specs.Beginning.{Begins};
 ghost use Rattle.relay_octets.specs.Line.{crlf};
-ghost use Rattle.relay_lines.specs.Reply.{IsReplyLine, Begins, code_digits, last_line, lines_of_reply, middle_line, one_line, reply_text};
+ghost use Rattle.relay_lines.specs.Reply.{IsReplyLine, code_digits, last_line, lines_of_reply, middle_line, one_line, reply_text};
 
 use crate::line_buffer::LINE_LIMIT;
 use relay_octets::{Octets, find_crlf};
@@ -14,8 +15,8 @@ pub const REPLY_LINES: usize = 100;
 /// What a reply line has beside its text: the code, the mark behind it, and CR LF.
 const LINE_FRAME: usize = 6;
 
-/// A reply (RFC 5321, 4.2): a code of three digits, the first 2 to 5, and 1 to 100 lines of text. A text is any
-/// octets but CR LF, 2,042 of them at most.
+/// A reply (RFC 5321, 4.2): a code of three digits, the first 2 to 5, and 1 to 100 lines of text. A
+/// text is any octets but CR LF, 2,042 of them at most.
 #[derive(Debug, Drop)]
 pub struct Reply {
     code: u16,
@@ -34,7 +35,7 @@ impl Model for Reply {
 
 impl Reply {
     ghost use Rattle.std.specs.Prelude.{◌≡◌, ◌++◌, MatchOption, OnOk, OnErr};
-    ghost use Rattle.relay_lines.specs.Reply.{IsReply, reply_text, made_of};
+    ghost use Rattle.relay_lines.specs.Reply.{IsReply, reply_text, last_text, made_of};
 
     /// A reply of these lines, where they and the code may stand in one.
     pub fn new(code: u16, lines: Vec<Octets>) -> Option<Self>
@@ -50,18 +51,31 @@ impl Reply {
         }
     }
 
-    /// The code.
+    /// The code: 200 to 599.
     pub fn code(&self) -> u16
-        ensures { result ≡ self.now.code }
+        ensures value { result ≡ self.now.code }
+        ensures valid { IsReply self.now }
     {
         self.code
     }
 
-    /// The text of each line.
+    /// The text of each line. There are 1 to 100.
     pub fn lines(&self) -> &[Octets]
-        ensures { result.now ≡ self.now.lines }
+        ensures value { result.now ≡ self.now.lines }
+        ensures valid { IsReply self.now }
     {
         self.lines.as_slice()
+    }
+
+    /// The text of the last line.
+    #[tactic(auto, using(crate::proofs::ReplyLemmas::last_is))]
+    pub fn last_text(&self) -> &[u8]
+        ensures { result.now ≡ last_text self.now.lines }
+    {
+        match self.lines.split_last() {
+            Some((last, _)) => last.as_slice(),
+            None => &[],
+        }
     }
 
     /// Writes the reply at the end of `out`. Where memory runs out, nothing is written.
@@ -97,11 +111,12 @@ fn is_reply_line(text: &[u8]) -> bool
     text.len() <= LINE_LIMIT - LINE_FRAME && find_crlf(text).is_none()
 }
 
-/// Writes a reply of one line at the end of `out`: the code, and the text in two parts, each of which may be empty.
-/// Where memory runs out, nothing is written.
+/// Writes a reply of one line at the end of `out`: the code, and the text in two parts, each of
+/// which may be empty. Where memory runs out, nothing is written.
 pub fn write_line(out: &mut Vec<u8>, code: u16, text: &[u8], more: &[u8]) -> Result<(), AllocError>
     requires { code < 1000 }
-    ensures ok { OnOk result (out.new.items ≡ out.old.items ++ reply_text (one_line code (text.now ++ more.now))) }
+    ensures ok { OnOk result (out.new.items ≡ out.old.items
+        ++ reply_text (one_line code (text.now ++ more.now))) }
     ensures err { OnErr result (out.new.items ≡ out.old.items) }
 {
     let start = out.len();
@@ -112,8 +127,8 @@ pub fn write_line(out: &mut Vec<u8>, code: u16, text: &[u8], more: &[u8]) -> Res
     written
 }
 
-/// Writes a line of a reply that another follows at the end of `out`: the code, a hyphen, and the text. Where memory
-/// runs out, nothing is written.
+/// Writes a line of a reply that another follows at the end of `out`: the code, a hyphen, and the
+/// text. Where memory runs out, nothing is written.
 pub fn write_middle_line(out: &mut Vec<u8>, code: u16, text: &[u8]) -> Result<(), AllocError>
     requires { code < 1000 }
     ensures ok { OnOk result (out.new.items ≡ out.old.items ++ middle_line code text.now) }
@@ -164,7 +179,8 @@ fn push_line(
     more: &[u8],
 ) -> Result<(), AllocError>
     requires { code < 1000 }
-    ensures ok { OnOk result (out.new.items ≡ out.old.items ++ (code_digits code ++ mark.now ++ text.now ++ more.now ++ crlf)) }
+    ensures ok { OnOk result (out.new.items ≡ out.old.items
+        ++ (code_digits code ++ mark.now ++ text.now ++ more.now ++ crlf)) }
     ensures front { Begins out.old.items out.new.items }
 {
     let digit = |n: u16| b'0' + n as u8;

@@ -1,5 +1,5 @@
 //! What is true of replies, whoever reads or writes them.
-ghost use Rattle.relay_lines.specs.ReplyReading.{BeginningIsCut, BeginningIsUnfinished, CutIsOne, FaultIsOne, FaultStays, HeldIsUnfinished, NoReplyBeginsAnother, ReplyHasNoFault, UnfinishedHasNoFault, UnfinishedHasNoReply, WrittenIsRead};
+ghost use Rattle.relay_lines.specs.ReplyLaws.{BeginningIsCut, BeginningIsUnfinished, CutGoesOn, CutIsOne, CutStays, FaultIsOne, FaultStays, HeldIsUnfinished, NoReplyBeginsAnother, ReadIsCut, ReplyHasNoFault, UnfinishedHasNoFault, UnfinishedHasNoReply, WrittenIsRead};
 
 /// What is written is read again as the same reply.
 pub fn written_is_read()
@@ -11,15 +11,31 @@ pub fn no_reply_begins_another()
     ensures { NoReplyBeginsAnother }
 {}
 
-/// Where octets begin replies as they are written, what is cut from the octets is a beginning of those replies, and the
-/// rest has no fault.
+/// Where octets begin replies as they are written, what is cut from the octets is a beginning of
+/// those replies, and the rest has no fault.
 pub fn beginning_is_cut()
     ensures { BeginningIsCut }
 {}
 
-/// Octets are cut into replies in one way, up to a rest from which no reply can be cut.
+/// What a reader has used is cut into all its whole replies, and its rest is what it holds.
+pub fn read_is_cut()
+    ensures { ReadIsCut }
+{}
+
+/// Octets are cut into all their whole replies in one way.
 pub fn cut_is_one()
     ensures { CutIsOne }
+{}
+
+/// What comes behind replies comes behind their rest.
+pub fn cut_goes_on()
+    ensures { CutGoesOn }
+{}
+
+/// What is cut stays cut when more comes behind: the further replies are those of the rest and what
+/// came.
+pub fn cut_stays()
+    ensures { CutStays }
 {}
 
 /// Octets that begin with a reply have no fault.

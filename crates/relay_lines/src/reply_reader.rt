@@ -1,7 +1,8 @@
 ghost use Rattle.std.specs.Prelude.{◌≡◌, ◌<◌, ◌≤◌, ◌⊎◌, ℕ, List, [], ◌∷◌, ◌++◌, length, take, drop, Err, IfOk, IfErr, OnOk, OnErr, OnSome, MatchOption, IsTrue, true, false};
 ghost use Rattle.relay_octets.specs.Line.{crlf};
 ghost use Rattle.relay_lines.specs.Reply.{Reply as Coded, IsReply, SpellsLine, followed_lines, made_of};
-ghost use Rattle.relay_lines.specs.ReplyReading.{Breaks, HasFailed, HasFault, HasRead, GivesLines, HasCode, HasMade, HasNoCode, HoldsEnded, HoldsRest, IsNextLine, IsNoReplyLine, KeepsLine};
+ghost use Rattle.relay_lines.specs.ReplyReading.{Breaks, HasFault, IsNoReplyLine};
+ghost use Rattle.relay_lines.specs.ReplySteps.{HasFailed, HasRead, GivesLines, HasCode, HasMade, HasNoCode, HoldsEnded, HoldsRest, IsNextLine, KeepsLine};
 
 use crate::line_buffer::{LINE_LIMIT, LineBuffer};
 use crate::reply::{REPLY_LINES, Reply};
@@ -16,12 +17,12 @@ const CODE_LEN: usize = 3;
 /// Where the text of a line begins: behind the code, and a hyphen or a space.
 const TEXT_START: usize = 4;
 
-/// Why octets are no reply. A line is judged when it is whole, or has 2,048 octets and no end among them. Of two rules
-/// that it breaks the first of this list is answered.
+/// Why octets are no reply. A line is judged when it is whole, or has 2,048 octets and no end among
+/// them. Of two rules that it breaks the first of this list is answered.
 #[derive(Clone, Copy, Debug, PartialEq, Eq, Error)]
 pub enum ReplyFault {
-    /// The line begins with no code, or neither a hyphen nor a space follows that. Each call behind a fault answers
-    /// this too.
+    /// The line begins with no code, or neither a hyphen nor a space follows that. Each call behind
+    /// a fault answers this too.
     #[error("bad line in reply")]
     BadLine,
     /// The line has another code than the lines before it.
@@ -62,8 +63,8 @@ struct Front {
     is_last: bool,
 }
 
-/// A reader of replies (RFC 5321, section 4.2), which may come in any pieces. Of a line that isn't ended it holds 2,048
-/// octets at most.
+/// A reader of replies (RFC 5321, section 4.2), which may come in any pieces. Of a line that isn't
+/// ended it holds 2,048 octets at most.
 #[derive(Drop)]
 pub struct ReplyReader {
     alloc: Global,
@@ -90,8 +91,9 @@ impl ReplyReader {
         }
     }
 
-    /// Uses the next piece up to the end of a reply, and gives that reply, or uses all of the piece. The first fault is
-    /// answered by its kind. Behind a fault each call answers that the line is bad, and uses nothing.
+    /// Uses the next piece up to the end of a reply, and gives that reply, or uses all of the
+    /// piece. The first fault is answered by its kind. Behind a fault each call answers that the
+    /// line is bad, and uses nothing.
     pub fn feed(&mut self, piece: &[u8]) -> Result<ReplyCut, ReplyFault>
         ensures reads { IfOk result (λ cut. (octets : List ℕ) (replies : List Coded) (rest : List ℕ)
             → HasRead self.old octets replies rest
@@ -100,7 +102,8 @@ impl ReplyReader {
         ensures whole { IfOk result (λ cut. MatchOption cut.reply (cut.used ≡ length piece.now)
             (λ _. (0 < cut.used) × (cut.used ≤ length piece.now))) }
         ensures faults { IfErr result (λ fault. (octets : List ℕ) (replies : List Coded) (rest : List ℕ)
-            → HasRead self.old octets replies rest → (fault ≡ ReplyFault.NoMemory) ⊎ HasFault (rest ++ piece.now) fault) }
+            → HasRead self.old octets replies rest
+            → (fault ≡ ReplyFault.NoMemory) ⊎ HasFault (rest ++ piece.now) fault) }
         ensures failed { OnErr result (HasFailed self.new) }
         ensures again { HasFailed self.old → (result ≡ Err ReplyFault.BadLine) × (self.new ≡ self.old) }
     {
@@ -162,7 +165,8 @@ impl ReplyReader {
     /// Finds the fault of a line that has as many octets as a line may have, and no end.
     fn judge_part(&self) -> Result<(), ReplyFault>
         ensures ok { OnOk result (length self.now.line.kept < 2048) }
-        ensures err { IfErr result (λ fault. Breaks fault self.now.code self.now.lines.items self.now.line.kept) }
+        ensures err { IfErr result (λ fault.
+            Breaks fault self.now.code self.now.lines.items self.now.line.kept) }
         ensures long { OnErr result (2048 ≤ length self.now.line.kept) }
     {
         let octets = self.line.octets();
@@ -178,7 +182,8 @@ impl ReplyReader {
         ensures made { IfOk result (λ reply. (line : List ℕ) → HoldsEnded self.old line
             → HasMade self.new reply (followed_lines self.old.code self.old.lines.items ++ (line ++ crlf))) }
         ensures err { IfErr result (λ fault. (line : List ℕ) → HoldsEnded self.old line
-            → (fault ≡ ReplyFault.NoMemory) ⊎ Breaks fault self.old.code self.old.lines.items self.old.line.kept) }
+            → (fault ≡ ReplyFault.NoMemory)
+            ⊎ Breaks fault self.old.code self.old.lines.items self.old.line.kept) }
     {
         let front = self.judge(self.line.octets())?;
         self.keep_line(front.code)?;
@@ -195,8 +200,10 @@ impl ReplyReader {
 
     /// What stands in front of the line's text, where the line breaks no rule.
     fn judge(&self, line: &[u8]) -> Result<Front, ReplyFault>
-        ensures ok { IfOk result (λ front. IsNextLine self.now.code self.now.lines.items line.now front.code front.is_last) }
-        ensures err { IfErr result (λ fault. Breaks fault self.now.code self.now.lines.items line.now) }
+        ensures ok { IfOk result (λ front.
+            IsNextLine self.now.code self.now.lines.items line.now front.code front.is_last) }
+        ensures err { IfErr result (λ fault.
+            Breaks fault self.now.code self.now.lines.items line.now) }
     {
         let Some(front) = front_of(line) else {
             return Err(ReplyFault::BadLine);

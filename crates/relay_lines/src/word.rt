@@ -8,7 +8,8 @@ fn is_blank(octet: u8) -> bool
     octet == b' ' || octet == b'\t'
 }
 
-fn is_printable(octet: u8) -> bool
+/// Whether the octet is a printable one of ASCII, from the space to `~`.
+pub fn is_printable(octet: u8) -> bool
     ensures { result ≡ is_printable octet }
 {
     b' ' <= octet && octet <= b'~'
@@ -34,7 +35,8 @@ pub(crate) fn are_printable(text: &[u8]) -> bool
     text.iter().all(|octet| is_printable(*octet))
 }
 
-/// Whether each octet is one of a domain (RFC 5321, section 4.1.2): a letter, a digit, `-` or `.`, or `_`.
+/// Whether each octet is one of a domain (RFC 5321, section 4.1.2): a letter, a digit, `-` or `.`,
+/// or `_`.
 #[tactic(auto, unfolding(crate::specs::Word::are_domain_octets))]
 pub fn are_domain_octets(text: &[u8]) -> bool
     ensures { result ≡ are_domain_octets text.now }
@@ -89,7 +91,7 @@ fn space_len(text: &[u8]) -> usize
 
 /// What stands before the first space.
 #[tactic(auto, unfolding(crate::specs::Word::first_word))]
-pub(crate) fn first_word(text: &[u8]) -> &[u8]
+pub fn first_word(text: &[u8]) -> &[u8]
     ensures { result.now ≡ first_word text.now }
 {
     &text[..word_len(text)]
@@ -106,7 +108,7 @@ pub(crate) fn argument_of(text: &[u8]) -> &[u8]
 
 /// Whether the text is this word, in any letter case (RFC 5321, section 2.4).
 #[tactic(auto, unfolding(crate::specs::Word::is_word))]
-pub(crate) fn is_word(text: &[u8], word: &[u8]) -> bool
+pub fn is_word(text: &[u8], word: &[u8]) -> bool
     ensures { result ≡ is_word text.now word.now }
 {
     text.eq_ignore_ascii_case(word)
@@ -125,8 +127,8 @@ pub(crate) fn behind_keyword<'a>(keyword: &[u8], text: &'a [u8]) -> Option<&'a [
     }
 }
 
-/// Whether the text is an address literal (RFC 5321, section 4.1.3): `[`, then letters, digits, `-`, `.`, `_` and `:`,
-/// or none, then `]`.
+/// Whether the text is an address literal (RFC 5321, section 4.1.3): `[`, then letters, digits,
+/// `-`, `.`, `_` and `:`, or none, then `]`.
 #[tactic(auto, unfolding(crate::specs::Word::is_address_literal))]
 pub fn is_address_literal(text: &[u8]) -> bool
     ensures { result ≡ is_address_literal text.now }
@@ -137,8 +139,8 @@ pub fn is_address_literal(text: &[u8]) -> bool
     }
 }
 
-/// Whether the text is the word of HELO: 1 to 255 octets (RFC 5321, section 4.5.3.1.2), each of them one of a domain, or
-/// an address literal.
+/// Whether the text is the word of HELO: 1 to 255 octets (RFC 5321, section 4.5.3.1.2), each of
+/// them one of a domain, or an address literal.
 #[tactic(auto, unfolding(crate::specs::Word::is_host_word))]
 pub fn is_host_word(text: &[u8]) -> bool
     ensures { result ≡ is_host_word text.now }

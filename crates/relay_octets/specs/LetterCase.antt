@@ -1,4 +1,5 @@
--- Words in any letter case (RFC 5321, section 2.4): verbs and keywords are the same in upper and lower case.
+-- Words in any letter case (RFC 5321, section 2.4): verbs and keywords are the same in upper and
+-- lower case.
 use Rattle.std.specs.Prelude.{◌≡◌, ℕ, List, map}
 use Rattle.std.specs.Char.{to_ascii_lowercase}
 

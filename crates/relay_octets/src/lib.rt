@@ -1,4 +1,5 @@
-//! Octets of mail as every crate above sees them: line ends, lines, and rows of octets with a value of their own.
+//! Octets of mail as every crate above sees them: line ends, lines, and rows of octets with a value
+//! of their own.
 #![tactic(auto)]
 
 pub mod laws;

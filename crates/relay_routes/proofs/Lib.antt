@@ -1,4 +1,6 @@
 mod AddressLemmas
 mod RouteLemmas
+mod HopLemmas
 mod MemberLemmas
 mod ReadingLemmas
+pub mod Theorems

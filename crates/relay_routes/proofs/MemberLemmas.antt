@@ -6,15 +6,16 @@ use Rattle.std.proofs.lemmas.Bool.{cases_Bool, false≢true}
 use Rattle.std.proofs.lemmas.Option.{none-some, same_Some}
 use Rattle.toml.specs.Data.{Data, Members, no_members, member, string}
 use Rattle.relay_routes.specs.declared.hop.Hop.{Hop}
-use Rattle.relay_routes.specs.Value.{GivesSize, address_text}
+use Rattle.relay_envelope.specs.HostName.{IsHostName}
+use Rattle.relay_routes.specs.Value.{GivesHost, GivesSize, address_text}
 use Rattle.relay_routes.specs.Routes.{Agrees, AllAgree, HasOtherPlace, MayBeAdded, RefusesRoute, Route, RouteTable, entry_of, in_lower_case, place_of, with_route}
 use Rattle.relay_routes.specs.Document.{AreRoutes, GivesHop, GivesRoute, fault_of_routes}
-use Rattle.relay_routes.specs.Config.{ReadsOptional}
+use Rattle.relay_routes.specs.Config.{ReadsOptional, ReadsRequired}
 use Rattle.relay_routes.specs.declared.fault.ConfigFault.TheVariants.{BadValue, NoMemory}
 use Rattle.relay_routes.specs.declared.fault.RouteFault.{RouteFault}
 use Rattle.relay_routes.specs.declared.fault.RouteFault.TheVariants.{BadDomain, Repeated, SecondPlace, NoMemory as OutOfMemory}
 use Rattle.relay_routes.specs.declared.key.Key.{Key}
-use Rattle.relay_routes.specs.declared.key.Key.TheVariants.{Routes}
+use Rattle.relay_routes.specs.declared.key.Key.TheVariants.{Host, Routes}
 use Rattle.relay_routes.proofs.AddressLemmas.{address_is_one}
 use Rattle.relay_routes.proofs.RouteLemmas.{agree_with_one_more, bytes_same, place_here, place_behind}
 
@@ -161,3 +162,8 @@ size_in_range key default limit size None low high is =
     let same : size ≡ default = cc is in
     (omega arith, omega arith)
 size_in_range key default limit size (Some value) low high is = (is.1, is.2)
+
+-- a host that was read is a name
+pub host_is_name : (host : List ℕ) (found : Option Data) → ReadsRequired Host GivesHost found (Ok host) → IsHostName host
+host_is_name host None is = let no : ⊥ = cc in absurd no
+host_is_name host (Some value) is = is.1

@@ -1,10 +1,10 @@
 -- Where mail goes: the routes of a relay, and the next hop of a path.
-use Rattle.std.specs.Prelude.{◌≡◌, ◌≢◌, ℕ, ◌⊎◌, List, [], ◌∷◌, ◌++◌, map, codes, bytes_eq, Option, Some, None, IsSome, find, option_map}
+use Rattle.std.specs.Prelude.{◌≡◌, ◌≢◌, ℕ, ◌⊎◌, List, [], ◌∷◌, ◌++◌, map, codes, bytes_eq, Option, Some, None, IsSome, find, option_map, unwrap_or, if◌then◌else◌}
 use Rattle.std.specs.Char.{to_ascii_lowercase}
 use Rattle.std.specs.List.{AllByRecursion}
 use Rattle.std.specs.declared.net.socket_addr.SocketAddrV4.{SocketAddrV4}
 use Rattle.relay_envelope.specs.Mailbox.{IsDomain}
-use Rattle.relay_envelope.specs.Path.{Path, Null, Postmaster, Mailbox}
+use Rattle.relay_envelope.specs.Path.{Path, Null, Postmaster, Mailbox, IsPath, domain_in, path_text}
 use Rattle.relay_routes.specs.declared.hop.Hop.{Hop}
 use Rattle.relay_routes.specs.declared.fault.RouteFault.{RouteFault}
 use Rattle.relay_routes.specs.declared.fault.RouteFault.TheVariants.{BadDomain, Repeated, SecondPlace, NoMemory}
@@ -41,6 +41,12 @@ abbrev pub hop_of : RouteTable → Path → Option Hop
 hop_of table Null = None
 hop_of table (Postmaster word) = hop_for table.routes table.host
 hop_of table (Mailbox source_route local domain) = hop_for table.routes domain
+
+-- the next hop of a path as it is stored: `<>` has none; else that of its domain, and where it has none that of the relay's
+-- own name
+abbrev pub hop_at : RouteTable → List ℕ → Option Hop
+hop_at table path =
+    if bytes_eq path (codes "<>") then None else hop_for table.routes (unwrap_or (domain_in path) table.host)
 
 -- a route is for a domain, or for any
 abbrev pub IsRouteDomain : List ℕ → Type 0
@@ -91,3 +97,13 @@ RefusesRoute Repeated routes domain hop = IsRouteDomain domain × IsSome (entry_
 RefusesRoute SecondPlace routes domain hop =
     IsRouteDomain domain × (entry_of routes (in_lower_case domain) ≡ None) × HasOtherPlace routes hop
 RefusesRoute NoMemory routes domain hop = IsRouteDomain domain
+
+-- The hop of a path as it is stored is the path's.
+abbrev pub HopAtIsHopOf : Type 0
+HopAtIsHopOf = (table : RouteTable) (path : Path) → IsPath path → hop_at table (path_text path) ≡ hop_of table path
+
+-- One name has one place: that of each hop with this name.
+abbrev pub HopHasItsPlace : Type 0
+HopHasItsPlace =
+    (table : RouteTable) (path : List ℕ) (hop : Hop) → AllAgree table.routes → hop_at table path ≡ Some hop
+    → place_of table.routes hop.name ≡ Some hop.at

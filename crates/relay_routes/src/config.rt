@@ -100,7 +100,7 @@ impl Config {
     }
 }
 
-/// Whether the sizes lie in their ranges, and the routes are those of this host.
+/// Whether the sizes lie in their ranges, and the routes are those of this host, which is named.
 fn is_config(host: &HostName, max_content: usize, spool_limit: u64, routes: &Table) -> bool
     ensures { IsTrue result ↔ IsConfig host.now max_content spool_limit routes.now }
 {

@@ -1,7 +1,24 @@
-//! What is true of the texts of configurations, whoever reads them.
+//! What is true of configurations and routes, whoever reads them.
 ghost use Rattle.relay_routes.specs.ConfigLaws.{OneReading};
+ghost use Rattle.relay_routes.specs.Routes.{HopAtIsHopOf, HopHasItsPlace};
+ghost use Rattle.relay_routes.specs.Settings.{ConfigIsNamed};
 
 /// A text says one configuration, or has one first fault, and not both.
 pub fn one_reading()
     ensures { OneReading }
+{}
+
+/// A configuration names its host.
+pub fn config_is_named()
+    ensures { ConfigIsNamed }
+{}
+
+/// The hop of a path as it is stored is the path's.
+pub fn hop_at_is_hop_of()
+    ensures { HopAtIsHopOf }
+{}
+
+/// One name has one place: that of each hop with this name.
+pub fn hop_has_its_place()
+    ensures { HopHasItsPlace }
 {}

@@ -1,14 +1,12 @@
 ghost use Rattle.std.specs.Prelude.{◌≡◌, ◌≢◌, ◌↔◌, ◌≤◌, ◌<◌, [], None, Some, IsTrue, IsErrOf, IsSome, IfErr, OnOk, OnErr, MatchBool, length, option_copied};
-ghost use Rattle.relay_envelope.specs.Mailbox.{IsDomain, IsDomainName};
 ghost use Rattle.relay_envelope.specs.Path.{value_of};
-ghost use Rattle.relay_routes.specs.Routes.{HasNoOtherPlace, HasOtherPlace, IsRouteDomain, MayBeAdded, RefusesRoute, entry_of, hop_for, hop_of, with_lowered, with_route};
+ghost use Rattle.relay_routes.specs.Routes.{AllAgree, HasNoOtherPlace, HasOtherPlace, IsRouteDomain, MayBeAdded, RefusesRoute, entry_of, hop_at, hop_for, hop_of, place_of, with_lowered, with_route};
 
 use crate::fault::RouteFault;
 use crate::hop::Hop;
 use crate::host_name::HostName;
 use indexmap::IndexMap;
-use relay_envelope::{Path, domain_of};
-use relay_lines::word::{are_domain_octets, is_address_literal};
+use relay_envelope::{Path, PathBuf, domain_in, domain_of, is_domain};
 use std::alloc::{AllocError, Global};
 use std::marker::Model;
 use std::net::SocketAddrV4;
@@ -92,6 +90,31 @@ impl Table {
         }
     }
 
+    /// The next hop of a path as it is stored: that of [`Table::hop`] for the path. It takes no memory.
+    pub fn hop_at(&self, path: &PathBuf) -> Option<&Hop>
+        ensures { option_copied result ≡ hop_at self.now path.now }
+    {
+        let text = path.as_slice();
+        if text == b"<>".as_slice() {
+            return None;
+        }
+        match domain_in(text) {
+            Some(domain) => self.hop_for(domain),
+            None => self.hop_for(self.host.as_slice()),
+        }
+    }
+
+    /// Where the hop of this name is: one name has one place. It takes no memory.
+    pub fn place_of(&self, name: &[u8]) -> Option<SocketAddrV4>
+        ensures value { result ≡ place_of self.now.routes name.now }
+        ensures agree { AllAgree self.now.routes }
+    {
+        match self.places.get(name) {
+            Some(place) => Some(*place),
+            None => None,
+        }
+    }
+
     /// Adds a route that agrees with the others. Where memory runs out, none is added.
     fn insert(&mut self, alloc: Global, domain: Vec<u8>, hop: Hop) -> Result<(), AllocError>
         requires domain { entry_of self.old.routes domain.items ≡ None }
@@ -111,8 +134,8 @@ impl Table {
     fn has_other_place(&self, hop: &Hop) -> bool
         ensures { MatchBool result (HasOtherPlace self.now.routes hop.now) (HasNoOtherPlace self.now.routes hop.now) }
     {
-        match self.places.get(hop.name.as_slice()) {
-            Some(place) => *place != hop.at,
+        match self.place_of(hop.name.as_slice()) {
+            Some(place) => place != hop.at,
             None => false,
         }
     }
@@ -145,18 +168,4 @@ pub(crate) fn is_route_domain(domain: &[u8]) -> bool
     ensures { IsTrue result ↔ IsRouteDomain domain.now }
 {
     domain == b"*".as_slice() || is_domain(domain)
-}
-
-/// A domain, or an address literal.
-fn is_domain(domain: &[u8]) -> bool
-    ensures { IsTrue result ↔ IsDomain domain.now }
-{
-    is_domain_name(domain) || is_address_literal(domain)
-}
-
-/// A domain is not empty, and has letters, digits, `-`, `.` and `_` alone.
-fn is_domain_name(domain: &[u8]) -> bool
-    ensures { IsTrue result ↔ IsDomainName domain.now }
-{
-    !domain.is_empty() && are_domain_octets(domain)
 }

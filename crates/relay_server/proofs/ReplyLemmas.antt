@@ -39,8 +39,7 @@ use Rattle.relay_server.proofs.UnitLemmas.{one_command_unit}
 -- a line without a CR makes a reply
 line_is_reply : (code : ℕ) (text : List ℕ) → 200 ≤ code → code < 600 → stands_in 13 text ≡ false → length text ≤ 2042 → IsReply (one_line code text)
 line_is_reply code text low high none short = record {
-  code_low = low;
-  code_high = high;
+  code_is = record { low = low; high = high };
   some_line = omega arith;
   few_lines = omega arith;
   each = (record { line = no_crlf_without_cr text none; short = short }, tt);
@@ -68,8 +67,7 @@ row_is_reply host Hello name h =
 row_is_reply host Extensions name h =
     let few = name.few_octets in
     record {
-      code_low = omega arith;
-      code_high = omega arith;
+      code_is = record { low = omega arith; high = omega arith };
       some_line = omega arith;
       few_lines = omega arith;
       each = (

@@ -2,7 +2,7 @@
 use Rattle.std.proofs.Common.{◌≡◌, ◌≢◌, ℕ, suc, ◌+◌, ◌<◌, ◌≤◌, min, List, [], ◌∷◌, ◌++◌, length, take, drop, slice_index, refl, sym, ap, ◌∙◌, inl, inr, ⊎_elim, arith, append_assoc, length-append, length-take, get_or-take}
 use Rattle.std.proofs.lemmas.List.{take_at, drop_at, take-take, get_or_at}
 use Rattle.std.proofs.lemmas.Bool.{cases_eq}
-use Rattle.relay_disk.specs.Device.{written, Writes, WritesLeaveTheRest}
+use Rattle.relay_disk.specs.Device.{DiskWords, written, Writes, WritesLeaveTheRest}
 use Rattle.relay_spool.specs.Image.{IsFront, IsImageOf, HasBodies, size_of}
 use Rattle.relay_spool.specs.Spool.{IsBeforeOrWith, AtEachMoment}
 use Rattle.relay_spool.proofs.RunLemmas.{weakened}
@@ -140,19 +140,19 @@ opened image bodies place tail body ready is_tail =
     (opens_at image place low)
     (behind_at image place low ∙ ready.behind)
 
-module _ {D : Type 0} (may_leave : D → List ℕ → Type 0) (moment : D → ℕ) (left_since : D → ℕ → List ℕ → Type 0) where
+module _ {D : Type 0} (words : DiskWords D) where
   -- while the tail is written
   pub tail_run : WritesLeaveTheRest → (old new : D) (image : List ℕ) (bodies : List (List ℕ)) (place count : ℕ) (body : List ℕ) → Gate image bodies place
-      → AtEachMoment may_leave moment left_since old new (Writes (place + 1) count image)
-      → AtEachMoment may_leave moment left_since old new (HasBodies (IsBeforeOrWith bodies body))
+      → AtEachMoment words old new (Writes (place + 1) count image)
+      → AtEachMoment words old new (HasBodies (IsBeforeOrWith bodies body))
   tail_run law old new image bodies place count body gate =
-      weakened may_leave moment left_since old new (Writes (place + 1) count image) (HasBodies (IsBeforeOrWith bodies body))
+      weakened words old new (Writes (place + 1) count image) (HasBodies (IsBeforeOrWith bodies body))
       (λ other writes. (bodies, behind_the_gate law image other bodies place count gate writes, inl refl))
 
   -- while the gate is written
   pub gate_run : WritesLeaveTheRest → (old new : D) (image : List ℕ) (bodies : List (List ℕ)) (place : ℕ) (tail body : List ℕ) → Ready image bodies place tail → IsTail tail body
-      → AtEachMoment may_leave moment left_since old new (Writes place 1 image)
-      → AtEachMoment may_leave moment left_since old new (HasBodies (IsBeforeOrWith bodies body))
+      → AtEachMoment words old new (Writes place 1 image)
+      → AtEachMoment words old new (HasBodies (IsBeforeOrWith bodies body))
   gate_run law old new image bodies place tail body ready is_tail =
-      weakened may_leave moment left_since old new (Writes place 1 image) (HasBodies (IsBeforeOrWith bodies body))
+      weakened words old new (Writes place 1 image) (HasBodies (IsBeforeOrWith bodies body))
       (λ other writes. at_the_gate law image other bodies place tail body ready is_tail writes)

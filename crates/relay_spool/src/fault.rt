@@ -22,9 +22,19 @@ pub enum SpoolFault {
     /// The disk holds octets, and nothing has changed.
     #[error("not empty")]
     NotEmpty,
-    /// The spool would pass 2^40 octets, and nothing has changed.
+    /// The spool would pass 2^40 octets, and nothing has changed; or the disk holds one that does.
     #[error("full")]
     Full,
+}
+
+/// Why a reader of a disk has stopped.
+#[derive(Clone, Copy, Drop)]
+pub(crate) enum ReadFault {
+    /// The device failed, and the disk has counted it.
+    Device,
+    NoMemory,
+    /// The gate at this place is open, and its length, its body or the next gate passes the end.
+    Damaged(usize),
 }
 
 /// A disk that no spool was made of, with the reason.
@@ -64,5 +74,53 @@ impl<T: Drop> From<AllocFailed<T>> for SpoolFault {
 
     fn from(_fault: AllocFailed<T>) -> SpoolFault {
         SpoolFault::NoMemory
+    }
+}
+
+impl From<DiskFault> for ReadFault {
+    ghost use Rattle.std.specs.Prelude.{◌≡◌};
+    ghost use Rattle.relay_spool.specs.declared.fault.ReadFault.TheVariants.{Device};
+
+    ghost from_gives = { λ _ fault. fault ≡ Device };
+
+    fn from(_fault: DiskFault) -> ReadFault {
+        ReadFault::Device
+    }
+}
+
+impl From<AllocError> for ReadFault {
+    ghost use Rattle.std.specs.Prelude.{◌≡◌};
+    ghost use Rattle.relay_spool.specs.declared.fault.ReadFault.TheVariants.{NoMemory};
+
+    ghost from_gives = { λ _ fault. fault ≡ NoMemory };
+
+    fn from(_fault: AllocError) -> ReadFault {
+        ReadFault::NoMemory
+    }
+}
+
+impl<T: Drop> From<AllocFailed<T>> for ReadFault {
+    ghost use Rattle.std.specs.Prelude.{◌≡◌};
+    ghost use Rattle.relay_spool.specs.declared.fault.ReadFault.TheVariants.{NoMemory};
+
+    ghost from_gives = { λ _ fault. fault ≡ NoMemory };
+
+    fn from(_fault: AllocFailed<T>) -> ReadFault {
+        ReadFault::NoMemory
+    }
+}
+
+impl From<ReadFault> for SpoolFault {
+    ghost use Rattle.std.specs.Prelude.{◌≡◌};
+    ghost use Rattle.relay_spool.specs.Spool.{fault_of};
+
+    ghost from_gives = { λ read fault. fault ≡ fault_of read };
+
+    fn from(fault: ReadFault) -> SpoolFault {
+        match fault {
+            ReadFault::Device => SpoolFault::Device,
+            ReadFault::NoMemory => SpoolFault::NoMemory,
+            ReadFault::Damaged(gate) => SpoolFault::Damaged(gate),
+        }
     }
 }

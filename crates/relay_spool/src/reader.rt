@@ -1,8 +1,8 @@
 // A disk read in order, in large blocks.
 ghost use Rattle.std.specs.Prelude.{◌≡◌, ◌+◌, ◌-◌, ◌<◌, ◌≤◌, length};
 
-use crate::SpoolFault;
-use relay_disk::{Disk, DiskFault};
+use crate::fault::ReadFault;
+use relay_disk::Disk;
 use std::alloc::{AllocError, Global};
 
 /// How many octets a call of the device reads, but for the last one.
@@ -24,15 +24,14 @@ pub(crate) struct Reader {
 }
 
 impl Reader {
-    ghost use Rattle.std.specs.Prelude.{ℕ, List, [], ◌∷◌, ◌++◌, drop, IfOk, IfErr, OnOk, MatchResult};
-    ghost use Rattle.relay_disk.specs.Device.{CountsFailure};
-    ghost use Rattle.relay_spool.specs.Blocks.{IsAt, IsNoReading, Lies, held_count};
-    ghost use Rattle.relay_spool.specs.Spool.{FailsBy, Keeps};
+    ghost use Rattle.std.specs.Prelude.{ℕ, List, [], ◌∷◌, ◌++◌, drop, IfOk, IfErr, OnOk};
+    ghost use Rattle.relay_spool.specs.Blocks.{GoesOn, IsAt, IsNoReading, Lies, held_count};
 
     /// A reader at the start of a disk of this size.
     pub(crate) fn new(alloc: Global, size: usize) -> Result<Reader, AllocError>
         ensures start { IfOk result (λ reader. (reader.place ≡ 0) × (reader.size ≡ size)) }
-        ensures at { IfOk result (λ reader. (image : List ℕ) → size ≡ length image → IsAt image reader) }
+        ensures at { IfOk result
+            (λ reader. (image : List ℕ) → size ≡ length image → IsAt image reader) }
     {
         let block = vec![in alloc; 0; size.min(BLOCK)]?;
         let used = block.len();
@@ -45,15 +44,14 @@ impl Reader {
     }
 
     /// The next octet.
-    pub(crate) fn next<D: Disk>(&mut self, disk: &mut D) -> Result<u8, DiskFault>
+    pub(crate) fn next<D: Disk>(&mut self, disk: &mut D) -> Result<u8, ReadFault>
         requires more { self.old.place < self.old.size }
-        requires at { D.honest → IsAt (D.seen disk.old) self.old }
+        requires at { D.honest → IsAt (D.words.seen disk.old) self.old }
         ensures octet { D.honest → IfOk result
-            (λ octet. Lies (D.seen disk.old) self.old.place self.new.place (octet ∷ [])) }
-        ensures place { (self.new.size ≡ self.old.size) × OnOk result (self.new.place ≡ self.old.place + 1) }
-        ensures at { D.honest → OnOk result (IsAt (D.seen disk.old) self.new) }
-        ensures keeps { D.honest → Keeps D.seen D.may_leave D.moment D.left_since disk.old disk.new }
-        ensures failures { CountsFailure (D.failed disk.old) (D.failed disk.new) result }
+            (λ octet. Lies (D.words.seen disk.old) self.old.place self.new.place (octet ∷ [])) }
+        ensures place { OnOk result (self.new.place ≡ self.old.place + 1) }
+        ensures refused { IfErr result IsNoReading }
+        ensures goes_on { GoesOn D.honest D.words disk.old disk.new self.old self.new result }
     {
         self.fill(disk)?;
         let octet = self.block[self.used];
@@ -68,18 +66,15 @@ impl Reader {
         alloc: Global,
         disk: &mut D,
         count: usize,
-    ) -> Result<Vec<u8>, SpoolFault>
+    ) -> Result<Vec<u8>, ReadFault>
         requires more { self.old.place + count ≤ self.old.size }
-        requires at { D.honest → IsAt (D.seen disk.old) self.old }
+        requires at { D.honest → IsAt (D.words.seen disk.old) self.old }
         ensures octets { D.honest → IfOk result
-            (λ octets. Lies (D.seen disk.old) self.old.place self.new.place octets.items) }
-        ensures place { (self.new.size ≡ self.old.size) × IfOk result
+            (λ octets. Lies (D.words.seen disk.old) self.old.place self.new.place octets.items) }
+        ensures place { IfOk result
             (λ octets. (self.new.place ≡ self.old.place + count) × (length octets.items ≡ count)) }
-        ensures at { D.honest → OnOk result (IsAt (D.seen disk.old) self.new) }
         ensures refused { IfErr result IsNoReading }
-        ensures keeps { D.honest → Keeps D.seen D.may_leave D.moment D.left_since disk.old disk.new }
-        ensures failures { MatchResult result (λ _. D.failed disk.new ≡ D.failed disk.old)
-            (FailsBy (D.failed disk.old) (D.failed disk.new)) }
+        ensures goes_on { GoesOn D.honest D.words disk.old disk.new self.old self.new result }
     {
         let mut octets = Vec::with_capacity(alloc, count)?;
         while octets.len() < count {
@@ -98,7 +93,8 @@ impl Reader {
         ensures place { (self.new.size ≡ self.old.size) × OnOk result
             (self.new.place + length octets.old.items ≡ self.old.place + length octets.new.items) }
         ensures count { OnOk result (length octets.new.items ≤ length octets.old.items + most) }
-        ensures some { OnOk result (0 < most → 0 < held_count self.old → self.old.place < self.new.place) }
+        ensures some { OnOk result
+            (0 < most → 0 < held_count self.old → self.old.place < self.new.place) }
     {
         let count = most.min(self.block.len() - self.used);
         octets.extend_from_slice(&self.block[self.used..self.used + count])?;
@@ -108,14 +104,13 @@ impl Reader {
     }
 
     /// Sees that an octet is held.
-    fn fill<D: Disk>(&mut self, disk: &mut D) -> Result<(), DiskFault>
+    fn fill<D: Disk>(&mut self, disk: &mut D) -> Result<(), ReadFault>
         requires more { self.old.place < self.old.size }
-        requires at { D.honest → IsAt (D.seen disk.old) self.old }
+        requires at { D.honest → IsAt (D.words.seen disk.old) self.old }
         ensures held { OnOk result (0 < held_count self.new) }
-        ensures place { (self.new.place ≡ self.old.place) × (self.new.size ≡ self.old.size) }
-        ensures at { D.honest → OnOk result (IsAt (D.seen disk.old) self.new) }
-        ensures keeps { D.honest → Keeps D.seen D.may_leave D.moment D.left_since disk.old disk.new }
-        ensures failures { CountsFailure (D.failed disk.old) (D.failed disk.new) result }
+        ensures place { self.new.place ≡ self.old.place }
+        ensures refused { IfErr result IsNoReading }
+        ensures goes_on { GoesOn D.honest D.words disk.old disk.new self.old self.new result }
     {
         if self.used < self.block.len() {
             return Ok(());
@@ -124,14 +119,13 @@ impl Reader {
     }
 
     /// Reads the next block, where none is held.
-    fn read<D: Disk>(&mut self, disk: &mut D) -> Result<(), DiskFault>
+    fn read<D: Disk>(&mut self, disk: &mut D) -> Result<(), ReadFault>
         requires more { self.old.place < self.old.size }
-        requires size { D.honest → self.old.size ≡ length (D.seen disk.old) }
+        requires size { D.honest → self.old.size ≡ length (D.words.seen disk.old) }
         ensures held { OnOk result (0 < held_count self.new) }
-        ensures place { (self.new.place ≡ self.old.place) × (self.new.size ≡ self.old.size) }
-        ensures at { D.honest → OnOk result (IsAt (D.seen disk.old) self.new) }
-        ensures keeps { D.honest → Keeps D.seen D.may_leave D.moment D.left_since disk.old disk.new }
-        ensures failures { CountsFailure (D.failed disk.old) (D.failed disk.new) result }
+        ensures place { self.new.place ≡ self.old.place }
+        ensures refused { IfErr result IsNoReading }
+        ensures goes_on { GoesOn D.honest D.words disk.old disk.new self.old self.new result }
     {
         self.block.truncate(self.size - self.place);
         self.used = self.block.len();

@@ -12,7 +12,8 @@ some_octets [] some = absurd (some refl)
 some_octets (octet ∷ line) some = omega arith
 
 -- a text that begins with lines begins with the first
-reads_first : (line : List ℕ) (lines : List (List ℕ)) (rest : List ℕ) → HasNoCrlf line → ReadsLine (lines_text (line ∷ lines) ++ rest) line (lines_text lines ++ rest)
+reads_first : (line : List ℕ) (lines : List (List ℕ)) (rest : List ℕ) → HasNoCrlf line
+    → ReadsLine (lines_text (line ∷ lines) ++ rest) line (lines_text lines ++ rest)
 reads_first line lines rest none = record {
   text = append_assoc (line ++ crlf) (lines_text lines) rest;
   first = none;
@@ -29,7 +30,8 @@ header_goes_on (line ∷ lines) rest each =
     let end = header_end_of-line text line (lines_text lines ++ rest) some reads in
     let counts = sum_by-cons (λ l. cond (is_received l) 1 0) line lines in
     let size : length (lines_text (line ∷ lines)) ≡ length line + 2 + length (lines_text lines) =
-    length-append (line ++ crlf) (lines_text lines) ∙ ap (λ n. n + length (lines_text lines)) (length-append line crlf) in
+    length-append (line ++ crlf) (lines_text lines)
+    ∙ ap (λ n. n + length (lines_text lines)) (length-append line crlf) in
     (omega (arith, later.0), omega (arith, later.1))
 
 reads_empty : (rest : List ℕ) → ReadsLine (crlf ++ rest) [] rest

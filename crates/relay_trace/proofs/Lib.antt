@@ -6,4 +6,5 @@ mod LawLemmas
 mod LinesLemmas
 mod DateTextLemmas
 mod EndLemmas
+mod ShortLemmas
 pub mod Theorems

@@ -15,7 +15,8 @@ unfoldable pub joined : List ℕ → List (List ℕ) → List ℕ
 joined line [] = line
 joined line (next ∷ more) = line ++ (crlf ++ joined next more)
 
-joined-crlf : (line : List ℕ) (lines : List (List ℕ)) → joined line lines ++ crlf ≡ lines_text (line ∷ lines)
+joined-crlf : (line : List ℕ) (lines : List (List ℕ))
+    → joined line lines ++ crlf ≡ lines_text (line ∷ lines)
 unfolding joined
 joined-crlf line [] = sym (append-nil (line ++ crlf))
 joined-crlf line (next ∷ more) =
@@ -23,14 +24,17 @@ joined-crlf line (next ∷ more) =
     ∙ ap (λ l. line ++ (crlf ++ l)) (joined-crlf next more)
     ∙ sym (append_assoc line crlf (lines_text (next ∷ more)))
 
-lines_of-joined : (line : List ℕ) (lines : List (List ℕ)) → AreLines (line ∷ lines) → lines_of (joined line lines) ≡ line ∷ lines
+lines_of-joined : (line : List ℕ) (lines : List (List ℕ)) → AreLines (line ∷ lines)
+    → lines_of (joined line lines) ≡ line ∷ lines
 unfolding joined
 lines_of-joined line [] each = lines_of-last line each.0
 lines_of-joined line (next ∷ more) each =
     lines_of-line line (joined next more) each.0 ∙ ap (λ l. line ∷ l) (lines_of-joined next more each.1)
 
 -- a text as its first line and the others
-pub split_lines : (text : List ℕ) (lines : List (List ℕ)) → HasLines text lines → (line : List ℕ) × (rest : List (List ℕ)) × AreLines (line ∷ rest) × (text ≡ joined line rest) × (lines ≡ line ∷ rest)
+pub split_lines : (text : List ℕ) (lines : List (List ℕ)) → HasLines text lines
+    → (line : List ℕ) × (rest : List (List ℕ)) × AreLines (line ∷ rest) ×
+    (text ≡ joined line rest) × (lines ≡ line ∷ rest)
 split_lines text [] has =
     let size = length-append text crlf in
     let none = ap length has.text_is in
@@ -44,7 +48,9 @@ only_lines text lines has =
     split.4 ∙ sym (ap lines_of split.3 ∙ lines_of-joined split.0 split.1 split.2)
 
 -- with an octet in front that begins no CR LF
-with_octet : (octet next : ℕ) (rest : List ℕ) (lines : List (List ℕ)) → (octet == 13 && next == 10) ≡ false → HasLines (next ∷ rest) lines → HasLines (octet ∷ next ∷ rest) (before_lines octet lines)
+with_octet : (octet next : ℕ) (rest : List ℕ) (lines : List (List ℕ))
+    → (octet == 13 && next == 10) ≡ false → HasLines (next ∷ rest) lines
+    → HasLines (octet ∷ next ∷ rest) (before_lines octet lines)
 with_octet octet next rest [] none has =
     let size = ap length has.text_is in
     absurd (omega arith)
@@ -64,16 +70,23 @@ with_octet octet next rest ((first ∷ line) ∷ lines) none has = record {
 
 pub has_lines : (text : List ℕ) → HasLines text (lines_of text)
 has_lines [] = subst (HasLines []) (sym lines_of-nil) (record { text_is = refl; each = (no_crlf_nil, tt) })
-has_lines (octet ∷ []) = subst (HasLines (octet ∷ [])) (sym (lines_of-one octet)) (record { text_is = refl; each = (no_crlf_one octet, tt) })
+has_lines (octet ∷ []) =
+    subst (HasLines (octet ∷ [])) (sym (lines_of-one octet))
+    (record { text_is = refl; each = (no_crlf_one octet, tt) })
 has_lines (octet ∷ next ∷ rest) =
     elim (cases_Bool (octet == 13 && next == 10)) [
       | inl here ↦
           let parts = and_parts (octet == 13) (next == 10) here in
-          let text_is : octet ∷ next ∷ rest ≡ crlf ++ rest = ap (λ o. o ∷ next ∷ rest) (eqb-true octet 13 parts.0) ∙ ap (λ o. 13 ∷ o ∷ rest) (eqb-true next 10 parts.1) in
-          let has : HasLines (crlf ++ rest) ([] ∷ lines_of rest) = record { text_is = ap (λ l. crlf ++ l) (has_lines rest).text_is; each = (no_crlf_nil, (has_lines rest).each) } in
-          subst (λ text. HasLines text (lines_of text)) (sym text_is) (subst (HasLines (crlf ++ rest)) (sym (lines_of-crlf rest)) has)
+          let text_is : octet ∷ next ∷ rest ≡ crlf ++ rest =
+          ap (λ o. o ∷ next ∷ rest) (eqb-true octet 13 parts.0)
+          ∙ ap (λ o. 13 ∷ o ∷ rest) (eqb-true next 10 parts.1) in
+          let has : HasLines (crlf ++ rest) ([] ∷ lines_of rest) =
+          record { text_is = ap (λ l. crlf ++ l) (has_lines rest).text_is; each = (no_crlf_nil, (has_lines rest).each) } in
+          subst (λ text. HasLines text (lines_of text)) (sym text_is)
+          (subst (HasLines (crlf ++ rest)) (sym (lines_of-crlf rest)) has)
       | inr elsewhere ↦
-          subst (HasLines (octet ∷ next ∷ rest)) (sym (lines_of-octet octet next rest elsewhere)) (with_octet octet next rest (lines_of (next ∷ rest)) elsewhere (has_lines (next ∷ rest)))
+          subst (HasLines (octet ∷ next ∷ rest)) (sym (lines_of-octet octet next rest elsewhere))
+          (with_octet octet next rest (lines_of (next ∷ rest)) elsewhere (has_lines (next ∷ rest)))
     ]
 
 pub lines_are_one : LinesAreOne
@@ -85,15 +98,19 @@ tested_received line test = record {
   name = take 9 line;
   rest = drop 9 line;
   line_is = sym (take-append-drop 9 line);
-  same = (bytes_eq-Decides (map to_ascii_lowercase (take 9 line)) (map to_ascii_lowercase (codes "Received:"))).0 test;
+  same =
+      (bytes_eq-Decides (map to_ascii_lowercase (take 9 line)) (map to_ascii_lowercase (codes "Received:"))).0 test;
 }
 
 received_tested : (line : List ℕ) → BeginsWithReceived line → is_received line ≡ true
 unfolding is_received
 received_tested line begins =
-    let size : length begins.name ≡ 9 = sym (length-map begins.name to_ascii_lowercase) ∙ ap length begins.same in
-    let front : take 9 line ≡ begins.name = ap (take 9) begins.line_is ∙ take_at begins.name begins.rest 9 size in
-    (bytes_eq-Decides (map to_ascii_lowercase (take 9 line)) (map to_ascii_lowercase (codes "Received:"))).1 (ap (map to_ascii_lowercase) front ∙ begins.same)
+    let size : length begins.name ≡ 9 =
+    sym (length-map begins.name to_ascii_lowercase) ∙ ap length begins.same in
+    let front : take 9 line ≡ begins.name =
+    ap (take 9) begins.line_is ∙ take_at begins.name begins.rest 9 size in
+    (bytes_eq-Decides (map to_ascii_lowercase (take 9 line)) (map to_ascii_lowercase (codes "Received:"))).1
+    (ap (map to_ascii_lowercase) front ∙ begins.same)
 
 pub received_is_tested : ReceivedIsTested
 received_is_tested line = (tested_received line, received_tested line)

@@ -1,5 +1,6 @@
 -- The time stamp line: what its writes leave, and its lines.
 use Rattle.std.proofs.Common.{◌≡◌, ℕ, zero, suc, ◌+◌, ◌-◌, ◌^◌, ◌<◌, ◌/◌, ◌%◌, Bool, true, false, not, ◌&&◌, ◌||◌, ◌==◌, cond, List, [], ◌∷◌, ◌++◌, length, take, inl, inr, refl, sym, ap, ◌∙◌, subst, arith, get_or, append_assoc, append-nil, unsigned_abs}
+use Rattle.std.proofs.Math.Bool.{and-false}
 use Rattle.std.proofs.lemmas.Bool.{cases_Bool, and_parts, eqb-true}
 use Rattle.std.proofs.lemmas.Fmt.{decimal_is_IsNumeral}
 use Rattle.std.proofs.lemmas.List.Folds.{list_all-append}
@@ -21,7 +22,8 @@ use Rattle.relay_trace.proofs.DateTextLemmas.{date_text_is_one}
 use Rattle.relay_trace.proofs.LawLemmas.{header_goes_on, header_ends_with_text}
 
 -- what five writes leave, the last of two parts
-pub five_written : (old s1 s2 s3 s4 s5 a b c d e f : List ℕ) → s1 ≡ old ++ a → s2 ≡ s1 ++ b → s3 ≡ s2 ++ c → s4 ≡ s3 ++ d → s5 ≡ s4 ++ (e ++ f) → s5 ≡ old ++ (a ++ b ++ c ++ d ++ e ++ f)
+pub five_written : (old s1 s2 s3 s4 s5 a b c d e f : List ℕ) → s1 ≡ old ++ a → s2 ≡ s1 ++ b
+    → s3 ≡ s2 ++ c → s4 ≡ s3 ++ d → s5 ≡ s4 ++ (e ++ f) → s5 ≡ old ++ (a ++ b ++ c ++ d ++ e ++ f)
 five_written old s1 s2 s3 s4 s5 a b c d e f e1 e2 e3 e4 e5 =
     let t2 = e2 ∙ ap (λ l. l ++ b) e1 in
     let t3 = e3 ∙ ap (λ l. l ++ c) t2 in
@@ -44,7 +46,8 @@ both {front} {back} one two = record {
   test = list_all-append is_no_lf front back ∙ both_true _ _ one.test two.test;
 }
 
-no_lf_first : (octet : ℕ) (text : List ℕ) → list_all is_no_lf (octet ∷ text) ≡ true → begins_with_lf (octet ∷ text) ≡ false
+no_lf_first : (octet : ℕ) (text : List ℕ) → list_all is_no_lf (octet ∷ text) ≡ true
+    → begins_with_lf (octet ∷ text) ≡ false
 unfolding is_no_lf
 no_lf_first octet text free =
     elim (cases_Bool (octet == 10)) [
@@ -53,10 +56,6 @@ no_lf_first octet text free =
           let e : false ≡ true = ap not (sym here) ∙ parts.0 in cc
       | inr elsewhere ↦ elsewhere
     ]
-
-and-false : (b : Bool) → b && false ≡ false
-and-false true = refl
-and-false false = refl
 
 no_lf_no_crlf : (text : List ℕ) → list_all is_no_lf text ≡ true → has_crlf text ≡ false
 no_lf_no_crlf [] free = refl
@@ -103,10 +102,14 @@ two_digits_free number = record {
   test = both_true _ _ (above_free (number / 10)) (both_true _ _ (above_free (number % 10)) refl);
 }
 
-names_free : (names : List (List ℕ)) (place : ℕ) → list_all (list_all is_no_lf) names ≡ true → list_all is_no_lf (get_or names place []) ≡ true
+names_free : (names : List (List ℕ)) (place : ℕ) → list_all (list_all is_no_lf) names ≡ true
+    → list_all is_no_lf (get_or names place []) ≡ true
 names_free [] place free = refl
-names_free (name ∷ names) zero free = (and_parts (list_all is_no_lf name) (list_all (list_all is_no_lf) names) free).0
-names_free (name ∷ names) (suc place) free = names_free names place (and_parts (list_all is_no_lf name) (list_all (list_all is_no_lf) names) free).1
+names_free (name ∷ names) zero free =
+    (and_parts (list_all is_no_lf name) (list_all (list_all is_no_lf) names) free).0
+names_free (name ∷ names) (suc place) free =
+    names_free names place
+    (and_parts (list_all is_no_lf name) (list_all (list_all is_no_lf) names) free).1
 
 day_name_free : (weekday : ℕ) → HasNoLf (day_name weekday)
 unfolding is_no_lf
@@ -124,12 +127,20 @@ unfolding date_time_text is_no_lf
 date_time_free shown =
     let date = shown.date in
     let time = shown.time in
-    let year = both (two_digits_free (unsigned_abs date.year / 100)) (two_digits_free (unsigned_abs date.year % 100)) in
+    let year =
+    both (two_digits_free (unsigned_abs date.year / 100))
+    (two_digits_free (unsigned_abs date.year % 100)) in
     let space = literal_free (codes " ") refl in
     let colon = literal_free (codes ":") refl in
-    let day_part = both (both (both (both (two_digits_free date.day) space) (month_name_free date.month)) space) year in
-    let clock = both (both (both (both (two_digits_free time.hour) colon) (two_digits_free time.minute)) colon) (two_digits_free time.second) in
-    both (both (both (both (both (day_name_free (weekday_of date)) (literal_free (codes ", ") refl)) day_part) space) clock) (literal_free (codes " +0000") refl)
+    let day_part =
+    both
+    (both (both (both (two_digits_free date.day) space) (month_name_free date.month)) space) year in
+    let clock =
+    both (both (both (both (two_digits_free time.hour) colon) (two_digits_free time.minute)) colon)
+    (two_digits_free time.second) in
+    both
+    (both (both (both (both (day_name_free (weekday_of date)) (literal_free (codes ", ") refl)) day_part) space) clock)
+    (literal_free (codes " +0000") refl)
 
 date_free : (seconds : ℕ) (date : List ℕ) → IsDateText seconds date → HasNoLf date
 date_free seconds date is = subst HasNoLf (sym is.text_is) (date_time_free is.shown)
@@ -140,20 +151,24 @@ address_free stamp is =
     let octet : (place : ℕ) → place < 4 → HasNoLf (decimal (slice_index stamp.peer place)) =
     λ place within. decimal_free (slice_index stamp.peer place) (omega (arith, is.octets place 0 (omega (arith, is.four)))) in
     let period = literal_free (codes ".") refl in
-    both (both (both (both (both (both (octet 0 (omega arith)) period) (octet 1 (omega arith))) period) (octet 2 (omega arith))) period) (octet 3 (omega arith))
+    both
+    (both (both (both (both (both (octet 0 (omega arith)) period) (octet 1 (omega arith))) period) (octet 2 (omega arith))) period)
+    (octet 3 (omega arith))
 
 protocol_free : (protocol : Protocol) → HasNoLf (protocol_word protocol)
 unfolding is_no_lf
 protocol_free Smtp = record { test = refl }
 protocol_free Esmtp = record { test = refl }
 
-ends_in_cr-append : (front : List ℕ) (octet : ℕ) (back : List ℕ) → ends_in_cr (front ++ octet ∷ back) ≡ ends_in_cr (octet ∷ back)
+ends_in_cr-append : (front : List ℕ) (octet : ℕ) (back : List ℕ)
+    → ends_in_cr (front ++ octet ∷ back) ≡ ends_in_cr (octet ∷ back)
 ends_in_cr-append [] octet back = refl
 ends_in_cr-append (x ∷ []) octet back = refl
 ends_in_cr-append (x ∷ y ∷ front) octet back = ends_in_cr-append (y ∷ front) octet back
 
 -- a word between two texts, of which the first ends in no CR and the second begins with no LF
-around : (front word back : List ℕ) → HasNoCrlf front → HasNoCrlf word → HasNoCrlf back → ends_in_cr front ≡ false → begins_with_lf back ≡ false → HasNoCrlf (front ++ word ++ back)
+around : (front word back : List ℕ) → HasNoCrlf front → HasNoCrlf word → HasNoCrlf back
+    → ends_in_cr front ≡ false → begins_with_lf back ≡ false → HasNoCrlf (front ++ word ++ back)
 around front word back in_front within in_back front_end back_start =
     no_crlf_joined (front ++ word) back
     (no_crlf_joined front word in_front within (ap (λ b. b && begins_with_lf word) front_end))
@@ -164,8 +179,12 @@ unfolding is_no_lf
 from_line_filled stamp is = record {
   no_crlf =
       let start = codes "Received: from " ++ stamp.client in
-      let client = around (codes "Received: from ") stamp.client (codes " ([") (no_crlf (literal_free _ refl)) is.client (no_crlf (literal_free _ refl)) refl refl in
-      around (start ++ codes " ([") (address_text stamp.peer) (codes "])") client (no_crlf (address_free stamp is)) (no_crlf (literal_free _ refl)) (ends_in_cr-append start 32 (40 ∷ 91 ∷ [])) refl;
+      let client =
+      around (codes "Received: from ") stamp.client (codes " ([")
+      (no_crlf (literal_free _ refl)) is.client (no_crlf (literal_free _ refl)) refl refl in
+      around (start ++ codes " ([") (address_text stamp.peer) (codes "])") client
+      (no_crlf (address_free stamp is)) (no_crlf (literal_free _ refl))
+      (ends_in_cr-append start 32 (40 ∷ 91 ∷ [])) refl;
   not_empty = λ e. cc;
 }
 
@@ -175,13 +194,21 @@ by_line_filled stamp is = record {
   no_crlf =
       let host = codes " by " ++ stamp.host in
       let protocol = host ++ codes " with " ++ protocol_word stamp.protocol in
-      let by = around (codes " by ") stamp.host (codes " with ") (no_crlf (literal_free _ refl)) is.host (no_crlf (literal_free _ refl)) refl refl in
-      let with_word = around (host ++ codes " with ") (protocol_word stamp.protocol) (codes " id ") by (no_crlf (protocol_free stamp.protocol)) (no_crlf (literal_free _ refl)) (ends_in_cr-append host 32 (119 ∷ 105 ∷ 116 ∷ 104 ∷ 32 ∷ [])) refl in
-      around (protocol ++ codes " id ") (decimal stamp.number) (codes ";") with_word (no_crlf (decimal_free stamp.number is.number)) (no_crlf (literal_free _ refl)) (ends_in_cr-append protocol 32 (105 ∷ 100 ∷ 32 ∷ [])) refl;
+      let by =
+      around (codes " by ") stamp.host (codes " with ") (no_crlf (literal_free _ refl)) is.host
+      (no_crlf (literal_free _ refl)) refl refl in
+      let with_word =
+      around (host ++ codes " with ") (protocol_word stamp.protocol) (codes " id ") by
+      (no_crlf (protocol_free stamp.protocol)) (no_crlf (literal_free _ refl))
+      (ends_in_cr-append host 32 (119 ∷ 105 ∷ 116 ∷ 104 ∷ 32 ∷ [])) refl in
+      around (protocol ++ codes " id ") (decimal stamp.number) (codes ";") with_word
+      (no_crlf (decimal_free stamp.number is.number)) (no_crlf (literal_free _ refl))
+      (ends_in_cr-append protocol 32 (105 ∷ 100 ∷ 32 ∷ [])) refl;
   not_empty = λ e. cc;
 }
 
-date_line_filled : (seconds : ℕ) (date : List ℕ) → IsDateText seconds date → IsFilledLine (date_line date)
+date_line_filled : (seconds : ℕ) (date : List ℕ) → IsDateText seconds date
+    → IsFilledLine (date_line date)
 unfolding is_no_lf
 date_line_filled seconds date is = record {
   no_crlf = no_crlf (both (literal_free (codes " ") refl) (date_free seconds date is));
@@ -192,27 +219,34 @@ date_line_filled seconds date is = record {
 stamp_lines : Stamp → List ℕ → List (List ℕ)
 stamp_lines stamp date = from_line stamp ∷ by_line stamp ∷ date_line date ∷ []
 
-stamp_lines_filled : (stamp : Stamp) (line : List ℕ) → IsStamp stamp → (is : IsTimeStamp stamp line) → AllByRecursion IsFilledLine (stamp_lines stamp is.date)
+stamp_lines_filled : (stamp : Stamp) (line : List ℕ) → IsStamp stamp → (is : IsTimeStamp stamp line)
+    → AllByRecursion IsFilledLine (stamp_lines stamp is.date)
 unfolding stamp_lines
 stamp_lines_filled stamp line valid is =
     (from_line_filled stamp valid, (by_line_filled stamp valid, (date_line_filled stamp.accepted is.date is.date_is, tt)))
 
 -- the first line begins with the field's name, and the others with a space
-stamp_lines_count : (stamp : Stamp) (date : List ℕ) → count_by is_received (stamp_lines stamp date) ≡ 1
+stamp_lines_count : (stamp : Stamp) (date : List ℕ)
+    → count_by is_received (stamp_lines stamp date) ≡ 1
 unfolding stamp_lines is_received
 stamp_lines_count stamp date = refl
 
-line_is : (stamp : Stamp) (line : List ℕ) (is : IsTimeStamp stamp line) → line ≡ lines_text (stamp_lines stamp is.date)
+line_is : (stamp : Stamp) (line : List ℕ) (is : IsTimeStamp stamp line)
+    → line ≡ lines_text (stamp_lines stamp is.date)
 unfolding stamp_lines
 line_is stamp line is = is.line_is
 
 -- a text behind a time stamp line
-behind : (stamp : Stamp) (line content : List ℕ) → IsStamp stamp → IsTimeStamp stamp line → (received_count_of (line ++ content) ≡ 1 + received_count_of content) × (header_end_of (line ++ content) ≡ length line + header_end_of content)
+behind : (stamp : Stamp) (line content : List ℕ) → IsStamp stamp → IsTimeStamp stamp line
+    → (received_count_of (line ++ content) ≡ 1 + received_count_of content) ×
+    (header_end_of (line ++ content) ≡ length line + header_end_of content)
 behind stamp line content valid is =
     let text = line_is stamp line is in
     let goes = header_goes_on (stamp_lines stamp is.date) content (stamp_lines_filled stamp line valid is) in (
-      ap (λ l. received_count_of (l ++ content)) text ∙ goes.0 ∙ ap (λ n. n + received_count_of content) (stamp_lines_count stamp is.date),
-      ap (λ l. header_end_of (l ++ content)) text ∙ goes.1 ∙ ap (λ l. length l + header_end_of content) (sym text),
+      ap (λ l. received_count_of (l ++ content)) text ∙ goes.0
+          ∙ ap (λ n. n + received_count_of content) (stamp_lines_count stamp is.date),
+      ap (λ l. header_end_of (l ++ content)) text ∙ goes.1
+          ∙ ap (λ l. length l + header_end_of content) (sym text),
     )
 
 is_received-nil : is_received [] ≡ false
@@ -245,4 +279,5 @@ passing_keeps_header stamp content text valid passed =
 pub time_stamp_is_one : TimeStampIsOne
 time_stamp_is_one stamp line other one two =
     let date = date_text_is_one stamp.accepted one.date two.date one.date_is two.date_is in
-    one.line_is ∙ ap (λ d. lines_text (from_line stamp ∷ by_line stamp ∷ date_line d ∷ [])) date ∙ sym two.line_is
+    one.line_is ∙ ap (λ d. lines_text (from_line stamp ∷ by_line stamp ∷ date_line d ∷ [])) date
+    ∙ sym two.line_is

@@ -1,5 +1,6 @@
--- Dates and times (RFC 5322, section 3.3): the text of what calendar and clock show in UTC at a moment.
-use Rattle.std.specs.Prelude.{◌≡◌, ℕ, ◌+◌, ◌-◌, ◌/◌, ◌%◌, pos, unsigned_abs, List, [], ◌∷◌, ◌++◌, codes, slice_index_or}
+-- Dates and times (RFC 5322, section 3.3): the text of what calendar and clock show in UTC at a
+-- moment.
+use Rattle.std.specs.Prelude.{◌≡◌, ℕ, ◌+◌, ◌-◌, ◌/◌, ◌%◌, pos, unsigned_abs, List, [], ◌∷◌, ◌++◌, length, codes, slice_index_or}
 use Rattle.jiff.specs.Words.{weekday_of, civil_seconds}
 use Rattle.jiff_core.specs.declared.civil.date.Date.{Date}
 use Rattle.jiff_core.specs.declared.civil.time.Time.{Time}
@@ -43,7 +44,8 @@ abbrev pub time_part : Time → List ℕ
 time_part time =
     two_digits time.hour ++ codes ":" ++ two_digits time.minute ++ codes ":" ++ two_digits time.second
 
--- date-time: day-of-week "," date time-of-day zone; profile: the day of the week is there, and the zone is UTC
+-- date-time: day-of-week "," date time-of-day zone; profile: the day of the week is there, and the
+-- zone is UTC
 unfoldable pub date_time_text : DateTime → List ℕ
 date_time_text shown =
     day_name (weekday_of shown.date) ++ codes ", " ++ date_part shown.date ++ codes " "
@@ -59,6 +61,10 @@ pub record IsDateText (seconds : ℕ) (text : List ℕ) : Type 0 where
   pub at : IsShown seconds shown
   pub text_is : text ≡ date_time_text shown
 
+-- the greatest moment: the last second of the year 9998
+abbrev pub last_second : ℕ
+last_second = 253_370_764_799
+
 -- One moment has one date text.
 abbrev pub DateTextIsOne : Type 0
 DateTextIsOne =
@@ -68,3 +74,11 @@ DateTextIsOne =
 abbrev pub DateTextTellsMoment : Type 0
 DateTextTellsMoment =
     (seconds other : ℕ) (text : List ℕ) → IsDateText seconds text → IsDateText other text → seconds ≡ other
+
+-- A date text has 31 octets.
+abbrev pub DateTextHas31Octets : Type 0
+DateTextHas31Octets = (seconds : ℕ) (text : List ℕ) → IsDateText seconds text → length text ≡ 31
+
+-- The greatest moment is the last second of 31 December 9998.
+abbrev pub LastSecondIsShown : Type 0
+LastSecondIsShown = IsDateText last_second (codes "Thu, 31 Dec 9998 23:59:59 +0000")

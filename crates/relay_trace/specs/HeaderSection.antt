@@ -36,7 +36,8 @@ is_received line = str_eq_ignore_ascii_case (take 9 line) (codes "Received:")
 unfoldable pub received_count_of : List ℕ → ℕ
 received_count_of text = count_by is_received (before_empty (lines_of text))
 
--- the place of the first empty line, behind the lines before it, or the text's length where it has none
+-- the place of the first empty line, behind the lines before it, or the text's length where it has
+-- none
 unfoldable pub header_end_of : List ℕ → ℕ
 header_end_of text = min (length (lines_text (before_empty (lines_of text)))) (length text)
 

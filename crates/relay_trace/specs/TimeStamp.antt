@@ -1,5 +1,6 @@
--- The time stamp line (RFC 5321, section 4.4): a `Received:` field of three lines, put before a content.
-use Rattle.std.specs.Prelude.{◌≡◌, ℕ, ◌+◌, ◌^◌, ◌<◌, List, [], ◌∷◌, ◌++◌, length, take, codes, decimal, slice_index}
+-- The time stamp line (RFC 5321, section 4.4): a `Received:` field of three lines, put before a
+-- content.
+use Rattle.std.specs.Prelude.{◌≡◌, ℕ, ◌+◌, ◌^◌, ◌<◌, ◌≤◌, List, [], ◌∷◌, ◌++◌, length, take, codes, decimal, slice_index}
 use Rattle.std.specs.List.{All}
 use Rattle.relay_octets.specs.Line.{HasNoCrlf, lines_text}
 use Rattle.relay_trace.specs.DateTime.{IsDateText}
@@ -8,8 +9,8 @@ use Rattle.relay_trace.specs.declared.received.Protocol.{Protocol}
 use Rattle.relay_trace.specs.declared.received.Protocol.TheVariants.{Smtp, Esmtp}
 use Rattle.relay_trace.specs.declared.received.TimeStamp.{TimeStamp}
 
--- what a time stamp line says: the client's word and address, this host, the protocol, the number of the message, and
--- the moment of its acceptance
+-- what a time stamp line says: the client's word and address, this host, the protocol, the number
+-- of the message, and the moment of its acceptance
 pub record Stamp : Type 0 where
   pub client : List ℕ
   pub peer : List ℕ
@@ -31,7 +32,8 @@ protocol_word Esmtp = codes "ESMTP"
 
 -- From-domain: the client's word and its address
 abbrev pub from_line : Stamp → List ℕ
-from_line stamp = codes "Received: from " ++ stamp.client ++ codes " ([" ++ address_text stamp.peer ++ codes "])"
+from_line stamp =
+    codes "Received: from " ++ stamp.client ++ codes " ([" ++ address_text stamp.peer ++ codes "])"
 
 -- By-domain, With and ID
 abbrev pub by_line : Stamp → List ℕ
@@ -96,3 +98,9 @@ abbrev pub PassingKeepsHeader : Type 0
 PassingKeepsHeader =
     (stamp : Stamp) (content text : List ℕ) → IsStamp stamp → (passed : IsPassed stamp content text)
     → take (header_end_of text) text ≡ passed.line ++ take (header_end_of content) content
+
+-- A time stamp line has at most 113 octets beside its two words.
+abbrev pub TimeStampIsShort : Type 0
+TimeStampIsShort =
+    (stamp : Stamp) (line : List ℕ) → IsStamp stamp → IsTimeStamp stamp line
+    → length line ≤ length stamp.client + length stamp.host + 113

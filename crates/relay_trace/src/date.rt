@@ -12,8 +12,8 @@ use std::alloc::Global;
 /// The octets of a date text.
 const DATE_LEN: usize = 31;
 
-/// The date and time of a moment in UTC (RFC 5322, section 3.3), as `Thu, 01 Jan 1970 00:00:00 +0000`. It fails where
-/// memory runs out.
+/// The date and time of a moment in UTC (RFC 5322, section 3.3), as `Thu, 01 Jan 1970 00:00:00
+/// +0000`. It fails where memory runs out.
 pub fn date_text(alloc: Global, moment: Moment) -> Result<Vec<u8>, TraceFault>
     ensures text { IfOk result (λ text. IsDateText moment text.items) }
     ensures fault { IfErr result (λ fault. fault ≡ TraceFault.NoMemory) }

@@ -7,8 +7,9 @@ use relay_octets::find_crlf;
 /// The name of a time stamp line's field (RFC 5321, section 4.4), with its colon.
 const RECEIVED: &[u8; 9] = b"Received:";
 
-/// How many lines of the header section begin with `Received:`, in any letter case. The header section is the lines
-/// before the first empty one, and what stands behind the last CR LF is a line too. It takes no memory.
+/// How many lines of the header section begin with `Received:`, in any letter case. The header
+/// section is the lines before the first empty one, and what stands behind the last CR LF is a line
+/// too. It takes no memory.
 pub fn received_count(text: &[u8]) -> usize
     ensures { result ≡ received_count_of text.now }
 {
@@ -26,8 +27,8 @@ pub fn received_count(text: &[u8]) -> usize
     if is_received(rest) { count + 1 } else { count }
 }
 
-/// The place of the first empty line, at which the header section ends, or the text's length where it has none. It
-/// takes no memory.
+/// The place of the first empty line, at which the header section ends, or the text's length where
+/// it has none. It takes no memory.
 pub fn header_end(text: &[u8]) -> usize
     ensures { result ≡ header_end_of text.now }
 {

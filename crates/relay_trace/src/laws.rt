@@ -1,7 +1,7 @@
 //! What is true of dates, header sections and time stamp lines, whoever writes them.
-ghost use Rattle.relay_trace.specs.DateTime.{DateTextIsOne, DateTextTellsMoment};
+ghost use Rattle.relay_trace.specs.DateTime.{DateTextHas31Octets, DateTextIsOne, DateTextTellsMoment, LastSecondIsShown};
 ghost use Rattle.relay_trace.specs.HeaderSection.{HeaderEndsAtEmptyLine, HeaderEndsWithText, HeaderGoesOn, LinesAreOne, ReceivedIsTested};
-ghost use Rattle.relay_trace.specs.TimeStamp.{PassingAddsOne, PassingKeepsHeader, TimeStampIsOne, TimeStampIsOneField};
+ghost use Rattle.relay_trace.specs.TimeStamp.{PassingAddsOne, PassingKeepsHeader, TimeStampIsOne, TimeStampIsOneField, TimeStampIsShort};
 
 /// A moment has one date text.
 pub fn date_text_is_one()
@@ -11,6 +11,16 @@ pub fn date_text_is_one()
 /// Two moments with one date text are one moment.
 pub fn date_text_tells_moment()
     ensures { DateTextTellsMoment }
+{}
+
+/// A date text has 31 octets.
+pub fn date_text_has_31_octets()
+    ensures { DateTextHas31Octets }
+{}
+
+/// The greatest moment is the last second of 31 December 9998.
+pub fn last_second_is_shown()
+    ensures { LastSecondIsShown }
 {}
 
 /// A text is cut into its lines, and it has no others.
@@ -46,6 +56,11 @@ pub fn time_stamp_is_one()
 /// A time stamp line has no empty line in it, and it is one `Received:` field.
 pub fn time_stamp_is_one_field()
     ensures { TimeStampIsOneField }
+{}
+
+/// A time stamp line has at most 113 octets beside the client's word and the host's name.
+pub fn time_stamp_is_short()
+    ensures { TimeStampIsShort }
 {}
 
 /// A passed text has one `Received:` field more than its content.

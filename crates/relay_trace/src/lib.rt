@@ -1,5 +1,5 @@
-//! Time stamp lines, their dates, and the header section that they stand in (RFC 5321, section 4.4; RFC 5322, sections
-//! 2.2 and 3.3).
+//! Time stamp lines, their dates, and the header section that they stand in (RFC 5321, section 4.4;
+//! RFC 5322, sections 2.2 and 3.3).
 #![tactic(auto)]
 
 mod date;

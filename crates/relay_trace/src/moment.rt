@@ -13,13 +13,13 @@ pub struct Moment {
 
 impl Model for Moment {
     ghost use Rattle.std.specs.Prelude.{ℕ, ◌≤◌};
-    ghost use Rattle.relay_trace.specs.declared.moment.TheConstants.{LAST_SECOND};
+    ghost use Rattle.relay_trace.specs.DateTime.{last_second};
 
     ghost Value = { ℕ };
 
     ghost view = { λ moment. moment.seconds };
 
-    ghost invariant = { λ moment. moment.seconds ≤ LAST_SECOND };
+    ghost invariant = { λ moment. moment.seconds ≤ last_second };
 
     ghost inverse = { λ seconds. record { seconds = seconds } };
 }
@@ -48,11 +48,12 @@ impl From<AllocError> for TraceFault {
 
 impl Moment {
     ghost use Rattle.std.specs.Prelude.{◌≡◌, ◌≤◌, ◌<◌, MatchResult};
+    ghost use Rattle.relay_trace.specs.DateTime.{last_second};
 
     /// The moment that many seconds from 1970. It takes no memory.
     pub fn new(seconds: u64) -> Result<Self, TraceFault>
-        ensures { MatchResult result (λ moment. (seconds ≤ LAST_SECOND) × (moment ≡ seconds))
-            (λ fault. (LAST_SECOND < seconds) × (fault ≡ TraceFault.OutOfRange)) }
+        ensures { MatchResult result (λ moment. (seconds ≤ last_second) × (moment ≡ seconds))
+            (λ fault. (last_second < seconds) × (fault ≡ TraceFault.OutOfRange)) }
     {
         if seconds > LAST_SECOND {
             return Err(TraceFault::OutOfRange);
@@ -63,7 +64,7 @@ impl Moment {
     /// The seconds from 1970.
     pub fn seconds(self) -> u64
         ensures seconds { result ≡ self }
-        ensures within { result ≤ LAST_SECOND }
+        ensures within { result ≤ last_second }
     {
         self.seconds
     }

@@ -36,7 +36,8 @@ pub struct TimeStamp<'a> {
     pub accepted: Moment,
 }
 
-/// The time stamp line: a `Received:` field of three lines, each with its CR LF. It fails where memory runs out.
+/// The time stamp line: a `Received:` field of three lines, each with its CR LF. It fails where
+/// memory runs out.
 pub fn received_line(alloc: Global, stamp: &TimeStamp<'_>) -> Result<Vec<u8>, TraceFault>
     ensures line { IfOk result (λ line. IsTimeStamp (stamp_of stamp.now) line.items) }
     ensures fault { IfErr result (λ fault. fault ≡ TraceFault.NoMemory) }
@@ -52,7 +53,8 @@ pub fn received_line(alloc: Global, stamp: &TimeStamp<'_>) -> Result<Vec<u8>, Tr
 
 /// Writes the line of the client's word and its address.
 fn push_from(line: &mut Vec<u8>, stamp: &TimeStamp<'_>) -> Result<(), AllocError>
-    ensures { OnOk result (line.new.items ≡ line.old.items ++ line_text (from_line (stamp_of stamp.now))) }
+    ensures { OnOk result (line.new.items
+        ≡ line.old.items ++ line_text (from_line (stamp_of stamp.now))) }
 {
     line.extend_from_slice(b"Received: from ")?;
     line.extend_from_slice(stamp.client)?;
@@ -64,7 +66,8 @@ fn push_from(line: &mut Vec<u8>, stamp: &TimeStamp<'_>) -> Result<(), AllocError
 
 /// Writes the line of this host, the protocol and the message's number.
 fn push_by(line: &mut Vec<u8>, stamp: &TimeStamp<'_>) -> Result<(), AllocError>
-    ensures { OnOk result (line.new.items ≡ line.old.items ++ line_text (by_line (stamp_of stamp.now))) }
+    ensures { OnOk result (line.new.items
+        ≡ line.old.items ++ line_text (by_line (stamp_of stamp.now))) }
 {
     line.extend_from_slice(b" by ")?;
     line.extend_from_slice(stamp.host)?;

@@ -1,5 +1,6 @@
-ghost use Rattle.std.specs.Prelude.{◌≡◌, ◌≢◌, ◌<◌, ◌≤◌, ◌↔◌, ◌++◌, ◌∷◌, [], false, length, List, ℕ, IsTrue, MatchOption};
-ghost use Rattle.relay_envelope.specs.Mailbox.{IsDomain, IsDomainName, IsLocalPart, IsMailbox, SplitsAtLast, SplitsRoute, mailbox_text, stands_in};
+ghost use Rattle.std.specs.Prelude.{◌≡◌, ◌≢◌, ◌<◌, ◌≤◌, ◌↔◌, ◌++◌, ◌∷◌, [], true, false, length, List, ℕ, IsTrue, MatchOption};
+ghost use Rattle.std.specs.List.{after_last, list_any};
+ghost use Rattle.relay_envelope.specs.Mailbox.{IsDomain, IsDomainName, IsLocalPart, IsMailbox, SplitsAtLast, SplitsRoute, is_at, mailbox_text, stands_in};
 
 use super::brackets::inside_brackets;
 use crate::row::{is_row, row_before};
@@ -85,6 +86,17 @@ fn split_at_last_at(body: &[u8]) -> Option<(&[u8], &[u8])>
     Some((&body[..place], &body[place + 1..]))
 }
 
+/// What stands behind the last `@`.
+pub(super) fn behind_last_at(text: &[u8]) -> Option<&[u8]>
+    ensures { MatchOption result
+        (list_any is_at text.now ≡ false)
+        (λ behind. (list_any is_at text.now ≡ true) × (behind.now ≡ after_last is_at text.now)
+        × (length behind.now ≤ length text.now)) }
+{
+    let (_, behind) = split_at_last_at(text)?;
+    Some(behind)
+}
+
 /// A local part is not empty, and a row of plain octets and quoted strings.
 fn is_local_part(local: &[u8]) -> bool
     ensures { IsTrue result ↔ IsLocalPart local.now }
@@ -92,8 +104,9 @@ fn is_local_part(local: &[u8]) -> bool
     !local.is_empty() && is_row(local)
 }
 
-/// A domain, or an address literal.
-fn is_domain(domain: &[u8]) -> bool
+/// Whether the text is what may stand behind the `@` of a mailbox (RFC 5321, section 4.1.2): a domain, or an address
+/// literal. It takes no memory.
+pub fn is_domain(domain: &[u8]) -> bool
     ensures { IsTrue result ↔ IsDomain domain.now }
 {
     is_domain_name(domain) || is_address_literal(domain)

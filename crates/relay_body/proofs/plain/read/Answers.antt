@@ -7,7 +7,8 @@ returns-then-done-clause-feeds c =
     let step = rw c.if-done.true at c.in_ok-done.ensures.uses in
     let done = rw c.if-done.true at c.in_ok-done.ensures.done in
     record {
-      uses = uses_octet c.args.reader.now c.loop-used.reader c.step.new.reader c.args.piece.now c.loop-used.used true c.loop-used.invariant.uses step c.loop-used-test.true;
+      uses =
+          uses_octet c.args.reader.now c.loop-used.reader c.step.new.reader c.args.piece.now c.loop-used.used true c.loop-used.invariant.uses step c.loop-used-test.true;
       whole = λ e. cc;
       done = (λ _. done, λ _. refl);
     }
@@ -18,6 +19,7 @@ loop-used-preserved c =
     record {
       within = omega arith;
       phase = rw c.if-done.false at c.in_ok-done.ensures.done;
-      uses = uses_octet c.args.reader.now c.loop-used.reader c.step.new.reader c.args.piece.now c.loop-used.used false c.loop-used.invariant.uses step c.loop-used-test.true;
+      uses =
+          uses_octet c.args.reader.now c.loop-used.reader c.step.new.reader c.args.piece.now c.loop-used.used false c.loop-used.invariant.uses step c.loop-used-test.true;
       limit = c.step.ensures.limit ∙ c.loop-used.invariant.limit;
     }

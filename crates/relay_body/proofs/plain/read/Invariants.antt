@@ -1,6 +1,6 @@
 use Rattle.std.proofs.Common.{length, ◌-◌, ◌≡◌, ◌≤◌, false, take}
 use Rattle.relay_body.specs.DotSteps.{IsOpen}
-use Rattle.relay_body.specs.DotText.{Uses, limit_of}
+use Rattle.relay_body.specs.DotReading.{Uses, limit_of}
 use Rattle.relay_body.proofs.plain.read.Given as goal
 
 -- what has been used so far ends no text

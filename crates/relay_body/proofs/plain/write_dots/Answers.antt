@@ -11,11 +11,15 @@ loop-place-preserved c =
     let octet = get_or content place 0 in
     let begins : c.if-behind_cr.begins_line ≡ c.loop-place.behind_cr && octet == 10 = elim c.if-behind_cr.branch [
       | then-behind_cr w ↦ w.begins_line-is ∙ ap (λ b. b && octet == 10) (sym w.if-behind_cr.true)
-      | else-behind_cr w ↦ w.begins_line-is ∙ w.if-behind_cr.false ∙ ap (λ b. b && octet == 10) (sym w.if-behind_cr.false)
+      | else-behind_cr w ↦
+          w.begins_line-is ∙ w.if-behind_cr.false
+          ∙ ap (λ b. b && octet == 10) (sym w.if-behind_cr.false)
     ] in
     record {
       within = omega arith;
-      writes = subst (λ (b : Bool). WritesFront (take (place + 1) content) c.write_octet.new.text.items b (octet == 13)) (sym begins)
+      writes = subst
+          (λ (b : Bool). WritesFront (take (place + 1) content) c.write_octet.new.text.items b (octet == 13))
+          (sym begins)
           (writes_next content c.loop-place.text.items c.write_octet.new.text.items place c.loop-place.begins_line c.loop-place.behind_cr c.loop-place.invariant.writes c.loop-place-test.true c.in_ok-write_octet.ensures);
     }
 
@@ -23,4 +27,5 @@ pub returns : goal.returns
 returns c =
     let content = c.args.content.now in
     let all = take_all c.loop-place.place content (omega arith) in
-    writes_whole content (take c.loop-place.place content) c.loop-place.text.items c.extend_from_slice.new.self.items c.loop-place.begins_line c.loop-place.behind_cr c.loop-place.invariant.writes all c.requires c.in_ok-extend_from_slice.ensures.items
+    writes_whole content
+    (take c.loop-place.place content) c.loop-place.text.items c.extend_from_slice.new.self.items c.loop-place.begins_line c.loop-place.behind_cr c.loop-place.invariant.writes all c.requires c.in_ok-extend_from_slice.ensures.items

@@ -1,5 +1,5 @@
 -- What stands behind a path of MAIL is read as its row says.
-use Rattle.relay_envelope.proofs.MailRowLemmas.{mail_row_is_read as law}
+use Rattle.relay_envelope.proofs.RowIsReadLemmas.{mail_row_is_read as law}
 use Rattle.relay_envelope.proofs.parameter_laws.mail_row_is_read.Goals as goal
 
 pub returns : goal.returns

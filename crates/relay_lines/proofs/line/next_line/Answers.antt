@@ -13,7 +13,8 @@ returns-in-Some-find_crlf c =
     let line = take place front in
     let rest = drop (place + 2) front in
     let here : ReadsLine front line rest = c.in-Some-find_crlf.ensures.first in
-    let whole : ReadsLine (front ++ drop c.args.limit octets) line (rest ++ drop c.args.limit octets) = first_line_stays front line rest (drop c.args.limit octets) here in
+    let whole : ReadsLine (front ++ drop c.args.limit octets) line (rest ++ drop c.args.limit octets) =
+    first_line_stays front line rest (drop c.args.limit octets) here in
     let within : place + 2 ≤ length front = c.in-Some-find_crlf.ensures.within in
     let size = length-take c.args.limit octets in
     let long = length-take place front in

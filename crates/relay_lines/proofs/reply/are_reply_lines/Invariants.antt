@@ -5,4 +5,5 @@ use Rattle.relay_lines.specs.Reply.{IsReplyLine}
 use Rattle.relay_lines.proofs.reply.are_reply_lines.Given as goal
 
 abbrev pub invariant-loop-text : goal.invariant-loop-text
-invariant-loop-text l = AllByRecursion IsReplyLine (drop l.text-index l.lines) → AllByRecursion IsReplyLine l.lines
+invariant-loop-text l =
+    AllByRecursion IsReplyLine (drop l.text-index l.lines) → AllByRecursion IsReplyLine l.lines

@@ -5,7 +5,8 @@ use Rattle.relay_lines.specs.Word.{is_blank}
 use Rattle.relay_lines.proofs.word.without_trailing_blanks.Given as goal
 
 abbrev pub invariant-loop-end : goal.invariant-loop-end
-invariant-loop-end l = (l.end ≤ length l.line) × (l.end + suffix_len is_blank l.line ≡ length l.line + suffix_len is_blank (take l.end l.line))
+invariant-loop-end l =
+    (l.end ≤ length l.line) × (l.end + suffix_len is_blank l.line ≡ length l.line + suffix_len is_blank (take l.end l.line))
 
 abbrev pub decreases-loop-end : goal.decreases-loop-end
 decreases-loop-end l = l.end

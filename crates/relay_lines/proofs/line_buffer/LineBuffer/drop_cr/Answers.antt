@@ -10,10 +10,12 @@ returns c = λ line holds.
     let is_long = ap (λ (h : HeldLine). h.is_long) (sym c.self.view_is) in
     elim c.if-not-self.branch [
       | then-not-self w ↦
-          ends_short c.args.self.now c.if-not-self.self c.end.new.self c.self.inside.octets line c.self.inside.len c.self.invariant c.self.told holds kept (is_long ∙ w.if-not-self.true)
+          ends_short c.args.self.now c.if-not-self.self c.end.new.self c.self.inside.octets line c.self.inside.len c.self.invariant c.self.told holds kept
+          (is_long ∙ w.if-not-self.true)
           (ap (λ (h : HeldLine). h.kept) w.self-is ∙ ap (λ n. take n c.self.inside.octets) w.saturating_sub-self-inside.ensures)
           (ap (λ (h : HeldLine). h.is_long) w.self-is ∙ w.if-not-self.true) c.end.ensures.kept c.end.ensures.is_long
       | else-not-self w ↦
-          ends_long c.if-not-self.self c.end.new.self line (subst (λ (h : HeldLine). Holds h (line ++ 13 ∷ [])) (sym w.self-is) holds)
+          ends_long c.if-not-self.self c.end.new.self line
+          (subst (λ (h : HeldLine). Holds h (line ++ 13 ∷ [])) (sym w.self-is) holds)
           (ap (λ (h : HeldLine). h.is_long) w.self-is ∙ is_long ∙ w.if-not-self.false) c.end.ensures.kept c.end.ensures.is_long
     ]

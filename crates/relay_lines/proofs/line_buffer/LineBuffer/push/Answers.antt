@@ -13,7 +13,13 @@ pub returns : goal.returns
 returns c =
     let size = length-take-le c.self.inside.len c.self.inside.octets (omega arith) in
     rw (← c.self.view_is) (record {
-      kept = kept_after c.self.inside.octets c.args.octets.now c.copy_from_slice.new.self c.self.inside.len c.min-count.result _ c.self.invariant c.self.told c.min-count.ensures c.copy_from_slice.ensures.after;
-      is_long = room_or_all c.self.inside.is_long c.self.inside.len _ (length c.args.octets.now) c.self.invariant size;
-      after_cr = last_octet c.self.inside.after_cr c.args.octets.now c.in-Some.last.now (sym c.in-Some.ensures.value);
+      kept =
+          kept_after c.self.inside.octets c.args.octets.now c.copy_from_slice.new.self c.self.inside.len c.min-count.result
+          _ c.self.invariant c.self.told c.min-count.ensures c.copy_from_slice.ensures.after;
+      is_long =
+          room_or_all c.self.inside.is_long c.self.inside.len _
+          (length c.args.octets.now) c.self.invariant size;
+      after_cr =
+          last_octet c.self.inside.after_cr c.args.octets.now c.in-Some.last.now
+          (sym c.in-Some.ensures.value);
     })

@@ -12,8 +12,11 @@ pub returns-then-is_none-clause-err : goal.returns-then-is_none-clause-err
 returns-then-is_none-clause-err c = λ line ended.
     let front = c.in_ok-front.front in
     let next = rw (c.octets.ensures, c.if-front.true) at c.in_ok-front.ensures.ok in
-    let none = parts_are_none c.take_reply-reply.result (made_of c.keep_line.new.self.code c.keep_line.new.self.lines.items) c.if-is_none.ensures c.take_reply-reply.ensures.reply in
-    absurd (none (next_is_reply c.args.self.now c.keep_line.new.self line front.code ended next c.in_ok-keep_line.ensures))
+    let none =
+    parts_are_none c.take_reply-reply.result
+    (made_of c.keep_line.new.self.code c.keep_line.new.self.lines.items) c.if-is_none.ensures c.take_reply-reply.ensures.reply in
+    absurd
+    (none (next_is_reply c.args.self.now c.keep_line.new.self line front.code ended next c.in_ok-keep_line.ensures))
 
 pub returns-then-front-clause-made : goal.returns-then-front-clause-made
 returns-then-front-clause-made c = λ line ended.

@@ -6,7 +6,8 @@ use Rattle.relay_lines.proofs.reply_reader.ReplyReader.read.Goals as goal
 
 pub returns-in_err-cut-clause-faults : goal.returns-in_err-cut-clause-faults
 returns-in_err-cut-clause-faults c =
-    let p = err_from_is_err_and c.from_residual.result c.from_residual.ensures.1 in rw (p.1, p.2) (λ rest held.
+    let p = err_from_is_err_and c.from_residual.result c.from_residual.ensures.1 in
+    rw (p.1, p.2) (λ rest held.
     let piece = c.args.piece.now in
     let used = c.loop-used.used in
     elim (c.in_err-cut.ensures.faults (rest ++ take used piece) (c.loop-used.invariant.holds rest held)) [
@@ -19,7 +20,8 @@ returns-then-is_some-clause-reads c = λ rest held.
     let piece = c.args.piece.now in
     let used = c.loop-used.used in
     let cut = c.in_ok-cut.cut in
-    step_made c.step.new.self cut.reply rest piece used cut.used (c.in_ok-cut.ensures.reads (rest ++ take used piece) (c.loop-used.invariant.holds rest held))
+    step_made c.step.new.self cut.reply rest piece used cut.used
+    (c.in_ok-cut.ensures.reads (rest ++ take used piece) (c.loop-used.invariant.holds rest held))
 
 pub loop-used-preserved : goal.loop-used-preserved
 loop-used-preserved c =
@@ -30,5 +32,7 @@ loop-used-preserved c =
     record {
       within = omega (arith, short, length-drop used piece);
       holds = λ rest held.
-          step_held c.step.new.self cut.reply rest piece used cut.used (sym c.is_some.ensures ∙ c.if-is_some.false) (c.in_ok-cut.ensures.reads (rest ++ take used piece) (c.loop-used.invariant.holds rest held));
+          step_held c.step.new.self cut.reply rest piece used cut.used
+          (sym c.is_some.ensures ∙ c.if-is_some.false)
+          (c.in_ok-cut.ensures.reads (rest ++ take used piece) (c.loop-used.invariant.holds rest held));
     }

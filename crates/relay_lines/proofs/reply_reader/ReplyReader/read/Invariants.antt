@@ -1,6 +1,6 @@
 -- what has been used so far ends no reply, and is held
 use Rattle.std.proofs.Common.{length, ◌-◌, ◌≤◌, ℕ, List, ◌++◌, take}
-use Rattle.relay_lines.specs.ReplyReading.{HoldsRest}
+use Rattle.relay_lines.specs.ReplySteps.{HoldsRest}
 use Rattle.relay_lines.proofs.reply_reader.ReplyReader.read.Given as goal
 
 abbrev pub invariant-loop-used : goal.invariant-loop-used

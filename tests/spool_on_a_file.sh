@@ -1,0 +1,135 @@
+#!/usr/bin/env bash
+# Takes steps on a spool in a file, with the calls that it makes of the device written down by a shim, which lets some
+# fail: what the program answers, which calls it made in which order, and what the file holds then.
+#
+#   tests/spool_on_a_file.sh build/relay_spool_steps
+set -euo pipefail
+cd "$(dirname "$0")/.."
+
+steps=$(realpath "$1")
+room=$(mktemp -d)
+trap 'rm -rf "$room"' EXIT
+cc -shared -fPIC -O1 -Wall -o "$room/calls.so" tests/device_calls.c
+cd "$room"
+
+head='RELAYQ01\x01\0\0\0\0\0\0\0\x01'
+
+fail() {
+    echo "spool_on_a_file: $name: $1" >&2
+    exit 1
+}
+
+# hold WHAT FILE: the file is what the standard input says.
+hold() {
+    diff -u - "$2" >&2 || fail "other $1"
+}
+
+# take NAME FAULTS STEPS: takes the steps, words of a line each, in a fresh file. The shim is given the faults.
+take() {
+    name=$1
+    rm -f spool calls
+    printf '%s\n' "${@:3}" | env $2 CALLS=calls LD_PRELOAD=./calls.so "$steps" spool > answers
+}
+
+# image OCTETS: the file is these, in the form of printf.
+image() {
+    printf "$1" | cmp -s - spool || fail "the file is $(od -An -c spool)"
+}
+
+# Each body is on the device before its gate is opened, and that before the append is answered.
+take "an append" "" create "append abc" open
+hold answers answers << END
+created, 18 octets
+appended, 26 octets
+opened, 1 bodies, 26 octets
+END
+hold calls calls << END
+open spool, mode 600
+open folder .
+sync folder
+write 18 octets at 0
+sync
+write 1 octets at 8
+sync
+write 8 octets at 18
+sync
+write 1 octets at 17
+sync
+open spool, mode 600
+open folder .
+sync folder
+sync
+END
+image "$head"'\x01\0\0\0\x03abc\0'
+[ "$(stat -c %a spool)" = 600 ] || fail "the file's mode is $(stat -c %a spool)"
+
+# The folder is the file's own.
+mkdir inner
+printf 'create\n' | CALLS=calls LD_PRELOAD=./calls.so "$steps" inner/../inner/spool > answers
+[ "$(grep folder calls | tail -n 2)" = "open folder inner/../inner
+sync folder" ] || fail "another folder is synced"
+
+# Behind a failed sync no other one succeeds, until the file is opened anew. It is the append's second one here.
+take "a sync that fails" FAILED_SYNC=4 create "append abc" "append de" again again open "append f"
+hold answers answers << END
+created, 18 octets
+append refused: device
+spent
+refused: device, 2 calls failed
+refused: device, 3 calls failed
+opened, 1 bodies, 26 octets
+appended, 32 octets
+END
+[ "$(grep -c '^sync: failed$' calls)" = 1 ] || fail "not one failed sync"
+image "$head"'\x01\0\0\0\x03abc\x01\0\0\0\x01f\0'
+
+# Before the first one no gate is opened.
+take "the first sync of an append fails" FAILED_SYNC=3 create "append abc" again open
+hold answers answers << END
+created, 18 octets
+append refused: device
+refused: device, 2 calls failed
+opened, 0 bodies, 18 octets
+END
+grep -q '^write 1 octets at 17$' calls && fail "the gate was opened"
+image "$head"'\0\0\0\0\x03abc\0'
+
+# What a write leaves undone is written behind it.
+take "a write that takes half" HALF_WRITE=3 create "append abc" open
+hold answers answers << END
+created, 18 octets
+appended, 26 octets
+opened, 1 bodies, 26 octets
+END
+hold calls <(tail -n +8 calls | head -n 5) << END
+write 4 octets at 18
+write 4 octets at 22
+sync
+write 1 octets at 17
+sync
+END
+image "$head"'\x01\0\0\0\x03abc\0'
+
+# Want of space loses nothing: the disk is opened again as it stands, and takes bodies as soon as there is space.
+for full in 3 4; do
+    take "no space for write $full" FULL_WRITE=$full create "append abc" "append de" again "append f" open
+    hold answers answers << END
+created, 18 octets
+append refused: device
+spent
+opened, 0 bodies, 18 octets
+appended, 24 octets
+opened, 1 bodies, 24 octets
+END
+done
+take "no space behind half" "HALF_WRITE=5 FULL_WRITE=6" create "append abc" "append de" again "append f"
+hold answers answers << END
+created, 18 octets
+appended, 26 octets
+append refused: device
+opened, 1 bodies, 26 octets
+appended, 32 octets
+END
+image "$head"'\x01\0\0\0\x03abc\x01\0\0\0\x01f\0'
+
+echo "spool_on_a_file: the calls of the device are in order, and a sync that fails, half a write and want of space lose no body"
