@@ -13,7 +13,3 @@ pub use Rattle.relay_server.proofs.TurnLawLemmas.{asked_is_a_unit, chunk_is_answ
 
 -- Of sessions.
 pub use Rattle.relay_server.proofs.SessionLawLemmas.{answered_is_settled, close_is_closed, closed_is_a_dialogue, more_is_more, none_else_is_open, offer_is_told, offers_are_answered, open_is_new, open_may_be_stored, piece_goes_on}
-
--- Of octets, until the crates below have them.
-pub use Rattle.relay_server.proofs.OctetLemmas.{lacks_by_test}
-pub use Rattle.relay_server.proofs.ReplyTextLemmas.{no_crlf_without_cr}

@@ -1,6 +1,7 @@
 -- What is true of units, turns and dialogues, whatever the pieces that the input comes in.
 use Rattle.std.specs.Prelude.{◌≡◌, ◌≢◌, ℕ, ◌^◌, ◌<◌, ◌≤◌, List, [], ◌∷◌, ◌++◌, true, length, Some, Ok}
 use Rattle.std.specs.List.{AllByRecursion}
+use Rattle.relay_octets.specs.Beginning.{Begins}
 use Rattle.relay_lines.specs.Command.{Bdat, reading_of}
 use Rattle.relay_lines.specs.Reply.{IsReply}
 use Rattle.relay_lines.specs.Word.{IsHostWord}
@@ -9,7 +10,7 @@ use Rattle.relay_server.specs.declared.offer.Answer.{Answer}
 use Rattle.relay_server.specs.declared.offer.Answer.TheVariants.{Queued, Full}
 use Rattle.relay_server.specs.declared.reply_table.Row.TheVariants.{Greeting}
 use Rattle.relay_server.specs.declared.session.Session.{Session}
-use Rattle.relay_routes.specs.Value.{IsHostName}
+use Rattle.relay_envelope.specs.HostName.{IsHostName}
 use Rattle.relay_server.specs.Dialogue.{Offered, Turn, Answers, Turns, Said, IsDialogue, answers_in, answered_by}
 use Rattle.relay_server.specs.Reply.{reply_of}
 use Rattle.relay_server.specs.Session.{Stands}
@@ -17,10 +18,6 @@ use Rattle.relay_server.specs.Setup.{Setup}
 use Rattle.relay_trace.specs.HeaderSection.{received_count_of}
 use Rattle.relay_server.specs.State.{State, Command, Receiving, Closed}
 use Rattle.relay_server.specs.Unit.{IsCommandUnit, IsUnit}
-
--- the list begins with these
-abbrev pub Begins : {A : Type 0} → List A → List A → Type 0
-Begins {A = A} front whole = (rest : List A) × (whole ≡ front ++ rest)
 
 -- the number of an answer is one of 64 bits
 abbrev pub IsNumbered : Answer → Type 0

@@ -1,5 +1,5 @@
 -- What a caller may say of a session: what it has said so far, whether an offer is open, and what comes next.
-use Rattle.std.specs.Prelude.{◌≡◌, ◌≢◌, ℕ, List, [], ◌∷◌, ◌++◌}
+use Rattle.std.specs.Prelude.{◌≡◌, ◌≢◌, ℕ, ◌+◌, ◌≤◌, ◌<◌, List, [], ◌∷◌, ◌++◌, length}
 use Rattle.relay_lines.specs.Reply.{reply_text}
 use Rattle.relay_server.specs.declared.offer.Answer.{Answer}
 use Rattle.relay_server.specs.declared.offer.Offer.{Offer}
@@ -67,6 +67,14 @@ new_offers (offer ∷ offers) now = []
 
 abbrev pub offers_since : Session → Session → List Offered
 offers_since old new = new_offers (open_offers old) (open_offers new)
+
+-- How far a piece of this length is used, and what the caller is told then: to its end where more is to come, and by an
+-- octet at least where an offer has opened.
+pub record UsesPiece (old : Session) (told : Next) (len from to : ℕ) : Type 0 where
+  pub no_less : from ≤ to
+  pub within : to ≤ len
+  pub whole : told ≡ next.More → to ≡ len
+  pub some : told ≡ next.Offer → from < to + length (open_offers old)
 
 -- Behind what was said these octets were read, and what was written stands behind what was written before.
 pub record SaysMore (said later : Said) (octets before after : List ℕ) : Type 0 where

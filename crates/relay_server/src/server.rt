@@ -2,7 +2,8 @@
 ghost use Rattle.std.specs.Prelude.{◌≡◌, ℕ, List, [], ◌++◌, ◌≤◌, ◌<◌, length, take, IfOk};
 ghost use Rattle.relay_octets.specs.Line.{HasNoCrlf, crlf};
 ghost use Rattle.relay_body.specs.ChunkText.{Chunk as ChunkText, HasChunks, IsBetweenChunks, content_of_chunks};
-ghost use Rattle.relay_body.specs.DotText.{IsReading, gathered_of};
+ghost use Rattle.relay_body.specs.DotReading.{IsReading};
+ghost use Rattle.relay_body.specs.Gathering.{gathered_of};
 ghost use Rattle.relay_server.specs.Dialogue.{row_of_answer};
 ghost use Rattle.relay_server.specs.ReplyTable.{course_of, course_of_chunks, course_of_content, course_of_text};
 ghost use Rattle.relay_server.specs.Machine.{EndsBy, EntersBy, GathersChunk, IsGiven, KeepsText, Moves, RefusesChunk, offers_at};

@@ -1,9 +1,9 @@
 ghost use Rattle.std.specs.Prelude.{◌≡◌, ℕ, List, [], ◌∷◌, ◌++◌, ◌+◌, ◌≤◌, ◌<◌, length, take, slice_range, true, false, IfOk, OnOk, OnErr, IsErr, MatchOption};
 ghost use Rattle.relay_octets.specs.Line.{HasNoCrlf, crlf};
-ghost use Rattle.relay_body.specs.DotText.{IsReading};
+ghost use Rattle.relay_body.specs.DotReading.{IsReading};
 ghost use Rattle.relay_server.specs.Dialogue.{Said, more_said};
 ghost use Rattle.relay_server.specs.Machine.{Advances, GathersChunk, IsGiven, Moves, RefusesChunk, Steps, is_reading};
-ghost use Rattle.relay_server.specs.Session.{Answered, HasFailed, HasOffer, Hears, Stands, Waits, next_of, offered, offers_since, open_offers};
+ghost use Rattle.relay_server.specs.Session.{Answered, HasFailed, HasOffer, Hears, Stands, UsesPiece, Waits, next_of, offered, offers_since, open_offers};
 ghost use Rattle.relay_server.specs.Setup.{Setup, setup_of};
 ghost use Rattle.relay_server.specs.State as standing;
 ghost use Rattle.relay_server.specs.Values.{IsHeld, command_state_of};
@@ -92,12 +92,9 @@ impl Session {
             → setup.routes ≡ table.now → Stands setup self.old said
             → Stands setup self.new (more_said said (take fed.used piece.now) [] fed.out.items
             (offers_since self.old self.new))) }
-        ensures within { IfOk result (λ fed. fed.used ≤ length piece.now) }
-        ensures whole { IfOk result (λ fed. fed.next ≡ Next.More → fed.used ≡ length piece.now) }
+        // All of it, unless it stops at an offer or a close; no offer opens without an octet.
+        ensures used { IfOk result (λ fed. UsesPiece self.old fed.next (length piece.now) 0 fed.used) }
         ensures next { IfOk result (λ fed. fed.next ≡ next_of self.new) }
-        // No offer opens without an octet.
-        ensures progress { IfOk result (λ fed. open_offers self.old ≡ [] → fed.next ≡ Next.Offer
-            → 0 < fed.used) }
         // While an offer is open, and after a close, it uses nothing.
         ensures waits { Waits self.old → (self.new ≡ self.old)
             × IfOk result (λ fed. (fed.used ≡ 0) × (fed.out.items ≡ [])) }
@@ -124,12 +121,9 @@ impl Session {
         ensures hears { IfOk result (λ next. (setup : Setup) (said : Said)
             → setup.routes ≡ table.now → Stands setup self.old said
             → Hears setup said self.old self.new (slice_range piece.now used.old used.new) out.old.items out.new.items) }
-        ensures within { IfOk result (λ next. (used.old ≤ used.new) × (used.new ≤ length piece.now)) }
-        ensures whole { IfOk result (λ next. next ≡ Next.More → used.new ≡ length piece.now) }
+        // All of it, unless it stops at an offer or a close; no offer opens without an octet.
+        ensures used { IfOk result (λ next. UsesPiece self.old next (length piece.now) used.old used.new) }
         ensures next { IfOk result (λ next. next ≡ next_of self.new) }
-        // No offer opens without an octet: behind each answer the next round uses some.
-        ensures progress { IfOk result (λ next. next ≡ Next.Offer
-            → used.old < used.new + length (open_offers self.old)) }
         ensures waits { Waits self.old → (self.new ≡ self.old)
             × IfOk result (λ next. (used.new ≡ used.old) × (out.new.items ≡ out.old.items)) }
         ensures failed { OnErr result (HasFailed self.new) }

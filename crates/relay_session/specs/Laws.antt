@@ -2,7 +2,7 @@
 use Rattle.std.specs.Prelude.{◌≡◌, ℕ, ◌+◌, ◌^◌, ◌<◌, List, [], ◌∷◌, length, Option}
 use Rattle.std.specs.List.{All}
 use Rattle.relay_trace.specs.HeaderSection.{received_count_of}
-use Rattle.relay_routes.specs.Value.{IsHostName}
+use Rattle.relay_envelope.specs.HostName.{IsHostName}
 use Rattle.relay_server.specs.Dialogue.{Offered, Said, IsDialogue}
 use Rattle.relay_server.specs.Setup.{Setup}
 use Rattle.relay_session.specs.declared.message.Message.{Message}

@@ -21,8 +21,8 @@ returns-in-More c = λ setup octets given.
     let running = c.rounds.invariant.running in
     let told : next_of mid.session ≡ next.More = search rules in
     let other : next_of mid.session ≢ next.Offer = λ e. cc in
-    last_round setup octets c.args.piece.now c.rounds.used c.hear.new.used c.rounds.self mid mid running heard.within.0 refl refl (c.rounds.invariant.so_far setup octets given)
-    (λ said same stands. heard.hears setup said same stands) (none_else_is_open mid.session other) refl refl refl refl (λ _. heard.whole (heard.next ∙ told)) (λ is. absurd (cc))
+    last_round setup octets c.args.piece.now c.rounds.used c.hear.new.used c.rounds.self mid mid running heard.used.no_less refl refl (c.rounds.invariant.so_far setup octets given)
+    (λ said same stands. heard.hears setup said same stands) (none_else_is_open mid.session other) refl refl refl refl (λ _. heard.used.whole (heard.next ∙ told)) (λ is. absurd (cc))
 
 pub returns-in-Close : goal.returns-in-Close
 returns-in-Close c = λ setup octets given.
@@ -32,7 +32,7 @@ returns-in-Close c = λ setup octets given.
     let running = c.rounds.invariant.running in
     let told : next_of mid.session ≡ next.Close = search rules in
     let other : next_of mid.session ≢ next.Offer = λ e. cc in
-    last_round setup octets c.args.piece.now c.rounds.used c.hear.new.used c.rounds.self mid new running heard.within.0 refl refl (c.rounds.invariant.so_far setup octets given)
+    last_round setup octets c.args.piece.now c.rounds.used c.hear.new.used c.rounds.self mid new running heard.used.no_less refl refl (c.rounds.invariant.so_far setup octets given)
     (λ said same stands. heard.hears setup said same stands) (none_else_is_open mid.session other) refl refl refl refl (λ e. absurd (cc)) (λ _ said stands. close_is_closed setup mid.session said stands told)
 
 pub rounds-preserved : goal.rounds-preserved
@@ -43,9 +43,9 @@ rounds-preserved c =
     let running = c.rounds.invariant.running in
     let still : c.answer.new.self.is_closed ≡ false = c.answer.ensures.closed ∙ running in
     record {
-      within = heard.within.1;
+      within = heard.used.within;
       running = still;
       so_far = λ setup octets given.
-          answered_round setup octets c.args.piece.now c.rounds.used c.hear.new.used c.rounds.self mid c.answer.new.self running heard.within.0 refl refl (c.rounds.invariant.so_far setup octets given)
+          answered_round setup octets c.args.piece.now c.rounds.used c.hear.new.used c.rounds.self mid c.answer.new.self running heard.used.no_less refl refl (c.rounds.invariant.so_far setup octets given)
           (λ said same stands. heard.hears setup said same stands) (λ said played. answers.answered setup said played) answers.settled still;
     }

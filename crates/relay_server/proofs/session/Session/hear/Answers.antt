@@ -22,13 +22,16 @@ returns c =
     let next_is : c.next.result ≡ next_of new = c.next.ensures in
     record {
       hears = λ setup said same stood. heard_behind setup said old new piece used count c.args.out.now.items c.read.new.out.items (stands setup said same stood);
-      within = (omega arith, end);
-      whole = λ more. let all = whole (reads_on new (sym next_is ∙ more)) in omega (arith, all, behind, low);
+      used = record {
+        no_less = omega arith;
+        within = end;
+        whole = λ more. let all = whole (reads_on new (sym next_is ∙ more)) in omega (arith, all, behind, low);
+        some = λ told.
+            more_than (open_offers old) used (used + count) (omega arith) (λ none.
+                let some = offers_need_octets old new count c.in_ok-used.ensures.idle none (sym next_is ∙ told) in
+                omega (arith, some));
+      };
       next = next_is;
-      progress = λ told.
-          more_than (open_offers old) used (used + count) (omega arith) (λ none.
-              let some = offers_need_octets old new count c.in_ok-used.ensures.idle none (sym next_is ∙ told) in
-              omega (arith, some));
       waits = λ waiting.
           let still = c.in_ok-used.ensures.waits (waits_reads old waiting) in
           let nothing = still.2 in

@@ -21,8 +21,8 @@ returns-in-More c = λ said rests.
     let heard = c.in_ok-hear.ensures in
     let told : next_of new.session ≡ next.More = search rules in
     let other : next_of new.session ≢ next.Offer = λ e. cc in
-    last_round setup c.args.peer.now said c.args.octets.now c.rounds.used c.hear.new.used _ _ _ c.rounds.self new false (c.rounds.invariant.so_far said rests) refl heard.within.0
-    (λ later stands. heard.hears setup later refl stands) (none_else_is_open new.session other) (λ _. heard.whole (heard.next ∙ told)) (λ e. absurd (cc))
+    last_round setup c.args.peer.now said c.args.octets.now c.rounds.used c.hear.new.used _ _ _ c.rounds.self new false (c.rounds.invariant.so_far said rests) refl heard.used.no_less
+    (λ later stands. heard.hears setup later refl stands) (none_else_is_open new.session other) (λ _. heard.used.whole (heard.next ∙ told)) (λ e. absurd (cc))
 
 pub returns-in-Close : goal.returns-in-Close
 returns-in-Close c = λ said rests.
@@ -31,7 +31,7 @@ returns-in-Close c = λ said rests.
     let heard = c.in_ok-hear.ensures in
     let told : next_of new.session ≡ next.Close = search rules in
     let other : next_of new.session ≢ next.Offer = λ e. cc in
-    last_round setup c.args.peer.now said c.args.octets.now c.rounds.used c.hear.new.used _ _ _ c.rounds.self new true (c.rounds.invariant.so_far said rests) refl heard.within.0
+    last_round setup c.args.peer.now said c.args.octets.now c.rounds.used c.hear.new.used _ _ _ c.rounds.self new true (c.rounds.invariant.so_far said rests) refl heard.used.no_less
     (λ later stands. heard.hears setup later refl stands) (none_else_is_open new.session other) (λ e. absurd (cc)) (λ _ later stands. close_is_closed setup new.session later stands told)
 
 pub rounds-preserved : goal.rounds-preserved
@@ -40,8 +40,8 @@ rounds-preserved c =
     let mid : Exchange = record { session = c.hear.new.self; messages = c.rounds.self.messages } in
     let heard = c.in_ok-hear.ensures in
     record {
-      within = heard.within.1;
+      within = heard.used.within;
       so_far = λ said rests.
-          kept_round setup c.args.peer.now said c.args.octets.now c.rounds.used c.hear.new.used _ _ _ c.rounds.self mid c.keep.new.self c.keep.new.out.items (c.rounds.invariant.so_far said rests) refl heard.within.0
+          kept_round setup c.args.peer.now said c.args.octets.now c.rounds.used c.hear.new.used _ _ _ c.rounds.self mid c.keep.new.self c.keep.new.out.items (c.rounds.invariant.so_far said rests) refl heard.used.no_less
           (λ later stands. heard.hears setup later refl stands) c.in_ok-keep-in-Offer.ensures.kept;
     }
