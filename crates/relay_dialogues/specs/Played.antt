@@ -6,14 +6,16 @@ use Rattle.relay_server.specs.Session.{IsClosed, Stands, open_offers}
 use Rattle.relay_dialogues.specs.declared.play.Play.{Play}
 use Rattle.relay_dialogues.specs.OfferText.{offers_text}
 
--- the session stands behind what was said, its replies are written down, and each offer before the one that is open
+-- the session stands behind what was said, its replies are written down, and each offer before the
+-- one that is open
 pub record HasPlayed (setup : Setup) (play : Play) (said : Said) : Type 0 where
   pub stands : Stands setup play.session said
   pub routes : setup.routes ≡ play.table.now
   pub replies : play.replies.items ≡ said.output
   pub offers : offers_text said.offers ≡ play.offers ++ offers_text (open_offers play.session)
 
--- The play was given these octets, which were said, with every offer answered; those behind a close nobody reads.
+-- The play was given these octets, which were said, with every offer answered; those behind a close
+-- nobody reads.
 pub record Plays (setup : Setup) (play : Play) (octets : List ℕ) : Type 0 where
   pub said : Said
   pub played : HasPlayed setup play said

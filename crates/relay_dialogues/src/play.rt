@@ -14,7 +14,6 @@ use std::alloc::{AllocError, Global};
 const UNWANTED: &[u8] = b"no room\r\n";
 
 /// A session, and what has come out of it.
-#[derive(Drop)]
 pub struct Play<'a> {
     alloc: Global,
     table: &'a Table,
@@ -25,6 +24,21 @@ pub struct Play<'a> {
     offers: Octets,
     queued: u64,
     is_closed: bool,
+}
+
+// Written out, so that each exit that drops a play calls this, and doesn't look into its parts.
+impl Drop for Play<'_> {
+    fn drop(self) {
+        let Play {
+            alloc: _,
+            table: _,
+            session: _session,
+            replies: _replies,
+            offers: _offers,
+            queued: _,
+            is_closed: _,
+        } = self;
+    }
 }
 
 impl<'a> Play<'a> {

@@ -1,4 +1,5 @@
--- The machine under a session: what each of its stages keeps of the octets that came, and what one move of it does.
+-- The machine under a session: what each of its stages keeps of the octets that came, and what one
+-- move of it does.
 use Rattle.std.specs.Prelude.{◌≡◌, ◌⊎◌, ◌<◌, ◌≤◌, ◌+◌, ℕ, Bool, true, false, List, [], ◌∷◌, ◌++◌, length, take, None, Ok}
 use Rattle.relay_octets.specs.Line.{crlf, HasNoCrlf}
 use Rattle.relay_body.specs.DotReading.{IsReading}
@@ -65,7 +66,8 @@ pub record AnnouncesChunk (octets : List ℕ) (argument : BdatArgument) (part : 
   pub reads : reading_of text ≡ Ok (Bdat argument)
 
 -- in this state a chunk has come so far, and its octets join those before
-pub record GathersChunk (limit : ℕ) (transaction : Transaction) (reader : ChunkReader) (is_last : Bool) (state : State) (octets : List ℕ) : Type 0 where
+pub record GathersChunk (limit : ℕ) (transaction : Transaction) (reader : ChunkReader)
+    (is_last : Bool) (state : State) (octets : List ℕ) : Type 0 where
   pub old : CommandState
   pub state_is : state ≡ Command old
   pub argument : BdatArgument
@@ -75,10 +77,12 @@ pub record GathersChunk (limit : ℕ) (transaction : Transaction) (reader : Chun
   pub chunks : List Chunk
   pub chunk_is : IsInChunk reader limit chunks (record { size = argument.size; octets = part })
   pub course_is : (rest : List ℕ) → course_of_bdat limit rest argument.last old
-      ≡ course_of_chunks limit transaction.client transaction.envelope (content_of_chunks chunks ++ rest) argument.last
+      ≡ course_of_chunks limit transaction.client transaction.envelope
+      (content_of_chunks chunks ++ rest) argument.last
 
 -- in this state a chunk has come so far but for as many octets as are missing, and is refused by this row
-pub record RefusesChunk (limit : ℕ) (row : Row) (behind : Held) (missing : ℕ) (state : State) (octets : List ℕ) : Type 0 where
+pub record RefusesChunk (limit : ℕ) (row : Row) (behind : Held) (missing : ℕ) (state : State)
+    (octets : List ℕ) : Type 0 where
   pub old : CommandState
   pub state_is : state ≡ Command old
   pub argument : BdatArgument
@@ -86,15 +90,17 @@ pub record RefusesChunk (limit : ℕ) (row : Row) (behind : Held) (missing : ℕ
   pub begins : AnnouncesChunk octets argument part
   pub size_is : argument.size ≡ length part + missing
   pub is_held : IsHeld limit behind
-  pub course_is : (rest : List ℕ) → course_of_bdat limit rest argument.last old ≡ Replies row (Command (command_state_of behind))
+  pub course_is : (rest : List ℕ) → course_of_bdat limit rest argument.last old
+      ≡ Replies row (Command (command_state_of behind))
 
--- the stage stands in this state, and has used these octets since the last unit, but those of a command line, which stand
--- elsewhere
+-- the stage stands in this state, and has used these octets since the last unit, but those of a
+-- command line, which stand elsewhere
 abbrev pub KeepsText : Setup → Stage → State → List ℕ → Type 0
 KeepsText setup (stage.Command now) state octets =
     (state ≡ Command (command_state_of now)) × IsHeld setup.max_content now × (octets ≡ [])
 KeepsText setup (stage.Receiving mail) state octets =
-    (state ≡ Receiving mail.transaction.client mail.transaction.envelope) × IsReading mail.reader setup.max_content octets
+    (state ≡ Receiving mail.transaction.client mail.transaction.envelope)
+    × IsReading mail.reader setup.max_content octets
 KeepsText setup (stage.Chunk chunk) state octets =
     GathersChunk setup.max_content chunk.transaction chunk.reader chunk.is_last state octets
 KeepsText setup (stage.Skipping skipped) state octets =
@@ -127,7 +133,8 @@ pub record TakesTurn (setup : Setup) (old : State) (new : Stage) (asked before a
   pub none_unanswered : offers_at new ≡ []
 
 -- behind the reply of a row the session enters this state, and has used nothing behind it
-pub record EntersBy (setup : Setup) (row : Row) (next : State) (new : Stage) (before after : List ℕ) : Type 0 where
+pub record EntersBy (setup : Setup) (row : Row) (next : State) (new : Stage)
+    (before after : List ℕ) : Type 0 where
   pub written : after ≡ before ++ reply_text (reply_of setup.host row)
   pub nothing_kept : KeepsText setup new next []
   pub none_unanswered : offers_at new ≡ []
@@ -146,17 +153,20 @@ EndsBy setup (Offers client envelope content) new before after =
 
 -- a session goes on in a unit, or ends it
 abbrev pub Moves : Setup → State → Stage → List ℕ → List ℕ → List ℕ → Type 0
-Moves setup old new octets before after = GoesOn setup old new octets before after ⊎ TakesTurn setup old new octets before after
+Moves setup old new octets before after =
+    GoesOn setup old new octets before after ⊎ TakesTurn setup old new octets before after
 
--- from the old state the session goes on in a unit of which it has used these octets, or ends it with its reply
+-- from the old state the session goes on in a unit of which it has used these octets, or ends it
+-- with its reply
 abbrev pub Steps : Setup → State → Session → List ℕ → List ℕ → List ℕ → Type 0
 Steps setup old new octets before after =
     (Keeps setup new.line new.stage old octets × (after ≡ before))
     ⊎ (TakesTurn setup old new.stage octets before after × Holds new.line [])
 
--- a call on a session has used these octets and written what is new: whatever was used of a unit, it goes on or ends
+-- a call on a session has used these octets and written what is new: whatever was used of a unit,
+-- it goes on or ends
 pub record Advances (old new : Session) (routes : RouteTable) (used before after : List ℕ) : Type 0 where
   pub server : new.server ≡ old.server
-  pub moves : (state : State) (octets : List ℕ) → Keeps (setup_of old.server routes) old.line old.stage state octets
+  pub moves : (state : State) (octets : List ℕ)
+      → Keeps (setup_of old.server routes) old.line old.stage state octets
       → Steps (setup_of old.server routes) state new (octets ++ used) before after
-

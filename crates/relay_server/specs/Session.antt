@@ -29,7 +29,8 @@ pub record Stands (setup : Setup) (session : Session) (said : Said) : Type 0 whe
 
 -- what an offer shows
 abbrev pub offered : Offer → Offered
-offered offer = record { client = offer.client.now; envelope = offer.envelope.now; content = offer.content.now }
+offered offer =
+    record { client = offer.client.now; envelope = offer.envelope.now; content = offer.content.now }
 
 -- what the caller does next
 abbrev pub next_shown : Shown → Next
@@ -68,8 +69,8 @@ new_offers (offer ∷ offers) now = []
 abbrev pub offers_since : Session → Session → List Offered
 offers_since old new = new_offers (open_offers old) (open_offers new)
 
--- How far a piece of this length is used, and what the caller is told then: to its end where more is to come, and by an
--- octet at least where an offer has opened.
+-- How far a piece of this length is used, and what the caller is told then: to its end where more
+-- is to come, and by an octet at least where an offer has opened.
 pub record UsesPiece (old : Session) (told : Next) (len from to : ℕ) : Type 0 where
   pub no_less : from ≤ to
   pub within : to ≤ len
@@ -84,7 +85,8 @@ pub record SaysMore (said later : Said) (octets before after : List ℕ) : Type 
   pub out : after ≡ before ++ written
 
 -- behind what was said the session has used these octets, and has written its replies behind those before
-pub record Hears (setup : Setup) (said : Said) (old new : Session) (octets before after : List ℕ) : Type 0 where
+pub record Hears (setup : Setup) (said : Said) (old new : Session)
+    (octets before after : List ℕ) : Type 0 where
   pub later : Said
   pub stands : Stands setup new later
   pub more : SaysMore said later octets before after
@@ -92,7 +94,8 @@ pub record Hears (setup : Setup) (said : Said) (old new : Session) (octets befor
   pub offers : later.offers ≡ said.offers ++ offers_since old new
 
 -- behind what was said the open offer has this answer, and its reply is written behind those before
-pub record Answered (setup : Setup) (said : Said) (new : Session) (given : Answer) (before after : List ℕ) : Type 0 where
+pub record Answered (setup : Setup) (said : Said) (new : Session) (given : Answer)
+    (before after : List ℕ) : Type 0 where
   pub later : Said
   pub stands : Stands setup new later
   pub more : SaysMore said later [] before after

@@ -43,7 +43,8 @@ CloseIsClosed =
 -- behind a close what was said is a dialogue that is closed, and octets that nobody reads belong to its rest
 abbrev pub ClosedIsADialogue : Type 0
 ClosedIsADialogue =
-    (setup : Setup) (session : Session) (said : Said) (octets : List ℕ) → Stands setup session said → IsClosed session
+    (setup : Setup) (session : Session) (said : Said) (octets : List ℕ)
+    → Stands setup session said → IsClosed session
     → (dialogue : IsDialogue setup (unread_behind said octets)) × (dialogue.state ≡ Closed)
 
 -- the open offer of a session may be stored
@@ -62,7 +63,8 @@ MoreIsMore =
 -- a piece of which further octets were used
 abbrev pub PieceGoesOn : Type 0
 PieceGoesOn =
-    (said mid later : Said) (piece : List ℕ) (used further : ℕ) (before between after : List ℕ) → used ≤ further
+    (said mid later : Said) (piece : List ℕ) (used further : ℕ) (before between after : List ℕ)
+    → used ≤ further
     → SaysMore said mid (take used piece) before between
     → SaysMore mid later (slice_range piece used further) between after
     → SaysMore said later (take further piece) before after

@@ -28,15 +28,18 @@ CourseIsFixed =
 -- what has a course is a unit of its state
 abbrev pub CourseIsOfAUnit : Type 0
 CourseIsOfAUnit =
-    (setup : Setup) (state : State) (unit : List ℕ) (course : Course) → Comes setup state unit course → IsUnit state unit
+    (setup : Setup) (state : State) (unit : List ℕ) (course : Course)
+    → Comes setup state unit course → IsUnit state unit
 
 -- what a turn reads is a unit of its state
 abbrev pub AskedIsAUnit : Type 0
-AskedIsAUnit = (setup : Setup) (old new : State) (turn : Turn) → Answers setup old turn new → IsUnit old turn.asked
+AskedIsAUnit =
+    (setup : Setup) (old new : State) (turn : Turn) → Answers setup old turn new → IsUnit old turn.asked
 
--- the turn reads just this unit, and has the reply, the offer and the next state of this course; behind both the same
--- octets follow
-pub record IsTurnOf (host unit : List ℕ) (course : Course) (turn : Turn) (new : State) (rest more : List ℕ) : Type 0 where
+-- the turn reads just this unit, and has the reply, the offer and the next state of this course;
+-- behind both the same octets follow
+pub record IsTurnOf (host unit : List ℕ) (course : Course) (turn : Turn) (new : State)
+    (rest more : List ℕ) : Type 0 where
   pub asked : turn.asked ≡ unit
   pub takes : Takes host course turn new
   pub behind : rest ≡ more
@@ -45,28 +48,35 @@ pub record IsTurnOf (host unit : List ℕ) (course : Course) (turn : Turn) (new 
 abbrev pub TurnIsOfItsUnit : Type 0
 TurnIsOfItsUnit =
     (setup : Setup) (old new : State) (unit rest more : List ℕ) (course : Course) (turn : Turn)
-    → Comes setup old unit course → Answers setup old turn new → turn.asked ++ rest ≡ unit ++ more → IsTurnOf setup.host unit course turn new rest more
+    → Comes setup old unit course → Answers setup old turn new → turn.asked ++ rest ≡ unit ++ more
+    → IsTurnOf setup.host unit course turn new rest more
 
--- a turn that begins where this line begins is of just this line, and has the reply and the next state of its row
+-- a turn that begins where this line begins is of just this line, and has the reply and the next
+-- state of its row
 abbrev pub LineIsAnswered : Type 0
 LineIsAnswered =
     (setup : Setup) (old : CommandState) (new : State) (text rest more : List ℕ) (what : Asked) (turn : Turn)
-    → HasNoCrlf text → length text ≤ 2046 → announced_by (reading_of text) ≡ 0 → AsksBy (reading_of text) [] what
+    → HasNoCrlf text → length text ≤ 2046 → announced_by (reading_of text) ≡ 0
+    → AsksBy (reading_of text) [] what
     → Answers setup (Command old) turn new → turn.asked ++ rest ≡ (text ++ crlf) ++ more
     → IsTurnOf setup.host (text ++ crlf) (course_of setup what old) turn new rest more
 
 -- a turn that begins where this line of BDAT begins is of the line with its chunk
 abbrev pub ChunkIsAnswered : Type 0
 ChunkIsAnswered =
-    (setup : Setup) (old : CommandState) (new : State) (text octets rest more : List ℕ) (argument : BdatArgument)
+    (setup : Setup) (old : CommandState) (new : State) (text octets rest more : List ℕ)
+    (argument : BdatArgument)
     (turn : Turn) → HasNoCrlf text → length text ≤ 2046 → reading_of text ≡ Ok (line.Bdat argument)
-    → length octets ≡ argument.size → Answers setup (Command old) turn new → turn.asked ++ rest ≡ (text ++ crlf ++ octets) ++ more
+    → length octets ≡ argument.size → Answers setup (Command old) turn new
+    → turn.asked ++ rest ≡ (text ++ crlf ++ octets) ++ more
     → IsTurnOf setup.host (text ++ crlf ++ octets)
     (course_of_bdat setup.max_content octets argument.last old) turn new rest more
 
 -- a turn that begins where this dot text begins is of just that
 abbrev pub TextIsAnswered : Type 0
 TextIsAnswered =
-    (setup : Setup) (client : Client) (envelope : Envelope) (new : State) (text content rest more : List ℕ) (turn : Turn)
-    → ReadsDotText text content → Answers setup (Receiving client envelope) turn new → turn.asked ++ rest ≡ text ++ more
+    (setup : Setup) (client : Client) (envelope : Envelope) (new : State)
+    (text content rest more : List ℕ) (turn : Turn)
+    → ReadsDotText text content → Answers setup (Receiving client envelope) turn new
+    → turn.asked ++ rest ≡ text ++ more
     → IsTurnOf setup.host text (course_of_text setup.max_content client envelope content) turn new rest more

@@ -50,7 +50,8 @@ pub struct Session {
     stage: Stage,
 }
 
-// Written out, so that a crate that drops a session calls this, and doesn't look into each stage where it drops one.
+// Written out, so that a crate that drops a session calls this, and doesn't look into each stage
+// where it drops one.
 impl Drop for Session {
     fn drop(self) {
         let Session {
@@ -85,8 +86,9 @@ impl Session {
         Ok((session, greeting))
     }
 
-    /// Uses octets of a piece up to an offer or a close, or all of them. The table says which recipients have a next hop;
-    /// `<Postmaster>` (RFC 5321, section 4.5.1) is routed as the table's host, in a configuration the session's own.
+    /// Uses octets of a piece up to an offer or a close, or all of them. The table says which
+    /// recipients have a next hop; `<Postmaster>` (RFC 5321, section 4.5.1) is routed as the
+    /// table's host, in a configuration the session's own.
     pub fn feed(&mut self, table: &Table, piece: &[u8]) -> Result<Fed, AllocError>
         ensures stands { IfOk result (λ fed. (setup : Setup) (said : Said)
             → setup.routes ≡ table.now → Stands setup self.old said
@@ -107,9 +109,10 @@ impl Session {
         Ok(Fed { used, out, next })
     }
 
-    /// Feeds what is left of a piece behind the octets that are used, counts those that it uses, and puts the replies
-    /// behind `out`: for a loop over a whole piece, which answers each offer on its way. It answers what the caller
-    /// does next. Where memory runs out, `out` may have lost its end.
+    /// Feeds what is left of a piece behind the octets that are used, counts those that it uses,
+    /// and puts the replies behind `out`: for a loop over a whole piece, which answers each offer
+    /// on its way. It answers what the caller does next. Where memory runs out, `out` may have lost
+    /// its end.
     pub fn hear(
         &mut self,
         table: &Table,
@@ -120,7 +123,8 @@ impl Session {
         requires { used.old ≤ length piece.now }
         ensures hears { IfOk result (λ next. (setup : Setup) (said : Said)
             → setup.routes ≡ table.now → Stands setup self.old said
-            → Hears setup said self.old self.new (slice_range piece.now used.old used.new) out.old.items out.new.items) }
+            → Hears setup said self.old self.new
+            (slice_range piece.now used.old used.new) out.old.items out.new.items) }
         // All of it, unless it stops at an offer or a close; no offer opens without an octet.
         ensures used { IfOk result (λ next. UsesPiece self.old next (length piece.now) used.old used.new) }
         ensures next { IfOk result (λ next. next ≡ next_of self.new) }
@@ -169,8 +173,8 @@ impl Session {
         Ok(out)
     }
 
-    /// Answers the offer that is open, and puts what goes to the client behind `out`. Where memory runs out, `out` may
-    /// have lost its end.
+    /// Answers the offer that is open, and puts what goes to the client behind `out`. Where memory
+    /// runs out, `out` may have lost its end.
     pub fn reply(&mut self, answer: Answer, out: &mut Vec<u8>) -> Result<(), AllocError>
         requires { HasOffer self.old }
         ensures answered { OnOk result ((setup : Setup) (said : Said) → Stands setup self.old said
@@ -254,7 +258,8 @@ impl Session {
     ) -> Result<usize, AllocError>
         requires some { 0 < length rest.now }
         requires reading { is_reading self.old.stage ≡ true }
-        ensures advances { IfOk result (λ used. Advances self.old self.new table.now (take used rest.now) out.old.items out.new.items) }
+        ensures advances { IfOk result (λ used. Advances self.old self.new table.now
+            (take used rest.now) out.old.items out.new.items) }
         ensures within { IfOk result (λ used. (0 < used) × (used ≤ length rest.now)) }
         ensures failed { OnErr result (self.new.stage ≡ Stage.Failed) }
     {
@@ -277,7 +282,9 @@ impl Session {
         requires some { 0 < length rest.now }
         ensures moves { IfOk result (λ used. (routes : RouteTable) (octets : List ℕ)
             → IsReading mail.reader self.old.server.max_content octets
-            → Moves (setup_of self.old.server routes) (standing.Receiving mail.transaction.client mail.transaction.envelope) self.new.stage (octets ++ take used rest.now) out.old.items out.new.items) }
+            → Moves (setup_of self.old.server routes)
+            (standing.Receiving mail.transaction.client mail.transaction.envelope) self.new.stage
+            (octets ++ take used rest.now) out.old.items out.new.items) }
         ensures same { (self.new.server ≡ self.old.server) × (self.new.line ≡ self.old.line) }
         ensures within { IfOk result (λ used. (0 < used) × (used ≤ length rest.now)) }
         ensures failed { OnErr result (self.new.stage ≡ self.old.stage) }
@@ -296,8 +303,10 @@ impl Session {
     ) -> Result<usize, AllocError>
         requires some { 0 < length rest.now }
         ensures moves { IfOk result (λ used. (routes : RouteTable) (state : standing.State) (octets : List ℕ)
-            → GathersChunk self.old.server.max_content chunk.transaction chunk.reader chunk.is_last state octets
-            → Moves (setup_of self.old.server routes) state self.new.stage (octets ++ take used rest.now) out.old.items out.new.items) }
+            → GathersChunk self.old.server.max_content chunk.transaction chunk.reader chunk.is_last
+            state octets
+            → Moves (setup_of self.old.server routes) state self.new.stage
+            (octets ++ take used rest.now) out.old.items out.new.items) }
         ensures same { (self.new.server ≡ self.old.server) × (self.new.line ≡ self.old.line) }
         ensures within { IfOk result (λ used. (0 < used) × (used ≤ length rest.now)) }
         ensures failed { OnErr result (self.new.stage ≡ self.old.stage) }
@@ -324,7 +333,8 @@ impl Session {
         requires some { 0 < length rest.now }
         ensures moves { IfOk result (λ used. (routes : RouteTable) (state : standing.State) (octets : List ℕ)
             → RefusesChunk self.old.server.max_content skipped.row skipped.state skipped.missing state octets
-            → Moves (setup_of self.old.server routes) state self.new.stage (octets ++ take used rest.now) out.old.items out.new.items) }
+            → Moves (setup_of self.old.server routes) state self.new.stage
+            (octets ++ take used rest.now) out.old.items out.new.items) }
         ensures same { (self.new.server ≡ self.old.server) × (self.new.line ≡ self.old.line) }
         ensures within { IfOk result (λ used. (0 < used) × (used ≤ length rest.now)) }
         ensures failed { OnErr result (self.new.stage ≡ self.old.stage) }
@@ -339,7 +349,8 @@ impl Session {
         Ok(used)
     }
 
-    /// Uses the octets of one command line, or the next ones of it. A line that stands whole in the piece is read there.
+    /// Uses the octets of one command line, or the next ones of it. A line that stands whole in the
+    /// piece is read there.
     fn read_line(
         &mut self,
         table: &Table,
@@ -348,8 +359,11 @@ impl Session {
         out: &mut Vec<u8>,
     ) -> Result<usize, AllocError>
         requires some { 0 < length rest.now }
-        ensures steps { IsHeld self.old.server.max_content state → IfOk result (λ used. (octets : List ℕ) → Holds self.old.line octets
-            → Steps (setup_of self.old.server table.now) (standing.Command (command_state_of state)) self.new (octets ++ take used rest.now) out.old.items out.new.items) }
+        ensures steps { IsHeld self.old.server.max_content state
+            → IfOk result (λ used. (octets : List ℕ) → Holds self.old.line octets
+            → Steps (setup_of self.old.server table.now)
+            (standing.Command (command_state_of state)) self.new
+            (octets ++ take used rest.now) out.old.items out.new.items) }
         ensures server { self.new.server ≡ self.old.server }
         ensures within { IfOk result (λ used. (0 < used) × (used ≤ length rest.now)) }
         ensures failed { OnErr result (self.new.stage ≡ self.old.stage) }
@@ -377,9 +391,12 @@ impl Session {
         state: CommandState,
         out: &mut Vec<u8>,
     ) -> Result<(), AllocError>
-        ensures moves { IsHeld self.old.server.max_content state → OnOk result ((line : List ℕ) → HasNoCrlf line
+        ensures moves { IsHeld self.old.server.max_content state → OnOk result ((line : List ℕ)
+            → HasNoCrlf line
             → IsGiven line self.old.line.kept self.old.line.is_long
-            → Moves (setup_of self.old.server table.now) (standing.Command (command_state_of state)) self.new.stage (line ++ crlf) out.old.items out.new.items) }
+            → Moves (setup_of self.old.server table.now)
+            (standing.Command (command_state_of state)) self.new.stage
+            (line ++ crlf) out.old.items out.new.items) }
         ensures server { self.new.server ≡ self.old.server }
         ensures line { OnOk result (Holds self.new.line []) }
         ensures failed { OnErr result (self.new.stage ≡ self.old.stage) }

@@ -31,7 +31,8 @@ pub fn close_is_closed()
     ensures { CloseIsClosed }
 {}
 
-/// Behind a close what was said is a dialogue that is closed, and octets that nobody reads belong to its rest.
+/// Behind a close what was said is a dialogue that is closed, and octets that nobody reads belong
+/// to its rest.
 pub fn closed_is_a_dialogue()
     ensures { ClosedIsADialogue }
 {}

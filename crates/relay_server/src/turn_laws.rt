@@ -26,7 +26,8 @@ pub fn turn_is_of_its_unit()
     ensures { TurnIsOfItsUnit }
 {}
 
-/// A turn that begins where this line begins is of just this line, with the reply and the next state of its row.
+/// A turn that begins where this line begins is of just this line, with the reply and the next
+/// state of its row.
 pub fn line_is_answered()
     ensures { LineIsAnswered }
 {}

@@ -11,8 +11,8 @@ use Rattle.relay_session.specs.Kept.{AreKept, queued_to}
 abbrev pub greeted_by : List ℕ → Said
 greeted_by greeting = record { input = []; answers = []; output = greeting; offers = [] }
 
--- the session stands behind what was said, each offer before the one that is open is kept, in order, and was answered
--- by its number
+-- the session stands behind what was said, each offer before the one that is open is kept, in
+-- order, and was answered by its number
 pub record Serves (setup : Setup) (peer : Peer) (exchange : Exchange) (said : Said) : Type 0 where
   pub stands : Stands setup exchange.session said
   pub earlier : List Offered
@@ -27,13 +27,15 @@ pub record Rests (setup : Setup) (peer : Peer) (exchange : Exchange) (said : Sai
   pub numbered : said.answers ≡ queued_to (length exchange.messages)
 
 -- behind what was said the exchange has used these octets, has put its replies behind those before, and rests
-pub record GoesOn (setup : Setup) (peer : Peer) (said : Said) (new : Exchange) (octets before after : List ℕ) : Type 0 where
+pub record GoesOn (setup : Setup) (peer : Peer) (said : Said) (new : Exchange)
+    (octets before after : List ℕ) : Type 0 where
   pub later : Said
   pub rests : Rests setup peer new later
   pub more : SaysMore said later octets before after
 
 -- The same of the octets up to a close, or of all of them.
-pub record Receives (setup : Setup) (peer : Peer) (said : Said) (new : Exchange) (octets before after : List ℕ) (is_closed : Bool) : Type 0 where
+pub record Receives (setup : Setup) (peer : Peer) (said : Said) (new : Exchange)
+    (octets before after : List ℕ) (is_closed : Bool) : Type 0 where
   pub used : List ℕ
   pub unused : List ℕ
   pub octets_are : octets ≡ used ++ unused

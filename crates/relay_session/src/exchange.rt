@@ -21,7 +21,8 @@ pub(crate) struct Exchange {
 }
 
 impl Exchange {
-    /// An exchange that has kept nothing yet, and the greeting for the client. It fails where memory runs out.
+    /// An exchange that has kept nothing yet, and the greeting for the client. It fails where
+    /// memory runs out.
     pub(crate) fn open(alloc: Global, config: &Config) -> Result<(Self, Vec<u8>), AllocError>
         ensures { IfOk result (λ opened. (peer : Peer)
             → Rests (setup_of_config config.now) peer opened.0 (greeted_by opened.1.items)) }
@@ -34,8 +35,8 @@ impl Exchange {
         Ok((exchange, greeting))
     }
 
-    /// Uses the octets, all of them or up to a close, and puts the replies behind `out`. It answers whether the
-    /// connection is to be closed. It fails where memory runs out.
+    /// Uses the octets, all of them or up to a close, and puts the replies behind `out`. It answers
+    /// whether the connection is to be closed. It fails where memory runs out.
     pub(crate) fn receive(
         &mut self,
         alloc: Global,
@@ -44,7 +45,8 @@ impl Exchange {
         octets: &[u8],
         out: &mut Vec<u8>,
     ) -> Result<bool, AllocError>
-        ensures { IfOk result (λ is_closed. (said : Said) → Rests (setup_of_config config.now) peer.now self.old said
+        ensures { IfOk result (λ is_closed. (said : Said)
+            → Rests (setup_of_config config.now) peer.now self.old said
             → Receives (setup_of_config config.now) peer.now said self.new octets.now
             out.old.items out.new.items is_closed) }
     {
@@ -61,8 +63,8 @@ impl Exchange {
         }
     }
 
-    /// Keeps the message that is offered, answers with its number, and puts the reply behind `out`. It fails where
-    /// memory runs out.
+    /// Keeps the message that is offered, answers with its number, and puts the reply behind `out`.
+    /// It fails where memory runs out.
     fn keep(
         &mut self,
         alloc: Global,

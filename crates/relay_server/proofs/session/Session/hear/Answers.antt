@@ -28,8 +28,8 @@ returns c =
         whole = λ more. let all = whole (reads_on new (sym next_is ∙ more)) in omega (arith, all, behind, low);
         some = λ told.
             more_than (open_offers old) used (used + count) (omega arith) (λ none.
-                let some = offers_need_octets old new count c.in_ok-used.ensures.idle none (sym next_is ∙ told) in
-                omega (arith, some));
+            let some = offers_need_octets old new count c.in_ok-used.ensures.idle none (sym next_is ∙ told) in
+            omega (arith, some));
       };
       next = next_is;
       waits = λ waiting.
