@@ -1,5 +1,5 @@
 -- What a session tells its caller, and what may be said of it behind each call.
-use Rattle.std.proofs.Common.{◌≡◌, ◌≢◌, ◌+◌, ◌-◌, ◌≤◌, ℕ, List, [], ◌∷◌, ◌++◌, length, take, drop, inl, append_assoc, append-nil, Option, Some, None, refl, sym, ap, ◌∙◌, subst, arith, length-append}
+use Rattle.std.proofs.Common.{◌≡◌, ◌≢◌, ◌+◌, ◌-◌, ◌≤◌, ℕ, List, [], ◌∷◌, ◌++◌, length, take, inl, append_assoc, Option, Some, None, refl, sym, ap, ◌∙◌, subst, arith, length-append}
 use Rattle.std.specs.List.{AllByRecursion, slice_range}
 use Rattle.std.proofs.Math.Seq.{take-add}
 use Rattle.relay_server.specs.declared.offer.Answer.{Answer}
@@ -7,11 +7,11 @@ use Rattle.relay_server.specs.declared.session.Session.{Session}
 use Rattle.relay_server.specs.declared.session.Next.TheVariants as next
 use Rattle.relay_server.specs.declared.stage.Stage.{Stage}
 use Rattle.relay_server.specs.declared.stage.Stage.TheVariants as stage
-use Rattle.relay_server.specs.Dialogue.{IsDialogue, Offered, Said, Turn, Turns, answered_by, answers_in, offered_by, offers_in, read_by, unread_behind}
+use Rattle.relay_server.specs.Dialogue.{Offered, Said, Turn, Turns, answered_by, answers_in, offered_by, offers_in, read_by}
 use Rattle.relay_server.specs.DialogueLaws.{MayBeStored}
 use Rattle.relay_server.specs.Machine.{Keeps, Shown, Reading, Offering, Over, offers_at, offers_shown, shown_at}
 use Rattle.relay_server.specs.Setup.{Setup}
-use Rattle.relay_server.specs.Session.{IsClosed, SaysMore, Stands, next_of, next_shown, new_offers, open_offers}
+use Rattle.relay_server.specs.Session.{Stands, next_shown, new_offers, open_offers}
 use Rattle.relay_server.specs.SessionLaws.{AnsweredIsSettled, ClosedIsADialogue, CloseIsClosed, MoreIsMore, NoneElseIsOpen, OfferIsTold, OffersAreAnswered, OpenIsNew, OpenMayBeStored, PieceGoesOn}
 use Rattle.relay_server.specs.State.{Closed, State, start}
 use Rattle.relay_server.proofs.DialogueLemmas.{what_stands_is_a_dialogue}

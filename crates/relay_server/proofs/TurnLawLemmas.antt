@@ -1,5 +1,5 @@
 -- What state and unit fix of a turn: each law over the unit that the turn begins with.
-use Rattle.std.proofs.Common.{◌≡◌, ◌≤◌, ℕ, nat_le, Bool, true, false, List, [], ◌∷◌, ◌++◌, length, inl, inr, ◌⊎◌, ◌<◌, Result, Ok, Err, refl, sym, ap, ◌∙◌, subst, append-nil}
+use Rattle.std.proofs.Common.{◌≡◌, ◌≤◌, ℕ, nat_le, List, [], ◌++◌, length, inl, inr, ◌⊎◌, ◌<◌, Result, Ok, Err, refl, sym, ap, ◌∙◌, subst, append-nil}
 use Rattle.std.proofs.lemmas.Bool.{cases_lt, cond-true, le-leb}
 use Rattle.relay_octets.specs.Line.{crlf, HasNoCrlf}
 use Rattle.relay_lines.specs.Command.{reading_of}
@@ -12,7 +12,7 @@ use Rattle.relay_lines.specs.Command as line
 use Rattle.relay_lines.specs.declared.command.LineFault.{LineFault}
 use Rattle.relay_trace.specs.declared.received.Protocol.TheVariants.{Smtp, Esmtp}
 use Rattle.relay_server.specs.Dialogue.{Comes, Takes}
-use Rattle.relay_server.specs.ReplyTable.{Course, course_of, course_of_bdat, course_of_text}
+use Rattle.relay_server.specs.ReplyTable.{Course, course_of, course_of_text}
 use Rattle.relay_server.specs.Setup.{Setup}
 use Rattle.relay_server.specs.State.{Closed, Command, CommandState, Receiving, client_of}
 use Rattle.relay_server.specs.TurnLaws.{AskedIsAUnit, ChunkIsAnswered, CourseIsFixed, CourseIsOfAUnit, LineIsAnswered, NoUnitLacksACourse, TextIsAnswered, TurnIsOfItsUnit}

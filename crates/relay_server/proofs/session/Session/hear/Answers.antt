@@ -1,7 +1,6 @@
 -- What was used of the octets behind is heard.
-use Rattle.std.proofs.Common.{◌≡◌, ◌+◌, ◌-◌, ◌≤◌, ◌<◌, [], length, drop, rules, sym, ap, ◌∙◌, arith}
+use Rattle.std.proofs.Common.{◌≡◌, ◌+◌, ◌≤◌, length, rules, sym, ◌∙◌, arith}
 use Rattle.std.proofs.lemmas.List.{length-drop, take_rest}
-use Rattle.relay_server.specs.declared.session.Next.TheVariants as next
 use Rattle.relay_server.specs.Session.{next_of, open_offers}
 use Rattle.relay_server.proofs.StandsLemmas.{heard_behind, more_than, offers_need_octets, reads_on, waits_reads}
 use Rattle.relay_server.proofs.session.Session.hear.Goals as goal
