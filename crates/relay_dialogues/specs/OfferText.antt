@@ -11,13 +11,17 @@ use Rattle.relay_server.specs.Dialogue.{Offered}
 abbrev pub recipient_text : Recipient → List ℕ
 recipient_text recipient = codes " " ++ rcpt_text recipient
 
--- the client, and what MAIL and the RCPTs said, in a line, the content, and a line behind it
-abbrev pub offer_text : Offered → List ℕ
-offer_text offer =
-    codes "[offer of " ++ offer.client.word ++ codes " by " ++ protocol_word offer.client.protocol
+-- behind the first words the client, and what MAIL and the RCPTs said, in a line, the content, and a
+-- line behind it
+abbrev pub offer_behind : List ℕ → Offered → List ℕ
+offer_behind front offer =
+    front ++ offer.client.word ++ codes " by " ++ protocol_word offer.client.protocol
     ++ codes " from " ++ mail_text offer.envelope
     ++ codes " to" ++ flat_map recipient_text offer.envelope.recipients ++ (93 ∷ crlf)
     ++ offer.content ++ (codes "[end of offer]" ++ crlf)
+
+abbrev pub offer_text : Offered → List ℕ
+offer_text offer = offer_behind (codes "[offer of ") offer
 
 -- offers, one behind another
 abbrev pub offers_text : List Offered → List ℕ

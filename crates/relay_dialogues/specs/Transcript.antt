@@ -4,7 +4,8 @@ use Rattle.relay_server.specs.Dialogue.{IsDialogue, Said}
 use Rattle.relay_server.specs.Setup.{Setup}
 use Rattle.relay_dialogues.specs.OfferText.{offers_text}
 
--- the replies are the output of a dialogue of just these octets, and the offers are its offers, each of them answered
+-- the replies are the output of a dialogue of just these octets, and the offers are its offers,
+-- each of them answered
 pub record IsTranscript (setup : Setup) (octets replies offers : List ℕ) : Type 0 where
   pub said : Said
   pub dialogue : IsDialogue setup said

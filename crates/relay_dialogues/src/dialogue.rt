@@ -12,7 +12,6 @@ use std::rt::Files;
 use std::test::Fail;
 
 /// A dialogue that is written down.
-#[derive(Drop)]
 pub struct Dialogue {
     /// The octets of the client.
     input: Vec<u8>,
@@ -20,6 +19,17 @@ pub struct Dialogue {
     replies: Vec<u8>,
     /// The offers that are to come.
     offers: Vec<u8>,
+}
+
+// Written out, as for a play: where one is dropped, this is called.
+impl Drop for Dialogue {
+    fn drop(self) {
+        let Dialogue {
+            input: _input,
+            replies: _replies,
+            offers: _offers,
+        } = self;
+    }
 }
 
 /// What a dialogue came to.
@@ -44,8 +54,8 @@ impl Display for Verdict {
 }
 
 impl Dialogue {
-    /// Reads the dialogue of this name: the client's octets from `NAME.in` of the folder, the replies from `NAME.ref`,
-    /// and the offers from `NAME.offers`.
+    /// Reads the dialogue of this name: the client's octets from `NAME.in` of the folder, the
+    /// replies from `NAME.ref`, and the offers from `NAME.offers`.
     pub fn read<R: Files + Alloc<A = Global>>(
         rt: &R,
         folder: &str,
@@ -62,7 +72,8 @@ impl Dialogue {
     /// Holds the dialogue once for each cutting. It fails where memory runs out.
     pub fn verdict(&self, alloc: Global, config: &Config) -> Result<Verdict, AllocError>
         ensures { IfOk result (λ verdict. verdict ≡ Verdict.Equal
-            → IsTranscript (setup_of_config config.now) self.now.input.items self.now.replies.items self.now.offers.items) }
+            → IsTranscript (setup_of_config config.now) self.now.input.items self.now.replies.items
+            self.now.offers.items) }
     {
         for place in 0..=self.input.len() {
             let play = self.cut_at(alloc, config, place)?;
@@ -109,7 +120,8 @@ impl Dialogue {
     /// Whether the replies and the offers of the play are those that are written down.
     fn is_as_written(&self, play: &Play<'_>) -> bool
         ensures { IsTrue result
-            ↔ ((play.now.replies ≡ self.now.replies.items) × (play.now.offers ≡ self.now.offers.items)) }
+            ↔ ((play.now.replies.items ≡ self.now.replies.items)
+            × (play.now.offers ≡ self.now.offers.items)) }
     {
         play.replies() == self.replies.as_slice() && play.offers() == self.offers.as_slice()
     }

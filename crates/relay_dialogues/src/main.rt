@@ -1,5 +1,5 @@
-//! Holds each dialogue of data/ over `Session`, cut into two pieces at every octet and into pieces of one octet, and
-//! compares what comes out with what is written down.
+//! Holds each dialogue of data/ over `Session`, cut into two pieces at every octet and into pieces
+//! of one octet, and compares what comes out with what is written down.
 #![tactic(auto)]
 
 mod dialogue;
@@ -7,7 +7,7 @@ mod offer_text;
 mod play;
 mod setup;
 
-use dialogue::Dialogue;
+use dialogue::{Dialogue, Verdict};
 use relay_routes::Config;
 use setup::{configuration, open_configuration, small_configuration};
 use std::env;
@@ -97,20 +97,41 @@ fn main(rt: HostRuntime) -> Result<(), Fail> {
         Some(word) => word.as_str(),
         None => ".",
     };
-    let config = configuration(alloc)?;
-    hold(&rt, folder, &DIALOGUES, &config)?;
-    hold(&rt, folder, &CHUNK_DIALOGUES, &config)?;
-    hold(&rt, folder, &BAD_CHUNK_SIZES, &config)?;
-    hold(&rt, folder, &SMALL_DIALOGUES, &small_configuration(alloc)?)?;
-    hold(&rt, folder, &OPEN_DIALOGUES, &open_configuration(alloc)?)?;
-    hold(&rt, folder, &WRONG_DIALOGUES, &config)
+    hold(&rt, folder, &DIALOGUES, configuration(alloc)?)?;
+    hold(&rt, folder, &CHUNK_DIALOGUES, configuration(alloc)?)?;
+    hold(&rt, folder, &BAD_CHUNK_SIZES, configuration(alloc)?)?;
+    hold(&rt, folder, &SMALL_DIALOGUES, small_configuration(alloc)?)?;
+    hold(&rt, folder, &OPEN_DIALOGUES, open_configuration(alloc)?)?;
+    hold(&rt, folder, &WRONG_DIALOGUES, configuration(alloc)?)
 }
 
-/// Holds the dialogues of these names, and prints a line for each.
-fn hold(rt: &HostRuntime, folder: &str, names: &[&str], config: &Config) -> Result<(), Fail> {
+/// Holds the dialogues of these names at this host. The configuration is dropped here alone: its drop is large, and each
+/// exit that has one asks for its proof again.
+fn hold(rt: &HostRuntime, folder: &str, names: &[&str], config: Config) -> Result<(), Fail> {
+    hold_each(rt, folder, names, &config)
+}
+
+/// Holds each of the dialogues, and prints a line for it.
+fn hold_each(
+    rt: &HostRuntime,
+    folder: &str,
+    names: &[&str],
+    config: &Config,
+) -> Result<(), Fail> {
     for name in names {
-        let verdict = Dialogue::read(rt, folder, name)?.verdict(rt.alloc(), config)?;
+        let verdict = verdict_of(rt, folder, name, config)?;
         println!(rt; "{name}: {verdict}")?;
     }
     Ok(())
+}
+
+/// What the dialogue of this name comes to.
+fn verdict_of(
+    rt: &HostRuntime,
+    folder: &str,
+    name: &str,
+    config: &Config,
+) -> Result<Verdict, Fail> {
+    let dialogue = Dialogue::read(rt, folder, name)?;
+    Ok(dialogue.verdict(rt.alloc(), config)?)
 }

@@ -1,9 +1,8 @@
-ghost use Rattle.std.specs.Prelude.{◌≡◌, ◌≤◌, ℕ, List, [], ◌++◌, false, length, take, IfOk, OnOk};
+ghost use Rattle.std.specs.Prelude.{◌≡◌, ℕ, List, [], ◌++◌, false, IfOk, OnOk};
 ghost use Rattle.relay_server.specs.Dialogue.{Said};
-ghost use Rattle.relay_server.specs.Setup.{Setup};
-ghost use Rattle.relay_server.specs.Session.{HasOffer, next_of, open_offers};
-ghost use Rattle.relay_dialogues.specs.Played.{HasPlayed, IsAnswered, Plays, Uses};
-ghost use Rattle.relay_server.specs.Setup.{setup_of_config};
+ghost use Rattle.relay_server.specs.Session.{HasOffer, open_offers};
+ghost use Rattle.relay_server.specs.Setup.{Setup, setup_of_config};
+ghost use Rattle.relay_dialogues.specs.Played.{HasPlayed, IsAnswered, Plays};
 
 use crate::offer_text::written_offer;
 use relay_octets::Octets;
@@ -15,17 +14,31 @@ use std::alloc::{AllocError, Global};
 const UNWANTED: &[u8] = b"no room\r\n";
 
 /// A session, and what has come out of it.
-#[derive(Drop)]
 pub struct Play<'a> {
     alloc: Global,
     table: &'a Table,
     session: Session,
     /// The replies as they came.
-    replies: Octets,
+    replies: Vec<u8>,
     /// The offers that were answered, each written down.
     offers: Octets,
     queued: u64,
     is_closed: bool,
+}
+
+// Written out, so that each exit that drops a play calls this, and doesn't look into its parts.
+impl Drop for Play<'_> {
+    fn drop(self) {
+        let Play {
+            alloc: _,
+            table: _,
+            session: _session,
+            replies: _replies,
+            offers: _offers,
+            queued: _,
+            is_closed: _,
+        } = self;
+    }
 }
 
 impl<'a> Play<'a> {
@@ -38,7 +51,7 @@ impl<'a> Play<'a> {
             alloc,
             table: &config.routes,
             session,
-            replies: Octets::new(greeting),
+            replies: greeting,
             offers: Octets::from_slice(alloc, b"")?,
             queued: 0,
             is_closed: false,
@@ -47,7 +60,7 @@ impl<'a> Play<'a> {
 
     /// The replies that have come out.
     pub fn replies(&self) -> &[u8]
-        ensures { result.now ≡ self.now.replies }
+        ensures { result.now ≡ self.now.replies.items }
     {
         self.replies.as_slice()
     }
@@ -61,7 +74,6 @@ impl<'a> Play<'a> {
 
     /// Gives the client's next octets. Those behind a close nobody reads. It fails where memory runs out.
     pub fn give(&mut self, piece: &[u8]) -> Result<(), AllocError>
-        requires { (setup : Setup) × (octets : List ℕ) × Plays setup self.old octets }
         ensures { OnOk result ((setup : Setup) (octets : List ℕ) → Plays setup self.old octets
             → Plays setup self.new (octets ++ piece.now)) }
     {
@@ -74,16 +86,16 @@ impl<'a> Play<'a> {
 
     /// Gives octets before a close.
     fn give_open(&mut self, piece: &[u8]) -> Result<(), AllocError>
-        requires open { self.old.is_closed ≡ false }
-        requires plays { (setup : Setup) × (octets : List ℕ) × Plays setup self.old octets }
+        requires { self.old.is_closed ≡ false }
         ensures { OnOk result ((setup : Setup) (octets : List ℕ) → Plays setup self.old octets
             → Plays setup self.new (octets ++ piece.now)) }
     {
         let mut used = 0;
-        while used <= piece.len() {
-            let (count, next) = self.feed(&piece[used..])?;
-            used += count;
-            match next {
+        'rounds: loop {
+            match self
+                .session
+                .hear(self.table, piece, &mut used, &mut self.replies)?
+            {
                 Next::More => return Ok(()),
                 Next::Close => {
                     self.is_closed = true;
@@ -92,21 +104,6 @@ impl<'a> Play<'a> {
                 Next::Offer => self.answer()?,
             }
         }
-        unreachable!()
-    }
-
-    /// Feeds octets up to an offer or a close, or all of them. It answers how many, and what comes next.
-    fn feed(&mut self, rest: &[u8]) -> Result<(usize, Next), AllocError>
-        ensures uses { IfOk result (λ fed. (setup : Setup) (said : Said) → HasPlayed setup self.old said
-            → open_offers self.old.session ≡ [] → Uses setup self.new said (take fed.0 rest.now)) }
-        ensures within { IfOk result (λ fed. fed.0 ≤ length rest.now) }
-        ensures whole { IfOk result (λ fed. fed.1 ≡ Next.More → fed.0 ≡ length rest.now) }
-        ensures next { IfOk result (λ fed. fed.1 ≡ next_of self.new.session) }
-        ensures closed { self.new.is_closed ≡ self.old.is_closed }
-    {
-        let fed = self.session.feed(self.table, rest)?;
-        self.replies.push_slice(fed.out.as_slice())?;
-        Ok((fed.used, fed.next))
     }
 
     /// Answers the offer that is open, and writes it down.
@@ -114,6 +111,7 @@ impl<'a> Play<'a> {
         requires { HasOffer self.old.session }
         ensures answered { OnOk result ((setup : Setup) (said : Said) → HasPlayed setup self.old said
             → IsAnswered setup self.new said) }
+        ensures settled { OnOk result (open_offers self.new.session ≡ []) }
         ensures closed { self.new.is_closed ≡ self.old.is_closed }
     {
         let Some(offer) = self.session.offer() else {
@@ -122,8 +120,7 @@ impl<'a> Play<'a> {
         let text = written_offer(self.alloc, &offer)?;
         let answer = self.answer_to(offer.content);
         self.queued = self.queued_with(answer);
-        let reply = self.session.answer(answer)?;
-        self.replies.push_slice(reply.as_slice())?;
+        self.session.reply(answer, &mut self.replies)?;
         self.offers.push_slice(text.as_slice())?;
         Ok(())
     }

@@ -34,7 +34,8 @@ spool = "relay.spool"
 "*" = { name = "next.example", at = "127.0.0.1:2526" }
 "#;
 
-/// The host `relay.example`, which takes mail for `example.org` alone, and contents of up to 1,048,576 octets.
+/// The host `relay.example`, which takes mail for `example.org` alone, and contents of up to
+/// 1,048,576 octets.
 pub fn configuration(alloc: Global) -> Result<Config, Fail> {
     read(alloc, CONFIGURATION)
 }

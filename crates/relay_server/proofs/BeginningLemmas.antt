@@ -6,7 +6,8 @@ use Rattle.relay_lines.specs.Reply.{reply_text}
 use Rattle.relay_server.specs.declared.offer.Answer.{Answer}
 use Rattle.relay_server.specs.declared.reply_table.Row.TheVariants.{Greeting}
 use Rattle.relay_server.specs.Dialogue.{Offered, Turn, Answers, Takes, Turns, IsLeft, read_by, written_by, offered_by, answered_by, answers_in, offers_in}
-use Rattle.relay_server.specs.DialogueLaws.{Begins, AreNumbered, BeginningsHaveBeginnings}
+use Rattle.relay_octets.specs.Beginning.{Begins}
+use Rattle.relay_server.specs.DialogueLaws.{AreNumbered, BeginningsHaveBeginnings}
 use Rattle.relay_server.specs.Reply.{reply_of}
 use Rattle.relay_server.specs.ReplyTable.{Course, Replies, Offers}
 use Rattle.relay_server.specs.Setup.{Setup}

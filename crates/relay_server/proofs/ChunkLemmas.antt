@@ -20,7 +20,7 @@ use Rattle.relay_server.specs.Dialogue.{Comes}
 use Rattle.relay_envelope.specs.declared.envelope.Envelope.{Envelope}
 use Rattle.relay_server.specs.declared.client.Client.{Client}
 use Rattle.relay_server.specs.ReplyTable.{Course, Replies, course_of_bdat, course_of_chunks, course_of_text}
-use Rattle.relay_server.specs.Session.{AnnouncesChunk, GathersChunk, RefusesChunk}
+use Rattle.relay_server.specs.Machine.{AnnouncesChunk, GathersChunk, RefusesChunk}
 use Rattle.relay_server.specs.Setup.{Setup}
 use Rattle.relay_server.specs.State.{CommandState, State, Command}
 use Rattle.relay_server.specs.Unit.{AsksBy, Bdat, announced_by, announced_of}

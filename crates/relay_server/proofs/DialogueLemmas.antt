@@ -15,7 +15,7 @@ use Rattle.relay_server.specs.Dialogue.{Offered, Turn, Answers, Turns, IsLeft, o
 use Rattle.relay_server.specs.DialogueLaws.{RunsCompose, WhatStandsIsADialogue, OutputIsFixed}
 use Rattle.relay_server.specs.Reply.{reply_of}
 use Rattle.relay_server.specs.ReplyTable.{Course, Replies, Offers}
-use Rattle.relay_server.specs.Session.{AnnouncesChunk, Keeps, offers_at}
+use Rattle.relay_server.specs.Machine.{AnnouncesChunk, Keeps, offers_at}
 use Rattle.relay_server.specs.Setup.{Setup}
 use Rattle.relay_server.specs.State.{CommandState, State, Command, start}
 use Rattle.relay_server.specs.Unit.{HasNoUnit, announced_of}

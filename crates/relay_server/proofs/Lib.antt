@@ -1,6 +1,5 @@
 mod OctetLemmas
 mod SessionLemmas
-mod StageLemmas
 mod StandsLemmas
 mod UnitLemmas
 mod TurnLemmas
@@ -11,4 +10,6 @@ mod ReplyLemmas
 mod StoredLemmas
 mod ChunkLemmas
 mod JudgeLemmas
+mod SessionLawLemmas
+mod TurnLawLemmas
 pub mod Theorems

@@ -4,17 +4,13 @@ use Rattle.std.specs.List.{AllPass}
 use Rattle.std.proofs.lemmas.List.{get_or_default}
 use Rattle.std.proofs.lemmas.List.Folds.{list_any_none}
 use Rattle.std.proofs.lemmas.Bool.{eqb-true, eq-eqb, false≢true}
+use Rattle.std.proofs.Math.Bool.{or-true}
 use Rattle.relay_envelope.specs.Mailbox.{stands_in}
 
 -- a test that cannot be true is false
-false_by : (b : Bool) → (b ≡ true → ⊥) → b ≡ false
+pub false_by : (b : Bool) → (b ≡ true → ⊥) → b ≡ false
 false_by true never = absurd (never refl)
 false_by false never = refl
-
--- one or true is true
-or-true : (b : Bool) → b || true ≡ true
-or-true true = refl
-or-true false = refl
 
 -- an octet that stands at no place does not stand in the text
 pub lacks_by_place : (octet : ℕ) (text : List ℕ) → ((k : ℕ) → k < length text → get_or text k 0 == octet ≡ true → ⊥) → stands_in octet text ≡ false

@@ -21,7 +21,7 @@ use Rattle.relay_server.specs.declared.offer.Answer.{Answer}
 use Rattle.relay_server.specs.declared.offer.Answer.TheVariants as answer
 use Rattle.relay_server.specs.declared.reply_table.Row.{Row}
 use Rattle.relay_server.specs.declared.reply_table.Row.TheVariants.{Greeting, Hello, Extensions, SenderOk, RecipientOk, TooManyRecipients, NoRoute, BadSequence, NoValidRecipients, StartMailInput, ChunkOk, ContentTooLarge, TooManyReceived, Queued, SpoolFull, Done, NotVerified, SeeStandard, Closing, UnknownCommand, BadOctet, LineTooLong, BadArgument, BadPath, BadValue, Repeated, UnknownParameter, NotOffered, BadChunkSize}
-use Rattle.relay_routes.specs.Value.{IsHostName, is_host_octet}
+use Rattle.relay_envelope.specs.HostName.{IsHostName, is_host_octet}
 use Rattle.relay_server.specs.Dialogue.{Offered, Turn, Answers, Comes, Takes, Turns, answers_in, answered_by, row_of_answer}
 use Rattle.relay_server.specs.DialogueLaws.{AreNumbered, IsNumbered, OnlyContentIsOffered, OnlyQueuedIsPositive, RepliesAreWellFormed}
 use Rattle.relay_server.specs.Reply.{reply_of}

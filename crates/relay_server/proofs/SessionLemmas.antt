@@ -15,7 +15,7 @@ use Rattle.relay_server.specs.declared.stage.Stage.TheVariants as stage
 use Rattle.relay_server.specs.Dialogue.{Comes}
 use Rattle.relay_server.specs.Reply.{reply_of}
 use Rattle.relay_server.specs.ReplyTable.{Course, Replies, Offers, course_of, course_of_chunks}
-use Rattle.relay_server.specs.Session.{EndsBy, GathersChunk, GoesOn, Moves, RefusesChunk}
+use Rattle.relay_server.specs.Machine.{EndsBy, GathersChunk, GoesOn, Moves, RefusesChunk}
 use Rattle.relay_server.specs.Setup.{Setup}
 use Rattle.relay_server.specs.State.{CommandState, State, Command}
 use Rattle.relay_server.specs.Unit.{Asked, LongLine, Faulty, Asks, asked_of_long, announced_by, announced_of}
@@ -42,7 +42,6 @@ comes_and_ends setup old unit (Offers client envelope content) new before after 
     let same : Offers transaction.client transaction.envelope content ≡ Offers client envelope content = ap (λ c. Offers c transaction.envelope content) ends.2 ∙ ap (λ v. Offers client v content) ends.3 in
     let goes : GoesOn setup old (stage.Offering transaction content) unit before after = record {
       kept = subst (λ (course : Course). Comes setup old unit course) (sym same) comes;
-      no_line = refl;
       nothing_written = ends.4;
     } in
     subst (λ (s : Stage). Moves setup old s unit before after) (sym ends.1) (inl goes)

@@ -1,10 +1,10 @@
 -- How a session stands behind what was said, and behind more.
-use Rattle.std.proofs.Common.{◌≡◌, ◌≤◌, ◌<◌, ℕ, Bool, true, false, nat_lt, List, [], ◌∷◌, ◌++◌, ◌+◌, ◌-◌, length-append, length, take, drop, Some, refl, sym, ap, ◌∙◌, subst, inl, inr, append_assoc, arith}
+use Rattle.std.proofs.Common.{◌≡◌, ◌≤◌, ◌<◌, ℕ, zero, suc, Bool, true, false, nat_lt, List, [], ◌∷◌, ◌++◌, ◌+◌, ◌-◌, length-append, length, take, drop, Some, refl, sym, ap, ◌∙◌, subst, inl, inr, append_assoc, arith}
 use Rattle.std.proofs.lemmas.List.{append-nil, length-take, take_all}
 use Rattle.std.proofs.lemmas.Grind.{flat_map-append}
 use Rattle.std.proofs.Math.Seq.{take-add, take-append_seam}
 use Rattle.std.proofs.lemmas.Bool.Decides.{nat_tests}
-use Rattle.std.specs.List.{flat_map}
+use Rattle.std.specs.List.{flat_map, slice_range}
 use Rattle.relay_octets.specs.Line.{ReadsLine, crlf}
 use Rattle.relay_lines.specs.HeldLine.{HeldLine, Holds, HoldsLine}
 use Rattle.relay_lines.specs.Reply.{reply_text}
@@ -12,6 +12,7 @@ use Rattle.relay_server.specs.declared.offer.Answer.{Answer}
 use Rattle.relay_server.specs.declared.reply_table.Row.TheVariants.{Greeting}
 use Rattle.relay_routes.specs.Routes.{RouteTable}
 use Rattle.relay_server.specs.declared.session.Session.{Session}
+use Rattle.relay_server.specs.declared.session.Next.TheVariants as next
 use Rattle.relay_server.specs.declared.server.Server.{Server}
 use Rattle.relay_server.specs.declared.stage.Stage.{Stage}
 use Rattle.relay_server.specs.declared.stage.Stage.TheVariants as stage
@@ -21,7 +22,8 @@ use Rattle.relay_server.specs.Dialogue.{Offered, Turn, Answers, Turns, Said, mor
 use Rattle.relay_server.specs.Setup.{Setup, setup_of}
 use Rattle.relay_server.specs.Reply.{reply_of}
 use Rattle.relay_server.specs.ReplyTable.{Offers}
-use Rattle.relay_server.specs.Session.{Advances, IsGiven, Keeps, KeepsText, Moves, Stands, Steps, is_reading, new_offers, offers_at}
+use Rattle.relay_server.specs.Machine.{Advances, IsGiven, Keeps, KeepsText, Moves, Shown, Reading, Offering, Over, Steps, is_reading, offers_at, offers_shown, reads, shown_at}
+use Rattle.relay_server.specs.Session.{Answered, HasOffer, Hears, Stands, Waits, new_offers, next_of, next_shown, offers_since, open_offers}
 use Rattle.relay_server.specs.State.{State, Command, Greeted, start}
 
 -- one more turn at the end of a run
@@ -85,15 +87,14 @@ keeps_text setup line (stage.Offering transaction content) state octets empty ke
 keeps_text setup line stage.Closed state octets empty kept = (empty, kept)
 keeps_text setup line stage.Failed state octets empty kept = absurd kept
 
+none_shown : (shown : Shown) → reads shown ≡ true → offers_shown shown ≡ []
+none_shown Reading now = refl
+none_shown (Offering offer) now = cc
+none_shown Over now = refl
+
 -- a stage that reads has no offer
 none_at : (now : Stage) → is_reading now ≡ true → offers_at now ≡ []
-none_at (stage.Command state) reads = refl
-none_at (stage.Receiving mail) reads = refl
-none_at (stage.Chunk chunk) reads = refl
-none_at (stage.Skipping skipped) reads = refl
-none_at (stage.Offering transaction content) reads = cc
-none_at stage.Closed reads = refl
-none_at stage.Failed reads = refl
+none_at now on = none_shown (shown_at now) on
 
 -- what a call of the session has done, it has done in the dialogue
 stands_step : (setup : Setup) (old new : Session) (said : Said) (used before after : List ℕ) → (s : Stands setup old said) → is_reading old.stage ≡ true → new.server ≡ old.server → Steps setup s.state new (s.rest ++ used) before after → (more : List ℕ) × (after ≡ before ++ more) × Stands setup new (more_said said used [] more (offers_at new.stage))
@@ -130,8 +131,8 @@ steps_by setup old new octets before after (inl goes) empty =
 steps_by setup old new octets before after (inr turn) empty = inr (turn, empty)
 
 -- an answer ends the unit's turn
-pub answered : (setup : Setup) (old new : Session) (said : Said) (transaction : Transaction) (content : List ℕ) (given : Answer) (out : List ℕ) → Stands setup old said → old.stage ≡ stage.Offering transaction content → new.server ≡ old.server → new.line ≡ old.line → new.stage ≡ stage.Command (held.Greeted transaction.client) → out ≡ [] ++ reply_text (reply_of old.server.host (row_of_answer given)) → Stands setup new (more_said said [] (given ∷ []) out [])
-answered setup old new said transaction content given out s offering same line_is now written =
+pub answered : (setup : Setup) (old new : Session) (said : Said) (transaction : Transaction) (content : List ℕ) (given : Answer) (before after : List ℕ) → Stands setup old said → old.stage ≡ stage.Offering transaction content → new.server ≡ old.server → new.line ≡ old.line → new.stage ≡ stage.Command (held.Greeted transaction.client) → after ≡ before ++ reply_text (reply_of old.server.host (row_of_answer given)) → Answered setup said new given before after
+answered setup old new said transaction content given before after s offering same line_is now written =
     let kept : Keeps setup old.line (stage.Offering transaction content) s.state s.rest = subst (λ (x : Stage). Keeps setup old.line x s.state s.rest) offering s.keeps in
     let offer = offered_of transaction.client transaction.envelope content in
     let turn : Turn = record { asked = s.rest; reply = reply_of setup.host (row_of_answer given); offer = Some (offer, given) } in
@@ -143,10 +144,22 @@ answered setup old new said transaction content given out s offering same line_i
     } in
     let host = ap (λ (x : Setup). x.host) s.setup_is in
     let keeps : Keeps setup new.line (stage.Command (held.Greeted transaction.client)) next [] = (refl, tt, subst (λ (l : HeldLine). Holds l []) (sym line_is) kept.0) in
-    stands_turn setup old new said [] (given ∷ []) out [] turn next s same row
-    (sym (append-nil s.rest)) (written ∙ ap (λ (h : List ℕ). reply_text (reply_of h (row_of_answer given))) (sym host)) refl
-    (ap (λ (x : Stage). offers_at x ++ []) offering ∙ sym (ap (λ (x : Stage). offer ∷ offers_at x) now))
-    (subst (λ (x : Stage). Keeps setup new.line x next []) (sym now) keeps)
+    record {
+      later = more_said said [] (given ∷ []) (reply_text turn.reply) [];
+      stands =
+          stands_turn setup old new said [] (given ∷ []) (reply_text turn.reply) [] turn next s same row
+          (sym (append-nil s.rest)) refl refl
+          (ap (λ (x : Stage). offers_at x ++ []) offering ∙ sym (ap (λ (x : Stage). offer ∷ offers_at x) now))
+          (subst (λ (x : Stage). Keeps setup new.line x next []) (sym now) keeps);
+      more = record {
+        input = refl;
+        written = reply_text turn.reply;
+        output = refl;
+        out = written ∙ ap (λ (h : List ℕ). before ++ reply_text (reply_of h (row_of_answer given))) (sym host);
+      };
+      answers = refl;
+      offers = append-nil said.offers;
+    }
 
 given_by : (is_long : Bool) (line kept : List ℕ) → kept ≡ take 2048 line → is_long ≡ nat_lt 2046 (length line) → IsGiven line kept is_long
 given_by true line kept kept_is long_is =
@@ -180,44 +193,98 @@ stands_by setup session said other s input answers output offers = record {
 }
 
 -- no offer is new where nothing was done
-none_new : (now : Stage) → new_offers now now ≡ []
-none_new (stage.Command state) = refl
-none_new (stage.Receiving mail) = refl
-none_new (stage.Chunk chunk) = refl
-none_new (stage.Skipping skipped) = refl
-none_new (stage.Offering transaction content) = refl
-none_new stage.Closed = refl
-none_new stage.Failed = refl
+none_new : (offers : List Offered) → new_offers offers offers ≡ []
+none_new [] = refl
+none_new (offer ∷ offers) = refl
 
-pub stands_still : (setup : Setup) (session : Session) (said : Said) → Stands setup session said → Stands setup session (more_said said [] [] [] (new_offers session.stage session.stage))
-stands_still setup session said s =
-    stands_by setup session said (more_said said [] [] [] (new_offers session.stage session.stage)) s (append-nil said.input) (append-nil said.answers) (append-nil said.output)
-    (ap (λ l. said.offers ++ l) (none_new session.stage) ∙ append-nil said.offers)
-
--- behind a stage that reads the offers are new
-new_behind : (old new : Stage) → is_reading old ≡ true → new_offers old new ≡ offers_at new
-new_behind (stage.Command state) new reads = refl
-new_behind (stage.Receiving mail) new reads = refl
-new_behind (stage.Chunk chunk) new reads = refl
-new_behind (stage.Skipping skipped) new reads = refl
-new_behind (stage.Offering transaction content) new reads = cc
-new_behind stage.Closed new reads = refl
-new_behind stage.Failed new reads = refl
+-- nothing was used yet
+pub hears_nothing : (setup : Setup) (session : Session) (said : Said) (out : List ℕ) → Stands setup session said → Hears setup said session session [] out out
+hears_nothing setup session said out s = record {
+  later = said;
+  stands = s;
+  more = record {
+    input = sym (append-nil said.input);
+    written = [];
+    output = sym (append-nil said.output);
+    out = sym (append-nil out);
+  };
+  answers = refl;
+  offers = sym (ap (λ l. said.offers ++ l) (none_new (open_offers session)) ∙ append-nil said.offers);
+}
 
 -- one call behind others
-pub stands_behind : (setup : Setup) (first old new : Session) (routes : RouteTable) (said : Said) (piece : List ℕ) (used count : ℕ) (start_out before after : List ℕ) → setup.routes ≡ routes → is_reading first.stage ≡ true → is_reading old.stage ≡ true → ((more : List ℕ) × (before ≡ start_out ++ more) × Stands setup old (more_said said (take used piece) [] more (new_offers first.stage old.stage))) → Advances old new routes (take count (drop used piece)) before after → (more : List ℕ) × (after ≡ start_out ++ more) × Stands setup new (more_said said (take (used + count) piece) [] more (new_offers first.stage new.stage))
-stands_behind setup first old new routes said piece used count start_out before after same began reads so_far advances =
-    let past = more_said said (take used piece) [] so_far.0 (new_offers first.stage old.stage) in
-    let next = stands_advanced setup old new routes past (take count (drop used piece)) before after same so_far.2 reads advances in
-    let none = new_behind first.stage old.stage began ∙ none_at old.stage reads in (
-      so_far.0 ++ next.0,
-      next.1 ∙ ap (λ l. l ++ next.0) so_far.1 ∙ append_assoc start_out so_far.0 next.0,
-      stands_by setup new (more_said past (take count (drop used piece)) [] next.0 (offers_at new.stage)) (more_said said (take (used + count) piece) [] (so_far.0 ++ next.0) (new_offers first.stage new.stage)) next.2
-          (ap (λ l. said.input ++ l) (take-add used count piece) ∙ sym (append_assoc said.input (take used piece) (take count (drop used piece))))
-          (sym (append-nil (said.answers ++ [])))
-          (sym (append_assoc said.output so_far.0 next.0))
-          (ap (λ l. said.offers ++ l) (new_behind first.stage new.stage began) ∙ sym (ap (λ l. l ++ offers_at new.stage) (ap (λ l. said.offers ++ l) none ∙ append-nil said.offers))),
-    )
+pub hears_further : (setup : Setup) (first old new : Session) (routes : RouteTable) (said : Said) (piece : List ℕ) (used count : ℕ) (start_out before after : List ℕ) → setup.routes ≡ routes → is_reading first.stage ≡ true → is_reading old.stage ≡ true → Hears setup said first old (take used piece) start_out before → Advances old new routes (take count (drop used piece)) before after → Hears setup said first new (take (used + count) piece) start_out after
+hears_further setup first old new routes said piece used count start_out before after same began reads h advances =
+    let further = take count (drop used piece) in
+    let next = stands_advanced setup old new routes h.later further before after same h.stands reads advances in
+    let none = none_at first.stage began in
+    let settled = h.offers ∙ ap (λ l. said.offers ++ new_offers l (open_offers old)) none ∙ ap (λ l. said.offers ++ l) (none_at old.stage reads) ∙ append-nil said.offers in
+    record {
+      later = more_said h.later further [] next.0 (offers_at new.stage);
+      stands = next.2;
+      more = record {
+        input = ap (λ l. l ++ further) h.more.input ∙ append_assoc said.input (take used piece) further ∙ ap (λ l. said.input ++ l) (sym (take-add used count piece));
+        written = h.more.written ++ next.0;
+        output = ap (λ l. l ++ next.0) h.more.output ∙ append_assoc said.output h.more.written next.0;
+        out = next.1 ∙ ap (λ l. l ++ next.0) h.more.out ∙ append_assoc start_out h.more.written next.0;
+      };
+      answers = append-nil h.later.answers ∙ h.answers;
+      offers = ap (λ l. l ++ offers_at new.stage) settled ∙ sym (ap (λ l. said.offers ++ new_offers l (open_offers new)) none);
+    }
+
+-- what was heard of the octets behind those used
+pub heard_behind : (setup : Setup) (said : Said) (old new : Session) (piece : List ℕ) (used count : ℕ) (before after : List ℕ) → Hears setup said old new (take count (drop used piece)) before after → Hears setup said old new (slice_range piece used (used + count)) before after
+heard_behind setup said old new piece used count before after h =
+    let same : count ≡ (used + count) - used = omega arith in
+    subst (λ n. Hears setup said old new (take n (drop used piece)) before after) same h
+
+-- what was heard of a piece was said
+pub heard_is_said : (setup : Setup) (said : Said) (old new : Session) (piece : List ℕ) (used : ℕ) (before out : List ℕ) → before ≡ [] → Hears setup said old new (slice_range piece 0 used) before out → Stands setup new (more_said said (take used piece) [] out (offers_since old new))
+heard_is_said setup said old new piece used before out none h =
+    let same : used ≡ used - 0 = omega arith in
+    stands_by setup new h.later (more_said said (take used piece) [] out (offers_since old new)) h.stands
+    (ap (λ n. said.input ++ take n piece) same ∙ sym h.more.input) (append-nil said.answers ∙ sym h.answers)
+    (ap (λ l. said.output ++ l) (h.more.out ∙ ap (λ l. l ++ h.more.written) none) ∙ sym h.more.output) (sym h.offers)
+
+-- an answer alone was said
+pub answer_is_said : (setup : Setup) (said : Said) (new : Session) (given : Answer) (before out : List ℕ) → before ≡ [] → Answered setup said new given before out → Stands setup new (more_said said [] (given ∷ []) out [])
+answer_is_said setup said new given before out none a =
+    stands_by setup new a.later (more_said said [] (given ∷ []) out []) a.stands (sym a.more.input) (sym a.answers)
+    (ap (λ l. said.output ++ l) (a.more.out ∙ ap (λ l. l ++ a.more.written) none) ∙ sym a.more.output) (append-nil said.offers ∙ sym a.offers)
+
+next_reads : (shown : Shown) → (next_shown shown ≡ next.More → ⊥) → reads shown ≡ false
+next_reads Reading waits = absurd (waits refl)
+next_reads (Offering offer) waits = refl
+next_reads Over waits = refl
+
+-- a session that waits reads nothing
+pub waits_reads : (session : Session) → Waits session → is_reading session.stage ≡ false
+waits_reads session waits = next_reads (shown_at session.stage) waits
+
+more_reads : (shown : Shown) → next_shown shown ≡ next.More → reads shown ≡ true
+more_reads Reading more = refl
+more_reads (Offering offer) more = cc
+more_reads Over more = cc
+
+-- a session that is told to go on reads
+pub reads_on : (session : Session) → next_of session ≡ next.More → is_reading session.stage ≡ true
+reads_on session more = more_reads (shown_at session.stage) more
+
+none_by : (shown : Shown) → offers_shown shown ≡ [] → next_shown shown ≡ next.Offer → ⊥
+none_by Reading none told = cc
+none_by (Offering offer) none told = cc
+none_by Over none told = cc
+
+-- no offer opens without an octet
+pub offers_need_octets : (old new : Session) (used : ℕ) → (used ≡ 0 → new ≡ old) → open_offers old ≡ [] → HasOffer new → 0 < used
+offers_need_octets old new zero idle none told =
+    absurd (none_by (shown_at new.stage) (ap (λ (session : Session). open_offers session) (idle refl) ∙ none) told)
+offers_need_octets old new (suc used) idle none told = omega arith
+
+-- at an offer more is used, or it was open before
+pub more_than : (offers : List Offered) (used further : ℕ) → used ≤ further → (offers ≡ [] → used < further) → used < further + length offers
+more_than [] used further within some = let less = some refl in omega (arith, less)
+more_than (offer ∷ offers) used further within some = omega (arith, within)
 
 -- a line buffer without octets holds nothing
 pub holds_nothing : (held_line : HeldLine) (octets : List ℕ) → Holds held_line octets → held_line.kept ≡ [] → octets ≡ []

@@ -1,5 +1,6 @@
--- The dialogue of a server with a client (RFC 5321, sections 2.3.8, 3 and 4; RFC 2920; RFC 3030, section 2): the units of
--- the input, each with its one reply, and the offers of mail. The units decide, and not the pieces that they come in.
+-- The dialogue of a server with a client (RFC 5321, sections 2.3.8, 3 and 4; RFC 2920; RFC 3030,
+-- section 2): the units of the input, each with its one reply, and the offers of mail. The units
+-- decide, and not the pieces that they come in.
 use Rattle.std.specs.Prelude.{◌≡◌, ◌⊎◌, ℕ, List, [], ◌∷◌, ◌++◌, Option, Some, None}
 use Rattle.std.specs.List.{flat_map}
 use Rattle.relay_body.specs.DotText.{ReadsDotText}
@@ -43,7 +44,8 @@ pub record ComesOfLine (setup : Setup) (state : CommandState) (unit : List ℕ) 
   pub course_is : course ≡ course_of setup what state
 
 -- the course of a dot text is that of its content
-pub record ComesOfText (setup : Setup) (client : Client) (envelope : Envelope) (unit : List ℕ) (course : Course) : Type 0 where
+pub record ComesOfText (setup : Setup) (client : Client) (envelope : Envelope) (unit : List ℕ)
+    (course : Course) : Type 0 where
   pub content : List ℕ
   pub reads : ReadsDotText unit content
   pub course_is : course ≡ course_of_text setup.max_content client envelope content
@@ -58,7 +60,8 @@ Comes setup Closed unit course = ⊥
 abbrev pub offered_of : Client → Envelope → List ℕ → Offered
 offered_of client envelope content = record { client = client; envelope = envelope; content = content }
 
--- the turn has the reply of its course, and leads to the state behind it; an offer is replied to by its answer
+-- the turn has the reply of its course, and leads to the state behind it; an offer is replied to by
+-- its answer
 abbrev pub Takes : List ℕ → Course → Turn → State → Type 0
 Takes host (Replies row next) turn new = (turn.reply ≡ reply_of host row) × (turn.offer ≡ None) × (new ≡ next)
 Takes host (Offers client envelope content) turn new =
@@ -107,7 +110,8 @@ pub record Said : Type 0 where
 
 -- nothing said yet but the greeting
 abbrev pub greeted_only : List ℕ → Said
-greeted_only host = record { input = []; answers = []; output = reply_text (reply_of host Greeting); offers = [] }
+greeted_only host =
+    record { input = []; answers = []; output = reply_text (reply_of host Greeting); offers = [] }
 
 -- said, and then this
 abbrev pub more_said : Said → List ℕ → List Answer → List ℕ → List Offered → Said
@@ -118,8 +122,13 @@ more_said said input answers output offers = record {
   offers = said.offers ++ offers;
 }
 
+-- what was said, and octets behind it that nobody reads
+abbrev pub unread_behind : Said → List ℕ → Said
+unread_behind said octets = record said { input = said.input ++ octets }
+
 -- what is left of the input is a unit whose offer is unanswered, and stands behind the others
-pub record IsUnanswered (setup : Setup) (state : State) (rest : List ℕ) (unanswered : List Offered) : Type 0 where
+pub record IsUnanswered (setup : Setup) (state : State) (rest : List ℕ)
+    (unanswered : List Offered) : Type 0 where
   pub client : Client
   pub envelope : Envelope
   pub content : List ℕ
@@ -131,8 +140,9 @@ abbrev pub IsLeft : Setup → State → List ℕ → List Offered → Type 0
 IsLeft setup state rest unanswered =
     (HasNoUnit state rest × (unanswered ≡ [])) ⊎ IsUnanswered setup state rest unanswered
 
--- What was said is a dialogue: the input is whole units and a rest, the output the greeting and the units' replies in
--- order, and the k-th offer is replied to by the k-th answer; where there is none yet, the input ends with its unit.
+-- What was said is a dialogue: the input is whole units and a rest, the output the greeting and the
+-- units' replies in order, and the k-th offer is replied to by the k-th answer; where there is none
+-- yet, the input ends with its unit.
 pub record IsDialogue (setup : Setup) (said : Said) : Type 0 where
   pub turns : List Turn
   pub state : State

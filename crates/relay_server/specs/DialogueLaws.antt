@@ -1,6 +1,7 @@
 -- What is true of units, turns and dialogues, whatever the pieces that the input comes in.
 use Rattle.std.specs.Prelude.{◌≡◌, ◌≢◌, ℕ, ◌^◌, ◌<◌, ◌≤◌, List, [], ◌∷◌, ◌++◌, true, length, Some, Ok}
 use Rattle.std.specs.List.{AllByRecursion}
+use Rattle.relay_octets.specs.Beginning.{Begins}
 use Rattle.relay_lines.specs.Command.{Bdat, reading_of}
 use Rattle.relay_lines.specs.Reply.{IsReply}
 use Rattle.relay_lines.specs.Word.{IsHostWord}
@@ -9,7 +10,7 @@ use Rattle.relay_server.specs.declared.offer.Answer.{Answer}
 use Rattle.relay_server.specs.declared.offer.Answer.TheVariants.{Queued, Full}
 use Rattle.relay_server.specs.declared.reply_table.Row.TheVariants.{Greeting}
 use Rattle.relay_server.specs.declared.session.Session.{Session}
-use Rattle.relay_routes.specs.Value.{IsHostName}
+use Rattle.relay_envelope.specs.HostName.{IsHostName}
 use Rattle.relay_server.specs.Dialogue.{Offered, Turn, Answers, Turns, Said, IsDialogue, answers_in, answered_by}
 use Rattle.relay_server.specs.Reply.{reply_of}
 use Rattle.relay_server.specs.Session.{Stands}
@@ -17,10 +18,6 @@ use Rattle.relay_server.specs.Setup.{Setup}
 use Rattle.relay_trace.specs.HeaderSection.{received_count_of}
 use Rattle.relay_server.specs.State.{State, Command, Receiving, Closed}
 use Rattle.relay_server.specs.Unit.{IsCommandUnit, IsUnit}
-
--- the list begins with these
-abbrev pub Begins : {A : Type 0} → List A → List A → Type 0
-Begins {A = A} front whole = (rest : List A) × (whole ≡ front ++ rest)
 
 -- the number of an answer is one of 64 bits
 abbrev pub IsNumbered : Answer → Type 0
@@ -44,18 +41,22 @@ NoUnitBeginsAnother =
 -- turns that lead to a state, and turns that lead on from it, are one run
 abbrev pub RunsCompose : Type 0
 RunsCompose =
-    (setup : Setup) (old mid new : State) (turns more : List Turn) → Turns setup old turns mid → Turns setup mid more new
+    (setup : Setup) (old mid new : State) (turns more : List Turn) → Turns setup old turns mid
+    → Turns setup mid more new
     → Turns setup old (turns ++ more) new
 
 -- what fits a session is a dialogue
 abbrev pub WhatStandsIsADialogue : Type 0
-WhatStandsIsADialogue = (setup : Setup) (session : Session) (said : Said) → Stands setup session said → IsDialogue setup said
+WhatStandsIsADialogue =
+    (setup : Setup) (session : Session) (said : Said) → Stands setup session said → IsDialogue setup said
 
 -- state, unit and answer fix the turn, and the state behind it
 abbrev pub RowIsFixed : Type 0
 RowIsFixed =
-    (setup : Setup) (old new next : State) (turn other : Turn) → Answers setup old turn new → Answers setup old other next
-    → turn.asked ≡ other.asked → answers_in turn.offer ≡ answers_in other.offer → (turn ≡ other) × (new ≡ next)
+    (setup : Setup) (old new next : State) (turn other : Turn) → Answers setup old turn new
+    → Answers setup old other next
+    → turn.asked ≡ other.asked → answers_in turn.offer ≡ answers_in other.offer → (turn ≡ other)
+    × (new ≡ next)
 
 -- the input and the answers of a dialogue fix its output and its offers
 abbrev pub OutputIsFixed : Type 0
@@ -67,7 +68,8 @@ OutputIsFixed =
 -- where the input and the output of a dialogue begin another's, so do its answers and its offers
 abbrev pub BeginningsHaveBeginnings : Type 0
 BeginningsHaveBeginnings =
-    (setup : Setup) (said other : Said) → IsDialogue setup said → IsDialogue setup other → AreNumbered other.answers
+    (setup : Setup) (said other : Said) → IsDialogue setup said → IsDialogue setup other
+    → AreNumbered other.answers
     → Begins said.input other.input → Begins said.output other.output
     → Begins said.answers other.answers × Begins said.offers other.offers
 
@@ -83,12 +85,14 @@ EndsContent Closed unit = ⊥
 abbrev pub OnlyQueuedIsPositive : Type 0
 OnlyQueuedIsPositive =
     (setup : Setup) (old new : State) (turn : Turn) → Answers setup old turn new → EndsContent old turn.asked
-    → 200 ≤ turn.reply.code → turn.reply.code < 300 → (number : ℕ) × (answers_in turn.offer ≡ Queued number ∷ [])
+    → 200 ≤ turn.reply.code → turn.reply.code < 300 → (number : ℕ)
+    × (answers_in turn.offer ≡ Queued number ∷ [])
 
 -- nothing but the end of a content is offered
 abbrev pub OnlyContentIsOffered : Type 0
 OnlyContentIsOffered =
-    (setup : Setup) (old new : State) (turn : Turn) (offer : Offered) (given : Answer) → Answers setup old turn new
+    (setup : Setup) (old new : State) (turn : Turn) (offer : Offered) (given : Answer)
+    → Answers setup old turn new
     → turn.offer ≡ Some (offer, given) → EndsContent old turn.asked
 
 -- the greeting and the replies of all turns are well formed
@@ -99,8 +103,8 @@ RepliesAreWellFormed =
     × ((old new : State) (turns : List Turn) → Turns setup old turns new → AreNumbered (answered_by turns)
     → AllByRecursion (λ turn. IsReply turn.reply) turns)
 
--- an offer as it may be stored: the client's word is one of HELO's, the envelope is whole, the content is within the limit
--- and has fewer than 100 `Received:` fields
+-- an offer as it may be stored: the client's word is one of HELO's, the envelope is whole, the
+-- content is within the limit and has fewer than 100 `Received:` fields
 pub record MayBeStored (setup : Setup) (offer : Offered) : Type 0 where
   pub client : IsHostWord offer.client.word
   pub envelope : IsEnvelope offer.envelope
@@ -109,4 +113,5 @@ pub record MayBeStored (setup : Setup) (offer : Offered) : Type 0 where
 
 -- each offer of a dialogue may be stored
 abbrev pub OffersMayBeStored : Type 0
-OffersMayBeStored = (setup : Setup) (said : Said) → IsDialogue setup said → AllByRecursion (MayBeStored setup) said.offers
+OffersMayBeStored =
+    (setup : Setup) (said : Said) → IsDialogue setup said → AllByRecursion (MayBeStored setup) said.offers

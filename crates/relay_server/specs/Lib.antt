@@ -5,5 +5,8 @@ pub mod Reply
 pub mod ReplyTable
 pub mod Dialogue
 pub mod Values
+pub mod Machine
 pub mod Session
 pub mod DialogueLaws
+pub mod TurnLaws
+pub mod SessionLaws

@@ -1,5 +1,5 @@
--- The reply table: to each unit and state the row that answers it, and the state behind it, or an offer (RFC 5321, section
--- 4.3.2; RFC 3030, section 2).
+-- The reply table: to each unit and state the row that answers it, and the state behind it, or an
+-- offer (RFC 5321, section 4.3.2; RFC 3030, section 2).
 use Rattle.std.specs.Prelude.{ℕ, Bool, List, [], ◌∷◌, ◌++◌, length, nat_le, is_some, if◌then◌else◌, Result, Ok, Err}
 use Rattle.relay_lines.specs.declared.command.LineFault.{LineFault}
 use Rattle.relay_lines.specs.declared.command.LineFault.TheVariants as line
@@ -53,12 +53,14 @@ course_of_mail (Err fault) state = Replies (row_of_envelope_fault fault) (Comman
 course_of_mail (Ok mail) Fresh = Replies row.BadSequence (Command Fresh)
 course_of_mail (Ok mail) (Greeted client) = Replies row.SenderOk (Command (Open client (envelope_from mail)))
 course_of_mail (Ok mail) (Open client envelope) = Replies row.BadSequence (Command (Open client envelope))
-course_of_mail (Ok mail) (Gathering client envelope content) = Replies row.BadSequence (Command (Gathering client envelope content))
+course_of_mail (Ok mail) (Gathering client envelope content) =
+    Replies row.BadSequence (Command (Gathering client envelope content))
 course_of_mail (Ok mail) (Spent client) = Replies row.BadSequence (Command (Spent client))
 
 -- a further recipient
 abbrev pub with_recipient : Envelope → RcptSaid → Envelope
-with_recipient envelope rcpt = record envelope { recipients = envelope.recipients ++ recipient_from rcpt ∷ [] }
+with_recipient envelope rcpt =
+    record envelope { recipients = envelope.recipients ++ recipient_from rcpt ∷ [] }
 
 -- RCPT adds a recipient that has a next hop; a transaction takes 100
 abbrev pub course_of_rcpt : Setup → Result RcptSaid EnvelopeFault → CommandState → Course
@@ -66,11 +68,13 @@ course_of_rcpt setup (Err fault) state = Replies (row_of_envelope_fault fault) (
 course_of_rcpt setup (Ok rcpt) Fresh = Replies row.BadSequence (Command Fresh)
 course_of_rcpt setup (Ok rcpt) (Greeted client) = Replies row.BadSequence (Command (Greeted client))
 course_of_rcpt setup (Ok rcpt) (Open client envelope) =
-    if nat_le 100 (length envelope.recipients) then Replies row.TooManyRecipients (Command (Open client envelope))
+    if nat_le 100 (length envelope.recipients)
+    then Replies row.TooManyRecipients (Command (Open client envelope))
     else (if is_some (hop_of setup.routes rcpt.path)
     then Replies row.RecipientOk (Command (Open client (with_recipient envelope rcpt)))
     else Replies row.NoRoute (Command (Open client envelope)))
-course_of_rcpt setup (Ok rcpt) (Gathering client envelope content) = Replies row.BadSequence (Command (Gathering client envelope content))
+course_of_rcpt setup (Ok rcpt) (Gathering client envelope content) =
+    Replies row.BadSequence (Command (Gathering client envelope content))
 course_of_rcpt setup (Ok rcpt) (Spent client) = Replies row.BadSequence (Command (Spent client))
 
 -- DATA begins mail data where a recipient was accepted
@@ -80,10 +84,12 @@ course_of_data (Greeted client) = Replies row.BadSequence (Command (Greeted clie
 course_of_data (Open client envelope) =
     if nat_le 1 (length envelope.recipients) then Replies row.StartMailInput (Receiving client envelope)
     else Replies row.NoValidRecipients (Command (Open client envelope))
-course_of_data (Gathering client envelope content) = Replies row.BadSequence (Command (Gathering client envelope content))
+course_of_data (Gathering client envelope content) =
+    Replies row.BadSequence (Command (Gathering client envelope content))
 course_of_data (Spent client) = Replies row.BadSequence (Command (Spent client))
 
--- a content that is whole is offered, but for one that has come in a circle; the transaction is over, whatever comes of it
+-- a content that is whole is offered, but for one that has come in a circle; the transaction is
+-- over, whatever comes of it
 abbrev pub course_of_content : Client → Envelope → List ℕ → Course
 course_of_content client envelope content =
     if nat_le 100 (received_count_of content) then Replies row.TooManyReceived (Command (Greeted client))

@@ -1,165 +1,18 @@
--- A session in the dialogue that it has held: what it keeps of what was said, for every history that fits it.
-use Rattle.std.specs.Prelude.{◌≡◌, ◌⊎◌, ◌<◌, ◌≤◌, ◌+◌, ℕ, Bool, true, false, List, [], ◌∷◌, ◌++◌, length, take, None, Ok}
-use Rattle.relay_octets.specs.Line.{crlf, HasNoCrlf}
-use Rattle.relay_body.specs.DotText.{IsReading}
-use Rattle.relay_body.specs.ChunkText.{Chunk, IsInChunk, content_of_chunks}
-use Rattle.relay_body.specs.declared.chunk_reader.ChunkReader.{ChunkReader}
-use Rattle.relay_lines.specs.declared.chunk_argument.BdatArgument.{BdatArgument}
-use Rattle.relay_lines.specs.Command.{Bdat, reading_of}
-use Rattle.relay_server.specs.declared.state.Transaction.{Transaction}
-use Rattle.relay_server.specs.declared.state.CommandState.{CommandState as Held}
+-- What a caller may say of a session: what it has said so far, whether an offer is open, and what comes next.
+use Rattle.std.specs.Prelude.{◌≡◌, ◌≢◌, ℕ, ◌+◌, ◌≤◌, ◌<◌, List, [], ◌∷◌, ◌++◌, length}
 use Rattle.relay_lines.specs.Reply.{reply_text}
-use Rattle.relay_lines.specs.HeldLine.{HeldLine, Holds}
-use Rattle.relay_server.specs.declared.stage.Stage.{Stage}
-use Rattle.relay_server.specs.declared.stage.Stage.TheVariants as stage
-use Rattle.relay_server.specs.declared.session.Session.{Session}
+use Rattle.relay_server.specs.declared.offer.Answer.{Answer}
 use Rattle.relay_server.specs.declared.offer.Offer.{Offer}
+use Rattle.relay_server.specs.declared.reply_table.Row.TheVariants.{Greeting}
 use Rattle.relay_server.specs.declared.session.Next.{Next}
 use Rattle.relay_server.specs.declared.session.Next.TheVariants as next
-use Rattle.relay_routes.specs.Routes.{RouteTable}
-use Rattle.relay_server.specs.Dialogue.{Offered, Turn, Answers, Comes, Turns, offered_of, Said, read_by, written_by, offered_by, answered_by}
+use Rattle.relay_server.specs.declared.session.Session.{Session}
+use Rattle.relay_server.specs.declared.stage.Stage.TheVariants as stage
+use Rattle.relay_server.specs.Dialogue.{Offered, Said, Turn, Turns, read_by, written_by, offered_by, answered_by}
+use Rattle.relay_server.specs.Machine.{Keeps, Shown, Reading, Offering, Over, offers_at, shown_at}
 use Rattle.relay_server.specs.Reply.{reply_of}
-use Rattle.relay_server.specs.declared.reply_table.Row.{Row}
-use Rattle.relay_server.specs.declared.reply_table.Row.TheVariants.{Greeting}
 use Rattle.relay_server.specs.Setup.{Setup, setup_of}
-use Rattle.relay_server.specs.State.{CommandState, State, Command, Receiving, Closed, start}
-use Rattle.relay_server.specs.Values.{IsHeld, command_state_of}
-use Rattle.relay_server.specs.ReplyTable.{Course, Replies, Offers, course_of_bdat, course_of_chunks}
-
--- the offer that is unanswered
-abbrev pub offers_at : Stage → List Offered
-offers_at (stage.Command state) = []
-offers_at (stage.Receiving mail) = []
-offers_at (stage.Chunk chunk) = []
-offers_at (stage.Skipping skipped) = []
-offers_at (stage.Offering transaction content) =
-    offered_of transaction.client transaction.envelope content ∷ []
-offers_at stage.Closed = []
-offers_at stage.Failed = []
-
--- an offer is unanswered
-abbrev pub IsOffering : Stage → Type 0
-IsOffering (stage.Command state) = ⊥
-IsOffering (stage.Receiving mail) = ⊥
-IsOffering (stage.Chunk chunk) = ⊥
-IsOffering (stage.Skipping skipped) = ⊥
-IsOffering (stage.Offering transaction content) = Unit {0}
-IsOffering stage.Closed = ⊥
-IsOffering stage.Failed = ⊥
-
--- a command is awaited
-abbrev pub is_command : Stage → Bool
-is_command (stage.Command now) = true
-is_command _ = false
-
--- octets are read: those of a command line, of mail data, or of a chunk
-abbrev pub is_reading : Stage → Bool
-is_reading (stage.Command state) = true
-is_reading (stage.Receiving mail) = true
-is_reading (stage.Chunk chunk) = true
-is_reading (stage.Skipping skipped) = true
-is_reading (stage.Offering transaction content) = false
-is_reading stage.Closed = false
-is_reading stage.Failed = false
-
--- the octets are a line of BDAT with this argument, and these of its chunk
-pub record AnnouncesChunk (octets : List ℕ) (argument : BdatArgument) (part : List ℕ) : Type 0 where
-  pub text : List ℕ
-  pub octets_are : octets ≡ text ++ crlf ++ part
-  pub line : HasNoCrlf text
-  pub short : length text ≤ 2046
-  pub reads : reading_of text ≡ Ok (Bdat argument)
-
--- in this state a chunk has come so far, and its octets join those before
-pub record GathersChunk (limit : ℕ) (transaction : Transaction) (reader : ChunkReader) (is_last : Bool) (state : State) (octets : List ℕ) : Type 0 where
-  pub old : CommandState
-  pub state_is : state ≡ Command old
-  pub argument : BdatArgument
-  pub part : List ℕ
-  pub begins : AnnouncesChunk octets argument part
-  pub last_is : is_last ≡ argument.last
-  pub chunks : List Chunk
-  pub chunk_is : IsInChunk reader limit chunks (record { size = argument.size; octets = part })
-  pub course_is : (rest : List ℕ) → course_of_bdat limit rest argument.last old
-      ≡ course_of_chunks limit transaction.client transaction.envelope (content_of_chunks chunks ++ rest) argument.last
-
--- in this state a chunk has come so far but for as many octets as are missing, and is refused by this row
-pub record RefusesChunk (limit : ℕ) (row : Row) (behind : Held) (missing : ℕ) (state : State) (octets : List ℕ) : Type 0 where
-  pub old : CommandState
-  pub state_is : state ≡ Command old
-  pub argument : BdatArgument
-  pub part : List ℕ
-  pub begins : AnnouncesChunk octets argument part
-  pub size_is : argument.size ≡ length part + missing
-  pub is_held : IsHeld limit behind
-  pub course_is : (rest : List ℕ) → course_of_bdat limit rest argument.last old ≡ Replies row (Command (command_state_of behind))
-
--- the stage stands in this state, and has used these octets since the last unit, but those of a command line, which stand
--- elsewhere
-abbrev pub KeepsText : Setup → Stage → State → List ℕ → Type 0
-KeepsText setup (stage.Command now) state octets =
-    (state ≡ Command (command_state_of now)) × IsHeld setup.max_content now × (octets ≡ [])
-KeepsText setup (stage.Receiving mail) state octets =
-    (state ≡ Receiving mail.transaction.client mail.transaction.envelope) × IsReading mail.reader setup.max_content octets
-KeepsText setup (stage.Chunk chunk) state octets =
-    GathersChunk setup.max_content chunk.transaction chunk.reader chunk.is_last state octets
-KeepsText setup (stage.Skipping skipped) state octets =
-    RefusesChunk setup.max_content skipped.row skipped.state skipped.missing state octets
-KeepsText setup (stage.Offering transaction content) state octets =
-    Comes setup state octets (Offers transaction.client transaction.envelope content)
-KeepsText setup stage.Closed state octets = (state ≡ Closed) × (octets ≡ [])
-KeepsText setup stage.Failed state octets = ⊥
-
--- the session stands in this state, and has used these octets since the last unit
-abbrev pub Keeps : Setup → HeldLine → Stage → State → List ℕ → Type 0
-Keeps setup line (stage.Command now) state octets =
-    (state ≡ Command (command_state_of now)) × IsHeld setup.max_content now × Holds line octets
-Keeps setup line now state octets = Holds line [] × KeepsText setup now state octets
-
--- the text is all of a line that isn't too long, or the beginning of one that is
-abbrev pub IsGiven : List ℕ → List ℕ → Bool → Type 0
-IsGiven line text true = (2046 < length line) × (text ≡ take 2048 line)
-IsGiven line text false = (length line ≤ 2046) × (text ≡ line)
-
--- from the old state one unit, with its reply, leads to this stage, which has used nothing behind it
-pub record TakesTurn (setup : Setup) (old : State) (new : Stage) (asked before after : List ℕ) : Type 0 where
-  pub turn : Turn
-  pub next : State
-  pub answers : Answers setup old turn next
-  pub asked_is : turn.asked ≡ asked
-  pub written : after ≡ before ++ reply_text turn.reply
-  pub no_offer : turn.offer ≡ None
-  pub nothing_kept : KeepsText setup new next []
-  pub none_unanswered : offers_at new ≡ []
-
--- behind the reply of a row the session enters this state, and has used nothing behind it
-pub record EntersBy (setup : Setup) (row : Row) (next : State) (new : Stage) (before after : List ℕ) : Type 0 where
-  pub written : after ≡ before ++ reply_text (reply_of setup.host row)
-  pub nothing_kept : KeepsText setup new next []
-  pub none_unanswered : offers_at new ≡ []
-
--- further octets belong to the unit that was begun, and nothing is answered yet
-pub record GoesOn (setup : Setup) (old : State) (new : Stage) (octets before after : List ℕ) : Type 0 where
-  pub kept : KeepsText setup new old octets
-  pub no_line : is_command new ≡ false
-  pub nothing_written : after ≡ before
-
--- the course of a unit that has come whole: its reply, or the offer, of which nothing is answered yet
-abbrev pub EndsBy : Setup → Course → Stage → List ℕ → List ℕ → Type 0
-EndsBy setup (Replies row next) new before after = EntersBy setup row next new before after
-EndsBy setup (Offers client envelope content) new before after =
-    (transaction : Transaction) × (new ≡ stage.Offering transaction content) × (transaction.client ≡ client)
-    × (transaction.envelope ≡ envelope) × (after ≡ before)
-
--- a session goes on in a unit, or ends it
-abbrev pub Moves : Setup → State → Stage → List ℕ → List ℕ → List ℕ → Type 0
-Moves setup old new octets before after = GoesOn setup old new octets before after ⊎ TakesTurn setup old new octets before after
-
--- from the old state the session goes on in a unit of which it has used these octets, or ends it with its reply
-abbrev pub Steps : Setup → State → Session → List ℕ → List ℕ → List ℕ → Type 0
-Steps setup old new octets before after =
-    (Keeps setup new.line new.stage old octets × (after ≡ before))
-    ⊎ (TakesTurn setup old new.stage octets before after × Holds new.line [])
+use Rattle.relay_server.specs.State.{State, start}
 
 -- the session stands behind these turns of what was said, and keeps what was read since
 pub record Stands (setup : Setup) (session : Session) (said : Said) : Type 0 where
@@ -174,57 +27,27 @@ pub record Stands (setup : Setup) (session : Session) (said : Said) : Type 0 whe
   pub offers : said.offers ≡ offered_by turns ++ offers_at session.stage
   pub keeps : Keeps setup session.line session.stage state rest
 
--- a call on a session has used these octets and written what is new: whatever was used of a unit, it goes on or ends
-pub record Advances (old new : Session) (routes : RouteTable) (used before after : List ℕ) : Type 0 where
-  pub server : new.server ≡ old.server
-  pub moves : (state : State) (octets : List ℕ) → Keeps (setup_of old.server routes) old.line old.stage state octets
-      → Steps (setup_of old.server routes) state new (octets ++ used) before after
-
 -- what an offer shows
 abbrev pub offered : Offer → Offered
-offered offer = record { client = offer.client.now; envelope = offer.envelope.now; content = offer.content.now }
-
--- the offers that are new behind a call: where one was unanswered before, it is the same
-abbrev pub new_offers : Stage → Stage → List Offered
-new_offers (stage.Command state) new = offers_at new
-new_offers (stage.Receiving mail) new = offers_at new
-new_offers (stage.Chunk chunk) new = offers_at new
-new_offers (stage.Skipping skipped) new = offers_at new
-new_offers (stage.Offering transaction content) new = []
-new_offers stage.Closed new = offers_at new
-new_offers stage.Failed new = offers_at new
+offered offer =
+    record { client = offer.client.now; envelope = offer.envelope.now; content = offer.content.now }
 
 -- what the caller does next
-abbrev pub next_at : Stage → Next
-next_at (stage.Command state) = next.More
-next_at (stage.Receiving mail) = next.More
-next_at (stage.Chunk chunk) = next.More
-next_at (stage.Skipping skipped) = next.More
-next_at (stage.Offering transaction content) = next.Offer
-next_at stage.Closed = next.Close
-next_at stage.Failed = next.Close
+abbrev pub next_shown : Shown → Next
+next_shown Reading = next.More
+next_shown (Offering offer) = next.Offer
+next_shown Over = next.Close
 
--- What callers see of a session:
-
--- an offer is open
-abbrev pub HasOffer : Session → Type 0
-HasOffer session = IsOffering session.stage
-
--- the offer that is open, if there is one
-abbrev pub open_offers : Session → List Offered
-open_offers session = offers_at session.stage
-
--- the offers that are new behind a call on the session
-abbrev pub offers_since : Session → Session → List Offered
-offers_since old new = new_offers old.stage new.stage
-
--- what the caller does next
 abbrev pub next_of : Session → Next
-next_of session = next_at session.stage
+next_of session = next_shown (shown_at session.stage)
+
+-- the caller takes an offer next: one is open
+abbrev pub HasOffer : Session → Type 0
+HasOffer session = next_of session ≡ next.Offer
 
 -- no octet is read: an offer is open, or the session is closed, or it has failed
 abbrev pub Waits : Session → Type 0
-Waits session = is_reading session.stage ≡ false
+Waits session = next_of session ≢ next.More
 
 -- the session is closed
 abbrev pub IsClosed : Session → Type 0
@@ -233,3 +56,48 @@ IsClosed session = session.stage ≡ stage.Closed
 -- memory ran out in a call on the session
 abbrev pub HasFailed : Session → Type 0
 HasFailed session = session.stage ≡ stage.Failed
+
+-- the offer that is open, if there is one
+abbrev pub open_offers : Session → List Offered
+open_offers session = offers_at session.stage
+
+-- of the offers that are open behind a call those that are new: where one was open before it, it is the same
+abbrev pub new_offers : List Offered → List Offered → List Offered
+new_offers [] now = now
+new_offers (offer ∷ offers) now = []
+
+abbrev pub offers_since : Session → Session → List Offered
+offers_since old new = new_offers (open_offers old) (open_offers new)
+
+-- How far a piece of this length is used, and what the caller is told then: to its end where more
+-- is to come, and by an octet at least where an offer has opened.
+pub record UsesPiece (old : Session) (told : Next) (len from to : ℕ) : Type 0 where
+  pub no_less : from ≤ to
+  pub within : to ≤ len
+  pub whole : told ≡ next.More → to ≡ len
+  pub some : told ≡ next.Offer → from < to + length (open_offers old)
+
+-- Behind what was said these octets were read, and what was written stands behind what was written before.
+pub record SaysMore (said later : Said) (octets before after : List ℕ) : Type 0 where
+  pub input : later.input ≡ said.input ++ octets
+  pub written : List ℕ
+  pub output : later.output ≡ said.output ++ written
+  pub out : after ≡ before ++ written
+
+-- behind what was said the session has used these octets, and has written its replies behind those before
+pub record Hears (setup : Setup) (said : Said) (old new : Session)
+    (octets before after : List ℕ) : Type 0 where
+  pub later : Said
+  pub stands : Stands setup new later
+  pub more : SaysMore said later octets before after
+  pub answers : later.answers ≡ said.answers
+  pub offers : later.offers ≡ said.offers ++ offers_since old new
+
+-- behind what was said the open offer has this answer, and its reply is written behind those before
+pub record Answered (setup : Setup) (said : Said) (new : Session) (given : Answer)
+    (before after : List ℕ) : Type 0 where
+  pub later : Said
+  pub stands : Stands setup new later
+  pub more : SaysMore said later [] before after
+  pub answers : later.answers ≡ said.answers ++ given ∷ []
+  pub offers : later.offers ≡ said.offers

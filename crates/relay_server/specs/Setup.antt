@@ -4,8 +4,8 @@ use Rattle.relay_routes.specs.Routes.{RouteTable}
 use Rattle.relay_routes.specs.declared.config.Config.{Config}
 use Rattle.relay_server.specs.declared.server.Server.{Server}
 
--- the server's name, the most octets of a content, and where mail goes; the table names a host too, in a configuration
--- the same
+-- the server's name, the most octets of a content, and where mail goes; the table names a host too,
+-- in a configuration the same
 pub record Setup : Type 0 where
   pub host : List ℕ
   pub max_content : ℕ
@@ -17,4 +17,5 @@ setup_of server routes = record { host = server.host; max_content = server.max_c
 
 -- what a server with this configuration works with
 abbrev pub setup_of_config : Config → Setup
-setup_of_config config = record { host = config.host; max_content = config.max_content; routes = config.routes }
+setup_of_config config =
+    record { host = config.host; max_content = config.max_content; routes = config.routes }

@@ -8,8 +8,8 @@ use Rattle.relay_server.specs.declared.client.Client.{Client}
 abbrev pub client_of : List ℕ → Protocol → Client
 client_of word protocol = record { word = word; protocol = protocol }
 
--- while a command is awaited: the client hasn't said who it is; it has; a mail transaction is open; chunks of its content
--- have come; a chunk of it was refused (RFC 3030, section 2)
+-- while a command is awaited: the client hasn't said who it is; it has; a mail transaction is open;
+-- chunks of its content have come; a chunk of it was refused (RFC 3030, section 2)
 pub data CommandState : Type 0 where
   Fresh : CommandState
   Greeted : Client → CommandState

@@ -1,5 +1,5 @@
--- Units: what a server reads next, by what it awaits (RFC 5321, sections 2.3.8 and 4.5.2; RFC 2920, section 3.2; RFC
--- 3030, section 2).
+-- Units: what a server reads next, by what it awaits (RFC 5321, sections 2.3.8 and 4.5.2; RFC 2920,
+-- section 3.2; RFC 3030, section 2).
 use Rattle.std.specs.Prelude.{◌≡◌, ◌≢◌, ◌⊎◌, ◌<◌, ◌≤◌, ℕ, nat_le, Bool, List, ◌++◌, length, Result, Ok, Err, if◌then◌else◌}
 use Rattle.relay_octets.specs.Line.{crlf, HasNoCrlf}
 use Rattle.relay_body.specs.DotText.{ReadsDotText}
@@ -38,8 +38,8 @@ IsUnit Closed unit = ⊥
 abbrev pub HasNoUnit : State → List ℕ → Type 0
 HasNoUnit state octets = (unit rest : List ℕ) → IsUnit state unit → octets ≢ unit ++ rest
 
--- what a command line asks of the server; what stands behind a colon is read before the command's place in the order of
--- commands is looked at
+-- what a command line asks of the server; what stands behind a colon is read before the command's
+-- place in the order of commands is looked at
 pub data Asked : Type 0 where
   LongLine : Asked
   Faulty : LineFault → Asked
@@ -59,8 +59,10 @@ abbrev pub AsksBy : Result line.Command LineFault → List ℕ → Asked → Typ
 AsksBy (Err fault) octets asked = asked ≡ Faulty fault
 AsksBy (Ok (line.Helo word)) octets asked = asked ≡ Hello (client_of word Smtp)
 AsksBy (Ok (line.Ehlo word)) octets asked = asked ≡ Hello (client_of word Esmtp)
-AsksBy (Ok (line.Mail text)) octets asked = (read : Result MailSaid EnvelopeFault) × ReadsMail text read × (asked ≡ Mail read)
-AsksBy (Ok (line.Rcpt text)) octets asked = (read : Result RcptSaid EnvelopeFault) × ReadsRcpt text read × (asked ≡ Rcpt read)
+AsksBy (Ok (line.Mail text)) octets asked =
+    (read : Result MailSaid EnvelopeFault) × ReadsMail text read × (asked ≡ Mail read)
+AsksBy (Ok (line.Rcpt text)) octets asked =
+    (read : Result RcptSaid EnvelopeFault) × ReadsRcpt text read × (asked ≡ Rcpt read)
 AsksBy (Ok line.Data) octets asked = asked ≡ Data
 AsksBy (Ok (line.Bdat argument)) octets asked = asked ≡ Bdat octets argument.last
 AsksBy (Ok line.Rset) octets asked = asked ≡ Rset
@@ -69,11 +71,13 @@ AsksBy (Ok line.Vrfy) octets asked = asked ≡ Vrfy
 AsksBy (Ok line.Help) octets asked = asked ≡ Help
 AsksBy (Ok line.Quit) octets asked = asked ≡ Quit
 
--- what a line asks that is too long, whatever it holds; of a chunk's size nobody knows then how many octets follow
+-- what a line asks that is too long, whatever it holds; of a chunk's size nobody knows then how
+-- many octets follow
 abbrev pub asked_of_long : List ℕ → Asked
 asked_of_long text = if begins_with_bdat text then Faulty BadChunkSize else LongLine
 
 -- the line, with the octets behind it, asks this; a line of more than 2,048 octets with its CR LF is too long
 abbrev pub Asks : List ℕ → List ℕ → Asked → Type 0
 Asks text octets asked =
-    ((2046 < length text) × (asked ≡ asked_of_long text)) ⊎ ((length text ≤ 2046) × AsksBy (reading_of text) octets asked)
+    ((2046 < length text) × (asked ≡ asked_of_long text))
+    ⊎ ((length text ≤ 2046) × AsksBy (reading_of text) octets asked)

@@ -45,7 +45,8 @@ IsHeld limit held.Fresh = Unit {0}
 IsHeld limit (held.Greeted client) = Unit {0}
 IsHeld limit (held.Open transaction) = Unit {0}
 IsHeld limit (held.Gathering gathering) =
-    Gathers gathering.reader limit (content_in gathering.reader) × (length (content_in gathering.reader) ≤ limit)
+    Gathers gathering.reader limit (content_in gathering.reader)
+    × (length (content_in gathering.reader) ≤ limit)
 IsHeld limit (held.Spent client) = Unit {0}
 
 abbrev pub IsNextHeld : ℕ → Next → Type 0
@@ -80,10 +81,12 @@ IsChunked limit argument old (judged.Gathers transaction reader is_last) =
     ≡ course_of_chunks limit transaction.client transaction.envelope (before ++ octets) argument.last)
 IsChunked limit argument old (judged.Refuses row state size) =
     (size ≡ argument.size) × IsHeld limit state
-    × ((octets : List ℕ) → course_of_bdat limit octets argument.last old ≡ Replies row (Command (command_state_of state)))
+    × ((octets : List ℕ) → course_of_bdat limit octets argument.last old
+    ≡ Replies row (Command (command_state_of state)))
 
 -- what a line leads to is what the table says of what it asks, which announces no octets
-pub record IsAnswered (setup : Setup) (reading : Result line.Command LineFault) (old : CommandState) (judged : Judged) : Type 0 where
+pub record IsAnswered (setup : Setup) (reading : Result line.Command LineFault)
+    (old : CommandState) (judged : Judged) : Type 0 where
   pub asked : Asked
   pub asks : AsksBy reading [] asked
   pub no_octets : announced_by reading ≡ 0
@@ -94,4 +97,5 @@ pub record IsAnswered (setup : Setup) (reading : Result line.Command LineFault) 
 abbrev pub IsJudged : Setup → Result line.Command LineFault → CommandState → Judged → Type 0
 IsJudged setup reading old judged =
     IsAnswered setup reading old judged
-    ⊎ ((argument : BdatArgument) × (reading ≡ Ok (line.Bdat argument)) × IsChunked setup.max_content argument old judged)
+    ⊎ ((argument : BdatArgument) × (reading ≡ Ok (line.Bdat argument))
+    × IsChunked setup.max_content argument old judged)

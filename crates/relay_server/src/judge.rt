@@ -33,7 +33,8 @@ pub(crate) enum Judged {
     Refuses(Row, CommandState, u32),
 }
 
-/// What a command line leads to. Faults of a line come before its place in the order of commands is looked at.
+/// What a command line leads to. Faults of a line come before its place in the order of commands is
+/// looked at.
 pub(crate) fn judge(
     server: &Server,
     table: &Table,
@@ -41,7 +42,8 @@ pub(crate) fn judge(
     state: CommandState,
 ) -> Result<Judged, AllocError>
     ensures { IsHeld server.now.max_content state
-        → IfOk result (IsJudged (setup_of server.now table.now) (reading_of text.now) (command_state_of state)) }
+        → IfOk result (IsJudged (setup_of server.now table.now) (reading_of text.now)
+        (command_state_of state)) }
 {
     match Command::parse(text) {
         Err(fault) => Ok(judge_fault(fault, state)),
@@ -57,7 +59,8 @@ fn judge_command(
     state: CommandState,
 ) -> Result<Judged, AllocError>
     ensures { IsHeld server.now.max_content state
-        → IfOk result (IsJudged (setup_of server.now table.now) (Ok (line.value_of command.entry)) (command_state_of state)) }
+        → IfOk result (IsJudged (setup_of server.now table.now) (Ok (line.value_of command.entry))
+        (command_state_of state)) }
 {
     match command {
         Command::Helo(word) => greet(server, word, Protocol::Smtp),
@@ -74,9 +77,11 @@ fn judge_command(
     }
 }
 
-/// A fault of a line is answered. Behind a bad chunk size nobody knows what follows, and the connection closes.
+/// A fault of a line is answered. Behind a bad chunk size nobody knows what follows, and the
+/// connection closes.
 fn judge_fault(fault: LineFault, state: CommandState) -> Judged
-    ensures course { IsReplied (Replies (row_of_fault fault) (state_behind_fault fault (command_state_of state))) result }
+    ensures course { IsReplied (Replies (row_of_fault fault) (state_behind_fault fault
+        (command_state_of state))) result }
     ensures held { (limit : ℕ) → IsHeld limit state → IsReplyHeld limit result }
 {
     match fault {
@@ -108,7 +113,8 @@ fn judge_mail(
     mail: Result<Mail<'_>, EnvelopeFault>,
     state: CommandState,
 ) -> Result<Judged, AllocError>
-    ensures course { IfOk result (IsReplied (course_of_mail (mail_reading mail.entry) (command_state_of state))) }
+    ensures course { IfOk result (IsReplied (course_of_mail (mail_reading mail.entry)
+        (command_state_of state))) }
     ensures held { (limit : ℕ) → IsHeld limit state → IfOk result (IsReplyHeld limit) }
 {
     let mail = match mail {

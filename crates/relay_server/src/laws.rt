@@ -51,8 +51,8 @@ pub fn replies_are_well_formed()
     ensures { RepliesAreWellFormed }
 {}
 
-/// Whatever is offered may be stored: a host word, a whole envelope of 1 to 100 recipients, a content within the limit
-/// with at most 99 `Received:` fields.
+/// Whatever is offered may be stored: a host word, a whole envelope of 1 to 100 recipients, a
+/// content within the limit with at most 99 `Received:` fields.
 pub fn offers_may_be_stored()
     ensures { OffersMayBeStored }
 {}

@@ -8,8 +8,10 @@ mod offer;
 mod reply_table;
 mod server;
 mod session;
+pub mod session_laws;
 mod stage;
 mod state;
+pub mod turn_laws;
 
 pub use client::Client;
 pub use offer::{Answer, Offer};

@@ -121,11 +121,12 @@ fn write_queued(number: u64, out: &mut Vec<u8>) -> Result<(), AllocError>
     write_line(out, 250, b"queued as ", digits.format(number).as_bytes())
 }
 
-/// Writes the reply to EHLO (RFC 5321, section 4.1.1.1): the name of the host, and a keyword a line. Where memory runs
-/// out, nothing is written.
+/// Writes the reply to EHLO (RFC 5321, section 4.1.1.1): the name of the host, and a keyword a
+/// line. Where memory runs out, nothing is written.
 #[tactic(auto, unfolding(crate::specs::Reply::reply_of))]
 fn write_extensions(host: &[u8], out: &mut Vec<u8>) -> Result<(), AllocError>
-    ensures ok { OnOk result (out.new.items ≡ out.old.items ++ reply_text (reply_of host.now Row.Extensions)) }
+    ensures ok { OnOk result (out.new.items
+        ≡ out.old.items ++ reply_text (reply_of host.now Row.Extensions)) }
     ensures err { OnErr result (out.new.items ≡ out.old.items) }
 {
     let start = out.len();
@@ -139,7 +140,8 @@ fn write_extensions(host: &[u8], out: &mut Vec<u8>) -> Result<(), AllocError>
 /// Writes the reply to EHLO, or a beginning of it where memory runs out.
 #[tactic(auto, unfolding(crate::specs::Reply::reply_of))]
 fn push_extensions(host: &[u8], out: &mut Vec<u8>) -> Result<(), AllocError>
-    ensures ok { OnOk result (out.new.items ≡ out.old.items ++ reply_text (reply_of host.now Row.Extensions)) }
+    ensures ok { OnOk result (out.new.items
+        ≡ out.old.items ++ reply_text (reply_of host.now Row.Extensions)) }
     ensures front { Begins out.old.items out.new.items }
 {
     write_middle_line(out, 250, host)?;

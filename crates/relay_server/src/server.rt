@@ -2,10 +2,11 @@
 ghost use Rattle.std.specs.Prelude.{◌≡◌, ℕ, List, [], ◌++◌, ◌≤◌, ◌<◌, length, take, IfOk};
 ghost use Rattle.relay_octets.specs.Line.{HasNoCrlf, crlf};
 ghost use Rattle.relay_body.specs.ChunkText.{Chunk as ChunkText, HasChunks, IsBetweenChunks, content_of_chunks};
-ghost use Rattle.relay_body.specs.DotText.{IsReading, gathered_of};
+ghost use Rattle.relay_body.specs.DotReading.{IsReading};
+ghost use Rattle.relay_body.specs.Gathering.{gathered_of};
 ghost use Rattle.relay_server.specs.Dialogue.{row_of_answer};
 ghost use Rattle.relay_server.specs.ReplyTable.{course_of, course_of_chunks, course_of_content, course_of_text};
-ghost use Rattle.relay_server.specs.Session.{EndsBy, EntersBy, GathersChunk, IsGiven, KeepsText, Moves, RefusesChunk, offers_at};
+ghost use Rattle.relay_server.specs.Machine.{EndsBy, EntersBy, GathersChunk, IsGiven, KeepsText, Moves, RefusesChunk, offers_at};
 ghost use Rattle.relay_server.specs.Setup.{setup_of};
 ghost use Rattle.relay_server.specs.State as standing;
 ghost use Rattle.relay_server.specs.Unit.{asked_of_long};
@@ -38,8 +39,8 @@ pub(crate) struct Server {
 }
 
 impl Server {
-    /// Answers a command line: its octets without CR LF, or the first of them where it is too long. A line that
-    /// announces a chunk is answered when that has come.
+    /// Answers a command line: its octets without CR LF, or the first of them where it is too long.
+    /// A line that announces a chunk is answered when that has come.
     pub(crate) fn answer_line(
         &self,
         table: &Table,
@@ -48,8 +49,10 @@ impl Server {
         state: CommandState,
         out: &mut Vec<u8>,
     ) -> Result<Stage, AllocError>
-        ensures { IsHeld self.now.max_content state → IfOk result (λ stage. (line : List ℕ) → HasNoCrlf line → IsGiven line text.now is_long
-            → Moves (setup_of self.now table.now) (standing.Command (command_state_of state)) stage (line ++ crlf) out.old.items out.new.items) }
+        ensures { IsHeld self.now.max_content state → IfOk result (λ stage. (line : List ℕ)
+            → HasNoCrlf line → IsGiven line text.now is_long
+            → Moves (setup_of self.now table.now) (standing.Command (command_state_of state)) stage
+            (line ++ crlf) out.old.items out.new.items) }
     {
         if is_long {
             return self.answer_long_line(text, state, out);
@@ -75,7 +78,8 @@ impl Server {
         out: &mut Vec<u8>,
     ) -> Result<Stage, AllocError>
         ensures { IsHeld self.now.max_content state → IfOk result (λ stage. (routes : RouteTable)
-            → EndsBy (setup_of self.now routes) (course_of (setup_of self.now routes) (asked_of_long text.now) (command_state_of state)) stage out.old.items out.new.items) }
+            → EndsBy (setup_of self.now routes) (course_of (setup_of self.now routes)
+            (asked_of_long text.now) (command_state_of state)) stage out.old.items out.new.items) }
     {
         if begins_with_bdat(text) {
             self.reply(Row::BadChunkSize, State::Closed, out)
@@ -119,8 +123,11 @@ impl Server {
         rest: &[u8],
         out: &mut Vec<u8>,
     ) -> Result<(Stage, usize), AllocError>
-        ensures moves { IfOk result (λ read. (routes : RouteTable) (octets : List ℕ) → IsReading mail.reader self.now.max_content octets
-            → Moves (setup_of self.now routes) (standing.Receiving mail.transaction.client mail.transaction.envelope) read.0 (octets ++ take read.1 rest.now) out.old.items out.new.items) }
+        ensures moves { IfOk result (λ read. (routes : RouteTable) (octets : List ℕ)
+            → IsReading mail.reader self.now.max_content octets
+            → Moves (setup_of self.now routes)
+            (standing.Receiving mail.transaction.client mail.transaction.envelope) read.0
+            (octets ++ take read.1 rest.now) out.old.items out.new.items) }
         ensures within { IfOk result (λ read. read.1 ≤ length rest.now) }
         ensures progress { 0 < length rest.now → IfOk result (λ read. 0 < read.1) }
     {
@@ -152,8 +159,11 @@ impl Server {
         gathered: Gathered,
         out: &mut Vec<u8>,
     ) -> Result<Stage, AllocError>
-        ensures { IfOk result (λ stage. (routes : RouteTable) (content : List ℕ) → gathered ≡ gathered_of self.now.max_content content
-            → EndsBy (setup_of self.now routes) (course_of_text self.now.max_content transaction.client transaction.envelope content) stage out.old.items out.new.items) }
+        ensures { IfOk result (λ stage. (routes : RouteTable) (content : List ℕ)
+            → gathered ≡ gathered_of self.now.max_content content
+            → EndsBy (setup_of self.now routes)
+            (course_of_text self.now.max_content transaction.client transaction.envelope content)
+            stage out.old.items out.new.items) }
     {
         match gathered {
             Gathered::Whole(content) => self.end_content(transaction, content, out),
@@ -172,7 +182,9 @@ impl Server {
         out: &mut Vec<u8>,
     ) -> Result<Stage, AllocError>
         ensures { IfOk result (λ stage. (routes : RouteTable)
-            → EndsBy (setup_of self.now routes) (course_of_content transaction.client transaction.envelope content) stage out.old.items out.new.items) }
+            → EndsBy (setup_of self.now routes)
+            (course_of_content transaction.client transaction.envelope content) stage out.old.items
+            out.new.items) }
     {
         if received_count(content.as_slice()) >= RECEIVED_LIMIT {
             let greeted = CommandState::Greeted(transaction.client);
@@ -192,9 +204,11 @@ impl Server {
     ) -> Result<(Stage, usize), AllocError>
         ensures moves { IfOk result (λ read. (routes : RouteTable) (state : standing.State) (octets : List ℕ)
             → GathersChunk self.now.max_content transaction reader is_last state octets
-            → Moves (setup_of self.now routes) state read.0 (octets ++ take read.1 rest.now) out.old.items out.new.items) }
+            → Moves (setup_of self.now routes) state read.0
+            (octets ++ take read.1 rest.now) out.old.items out.new.items) }
         ensures within { IfOk result (λ read. read.1 ≤ length rest.now) }
-        ensures progress { 0 < length rest.now → (¬ IsBetweenChunks reader) → IfOk result (λ read. 0 < read.1) }
+        ensures progress { 0 < length rest.now → (¬ IsBetweenChunks reader)
+            → IfOk result (λ read. 0 < read.1) }
     {
         match reader.feed(rest) {
             Err(BodyFault::NoMemory) => Err(AllocError),
@@ -223,8 +237,11 @@ impl Server {
         out: &mut Vec<u8>,
     ) -> Result<Stage, AllocError>
         requires { IsBetweenChunks reader }
-        ensures { IfOk result (λ stage. (routes : RouteTable) (chunks : List ChunkText) → HasChunks reader self.now.max_content chunks
-            → EndsBy (setup_of self.now routes) (course_of_chunks self.now.max_content transaction.client transaction.envelope (content_of_chunks chunks) is_last) stage out.old.items out.new.items) }
+        ensures { IfOk result (λ stage. (routes : RouteTable) (chunks : List ChunkText)
+            → HasChunks reader self.now.max_content chunks
+            → EndsBy (setup_of self.now routes)
+            (course_of_chunks self.now.max_content transaction.client transaction.envelope
+            (content_of_chunks chunks) is_last) stage out.old.items out.new.items) }
     {
         if reader.is_too_large() {
             let spent = CommandState::Spent(transaction.client);
@@ -252,7 +269,8 @@ impl Server {
     ) -> Result<(Stage, usize), AllocError>
         ensures moves { IfOk result (λ read. (routes : RouteTable) (old : standing.State) (octets : List ℕ)
             → RefusesChunk self.now.max_content row state missing old octets
-            → Moves (setup_of self.now routes) old read.0 (octets ++ take read.1 rest.now) out.old.items out.new.items) }
+            → Moves (setup_of self.now routes) old read.0
+            (octets ++ take read.1 rest.now) out.old.items out.new.items) }
         ensures within { IfOk result (λ read. read.1 ≤ length rest.now) }
         ensures progress { 0 < length rest.now → 0 < missing → IfOk result (λ read. 0 < read.1) }
     {

@@ -1,8 +1,9 @@
-ghost use Rattle.std.specs.Prelude.{◌≡◌, ℕ, List, [], ◌∷◌, ◌++◌, ◌≤◌, ◌<◌, length, take, true, false, IfOk, OnOk, OnErr, IsErr, MatchOption};
+ghost use Rattle.std.specs.Prelude.{◌≡◌, ℕ, List, [], ◌∷◌, ◌++◌, ◌+◌, ◌≤◌, ◌<◌, length, take, slice_range, true, false, IfOk, OnOk, OnErr, IsErr, MatchOption};
 ghost use Rattle.relay_octets.specs.Line.{HasNoCrlf, crlf};
-ghost use Rattle.relay_body.specs.DotText.{IsReading};
+ghost use Rattle.relay_body.specs.DotReading.{IsReading};
 ghost use Rattle.relay_server.specs.Dialogue.{Said, more_said};
-ghost use Rattle.relay_server.specs.Session.{Advances, GathersChunk, HasFailed, HasOffer, IsGiven, Moves, RefusesChunk, Stands, Steps, Waits, is_reading, new_offers, next_of, offered, offers_since, open_offers};
+ghost use Rattle.relay_server.specs.Machine.{Advances, GathersChunk, IsGiven, Moves, RefusesChunk, Steps, is_reading};
+ghost use Rattle.relay_server.specs.Session.{Answered, HasFailed, HasOffer, Hears, Stands, UsesPiece, Waits, next_of, offered, offers_since, open_offers};
 ghost use Rattle.relay_server.specs.Setup.{Setup, setup_of};
 ghost use Rattle.relay_server.specs.State as standing;
 ghost use Rattle.relay_server.specs.Values.{IsHeld, command_state_of};
@@ -49,7 +50,8 @@ pub struct Session {
     stage: Stage,
 }
 
-// Written out, so that a crate that drops a session calls this, and doesn't look into each stage where it drops one.
+// Written out, so that a crate that drops a session calls this, and doesn't look into each stage
+// where it drops one.
 impl Drop for Session {
     fn drop(self) {
         let Session {
@@ -63,10 +65,11 @@ impl Drop for Session {
 impl Session {
     /// A session, and the greeting for the client. It fails where memory runs out.
     pub fn new(alloc: Global, config: &Config) -> Result<(Self, Vec<u8>), AllocError>
-        ensures { IfOk result (λ made. (setup : Setup) → setup.host ≡ config.now.host
+        ensures stands { IfOk result (λ made. (setup : Setup) → setup.host ≡ config.now.host
             → setup.max_content ≡ config.now.max_content
             → Stands setup made.0
             (record { input = []; answers = []; output = made.1.items; offers = [] })) }
+        ensures settled { IfOk result (λ made. open_offers made.0 ≡ []) }
     {
         let server = Server {
             alloc,
@@ -83,15 +86,16 @@ impl Session {
         Ok((session, greeting))
     }
 
-    /// Uses octets of a piece up to an offer or a close, or all of them. The table says which recipients have a next hop;
-    /// `<Postmaster>` (RFC 5321, section 4.5.1) is routed as the table's host, in a configuration the session's own.
+    /// Uses octets of a piece up to an offer or a close, or all of them. The table says which
+    /// recipients have a next hop; `<Postmaster>` (RFC 5321, section 4.5.1) is routed as the
+    /// table's host, in a configuration the session's own.
     pub fn feed(&mut self, table: &Table, piece: &[u8]) -> Result<Fed, AllocError>
         ensures stands { IfOk result (λ fed. (setup : Setup) (said : Said)
             → setup.routes ≡ table.now → Stands setup self.old said
             → Stands setup self.new (more_said said (take fed.used piece.now) [] fed.out.items
             (offers_since self.old self.new))) }
-        ensures within { IfOk result (λ fed. fed.used ≤ length piece.now) }
-        ensures whole { IfOk result (λ fed. fed.next ≡ Next.More → fed.used ≡ length piece.now) }
+        // All of it, unless it stops at an offer or a close; no offer opens without an octet.
+        ensures used { IfOk result (λ fed. UsesPiece self.old fed.next (length piece.now) 0 fed.used) }
         ensures next { IfOk result (λ fed. fed.next ≡ next_of self.new) }
         // While an offer is open, and after a close, it uses nothing.
         ensures waits { Waits self.old → (self.new ≡ self.old)
@@ -99,13 +103,41 @@ impl Session {
         ensures failed { OnErr result (HasFailed self.new) }
         ensures again { HasFailed self.old → IsErr result }
     {
+        let mut used = 0;
+        let mut out = Vec::new(self.server.alloc);
+        let next = self.hear(table, piece, &mut used, &mut out)?;
+        Ok(Fed { used, out, next })
+    }
+
+    /// Feeds what is left of a piece behind the octets that are used, counts those that it uses,
+    /// and puts the replies behind `out`: for a loop over a whole piece, which answers each offer
+    /// on its way. It answers what the caller does next. Where memory runs out, `out` may have lost
+    /// its end.
+    pub fn hear(
+        &mut self,
+        table: &Table,
+        piece: &[u8],
+        used: &mut usize,
+        out: &mut Vec<u8>,
+    ) -> Result<Next, AllocError>
+        requires { used.old ≤ length piece.now }
+        ensures hears { IfOk result (λ next. (setup : Setup) (said : Said)
+            → setup.routes ≡ table.now → Stands setup self.old said
+            → Hears setup said self.old self.new
+            (slice_range piece.now used.old used.new) out.old.items out.new.items) }
+        // All of it, unless it stops at an offer or a close; no offer opens without an octet.
+        ensures used { IfOk result (λ next. UsesPiece self.old next (length piece.now) used.old used.new) }
+        ensures next { IfOk result (λ next. next ≡ next_of self.new) }
+        ensures waits { Waits self.old → (self.new ≡ self.old)
+            × IfOk result (λ next. (used.new ≡ used.old) × (out.new.items ≡ out.old.items)) }
+        ensures failed { OnErr result (HasFailed self.new) }
+        ensures again { HasFailed self.old → IsErr result }
+    {
         if let Stage::Failed = self.stage {
             return Err(AllocError);
         }
-        let mut out = Vec::new(self.server.alloc);
-        let used = self.read(table, piece, &mut out)?;
-        let next = self.next();
-        Ok(Fed { used, out, next })
+        *used += self.read(table, &piece[*used..], out)?;
+        Ok(self.next())
     }
 
     /// The offer that is open. It takes no memory.
@@ -133,15 +165,29 @@ impl Session {
         requires { HasOffer self.old }
         ensures stands { IfOk result (λ out. (setup : Setup) (said : Said) → Stands setup self.old said
             → Stands setup self.new (more_said said [] (answer ∷ []) out.items [])) }
+        ensures settled { IfOk result (λ out. open_offers self.new ≡ []) }
+        ensures failed { OnErr result (HasFailed self.new) }
+    {
+        let mut out = Vec::new(self.server.alloc);
+        self.reply(answer, &mut out)?;
+        Ok(out)
+    }
+
+    /// Answers the offer that is open, and puts what goes to the client behind `out`. Where memory
+    /// runs out, `out` may have lost its end.
+    pub fn reply(&mut self, answer: Answer, out: &mut Vec<u8>) -> Result<(), AllocError>
+        requires { HasOffer self.old }
+        ensures answered { OnOk result ((setup : Setup) (said : Said) → Stands setup self.old said
+            → Answered setup said self.new answer out.old.items out.new.items) }
+        ensures settled { OnOk result (open_offers self.new ≡ []) }
         ensures failed { OnErr result (HasFailed self.new) }
     {
         let Stage::Offering(transaction, _) = self.leave() else {
             unreachable!()
         };
-        let mut out = Vec::new(self.server.alloc);
-        row_of_answer(answer).write(self.server.host.as_slice(), &mut out)?;
+        row_of_answer(answer).write(self.server.host.as_slice(), out)?;
         self.enter(Stage::Command(CommandState::Greeted(transaction.client)));
-        Ok(out)
+        Ok(())
     }
 
     /// Takes the stage out. Until it enters another, the session has failed.
@@ -176,12 +222,14 @@ impl Session {
 
     /// Uses octets of a piece up to an offer or a close, or all of them, and answers how many.
     fn read(&mut self, table: &Table, piece: &[u8], out: &mut Vec<u8>) -> Result<usize, AllocError>
-        ensures stands { IfOk result (λ used. (setup : Setup) (said : Said) → setup.routes ≡ table.now → Stands setup self.old said
-            → (more : List ℕ) × (out.new.items ≡ out.old.items ++ more)
-            × Stands setup self.new (more_said said (take used piece.now) [] more (new_offers self.old.stage self.new.stage))) }
+        ensures stands { IfOk result (λ used. (setup : Setup) (said : Said)
+            → setup.routes ≡ table.now → Stands setup self.old said
+            → Hears setup said self.old self.new (take used piece.now) out.old.items out.new.items) }
+        ensures idle { IfOk result (λ used. used ≡ 0 → self.new ≡ self.old) }
         ensures within { IfOk result (λ used. used ≤ length piece.now) }
         ensures whole { IfOk result (λ used. is_reading self.new.stage ≡ true → used ≡ length piece.now) }
-        ensures waits { is_reading self.old.stage ≡ false → (self.new ≡ self.old) × (out.new.items ≡ out.old.items) × IfOk result (λ used. used ≡ 0) }
+        ensures waits { is_reading self.old.stage ≡ false → (self.new ≡ self.old)
+            × (out.new.items ≡ out.old.items) × IfOk result (λ used. used ≡ 0) }
         ensures failed { OnErr result (self.new.stage ≡ Stage.Failed) }
     {
         let mut used = 0;
@@ -210,7 +258,8 @@ impl Session {
     ) -> Result<usize, AllocError>
         requires some { 0 < length rest.now }
         requires reading { is_reading self.old.stage ≡ true }
-        ensures advances { IfOk result (λ used. Advances self.old self.new table.now (take used rest.now) out.old.items out.new.items) }
+        ensures advances { IfOk result (λ used. Advances self.old self.new table.now
+            (take used rest.now) out.old.items out.new.items) }
         ensures within { IfOk result (λ used. (0 < used) × (used ≤ length rest.now)) }
         ensures failed { OnErr result (self.new.stage ≡ Stage.Failed) }
     {
@@ -233,7 +282,9 @@ impl Session {
         requires some { 0 < length rest.now }
         ensures moves { IfOk result (λ used. (routes : RouteTable) (octets : List ℕ)
             → IsReading mail.reader self.old.server.max_content octets
-            → Moves (setup_of self.old.server routes) (standing.Receiving mail.transaction.client mail.transaction.envelope) self.new.stage (octets ++ take used rest.now) out.old.items out.new.items) }
+            → Moves (setup_of self.old.server routes)
+            (standing.Receiving mail.transaction.client mail.transaction.envelope) self.new.stage
+            (octets ++ take used rest.now) out.old.items out.new.items) }
         ensures same { (self.new.server ≡ self.old.server) × (self.new.line ≡ self.old.line) }
         ensures within { IfOk result (λ used. (0 < used) × (used ≤ length rest.now)) }
         ensures failed { OnErr result (self.new.stage ≡ self.old.stage) }
@@ -252,8 +303,10 @@ impl Session {
     ) -> Result<usize, AllocError>
         requires some { 0 < length rest.now }
         ensures moves { IfOk result (λ used. (routes : RouteTable) (state : standing.State) (octets : List ℕ)
-            → GathersChunk self.old.server.max_content chunk.transaction chunk.reader chunk.is_last state octets
-            → Moves (setup_of self.old.server routes) state self.new.stage (octets ++ take used rest.now) out.old.items out.new.items) }
+            → GathersChunk self.old.server.max_content chunk.transaction chunk.reader chunk.is_last
+            state octets
+            → Moves (setup_of self.old.server routes) state self.new.stage
+            (octets ++ take used rest.now) out.old.items out.new.items) }
         ensures same { (self.new.server ≡ self.old.server) × (self.new.line ≡ self.old.line) }
         ensures within { IfOk result (λ used. (0 < used) × (used ≤ length rest.now)) }
         ensures failed { OnErr result (self.new.stage ≡ self.old.stage) }
@@ -280,7 +333,8 @@ impl Session {
         requires some { 0 < length rest.now }
         ensures moves { IfOk result (λ used. (routes : RouteTable) (state : standing.State) (octets : List ℕ)
             → RefusesChunk self.old.server.max_content skipped.row skipped.state skipped.missing state octets
-            → Moves (setup_of self.old.server routes) state self.new.stage (octets ++ take used rest.now) out.old.items out.new.items) }
+            → Moves (setup_of self.old.server routes) state self.new.stage
+            (octets ++ take used rest.now) out.old.items out.new.items) }
         ensures same { (self.new.server ≡ self.old.server) × (self.new.line ≡ self.old.line) }
         ensures within { IfOk result (λ used. (0 < used) × (used ≤ length rest.now)) }
         ensures failed { OnErr result (self.new.stage ≡ self.old.stage) }
@@ -295,7 +349,8 @@ impl Session {
         Ok(used)
     }
 
-    /// Uses the octets of one command line, or the next ones of it. A line that stands whole in the piece is read there.
+    /// Uses the octets of one command line, or the next ones of it. A line that stands whole in the
+    /// piece is read there.
     fn read_line(
         &mut self,
         table: &Table,
@@ -304,8 +359,11 @@ impl Session {
         out: &mut Vec<u8>,
     ) -> Result<usize, AllocError>
         requires some { 0 < length rest.now }
-        ensures steps { IsHeld self.old.server.max_content state → IfOk result (λ used. (octets : List ℕ) → Holds self.old.line octets
-            → Steps (setup_of self.old.server table.now) (standing.Command (command_state_of state)) self.new (octets ++ take used rest.now) out.old.items out.new.items) }
+        ensures steps { IsHeld self.old.server.max_content state
+            → IfOk result (λ used. (octets : List ℕ) → Holds self.old.line octets
+            → Steps (setup_of self.old.server table.now)
+            (standing.Command (command_state_of state)) self.new
+            (octets ++ take used rest.now) out.old.items out.new.items) }
         ensures server { self.new.server ≡ self.old.server }
         ensures within { IfOk result (λ used. (0 < used) × (used ≤ length rest.now)) }
         ensures failed { OnErr result (self.new.stage ≡ self.old.stage) }
@@ -333,9 +391,12 @@ impl Session {
         state: CommandState,
         out: &mut Vec<u8>,
     ) -> Result<(), AllocError>
-        ensures moves { IsHeld self.old.server.max_content state → OnOk result ((line : List ℕ) → HasNoCrlf line
+        ensures moves { IsHeld self.old.server.max_content state → OnOk result ((line : List ℕ)
+            → HasNoCrlf line
             → IsGiven line self.old.line.kept self.old.line.is_long
-            → Moves (setup_of self.old.server table.now) (standing.Command (command_state_of state)) self.new.stage (line ++ crlf) out.old.items out.new.items) }
+            → Moves (setup_of self.old.server table.now)
+            (standing.Command (command_state_of state)) self.new.stage
+            (line ++ crlf) out.old.items out.new.items) }
         ensures server { self.new.server ≡ self.old.server }
         ensures line { OnOk result (Holds self.new.line []) }
         ensures failed { OnErr result (self.new.stage ≡ self.old.stage) }

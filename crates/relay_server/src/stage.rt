@@ -1,6 +1,6 @@
 ghost use Rattle.std.specs.Prelude.{◌<◌};
 ghost use Rattle.relay_body.specs.ChunkText.{IsBetweenChunks};
-ghost use Rattle.relay_body.specs.DotText.{IsDone};
+ghost use Rattle.relay_body.specs.DotReading.{IsDone};
 
 use crate::reply_table::Row;
 use crate::state::{CommandState, Transaction};

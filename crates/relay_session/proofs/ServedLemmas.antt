@@ -2,11 +2,11 @@
 use Rattle.std.proofs.Common.{◌≡◌, ◌⊎◌, inl, inr, Result, Ok, Err, OnErr, ℕ, List, [], ◌∷◌, ◌++◌, length, Bool, true, false, Option, refl, sym, ap, ◌∙◌, subst, append_assoc, append-nil, take}
 use Rattle.std.specs.Io.KnownBytes.{Appends, Consumes, IsAtEnd, Keeps}
 use Rattle.std.proofs.KnownBytes.{Appends-nil, Appends-trans, Consumes-nil, Consumes-trans, Consumes-kept}
-use Rattle.relay_server.specs.declared.stage.Stage.TheVariants as stage
-use Rattle.relay_server.specs.Dialogue.{IsDialogue, Said, greeted_only}
+use Rattle.relay_server.specs.Dialogue.{IsDialogue, Said, greeted_only, unread_behind}
+use Rattle.relay_server.specs.Session.{IsClosed}
 use Rattle.relay_server.specs.Setup.{Setup}
 use Rattle.relay_server.specs.State.{start}
-use Rattle.relay_server.proofs.Theorems.{closed_dialogue, no_unit_is_empty, unread_behind, what_stands_is_a_dialogue}
+use Rattle.relay_server.proofs.Theorems.{closed_is_a_dialogue, no_unit_is_empty, what_stands_is_a_dialogue}
 use Rattle.relay_session.specs.declared.exchange.Exchange.{Exchange}
 use Rattle.relay_session.specs.Exchange.{Receives, Rests, greeted_by}
 use Rattle.relay_session.specs.declared.peer.Peer.{Peer}
@@ -82,17 +82,17 @@ module _ (setup : Setup) (peer : Peer) where
       written = subst (Appends held new_held) (sym r.output) (Appends-trans held mid_held new_held g.said.output r.replies g.written r.written);
     }
 
-    served_by : (g : HasSaid setup peer left mid_left held mid_held old) → (r : GoesRound setup peer mid_left new_left mid_held new_held g.said new true) → ((new.session.stage ≡ stage.Closed) ⊎ ((r.unused ≡ []) × IsAtEnd new_left)) → IsServed setup peer left new_left held new_held new.messages
+    served_by : (g : HasSaid setup peer left mid_left held mid_held old) → (r : GoesRound setup peer mid_left new_left mid_held new_held g.said new true) → (IsClosed new.session ⊎ ((r.unused ≡ []) × IsAtEnd new_left)) → IsServed setup peer left new_left held new_held new.messages
     served_by g r (inl closed) = record {
       said = unread_behind r.later r.unused;
-      dialogue = (closed_dialogue setup new.session r.later r.unused r.rests.stands closed).0;
+      dialogue = (closed_is_a_dialogue setup new.session r.later r.unused r.rests.stands closed).0;
       read =
           subst (Consumes left new_left) (sym (append_assoc g.said.input r.octets r.unused) ∙ ap (λ l. l ++ r.unused) (sym r.input))
           (Consumes-trans left mid_left new_left g.said.input (r.octets ++ r.unused) g.read r.read);
       written = subst (Appends held new_held) (sym r.output) (Appends-trans held mid_held new_held g.said.output r.replies g.written r.written);
       kept = r.rests.kept;
       answers = counted new r.later r.rests;
-      ended = inl (closed_dialogue setup new.session r.later r.unused r.rests.stands closed).1;
+      ended = inl (closed_is_a_dialogue setup new.session r.later r.unused r.rests.stands closed).1;
     }
     served_by g r (inr (none, end)) = record {
       said = r.later;
@@ -199,15 +199,15 @@ module _ (setup : Setup) (peer : Peer) where
     -- a round whose replies are written
     pub whole_round : (octets out : List ℕ) (is_closed : Bool) → Receives setup peer said new octets [] out is_closed → Consumes left new_left octets → Appends held new_held out → GoesRound setup peer left new_left held new_held said new is_closed
     whole_round octets out is_closed r read written = record {
-      later = r.later;
-      rests = r.rests;
+      later = r.goes_on.later;
+      rests = r.goes_on.rests;
       octets = r.used;
-      input = r.input;
+      input = r.goes_on.more.input;
       unused = r.unused;
       read = subst (Consumes left new_left) r.octets_are read;
-      replies = r.written;
-      output = r.output;
-      written = subst (Appends held new_held) r.out written;
+      replies = r.goes_on.more.written;
+      output = r.goes_on.more.output;
+      written = subst (Appends held new_held) r.goes_on.more.out written;
       goes_on = r.whole;
       ends = λ e. inl (r.closed e);
     }
@@ -231,15 +231,15 @@ module _ (setup : Setup) (peer : Peer) where
     -- a round that ends while its replies are written
     pub cut_off : (octets out front rest : List ℕ) (is_closed : Bool) → Receives setup peer said new octets [] out is_closed → Consumes left new_left octets → out ≡ front ++ rest → Appends held new_held front → BreaksOff setup left new_left held new_held said
     cut_off octets out front rest is_closed r read parts written = record {
-      later = r.later;
-      dialogue = dialogue new r.later r.rests;
+      later = r.goes_on.later;
+      dialogue = dialogue new r.goes_on.later r.goes_on.rests;
       octets = r.used;
-      input = r.input;
+      input = r.goes_on.more.input;
       unread = r.unused;
       read = subst (Consumes left new_left) r.octets_are read;
       front = front;
       unwritten = rest;
-      output = r.output ∙ ap (λ l. said.output ++ l) (sym r.out ∙ parts) ∙ sym (append_assoc said.output front rest);
+      output = r.goes_on.more.output ∙ ap (λ l. said.output ++ l) (sym r.goes_on.more.out ∙ parts) ∙ sym (append_assoc said.output front rest);
       written = written;
-      answers = counted new r.later r.rests;
+      answers = counted new r.goes_on.later r.goes_on.rests;
     }

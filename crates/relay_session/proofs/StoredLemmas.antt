@@ -1,49 +1,27 @@
 -- What is kept of a dialogue has sound time stamp lines, since its offers may be stored.
-use Rattle.std.proofs.Common.{◌≡◌, ◌⊎◌, inl, inr, ℕ, suc, ◌+◌, ◌^◌, ◌<◌, ◌≤◌, false, ◌||◌, ◌==◌, List, [], ◌∷◌, codes, length, ap, ◌∙◌, arith, refl}
-use Rattle.std.specs.List.{AllByRecursion, AllPass}
-use Rattle.std.proofs.lemmas.List.Folds.{list_any-append}
-use Rattle.relay_octets.specs.Line.{HasNoCrlf}
-use Rattle.relay_lines.specs.Word.{IsAddressLiteral, IsHostWord, is_domain_octet, is_literal_octet}
-use Rattle.relay_envelope.specs.Mailbox.{stands_in}
+use Rattle.std.proofs.Common.{ℕ, suc, ◌+◌, ◌^◌, ◌<◌, ◌≤◌, List, [], ◌∷◌, length, arith}
+use Rattle.std.specs.List.{AllByRecursion}
 use Rattle.relay_trace.specs.TimeStamp.{IsStamp}
 use Rattle.relay_trace.proofs.Theorems.{passing_adds_one}
-use Rattle.relay_routes.specs.Value.{IsHostName, is_host_octet}
+use Rattle.relay_envelope.specs.HostName.{IsHostName}
+use Rattle.relay_envelope.proofs.Theorems.{host_name_is_host_word, host_word_has_no_crlf}
 use Rattle.relay_server.specs.Dialogue.{Offered}
 use Rattle.relay_server.specs.DialogueLaws.{MayBeStored}
 use Rattle.relay_server.specs.Setup.{Setup}
-use Rattle.relay_server.proofs.Theorems.{lacks_by_test, no_crlf_without_cr, offers_may_be_stored}
+use Rattle.relay_server.proofs.Theorems.{offers_may_be_stored}
 use Rattle.relay_session.specs.declared.message.Message.{Message}
 use Rattle.relay_session.specs.declared.peer.Peer.{Peer}
 use Rattle.relay_session.specs.Kept.{AreKeptFrom, stamp_at}
 use Rattle.relay_session.specs.Laws.{CountOneMore, IsPeerAddress, KeepingAddsOne}
 
--- no CR stands in the name of a host
-host_is_free : (host : List ℕ) → IsHostName host → HasNoCrlf host
-host_is_free host name = no_crlf_without_cr host (lacks_by_test is_host_octet 13 host refl name.octets)
-
--- no CR stands in an address literal
-literal_lacks_cr : (text : List ℕ) → IsAddressLiteral text → stands_in 13 text ≡ false
-literal_lacks_cr text literal =
-    let inner = lacks_by_test is_literal_octet 13 literal.inner refl literal.octets in
-    ap (stands_in 13) literal.text_is ∙ list_any-append (λ other. other == 13) literal.inner (codes "]")
-    ∙ ap (λ b. b || stands_in 13 (codes "]")) inner
-
--- no CR stands in a client's word
-word_is_free : (word : List ℕ) → IsHostWord word → HasNoCrlf word
-word_is_free word is = by_form is.form
-  where
-    by_form : AllPass is_domain_octet word ⊎ IsAddressLiteral word → HasNoCrlf word
-    by_form (inl octets) = no_crlf_without_cr word (lacks_by_test is_domain_octet 13 word refl octets)
-    by_form (inr literal) = no_crlf_without_cr word (literal_lacks_cr word literal)
-
 module _ (setup : Setup) (peer : Peer) (name : IsHostName setup.host) (address : IsPeerAddress peer.address) where
   -- the stamp of an offer that may be stored
   stamp_is_sound : (offer : Offered) (number : ℕ) → MayBeStored setup offer → number < 2 ^ 64 → IsStamp (stamp_at setup.host peer offer.client number)
   stamp_is_sound offer number stored small = record {
-    client = word_is_free offer.client.word stored.client;
+    client = host_word_has_no_crlf offer.client.word stored.client;
     four = address.four;
     octets = address.octets;
-    host = host_is_free setup.host name;
+    host = host_word_has_no_crlf setup.host (host_name_is_host_word setup.host name);
     number = small;
   }
 

@@ -1,4 +1,5 @@
--- What a session keeps of the mail that it is offered: each content behind one time stamp line (RFC 5321, section 4.4).
+-- What a session keeps of the mail that it is offered: each content behind one time stamp line (RFC
+-- 5321, section 4.4).
 use Rattle.std.specs.Prelude.{◌≡◌, ℕ, zero, suc, List, [], ◌∷◌, ◌++◌}
 use Rattle.relay_server.specs.declared.client.Client.{Client}
 use Rattle.relay_server.specs.declared.offer.Answer.{Answer}
@@ -20,12 +21,14 @@ stamp_at host peer client number = record {
 }
 
 -- the message is this offer, kept under this number: its text is the content behind one time stamp line
-pub record IsKeptAs (host : List ℕ) (peer : Peer) (number : ℕ) (offer : Offered) (message : Message) : Type 0 where
+pub record IsKeptAs (host : List ℕ) (peer : Peer) (number : ℕ) (offer : Offered)
+    (message : Message) : Type 0 where
   pub client_is : message.client ≡ offer.client
   pub envelope_is : message.envelope ≡ offer.envelope
   pub text_is : IsPassed (stamp_at host peer offer.client number) offer.content message.stored_text
 
--- the messages are these offers, in order, and the first is kept under this number, the next under the next one
+-- the messages are these offers, in order, and the first is kept under this number, the next under
+-- the next one
 abbrev pub AreKeptFrom : List ℕ → Peer → ℕ → List Offered → List Message → Type 0
 AreKeptFrom host peer number [] [] = Unit {0}
 AreKeptFrom host peer number [] (message ∷ messages) = ⊥

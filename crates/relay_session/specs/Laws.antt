@@ -2,7 +2,7 @@
 use Rattle.std.specs.Prelude.{◌≡◌, ℕ, ◌+◌, ◌^◌, ◌<◌, List, [], ◌∷◌, length, Option}
 use Rattle.std.specs.List.{All}
 use Rattle.relay_trace.specs.HeaderSection.{received_count_of}
-use Rattle.relay_routes.specs.Value.{IsHostName}
+use Rattle.relay_envelope.specs.HostName.{IsHostName}
 use Rattle.relay_server.specs.Dialogue.{Offered, Said, IsDialogue}
 use Rattle.relay_server.specs.Setup.{Setup}
 use Rattle.relay_session.specs.declared.message.Message.{Message}
@@ -20,16 +20,19 @@ CountOneMore [] [] = Unit {0}
 CountOneMore [] (message ∷ messages) = ⊥
 CountOneMore (offer ∷ offers) [] = ⊥
 CountOneMore (offer ∷ offers) (message ∷ messages) =
-    (received_count_of message.stored_text ≡ received_count_of offer.content + 1) × CountOneMore offers messages
+    (received_count_of message.stored_text ≡ received_count_of offer.content + 1)
+    × CountOneMore offers messages
 
 -- an IPv4 address: four octets
 pub record IsPeerAddress (address : List ℕ) : Type 0 where
   pub four : length address ≡ 4
   pub octets : All (λ octet. octet < 256) address
 
--- a time stamp line is one `Received:` field of the texts that are kept of a dialogue, at a host of any valid name
+-- a time stamp line is one `Received:` field of the texts that are kept of a dialogue, at a host of
+-- any valid name
 abbrev pub KeepingAddsOne : Type 0
 KeepingAddsOne =
-    (setup : Setup) (peer : Peer) (said : Said) (messages : List Message) → IsHostName setup.host → IsPeerAddress peer.address
+    (setup : Setup) (peer : Peer) (said : Said) (messages : List Message) → IsHostName setup.host
+    → IsPeerAddress peer.address
     → length messages < 2 ^ 64 → IsDialogue setup said → AreKept setup.host peer said.offers messages
     → CountOneMore said.offers messages

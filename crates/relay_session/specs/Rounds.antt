@@ -10,14 +10,17 @@ use Rattle.relay_session.specs.Exchange.{Rests}
 use Rattle.relay_session.specs.Kept.{queued_to}
 
 -- so far the exchange has said what was read and written
-pub record HasSaid (setup : Setup) (peer : Peer) (left new_left held new_held : Option (List ℕ)) (exchange : Exchange) : Type 0 where
+pub record HasSaid (setup : Setup) (peer : Peer) (left new_left held new_held : Option (List ℕ))
+    (exchange : Exchange) : Type 0 where
   pub said : Said
   pub rests : Rests setup peer exchange said
   pub read : Consumes left new_left said.input
   pub written : Appends held new_held said.output
 
--- One round has read octets, and written the replies to them. It is the last one at a close and at the end of input.
-pub record GoesRound (setup : Setup) (peer : Peer) (left new_left held new_held : Option (List ℕ)) (said : Said) (new : Exchange) (is_last : Bool) : Type 0 where
+-- One round has read octets, and written the replies to them. It is the last one at a close and at
+-- the end of input.
+pub record GoesRound (setup : Setup) (peer : Peer) (left new_left held new_held : Option (List ℕ))
+    (said : Said) (new : Exchange) (is_last : Bool) : Type 0 where
   pub later : Said
   pub rests : Rests setup peer new later
   pub octets : List ℕ
@@ -31,7 +34,8 @@ pub record GoesRound (setup : Setup) (peer : Peer) (left new_left held new_held 
   pub ends : is_last ≡ true → IsClosed new.session ⊎ ((unused ≡ []) × IsAtEnd new_left)
 
 -- A round that a fault has ended has read octets, and written a beginning of the replies.
-pub record BreaksOff (setup : Setup) (left new_left held new_held : Option (List ℕ)) (said : Said) : Type 0 where
+pub record BreaksOff (setup : Setup) (left new_left held new_held : Option (List ℕ))
+    (said : Said) : Type 0 where
   pub later : Said
   pub dialogue : IsDialogue setup later
   pub octets : List ℕ

@@ -1,4 +1,5 @@
--- What a session from one reader to one writer has done: a dialogue, with each offer kept and answered by its number.
+-- What a session from one reader to one writer has done: a dialogue, with each offer kept and
+-- answered by its number.
 use Rattle.std.specs.Prelude.{◌≡◌, ◌⊎◌, ℕ, Option, List, ◌++◌, length}
 use Rattle.std.specs.Io.KnownBytes.{Appends, Consumes, IsAtEnd}
 use Rattle.relay_server.specs.Dialogue.{Said, IsDialogue}
@@ -8,10 +9,12 @@ use Rattle.relay_session.specs.declared.message.Message.{Message}
 use Rattle.relay_session.specs.declared.peer.Peer.{Peer}
 use Rattle.relay_session.specs.Kept.{AreKept, queued_to}
 
--- What was read and written is a dialogue, and the messages are its offers, in order. The k-th was answered Queued k,
--- and its text is the content behind the time stamp line of the number k. The dialogue is closed, or the reader is at
--- its end. Octets behind a close belong to the rest of the dialogue.
-pub record IsServed (setup : Setup) (peer : Peer) (left new_left held new_held : Option (List ℕ)) (messages : List Message) : Type 0 where
+-- What was read and written is a dialogue, and the messages are its offers, in order. The k-th was
+-- answered Queued k, and its text is the content behind the time stamp line of the number k. The
+-- dialogue is closed, or the reader is at its end. Octets behind a close belong to the rest of the
+-- dialogue.
+pub record IsServed (setup : Setup) (peer : Peer) (left new_left held new_held : Option (List ℕ))
+    (messages : List Message) : Type 0 where
   pub said : Said
   pub dialogue : IsDialogue setup said
   pub read : Consumes left new_left said.input

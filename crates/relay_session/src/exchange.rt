@@ -1,8 +1,8 @@
-ghost use Rattle.std.specs.Prelude.{◌≡◌, [], false, IfOk, OnOk};
+ghost use Rattle.std.specs.Prelude.{◌≡◌, [], IfOk, OnOk};
 ghost use Rattle.relay_server.specs.Dialogue.{Said};
-ghost use Rattle.relay_server.specs.Session.{HasOffer};
+ghost use Rattle.relay_server.specs.Session.{HasOffer, open_offers};
 ghost use Rattle.relay_session.specs.declared.peer.Peer.{Peer};
-ghost use Rattle.relay_session.specs.Exchange.{Receives, Rests, Serves, greeted_by};
+ghost use Rattle.relay_session.specs.Exchange.{GoesOn, Receives, Rests, Serves, greeted_by};
 ghost use Rattle.relay_server.specs.Setup.{setup_of_config};
 
 use crate::message::{Message, Messages};
@@ -21,9 +21,11 @@ pub(crate) struct Exchange {
 }
 
 impl Exchange {
-    /// An exchange that has kept nothing yet, and the greeting for the client. It fails where memory runs out.
+    /// An exchange that has kept nothing yet, and the greeting for the client. It fails where
+    /// memory runs out.
     pub(crate) fn open(alloc: Global, config: &Config) -> Result<(Self, Vec<u8>), AllocError>
-        ensures { IfOk result (λ opened. (peer : Peer) → Rests (setup_of_config config.now) peer opened.0 (greeted_by opened.1.items)) }
+        ensures { IfOk result (λ opened. (peer : Peer)
+            → Rests (setup_of_config config.now) peer opened.0 (greeted_by opened.1.items)) }
     {
         let (session, greeting) = Session::new(alloc, config)?;
         let exchange = Exchange {
@@ -33,8 +35,8 @@ impl Exchange {
         Ok((exchange, greeting))
     }
 
-    /// Uses the octets, all of them or up to a close, and puts the replies behind `out`. It answers whether the
-    /// connection is to be closed. It fails where memory runs out.
+    /// Uses the octets, all of them or up to a close, and puts the replies behind `out`. It answers
+    /// whether the connection is to be closed. It fails where memory runs out.
     pub(crate) fn receive(
         &mut self,
         alloc: Global,
@@ -43,26 +45,26 @@ impl Exchange {
         octets: &[u8],
         out: &mut Vec<u8>,
     ) -> Result<bool, AllocError>
-        requires rests { (said : Said) × Rests (setup_of_config config.now) peer.now self.old said }
-        ensures { IfOk result (λ is_closed. (said : Said) → Rests (setup_of_config config.now) peer.now self.old said
-            → Receives (setup_of_config config.now) peer.now said self.new octets.now out.old.items out.new.items is_closed) }
+        ensures { IfOk result (λ is_closed. (said : Said)
+            → Rests (setup_of_config config.now) peer.now self.old said
+            → Receives (setup_of_config config.now) peer.now said self.new octets.now
+            out.old.items out.new.items is_closed) }
     {
         let mut used = 0;
-        while used <= octets.len() {
-            let fed = self.session.feed(&config.routes, &octets[used..])?;
-            used += fed.used;
-            out.extend_from_slice(fed.out.as_slice())?;
-            match fed.next {
+        'rounds: loop {
+            match self
+                .session
+                .hear(&config.routes, octets, &mut used, out)?
+            {
                 Next::More => return Ok(false),
                 Next::Close => return Ok(true),
                 Next::Offer => self.keep(alloc, config, peer, out)?,
             }
         }
-        unreachable!()
     }
 
-    /// Keeps the message that is offered, answers with its number, and puts the reply behind `out`. It fails where
-    /// memory runs out.
+    /// Keeps the message that is offered, answers with its number, and puts the reply behind `out`.
+    /// It fails where memory runs out.
     fn keep(
         &mut self,
         alloc: Global,
@@ -71,8 +73,9 @@ impl Exchange {
         out: &mut Vec<u8>,
     ) -> Result<(), AllocError>
         requires { HasOffer self.old.session }
-        ensures { OnOk result ((said : Said) → Serves (setup_of_config config.now) peer.now self.old said
-            → Receives (setup_of_config config.now) peer.now said self.new [] out.old.items out.new.items false) }
+        ensures kept { OnOk result ((said : Said) → Serves (setup_of_config config.now) peer.now self.old said
+            → GoesOn (setup_of_config config.now) peer.now said self.new [] out.old.items out.new.items) }
+        ensures settled { OnOk result (open_offers self.new.session ≡ []) }
     {
         let Some(offer) = self.session.offer() else {
             unreachable!()
@@ -80,8 +83,7 @@ impl Exchange {
         let number = self.messages.next_number();
         let message = Message::of_offer(alloc, config, peer, number, &offer)?;
         self.messages.push(message)?;
-        let reply = self.session.answer(Answer::Queued(number))?;
-        out.extend_from_slice(reply.as_slice())?;
+        self.session.reply(Answer::Queued(number), out)?;
         Ok(())
     }
 }

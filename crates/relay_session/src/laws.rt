@@ -6,8 +6,8 @@ pub fn untouched_is_begun()
     ensures { UntouchedIsBegun }
 {}
 
-/// At a host of a valid name, each text that is kept of a dialogue has one `Received:` field more than the content of its
-/// offer.
+/// At a host of a valid name, each text that is kept of a dialogue has one `Received:` field more
+/// than the content of its offer.
 pub fn keeping_adds_one()
     ensures { KeepingAddsOne }
 {}

@@ -1,5 +1,5 @@
-//! One SMTP session from a reader to a writer, and the mail that it keeps: each message with its stored text, which is
-//! a time stamp line and the content behind it (RFC 5321, section 4.4).
+//! One SMTP session from a reader to a writer, and the mail that it keeps: each message with its
+//! stored text, which is a time stamp line and the content behind it (RFC 5321, section 4.4).
 #![tactic(auto)]
 
 mod exchange;

@@ -19,7 +19,8 @@ pub struct Message {
     pub client: Client,
     /// What MAIL and the RCPTs that were accepted said: 1 to 100 recipients.
     pub envelope: Envelope,
-    /// A time stamp line (RFC 5321, 4.4), and the mail data behind it as it came, without transparency (4.5.2).
+    /// A time stamp line (RFC 5321, 4.4), and the mail data behind it as it came, without
+    /// transparency (4.5.2).
     pub stored_text: Octets,
 }
 
@@ -32,7 +33,8 @@ impl Message {
         number: u64,
         offer: &Offer<'a>,
     ) -> Result<Self, AllocError>
-        ensures { IfOk result (λ message. IsKeptAs config.now.host peer.now number (offered offer.now) message) }
+        ensures { IfOk result (λ message. IsKeptAs config.now.host peer.now number
+            (offered offer.now) message) }
     {
         let stamp = TimeStamp {
             client: offer.client.word.as_slice(),

@@ -40,10 +40,11 @@ impl From<AllocError> for SessionFault {
     }
 }
 
-/// Holds one session: reads commands and mail from `reader`, writes the replies to `writer`, and keeps the mail, each
-/// message with its time stamp line (RFC 5321, section 4.4) before its content. Before each read all replies so far are
-/// written and flushed. It ends at a close, and at the end of the input. After a fault a beginning of the replies was
-/// written, and the messages are lost.
+/// Holds one session: reads commands and mail from `reader`, writes the replies to `writer`, and
+/// keeps the mail, each message with its time stamp line (RFC 5321, section 4.4) before its
+/// content. Before each read all replies so far are written and flushed. It ends at a close, and at
+/// the end of the input. After a fault a beginning of the replies was written, and the messages are
+/// lost.
 pub fn session<R: Read, W: Write>(
     alloc: Global,
     config: &Config,
@@ -51,9 +52,11 @@ pub fn session<R: Read, W: Write>(
     reader: &mut R,
     writer: &mut W,
 ) -> Result<Messages, SessionFault>
-    ensures served { IfOk result (λ messages. IsServed (setup_of_config config.now) peer.now (R.remaining reader.old) (R.remaining reader.new)
+    ensures served { IfOk result (λ messages. IsServed (setup_of_config config.now) peer.now
+        (R.remaining reader.old) (R.remaining reader.new)
         (W.contents writer.old) (W.contents writer.new) messages) }
-    ensures begun { OnErr result (IsBegun (setup_of_config config.now) (R.remaining reader.old) (R.remaining reader.new)
+    ensures begun { OnErr result (IsBegun (setup_of_config config.now) (R.remaining reader.old)
+        (R.remaining reader.new)
         (W.contents writer.old) (W.contents writer.new)) }
 {
     let (mut exchange, greeting) = Exchange::open(alloc, config)?;
@@ -69,8 +72,8 @@ pub fn session<R: Read, W: Write>(
     Ok(exchange.messages)
 }
 
-/// Greets the client, and goes on to a close or the end of the input. After a fault a beginning of the replies was
-/// written.
+/// Greets the client, and goes on to a close or the end of the input. After a fault a beginning of
+/// the replies was written.
 fn serve<R: Read, W: Write>(
     alloc: Global,
     config: &Config,
@@ -81,9 +84,11 @@ fn serve<R: Read, W: Write>(
     writer: &mut W,
 ) -> Result<(), SessionFault>
     requires rests { Rests (setup_of_config config.now) peer.now exchange.old (greeted_by greeting.now) }
-    ensures served { IfOk result (λ _. IsServed (setup_of_config config.now) peer.now (R.remaining reader.old) (R.remaining reader.new)
+    ensures served { IfOk result (λ _. IsServed (setup_of_config config.now) peer.now
+        (R.remaining reader.old) (R.remaining reader.new)
         (W.contents writer.old) (W.contents writer.new) exchange.new.messages) }
-    ensures begun { OnErr result (IsBegun (setup_of_config config.now) (R.remaining reader.old) (R.remaining reader.new)
+    ensures begun { OnErr result (IsBegun (setup_of_config config.now) (R.remaining reader.old)
+        (R.remaining reader.new)
         (W.contents writer.old) (W.contents writer.new)) }
 {
     send(writer, greeting)?;
@@ -91,8 +96,8 @@ fn serve<R: Read, W: Write>(
     Ok(())
 }
 
-/// Goes on behind what was said, up to a close or the end of the input. After a fault a beginning of the replies was
-/// written.
+/// Goes on behind what was said, up to a close or the end of the input. After a fault a beginning
+/// of the replies was written.
 fn converse<R: Read, W: Write>(
     alloc: Global,
     config: &Config,
@@ -101,12 +106,14 @@ fn converse<R: Read, W: Write>(
     reader: &mut R,
     writer: &mut W,
 ) -> Result<(), SessionFault>
-    requires rests { (said : Said) × Rests (setup_of_config config.now) peer.now exchange.old said }
     ensures served { IfOk result (λ _. (left held : Option (List ℕ))
-        → HasSaid (setup_of_config config.now) peer.now left (R.remaining reader.old) held (W.contents writer.old) exchange.old
-        → IsServed (setup_of_config config.now) peer.now left (R.remaining reader.new) held (W.contents writer.new) exchange.new.messages) }
+        → HasSaid (setup_of_config config.now) peer.now left (R.remaining reader.old) held
+        (W.contents writer.old) exchange.old
+        → IsServed (setup_of_config config.now) peer.now left (R.remaining reader.new) held
+        (W.contents writer.new) exchange.new.messages) }
     ensures begun { OnErr result ((left held : Option (List ℕ))
-        → HasSaid (setup_of_config config.now) peer.now left (R.remaining reader.old) held (W.contents writer.old) exchange.old
+        → HasSaid (setup_of_config config.now) peer.now left (R.remaining reader.old) held
+        (W.contents writer.old) exchange.old
         → IsBegun (setup_of_config config.now) left (R.remaining reader.new) held (W.contents writer.new)) }
 {
     let mut block: Vec<u8> = vec![in alloc; 0; BLOCK]?;
@@ -126,8 +133,8 @@ fn converse<R: Read, W: Write>(
     Err(SessionFault::Input)
 }
 
-/// Reads once into the block, and writes and flushes the replies. It answers whether the session is over: at a close,
-/// and at the end of the input. A read that was interrupted has read nothing.
+/// Reads once into the block, and writes and flushes the replies. It answers whether the session is
+/// over: at a close, and at the end of the input. A read that was interrupted has read nothing.
 fn exchange_block<R: Read, W: Write>(
     alloc: Global,
     config: &Config,
@@ -137,12 +144,14 @@ fn exchange_block<R: Read, W: Write>(
     reader: &mut R,
     writer: &mut W,
 ) -> Result<bool, SessionFault>
-    requires room { 0 < length block.old }
-    requires rests { (said : Said) × Rests (setup_of_config config.now) peer.now exchange.old said }
-    ensures ok { IfOk result (λ is_last. (said : Said) → Rests (setup_of_config config.now) peer.now exchange.old said
-        → GoesRound (setup_of_config config.now) peer.now (R.remaining reader.old) (R.remaining reader.new) (W.contents writer.old) (W.contents writer.new) said exchange.new is_last) }
+    requires { 0 < length block.old }
+    ensures ok { IfOk result (λ is_last. (said : Said)
+        → Rests (setup_of_config config.now) peer.now exchange.old said
+        → GoesRound (setup_of_config config.now) peer.now (R.remaining reader.old)
+        (R.remaining reader.new) (W.contents writer.old) (W.contents writer.new) said exchange.new is_last) }
     ensures err { OnErr result ((said : Said) → Rests (setup_of_config config.now) peer.now exchange.old said
-        → BreaksOff (setup_of_config config.now) (R.remaining reader.old) (R.remaining reader.new) (W.contents writer.old) (W.contents writer.new) said) }
+        → BreaksOff (setup_of_config config.now) (R.remaining reader.old) (R.remaining reader.new)
+        (W.contents writer.old) (W.contents writer.new) said) }
     ensures block { length block.new ≡ length block.old }
 {
     let count = match reader.read(block) {

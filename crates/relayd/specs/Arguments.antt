@@ -21,7 +21,8 @@ relayd = with_subcommand without_subcommands (new_app (codes "session")).top
 abbrev pub faults_in : List Text → Kinds
 faults_in words = fault_of relayd words
 
--- `session` alone is taken; without it the subcommand is missing; a further word is unknown; `--help` asks for help
+-- `session` alone is taken; without it the subcommand is missing; a further word is unknown;
+-- `--help` asks for help
 abbrev pub WordsAreTaken : Type 0
 WordsAreTaken =
     (name : Text) → (faults_in (name ∷ codes "session" ∷ []) ≡ [])
@@ -36,7 +37,8 @@ AreWrong kinds = (kinds ≢ []) × (¬ IsAmong DisplayHelp kinds)
 
 -- status 0: the session was served to its end
 abbrev pub HasServed : Option (List ℕ) → Option (List ℕ) → Option (List ℕ) → Option (List ℕ) → Type 0
-HasServed left new_left held new_held = (messages : List Message) × IsServed session_setup session_peer left new_left held new_held messages
+HasServed left new_left held new_held =
+    (messages : List Message) × IsServed session_setup session_peer left new_left held new_held messages
 
 -- status 1: the session was begun, or nothing was done
 abbrev pub HasFault : ℕ → Option (List ℕ) → Option (List ℕ) → Option (List ℕ) → Option (List ℕ) → Type 0

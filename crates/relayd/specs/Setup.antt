@@ -11,7 +11,9 @@ loopback_at port = record { ip = record { octets = 127 ∷ 0 ∷ 0 ∷ 1 ∷ [] 
 
 -- the hop `next.example` takes mail for `example.org` on
 abbrev pub only_route : Route
-only_route = record { domain = codes "example.org"; hop = record { name = codes "next.example"; at = loopback_at 2526 } }
+only_route =
+    record { domain = codes "example.org"; hop = record { name = codes "next.example"; at =
+    loopback_at 2526 } }
 
 -- profile: the host `relay.example` takes contents of up to 1,048,576 octets, for `example.org` alone
 abbrev pub session_setup : Setup
@@ -21,6 +23,7 @@ session_setup = record {
   routes = record { host = codes "relay.example"; routes = only_route ∷ [] };
 }
 
--- profile: a session from standard input has no peer and no clock, so its mail comes from 127.0.0.1 at the moment 0
+-- profile: a session from standard input has no peer and no clock, so its mail comes from 127.0.0.1
+-- at the moment 0
 abbrev pub session_peer : Peer
 session_peer = record { address = 127 ∷ 0 ∷ 0 ∷ 1 ∷ []; moment = 0 }

@@ -20,9 +20,9 @@ const FAULT: u8 = 1;
 /// The status of a run with wrong arguments.
 const WRONG_ARGUMENTS: u8 = 2;
 
-/// Runs the subcommand that the words name, the program's own name first, and answers the status for the system:
-/// 0 done, 1 a fault, with one line on `errors`, 2 wrong arguments, with the argument reader's text on `errors`.
-/// `--help` writes that reader's text on `writer`, and is done.
+/// Runs the subcommand that the words name, the program's own name first, and answers the status
+/// for the system: 0 done, 1 a fault, with one line on `errors`, 2 wrong arguments, with the
+/// argument reader's text on `errors`. `--help` writes that reader's text on `writer`, and is done.
 pub fn command<S: AsStr, R: Read, W: Write, E: Write>(
     alloc: Global,
     words: &[S],
@@ -31,12 +31,15 @@ pub fn command<S: AsStr, R: Read, W: Write, E: Write>(
     errors: &mut E,
 ) -> u8
     ensures served { faults_in (map S.text words.now) ≡ [] → result ≡ 0
-        → HasServed (R.remaining reader.old) (R.remaining reader.new) (W.contents writer.old) (W.contents writer.new) }
+        → HasServed (R.remaining reader.old) (R.remaining reader.new) (W.contents writer.old)
+        (W.contents writer.new) }
     ensures fault { faults_in (map S.text words.now) ≡ [] → result ≢ 0
-        → HasFault result (R.remaining reader.old) (R.remaining reader.new) (W.contents writer.old) (W.contents writer.new) }
+        → HasFault result (R.remaining reader.old) (R.remaining reader.new) (W.contents writer.old)
+        (W.contents writer.new) }
     ensures wrong { AreWrong (faults_in (map S.text words.now))
         → ((result ≡ 1) ⊎ (result ≡ 2)) × (W.contents writer.new ≡ W.contents writer.old) }
-    ensures help { faults_in (map S.text words.now) ≡ ErrorKind.DisplayHelp ∷ [] → (result ≡ 0) ⊎ (result ≡ 1) }
+    ensures help { faults_in (map S.text words.now) ≡ ErrorKind.DisplayHelp ∷ [] → (result ≡ 0)
+        ⊎ (result ≡ 1) }
     ensures unread { faults_in (map S.text words.now) ≢ [] → R.remaining reader.new ≡ R.remaining reader.old }
 {
     match arguments(alloc, words) {
@@ -48,8 +51,8 @@ pub fn command<S: AsStr, R: Read, W: Write, E: Write>(
     }
 }
 
-/// Answers the status where the system can't give the words: 1 where memory ran out, and else 2, since one isn't UTF-8.
-/// A line on `errors` says so.
+/// Answers the status where the system can't give the words: 1 where memory ran out, and else 2,
+/// since one isn't UTF-8. A line on `errors` says so.
 pub fn refuse_words<E: Write>(error: &io::Error, errors: &mut E) -> u8
     ensures { (result ≡ 1) ⊎ (result ≡ 2) }
 {
@@ -65,7 +68,8 @@ pub fn refuse_words<E: Write>(error: &io::Error, errors: &mut E) -> u8
 fn explain<W: Write, E: Write>(error: &Error, writer: &mut W, errors: &mut E) -> u8
     ensures help { kind_of error.now ≡ ErrorKind.DisplayHelp → (result ≡ 0) ⊎ (result ≡ 1) }
     ensures memory { kind_of error.now ≡ ErrorKind.OutOfMemory → result ≡ 1 }
-    ensures wrong { kind_of error.now ≢ ErrorKind.DisplayHelp → kind_of error.now ≢ ErrorKind.OutOfMemory → result ≡ 2 }
+    ensures wrong { kind_of error.now ≢ ErrorKind.DisplayHelp
+        → kind_of error.now ≢ ErrorKind.OutOfMemory → result ≡ 2 }
     ensures writer { kind_of error.now ≢ ErrorKind.DisplayHelp → writer.new ≡ writer.old }
 {
     match error.kind() {

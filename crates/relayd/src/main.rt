@@ -26,8 +26,8 @@ fn main(rt: HostRuntime) -> ExitCode {
     ExitCode::from(status)
 }
 
-/// The words that the program is started with, its own name first. It fails where memory runs out, and where a word
-/// isn't UTF-8.
+/// The words that the program is started with, its own name first. It fails where memory runs out,
+/// and where a word isn't UTF-8.
 fn given_words(rt: &HostRuntime) -> io::Result<Vec<String>> {
     Ok(env::args(rt)?.collect(rt.alloc())?)
 }

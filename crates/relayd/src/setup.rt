@@ -1,5 +1,5 @@
 ghost use Rattle.std.specs.Prelude.{◌≡◌, [], ◌∷◌, IfOk};
-ghost use Rattle.relay_routes.specs.Value.{IsHostName};
+ghost use Rattle.relay_envelope.specs.HostName.{IsHostName};
 ghost use Rattle.relay_server.specs.Setup.{setup_of_config};
 ghost use Rattle.relayd.specs.Setup.{loopback_at, only_route, session_peer, session_setup};
 
@@ -8,7 +8,8 @@ use relay_session::{Moment, Peer};
 use std::alloc::{AllocError, Global};
 use std::net::{Ipv4Addr, SocketAddrV4};
 
-/// The address in the time stamp lines of a session from standard input, which has no peer: this host's own, 127.0.0.1.
+/// The address in the time stamp lines of a session from standard input, which has no peer: this
+/// host's own, 127.0.0.1.
 const ADDRESS: [u8; 4] = [127, 0, 0, 1];
 
 /// The seconds from 1970 in the time stamp lines of a session from standard input, which has no clock.
@@ -20,8 +21,9 @@ const MAX_CONTENT: usize = 1_048_576;
 /// The most octets of a spool. A session from standard input has none yet.
 const SPOOL_LIMIT: u64 = 67_108_864;
 
-/// The configuration of a session from standard input: the host `relay.example`, contents of up to 1,048,576 octets,
-/// and `example.org` as the only domain that mail is taken for. It fails where memory runs out.
+/// The configuration of a session from standard input: the host `relay.example`, contents of up to
+/// 1,048,576 octets, and `example.org` as the only domain that mail is taken for. It fails where
+/// memory runs out.
 pub fn configuration(alloc: Global) -> Result<Config, AllocError>
     ensures { IfOk result (λ config. setup_of_config config ≡ session_setup) }
 {

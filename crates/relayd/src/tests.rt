@@ -59,8 +59,8 @@ impl<'a> Read for Trickle<'a> {
     }
 }
 
-/// Takes at most three octets at a call. Where it holds `cut` octets a write fails once, by `kind`, and so does the
-/// flush that is counted as `bad_flush`.
+/// Takes at most three octets at a call. Where it holds `cut` octets a write fails once, by `kind`,
+/// and so does the flush that is counted as `bad_flush`.
 #[derive(Drop)]
 struct Narrow {
     held: Vec<u8>,

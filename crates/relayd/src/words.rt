@@ -13,8 +13,8 @@ pub enum Subcommand {
     Session,
 }
 
-/// The subcommand that the words name, the program's own name first. An error has a text for the user: of what is
-/// wrong with the words, or the help that they ask for.
+/// The subcommand that the words name, the program's own name first. An error has a text for the
+/// user: of what is wrong with the words, or the help that they ask for.
 pub fn arguments<'a, S: AsStr>(alloc: Global, words: &'a [S]) -> Result<Subcommand, Error>
     ensures { FailsBy (faults_in (map S.text words.now)) result }
 {

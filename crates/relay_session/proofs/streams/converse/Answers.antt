@@ -15,11 +15,8 @@ loop-preserved g c =
     let size : length c.exchange_block.new.block ≡ length c.loop.block.items = c.in_ok-exchange_block.ensures.block ∙ ap length same in
     let full : length c.exchange_block.new.block ≡ c.loop.block.len = search rules in
     let room : 0 < length c.exchange_block.new.block = omega (arith, size, c.loop.invariant.room) in
-    let rests = c.loop.invariant.rests in
-    let next = c.in_ok-exchange_block.ensures.ok rests.0 rests.1 in
     record {
       room = subst (λ (l : List ℕ). 0 < length l) (sym (take_at c.exchange_block.new.block (drop (length c.exchange_block.new.block) c.loop.block.items) c.loop.block.len full)) room;
-      rests = (next.later, next.rests);
       so_far = λ left held before.
           let so_far = c.loop.invariant.so_far left held before in
           let round = c.in_ok-exchange_block.ensures.ok so_far.said so_far.rests in

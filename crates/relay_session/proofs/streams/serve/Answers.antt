@@ -24,6 +24,3 @@ returns-clause-served g c =
     let held = g.W.Write.contents c.args.writer.now in
     let before = started setup c.args.peer.now left held (g.W.Write.contents c.send.new.writer) c.args.exchange.now c.args.greeting.now c.requires.rests c.in_ok-send.ensures.ok in
     c.in_ok-converse.ensures.served left held before
-
-pub converse-requires : goal.converse-requires
-converse-requires g c = record { rests = (_, c.requires.rests) }

@@ -6,5 +6,5 @@ use Rattle.relay_dialogues.proofs.dialogue.Dialogue.verdict.Goals as goal
 
 pub returns-then-is_as_written : goal.returns-then-is_as_written
 returns-then-is_as_written c = λ _.
-    let same : (c.in_ok-play-2.play.replies ≡ c.args.self.now.replies.items) × (c.in_ok-play-2.play.offers ≡ c.args.self.now.offers.items) = search rules in
+    let same : (c.in_ok-play-2.play.replies.items ≡ c.args.self.now.replies.items) × (c.in_ok-play-2.play.offers ≡ c.args.self.now.offers.items) = search rules in
     as_written (setup_of_config c.args.config.now) c.in_ok-play-2.play _ _ _ c.in_ok-play-2.ensures same

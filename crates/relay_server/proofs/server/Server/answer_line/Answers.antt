@@ -3,7 +3,7 @@ use Rattle.std.proofs.Common.{◌≡◌, ◌++◌, true, false, subst, ap, ◌�
 use Rattle.relay_octets.specs.Line.{crlf}
 use Rattle.relay_lines.specs.Command.{reading_of}
 use Rattle.relay_server.specs.ReplyTable.{course_of}
-use Rattle.relay_server.specs.Session.{EndsBy, IsGiven}
+use Rattle.relay_server.specs.Machine.{EndsBy, IsGiven}
 use Rattle.relay_server.specs.Setup.{setup_of}
 use Rattle.relay_server.specs.State.{Command}
 use Rattle.relay_server.specs.Unit.{Asked, asked_of_long}

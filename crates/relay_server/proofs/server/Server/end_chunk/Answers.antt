@@ -2,7 +2,7 @@
 use Rattle.std.proofs.Common.{subst}
 use Rattle.relay_body.specs.ChunkText.{content_of_chunks}
 use Rattle.relay_server.specs.ReplyTable.{Course}
-use Rattle.relay_server.specs.Session.{EndsBy}
+use Rattle.relay_server.specs.Machine.{EndsBy}
 use Rattle.relay_server.specs.Setup.{setup_of}
 use Rattle.relay_server.proofs.ChunkLemmas.{last_chunk}
 use Rattle.relay_server.proofs.SessionLemmas.{if_ok}

@@ -26,6 +26,5 @@ returns-else-cut-clause-moves c = λ routes state octets kept.
     let more = take c.in-Ok.cut.used c.args.rest.now in
     inl (record {
       kept = chunk_goes_on limit c.args.transaction c.args.reader c.feed.new.self c.args.is_last state octets more kept (c.in-Ok.ensures.feeds.uses limit kept.chunks _ kept.chunk_is);
-      no_line = refl;
       nothing_written = refl;
     })

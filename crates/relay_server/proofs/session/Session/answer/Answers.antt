@@ -1,19 +1,9 @@
--- The answer ends the turn of the text.
-use Rattle.std.proofs.Common.{◌≡◌, [], ◌++◌, sym, ap, ◌∙◌}
-use Rattle.relay_lines.specs.Reply.{reply_text}
-use Rattle.relay_server.specs.Dialogue.{row_of_answer}
-use Rattle.relay_server.specs.Reply.{reply_of}
-use Rattle.relay_server.specs.declared.server.Server.{Server}
-use Rattle.relay_server.proofs.StandsLemmas.{answered}
+-- The reply is all that is put out.
+use Rattle.std.proofs.Common.{◌≡◌, [], rules}
+use Rattle.relay_server.proofs.StandsLemmas.{answer_is_said}
 use Rattle.relay_server.proofs.session.Session.answer.Goals as goal
 
 pub returns-clause-stands : goal.returns-clause-stands
 returns-clause-stands c = λ setup said stands.
-    let old = c.args.self.now in
-    let row = row_of_answer c.args.answer in
-    let left = c.leave.ensures.same in
-    let entered = c.enter.ensures.same in
-    let here : c.write.new.out.items ≡ [] ++ reply_text (reply_of c.leave.new.self.server.host row) = cc (c.in_ok-write.ensures.ok) in
-    let written = here ∙ ap (λ (server : Server). reply_text (reply_of server.host row)) left.0 in
-    answered setup old _ said c.in-Offering.transaction c.in-Offering.field-1 c.args.answer c.write.new.out.items stands (sym c.leave.ensures.stage ∙ c.in-Offering.is)
-    (entered.0 ∙ left.0) (entered.1 ∙ left.1) c.enter.ensures.stage written
+    let none : c.new-out.result.items ≡ [] = search rules in
+    answer_is_said setup said c.reply.new.self c.args.answer _ c.reply.new.out.items none (c.in_ok-reply.ensures.answered setup said stands)

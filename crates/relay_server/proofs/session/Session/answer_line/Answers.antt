@@ -1,5 +1,5 @@
 -- The line that has ended in the buffer is answered.
-use Rattle.relay_server.specs.Session.{IsGiven}
+use Rattle.relay_server.specs.Machine.{IsGiven}
 use Rattle.relay_server.proofs.session.Session.answer_line.Goals as goal
 
 pub returns-clause-moves : goal.returns-clause-moves

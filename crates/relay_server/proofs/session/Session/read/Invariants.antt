@@ -1,8 +1,9 @@
--- what has been used so far is what the session stands behind
-use Rattle.std.proofs.Common.{◌≡◌, ◌≤◌, ◌-◌, ◌++◌, ℕ, List, [], true, false, length, take}
-use Rattle.relay_server.specs.Dialogue.{Said, more_said}
+-- what has been used so far is what the session has heard
+use Rattle.std.proofs.Common.{◌≡◌, ◌≤◌, ◌-◌, true, false, length, take}
+use Rattle.relay_server.specs.Dialogue.{Said}
 use Rattle.relay_server.specs.Setup.{Setup}
-use Rattle.relay_server.specs.Session.{Stands, is_reading, new_offers}
+use Rattle.relay_server.specs.Machine.{is_reading}
+use Rattle.relay_server.specs.Session.{Hears, Stands}
 use Rattle.relay_server.proofs.session.Session.read.Given as goal
 
 abbrev pub invariant-loop-used : goal.invariant-loop-used
@@ -10,9 +11,9 @@ invariant-loop-used l = record {
   within : l.used ≤ length l.piece;
   began : is_reading l.self.stage ≡ true → is_reading l.initial.self.stage ≡ true;
   still : is_reading l.initial.self.stage ≡ false → (l.self ≡ l.initial.self) × (l.out.items ≡ l.initial.out.items) × (l.used ≡ 0);
-  stands : (setup : Setup) (said : Said) → setup.routes ≡ l.table → Stands setup l.initial.self said
-      → (more : List ℕ) × (l.out.items ≡ l.initial.out.items ++ more)
-      × Stands setup l.self (more_said said (take l.used l.piece) [] more (new_offers l.initial.self.stage l.self.stage));
+  idle : l.used ≡ 0 → l.self ≡ l.initial.self;
+  hears : (setup : Setup) (said : Said) → setup.routes ≡ l.table → Stands setup l.initial.self said
+      → Hears setup said l.initial.self l.self (take l.used l.piece) l.initial.out.items l.out.items;
 }
 
 abbrev pub decreases-loop-used : goal.decreases-loop-used

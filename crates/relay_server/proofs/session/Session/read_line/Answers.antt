@@ -2,7 +2,7 @@
 use Rattle.std.proofs.Common.{◌≡◌, ◌≤◌, ◌++◌, List, [], ℕ, length, take, sym, ap, ◌∙◌, subst, arith}
 use Rattle.relay_octets.specs.Line.{crlf}
 use Rattle.relay_lines.specs.HeldLine.{Holds}
-use Rattle.relay_server.specs.Session.{Moves}
+use Rattle.relay_server.specs.Machine.{Moves}
 use Rattle.relay_server.specs.Setup.{setup_of}
 use Rattle.relay_server.specs.State.{Command}
 use Rattle.relay_server.specs.Values.{command_state_of}

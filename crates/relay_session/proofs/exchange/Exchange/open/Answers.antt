@@ -7,4 +7,4 @@ use Rattle.relay_session.proofs.exchange.Exchange.open.Goals as goal
 pub returns : goal.returns
 returns c = λ peer.
     let setup = setup_of_config c.args.config.now in
-    rests_greeted setup peer (record { session = c.in_ok-session.session; messages = c.new-2.result }) c.in_ok-session.greeting.items (c.in_ok-session.ensures setup refl refl) c.new-2.ensures
+    rests_greeted setup peer (record { session = c.in_ok-session.session; messages = c.new-2.result }) c.in_ok-session.greeting.items (c.in_ok-session.ensures.stands setup refl refl) c.new-2.ensures

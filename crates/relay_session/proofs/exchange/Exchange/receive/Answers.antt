@@ -1,100 +1,47 @@
--- Each feed goes on behind the octets before, and each offer is kept.
-use Rattle.std.proofs.Common.{◌≡◌, ◌+◌, ◌++◌, true, false, rules, length, take, drop, refl, sym, ap, ◌∙◌, arith, length-drop, take-append-drop}
-use Rattle.std.proofs.lemmas.List.{take_rest}
-use Rattle.std.proofs.Math.Seq.{take-add}
+-- Each round goes on behind the octets before, and each offer is kept.
+use Rattle.std.proofs.Common.{◌≡◌, ◌≢◌, true, false, rules, refl, sym, ◌∙◌}
 use Rattle.relay_server.specs.declared.session.Next.TheVariants as next
+use Rattle.relay_server.specs.Session.{next_of}
 use Rattle.relay_server.specs.Setup.{setup_of_config}
+use Rattle.relay_server.proofs.Theorems.{close_is_closed, none_else_is_open}
 use Rattle.relay_session.specs.declared.exchange.Exchange.{Exchange}
-use Rattle.relay_server.proofs.Theorems.{closed_by, going_by, offering_by}
-use Rattle.relay_session.proofs.KeptLemmas.{all_used, apart, fed_behind, nothing_received, offers_need_octets, open_at, positive, received, received_and_kept, shrinks}
+use Rattle.relay_session.proofs.KeptLemmas.{goes_nowhere, kept_round, last_round}
 use Rattle.relay_session.proofs.exchange.Exchange.receive.Goals as goal
 
-pub loop-used-init : goal.loop-used-init
-loop-used-init c =
-    let setup = setup_of_config c.args.config.now in
-    let peer = c.args.peer.now in
-    record {
-      within = omega arith;
-      so_far = λ said rests. nothing_received setup peer c.args.self.now said c.args.out.now.items rests;
-    }
+pub rounds-init : goal.rounds-init
+rounds-init c = record {
+  within = search rules;
+  so_far = λ said rests. goes_nowhere (setup_of_config c.args.config.now) c.args.peer.now c.args.self.now said c.args.out.now.items rests;
+}
 
 pub returns-in-More : goal.returns-in-More
 returns-in-More c = λ said rests.
     let setup = setup_of_config c.args.config.now in
-    let peer = c.args.peer.now in
-    let octets = c.args.octets.now in
-    let used = c.loop-used.used in
-    let count = c.in_ok-fed.fed.used in
-    let old = c.loop-used.self in
-    let new : Exchange = record { session = c.feed.new.self; messages = c.loop-used.self.messages } in
-    let before = c.loop-used.invariant.so_far said rests in
-    let stands = rw take_rest at c.in_ok-fed.ensures.stands in
-    let whole = rw take_rest at c.in_ok-fed.ensures.whole in
-    let grown : c.extend_from_slice.new.self.items ≡ c.loop-used.out.items ++ c.in_ok-fed.fed.out.items = search rules in
-    let now = fed_behind setup peer old new said (take used octets) (take count (drop used octets)) (take (used + count) octets) _ _ c.in_ok-fed.fed.out.items _ before refl
-    (stands setup before.later refl before.rests.stands) (take-add used count octets) grown in
-    let is_more : c.in_ok-fed.fed.next ≡ next.More = search rules in
-    let none = all_used octets used count c.loop-used.invariant.within (whole is_more) in
-    received setup peer said new (take (used + count) octets) (drop (used + count) octets) octets _ _ false now (sym (take-append-drop (used + count) octets))
-    (going_by new.session.stage (sym is_more ∙ c.in_ok-fed.ensures.next)) (λ _. none) (λ e. absurd (apart e))
+    let new : Exchange = record { session = c.hear.new.self; messages = c.rounds.self.messages } in
+    let heard = c.in_ok-hear.ensures in
+    let told : next_of new.session ≡ next.More = search rules in
+    let other : next_of new.session ≢ next.Offer = λ e. cc in
+    last_round setup c.args.peer.now said c.args.octets.now c.rounds.used c.hear.new.used _ _ _ c.rounds.self new false (c.rounds.invariant.so_far said rests) refl heard.used.no_less
+    (λ later stands. heard.hears setup later refl stands) (none_else_is_open new.session other) (λ _. heard.used.whole (heard.next ∙ told)) (λ e. absurd (cc))
 
 pub returns-in-Close : goal.returns-in-Close
 returns-in-Close c = λ said rests.
     let setup = setup_of_config c.args.config.now in
-    let peer = c.args.peer.now in
-    let octets = c.args.octets.now in
-    let used = c.loop-used.used in
-    let count = c.in_ok-fed.fed.used in
-    let old = c.loop-used.self in
-    let new : Exchange = record { session = c.feed.new.self; messages = c.loop-used.self.messages } in
-    let before = c.loop-used.invariant.so_far said rests in
-    let stands = rw take_rest at c.in_ok-fed.ensures.stands in
-    let grown : c.extend_from_slice.new.self.items ≡ c.loop-used.out.items ++ c.in_ok-fed.fed.out.items = search rules in
-    let stood = stands setup before.later refl before.rests.stands in
-    let now = fed_behind setup peer old new said (take used octets) (take count (drop used octets)) (take (used + count) octets) _ _ c.in_ok-fed.fed.out.items _ before refl
-    stood (take-add used count octets) grown in
-    let is_close : c.in_ok-fed.fed.next ≡ next.Close = search rules in
-    let closed = closed_by setup new.session _ stood (sym is_close ∙ c.in_ok-fed.ensures.next) in
-    received setup peer said new (take (used + count) octets) (drop (used + count) octets) octets _ _ true now (sym (take-append-drop (used + count) octets))
-    (open_at new.session.stage closed) (λ e. absurd (apart (sym e))) (λ _. closed)
+    let new : Exchange = record { session = c.hear.new.self; messages = c.rounds.self.messages } in
+    let heard = c.in_ok-hear.ensures in
+    let told : next_of new.session ≡ next.Close = search rules in
+    let other : next_of new.session ≢ next.Offer = λ e. cc in
+    last_round setup c.args.peer.now said c.args.octets.now c.rounds.used c.hear.new.used _ _ _ c.rounds.self new true (c.rounds.invariant.so_far said rests) refl heard.used.no_less
+    (λ later stands. heard.hears setup later refl stands) (none_else_is_open new.session other) (λ e. absurd (cc)) (λ _ later stands. close_is_closed setup new.session later stands told)
 
-pub loop-used-smaller : goal.loop-used-smaller
-loop-used-smaller c =
+pub rounds-preserved : goal.rounds-preserved
+rounds-preserved c =
     let setup = setup_of_config c.args.config.now in
-    let peer = c.args.peer.now in
-    let octets = c.args.octets.now in
-    let used = c.loop-used.used in
-    let count = c.in_ok-fed.fed.used in
-    let old = c.loop-used.self in
-    let new : Exchange = record { session = c.feed.new.self; messages = c.loop-used.self.messages } in
-    let before = c.loop-used.invariant.so_far c.requires.rests.0 c.requires.rests.1 in
-    let stands = rw take_rest at c.in_ok-fed.ensures.stands in
-    let short = rw take_rest at c.in_ok-fed.ensures.within in
-    let stood = stands setup before.later refl before.rests.stands in
-    let is_offer : c.in_ok-fed.fed.next ≡ next.Offer = search rules in
-    let offering = offering_by new.session.stage (sym is_offer ∙ c.in_ok-fed.ensures.next) in
-    let some = positive count (λ none. offers_need_octets setup peer old new before.later (take count (drop used octets)) c.in_ok-fed.fed.out.items before.rests offering stood (ap (λ n. take n (drop used octets)) none)) in
-    let behind = length-drop used octets in
-    shrinks (length octets) used count some (omega (arith, short, behind, c.loop-used.invariant.within))
-
-pub loop-used-preserved : goal.loop-used-preserved
-loop-used-preserved c =
-    let setup = setup_of_config c.args.config.now in
-    let peer = c.args.peer.now in
-    let octets = c.args.octets.now in
-    let used = c.loop-used.used in
-    let count = c.in_ok-fed.fed.used in
-    let old = c.loop-used.self in
-    let mid : Exchange = record { session = c.feed.new.self; messages = c.loop-used.self.messages } in
-    let stands = rw take_rest at c.in_ok-fed.ensures.stands in
-    let short = rw take_rest at c.in_ok-fed.ensures.within in
-    let grown : c.extend_from_slice.new.self.items ≡ c.loop-used.out.items ++ c.in_ok-fed.fed.out.items = search rules in
-    let behind = length-drop used octets in
+    let mid : Exchange = record { session = c.hear.new.self; messages = c.rounds.self.messages } in
+    let heard = c.in_ok-hear.ensures in
     record {
-      within = omega (arith, short, behind, c.loop-used.invariant.within);
+      within = heard.used.within;
       so_far = λ said rests.
-          let before = c.loop-used.invariant.so_far said rests in
-          let now = fed_behind setup peer old mid said (take used octets) (take count (drop used octets)) (take (used + count) octets) _ _ c.in_ok-fed.fed.out.items _ before refl
-          (stands setup before.later refl before.rests.stands) (take-add used count octets) grown in
-          received_and_kept setup peer said mid c.keep.new.self (take (used + count) octets) _ _ _ now (c.in_ok-keep-in-Offer.ensures now.later now.serves);
+          kept_round setup c.args.peer.now said c.args.octets.now c.rounds.used c.hear.new.used _ _ _ c.rounds.self mid c.keep.new.self c.keep.new.out.items (c.rounds.invariant.so_far said rests) refl heard.used.no_less
+          (λ later stands. heard.hears setup later refl stands) c.in_ok-keep-in-Offer.ensures.kept;
     }

@@ -1,0 +1,53 @@
+//! What a session tells its caller, and what may be said of it behind each call.
+ghost use Rattle.relay_server.specs.SessionLaws.{AnsweredIsSettled, ClosedIsADialogue, CloseIsClosed, MoreIsMore, NoneElseIsOpen, OfferIsTold, OffersAreAnswered, OpenIsNew, OpenMayBeStored, PieceGoesOn};
+
+/// The caller is told to take an offer exactly where one is open.
+pub fn offer_is_told()
+    ensures { OfferIsTold }
+{}
+
+/// Where the caller isn't told to take one, none is open: of offers one is open at most.
+pub fn none_else_is_open()
+    ensures { NoneElseIsOpen }
+{}
+
+/// Behind no open offer the new ones are those that are open.
+pub fn open_is_new()
+    ensures { OpenIsNew }
+{}
+
+/// Each offer but the open one is answered.
+pub fn offers_are_answered()
+    ensures { OffersAreAnswered }
+{}
+
+/// Where as many answers were said as offers, none is open.
+pub fn answered_is_settled()
+    ensures { AnsweredIsSettled }
+{}
+
+/// A session whose caller is told to close is closed.
+pub fn close_is_closed()
+    ensures { CloseIsClosed }
+{}
+
+/// Behind a close what was said is a dialogue that is closed, and octets that nobody reads belong
+/// to its rest.
+pub fn closed_is_a_dialogue()
+    ensures { ClosedIsADialogue }
+{}
+
+/// The open offer of a session may be stored.
+pub fn open_may_be_stored()
+    ensures { OpenMayBeStored }
+{}
+
+/// What was said behind more is more, in one.
+pub fn more_is_more()
+    ensures { MoreIsMore }
+{}
+
+/// What was said of a piece, and then of the octets behind, was said of both.
+pub fn piece_goes_on()
+    ensures { PieceGoesOn }
+{}
