@@ -6,6 +6,7 @@ mod SpellingLemmas
 mod WrittenCommandLemmas
 mod ReplyLemmas
 mod ReplyReadingLemmas
+mod ReplyFeedLemmas
 mod ReplyLawLemmas
 mod ReplyFaultLemmas
 mod ReplyCutLemmas

@@ -11,7 +11,7 @@ use Rattle.relay_lines.specs.declared.reply_reader.ReplyFault.{ReplyFault}
 use Rattle.relay_lines.proofs.ReplyLawLemmas.{no_reply_begins_another, written_is_read}
 use Rattle.relay_lines.specs.ReplyReading.{CutsAllReplies}
 use Rattle.relay_lines.specs.ReplyLaws.{CutGoesOn, CutStays, ReadIsCut}
-use Rattle.relay_lines.proofs.ReplyReadingLemmas.{cut_more}
+use Rattle.relay_lines.proofs.ReplyFeedLemmas.{cut_more}
 use Rattle.relay_lines.proofs.ReplyFaultLemmas.{fault_stays, held_is_unfinished, reply_has_no_fault, unfinished_has_no_reply}
 
 -- no octets have no fault

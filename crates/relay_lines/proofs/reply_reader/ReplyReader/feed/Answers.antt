@@ -1,4 +1,4 @@
-use Rattle.relay_lines.proofs.ReplyReadingLemmas.{feed_reads}
+use Rattle.relay_lines.proofs.ReplyFeedLemmas.{feed_reads}
 use Rattle.relay_lines.proofs.reply_reader.ReplyReader.feed.Goals as goal
 
 pub returns-in-Ok-clause-reads : goal.returns-in-Ok-clause-reads

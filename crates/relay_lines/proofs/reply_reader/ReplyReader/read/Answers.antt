@@ -1,7 +1,7 @@
 use Rattle.std.proofs.Common.{◌++◌, take, inl, inr, arith, sym, ◌∙◌}
 use Rattle.std.proofs.lemmas.List.{take_rest, length-drop}
 use Rattle.std.proofs.lemmas.Result.{err_from_is_err_and}
-use Rattle.relay_lines.proofs.ReplyReadingLemmas.{step_made, step_held, step_fault}
+use Rattle.relay_lines.proofs.ReplyFeedLemmas.{step_made, step_held, step_fault}
 use Rattle.relay_lines.proofs.reply_reader.ReplyReader.read.Goals as goal
 
 pub returns-in_err-cut-clause-faults : goal.returns-in_err-cut-clause-faults
