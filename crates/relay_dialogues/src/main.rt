@@ -112,12 +112,7 @@ fn hold(rt: &HostRuntime, folder: &str, names: &[&str], config: Config) -> Resul
 }
 
 /// Holds each of the dialogues, and prints a line for it.
-fn hold_each(
-    rt: &HostRuntime,
-    folder: &str,
-    names: &[&str],
-    config: &Config,
-) -> Result<(), Fail> {
+fn hold_each(rt: &HostRuntime, folder: &str, names: &[&str], config: &Config) -> Result<(), Fail> {
     for name in names {
         let verdict = verdict_of(rt, folder, name, config)?;
         println!(rt; "{name}: {verdict}")?;

@@ -52,10 +52,7 @@ impl Exchange {
     {
         let mut used = 0;
         'rounds: loop {
-            match self
-                .session
-                .hear(&config.routes, octets, &mut used, out)?
-            {
+            match self.session.hear(&config.routes, octets, &mut used, out)? {
                 Next::More => return Ok(false),
                 Next::Close => return Ok(true),
                 Next::Offer => self.keep(alloc, config, peer, out)?,

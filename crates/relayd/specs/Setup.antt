@@ -12,8 +12,14 @@ loopback_at port = record { ip = record { octets = 127 ∷ 0 ∷ 0 ∷ 1 ∷ [] 
 -- the hop `next.example` takes mail for `example.org` on
 abbrev pub only_route : Route
 only_route =
-    record { domain = codes "example.org"; hop = record { name = codes "next.example"; at =
-    loopback_at 2526 } }
+    record {
+      domain = codes "example.org";
+      hop = record {
+        name = codes "next.example";
+        at =
+            loopback_at 2526;
+      };
+    }
 
 -- profile: the host `relay.example` takes contents of up to 1,048,576 octets, for `example.org` alone
 abbrev pub session_setup : Setup
