@@ -1,5 +1,6 @@
-//! Reads each row of data/: a text of MAIL or RCPT, which is read and written again, or octets to encode or to decode.
-//! What comes of it is printed behind the row, and where another outcome is written down, that too.
+//! Reads each row of data/: a text of MAIL or RCPT, which is read and written again, octets to encode or to decode, or a
+//! text of which is said whether it is a path or a host's name. What comes of it is printed behind the row, and where
+//! another outcome is written down, that too.
 #![tactic(auto)]
 
 mod fault;
