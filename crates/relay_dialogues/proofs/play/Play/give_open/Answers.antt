@@ -1,5 +1,5 @@
 -- Each round goes on behind the octets before, and each offer is answered.
-use Rattle.std.proofs.Common.{◌≡◌, ◌≢◌, true, false, rules, refl, sym, ◌∙◌}
+use Rattle.std.proofs.Common.{◌≡◌, ◌≢◌, true, false, rules, refl, ◌∙◌}
 use Rattle.relay_server.specs.declared.session.Next.TheVariants as next
 use Rattle.relay_server.specs.Session.{next_of}
 use Rattle.relay_server.proofs.Theorems.{close_is_closed, none_else_is_open}
