@@ -1,5 +1,5 @@
 ghost use Rattle.std.specs.Prelude.{◌≡◌, [], ◌∷◌, IfOk};
-ghost use Rattle.relay_envelope.specs.HostName.{IsHostName};
+ghost use Rattle.relay_routes.specs.Value.{IsHostName};
 ghost use Rattle.relay_server.specs.Setup.{setup_of_config};
 ghost use Rattle.relayd.specs.Setup.{loopback_at, only_route, session_peer, session_setup};
 
