@@ -6,7 +6,6 @@ mod PartLemmas
 mod ParameterLemmas
 mod HostNameLemmas
 mod ValidityLemmas
-mod MailLemmas
 mod GraphicLemmas
 mod WrittenLemmas
 mod ValidLemmas
@@ -15,4 +14,6 @@ mod CommandLineLemmas
 mod RowOfWordsLemmas
 mod RowIsReadLemmas
 mod RowIsOneLemmas
+mod BehindPathLemmas
+mod MailLemmas
 pub mod Theorems

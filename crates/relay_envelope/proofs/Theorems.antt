@@ -4,7 +4,7 @@
 pub use Rattle.relay_envelope.proofs.XtextLemmas.{decoded_is_spelled, encoded_is_decoded}
 pub use Rattle.relay_envelope.proofs.PathLemmas.{path_is_one}
 pub use Rattle.relay_envelope.proofs.StoredPathLemmas.{domain_in_is_domain_of}
-pub use Rattle.relay_envelope.proofs.MailLemmas.{mail_is_one, rcpt_is_one}
+pub use Rattle.relay_envelope.proofs.MailLemmas.{mail_is_one, mail_is_some, rcpt_is_one, rcpt_is_some}
 -- names of hosts
 pub use Rattle.relay_envelope.proofs.HostNameLemmas.{host_name_is_host_word, host_word_has_no_crlf}
 -- envelopes that may be stored

@@ -7,6 +7,7 @@ use Rattle.relay_lines.specs.Word.{is_word}
 use Rattle.relay_envelope.specs.Path.{Path, IsPath, is_forward, is_reverse}
 use Rattle.relay_envelope.specs.Parameters.{MailParameters, RcptParameters, and_then, is_envid, is_octet, is_orcpt, keyword_of, mail_parameters_of, no_outcomes, notify_of, rcpt_parameters_of, ret_of, value_of_word, with_each, with_envid, with_mail_parameter, with_notify, with_orcpt, with_outcome, with_outcomes, with_rcpt_parameter, with_ret}
 use Rattle.relay_envelope.specs.Mail.{Mail, Rcpt, mail_of, rcpt_of}
+use Rattle.relay_envelope.proofs.BehindPathLemmas.{mail_is_read_so, rcpt_is_read_so}
 use Rattle.relay_envelope.specs.Envelope.{may_be_envid, may_be_notify, may_be_orcpt, ReadMailIsValid, ReadRcptIsValid}
 use Rattle.relay_envelope.specs.declared.fault.EnvelopeFault.{EnvelopeFault}
 use Rattle.relay_envelope.specs.declared.fault.EnvelopeFault.TheVariants.{BadValue, Repeated, UnknownParameter}
@@ -176,7 +177,8 @@ rcpt_of_ok path (Err fault) rcpt e = absurd (let no : ⊥ = cc in no)
 pub read_mail_is_valid : ReadMailIsValid
 read_mail_is_valid text mail (inl bad) = let e = bad.result_is in absurd (let no : ⊥ = cc in no)
 read_mail_is_valid text mail (inr behind) =
-    let parts = mail_of_ok behind.path (mail_parameters_of behind.rest) mail behind.result_is in (
+    let parts = mail_of_ok behind.path (mail_parameters_of behind.rest) mail
+    (behind.result_is ∙ ap (mail_of behind.path) (mail_is_read_so text (Ok mail) behind)) in (
       record {
         path = mail.reverse_path;
         valid = subst IsPath parts.0 behind.begins.valid;
@@ -189,7 +191,8 @@ read_mail_is_valid text mail (inr behind) =
 pub read_rcpt_is_valid : ReadRcptIsValid
 read_rcpt_is_valid text rcpt (inl bad) = let e = bad.result_is in absurd (let no : ⊥ = cc in no)
 read_rcpt_is_valid text rcpt (inr behind) =
-    let parts = rcpt_of_ok behind.path (rcpt_parameters_of behind.rest) rcpt behind.result_is in
+    let parts = rcpt_of_ok behind.path (rcpt_parameters_of behind.rest) rcpt
+    (behind.result_is ∙ ap (rcpt_of behind.path) (rcpt_is_read_so text (Ok rcpt) behind)) in
     let holds = rcpt_parameters_valid behind.rest rcpt.parameters parts.1 in
     record {
       path = record {

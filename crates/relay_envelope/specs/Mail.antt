@@ -3,7 +3,8 @@
 use Rattle.std.specs.Prelude.{◌≡◌, ℕ, Bool, true, false, ◌⊎◌, List, Result, Ok, Err}
 use Rattle.std.specs.Option.{option_copied}
 use Rattle.relay_envelope.specs.Path.{Path, BeginsWithPath, is_forward, is_reverse, value_of}
-use Rattle.relay_envelope.specs.Parameters.{MailParameters, RcptParameters, mail_parameters_of, rcpt_parameters_of}
+use Rattle.relay_envelope.specs.Parameters.{MailParameters, RcptParameters}
+use Rattle.relay_envelope.specs.ParameterRow.{IsRowOf, SaysMail, SaysRcpt}
 use Rattle.relay_envelope.specs.declared.fault.EnvelopeFault.{EnvelopeFault}
 use Rattle.relay_envelope.specs.declared.fault.EnvelopeFault.TheVariants.{BadPath}
 use Rattle.relay_envelope.specs.declared.mail.Mail.{Mail as MailSliced}
@@ -34,26 +35,28 @@ pub record HasBadPath {A : Type 0} (is_allowed : Path → Bool) (text : List ℕ
   pub none_allowed : (path : Path) (rest : List ℕ) → BeginsWithPath text path rest → is_allowed path ≡ false
   pub result_is : result ≡ Err BadPath
 
--- the text begins with a path that may stand there, and what follows it gives the result
-pub record IsBehindPath {A : Type 0} (is_allowed : Path → Bool) (read_rest : Path → List ℕ → Result A EnvelopeFault)
-    (text : List ℕ) (result : Result A EnvelopeFault) : Type 0 where
+-- the text begins with a path that may stand there, and the row of words behind it says these parameters, or this fault
+pub record IsBehindPath {P A : Type 0} (is_allowed : Path → Bool)
+    (row_says : List (List ℕ) → Result P EnvelopeFault → Type 0)
+    (joined : Path → Result P EnvelopeFault → Result A EnvelopeFault) (text : List ℕ) (result : Result A EnvelopeFault)
+    : Type 0 where
   pub path : Path
   pub rest : List ℕ
   pub begins : BeginsWithPath text path rest
   pub allowed : is_allowed path ≡ true
-  pub result_is : result ≡ read_rest path rest
+  pub words : List (List ℕ)
+  pub row : IsRowOf rest words
+  pub parameters : Result P EnvelopeFault
+  pub says : row_says words parameters
+  pub result_is : result ≡ joined path parameters
 
 -- MAIL: a reverse path, and RET and ENVID; faults are found from left to right
 abbrev pub ReadsMail : List ℕ → Result Mail EnvelopeFault → Type 0
-ReadsMail text result =
-    HasBadPath is_reverse text result
-    ⊎ IsBehindPath is_reverse (λ path rest. mail_of path (mail_parameters_of rest)) text result
+ReadsMail text result = HasBadPath is_reverse text result ⊎ IsBehindPath is_reverse SaysMail mail_of text result
 
 -- RCPT: a forward path, and NOTIFY and ORCPT
 abbrev pub ReadsRcpt : List ℕ → Result Rcpt EnvelopeFault → Type 0
-ReadsRcpt text result =
-    HasBadPath is_forward text result
-    ⊎ IsBehindPath is_forward (λ path rest. rcpt_of path (rcpt_parameters_of rest)) text result
+ReadsRcpt text result = HasBadPath is_forward text result ⊎ IsBehindPath is_forward SaysRcpt rcpt_of text result
 
 -- the octets of what the code answers
 abbrev pub mail_value : MailSliced → Mail
@@ -76,12 +79,20 @@ abbrev pub rcpt_reading : Result RcptSliced EnvelopeFault → Result Rcpt Envelo
 rcpt_reading (Ok rcpt) = Ok (rcpt_value rcpt)
 rcpt_reading (Err fault) = Err fault
 
--- A text of MAIL has one value or one fault.
+-- A text of MAIL has no two values or faults.
 abbrev pub MailIsOne : Type 0
 MailIsOne =
     (text : List ℕ) (one two : Result Mail EnvelopeFault) → ReadsMail text one → ReadsMail text two → one ≡ two
 
--- A text of RCPT has one value or one fault.
+-- A text of RCPT has no two values or faults.
 abbrev pub RcptIsOne : Type 0
 RcptIsOne =
     (text : List ℕ) (one two : Result Rcpt EnvelopeFault) → ReadsRcpt text one → ReadsRcpt text two → one ≡ two
+
+-- No text of MAIL is without a value or a fault.
+abbrev pub MailIsSome : Type 0
+MailIsSome = (text : List ℕ) → ¬ ((result : Result Mail EnvelopeFault) → ¬ ReadsMail text result)
+
+-- No text of RCPT is without a value or a fault.
+abbrev pub RcptIsSome : Type 0
+RcptIsSome = (text : List ℕ) → ¬ ((result : Result Rcpt EnvelopeFault) → ¬ ReadsRcpt text result)

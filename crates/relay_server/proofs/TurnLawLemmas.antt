@@ -3,11 +3,7 @@ use Rattle.std.proofs.Common.{◌≡◌, ◌≤◌, ℕ, nat_le, List, [], ◌++
 use Rattle.std.proofs.lemmas.Bool.{cases_lt, cond-true, le-leb}
 use Rattle.relay_octets.specs.Line.{crlf, HasNoCrlf}
 use Rattle.relay_lines.specs.Command.{reading_of}
-use Rattle.relay_envelope.specs.declared.fault.EnvelopeFault.{EnvelopeFault}
-use Rattle.relay_envelope.specs.declared.fault.EnvelopeFault.TheVariants.{BadPath}
-use Rattle.relay_envelope.specs.Mail.{Mail as MailSaid, Rcpt as RcptSaid, ReadsMail, ReadsRcpt, mail_of, rcpt_of}
-use Rattle.relay_envelope.specs.Parameters.{mail_parameters_of, rcpt_parameters_of}
-use Rattle.relay_envelope.specs.Path.{is_forward, is_reverse}
+use Rattle.relay_envelope.proofs.Theorems.{mail_is_some, rcpt_is_some}
 use Rattle.relay_lines.specs.Command as line
 use Rattle.relay_lines.specs.declared.command.LineFault.{LineFault}
 use Rattle.relay_trace.specs.declared.received.Protocol.TheVariants.{Smtp, Esmtp}
@@ -17,7 +13,6 @@ use Rattle.relay_server.specs.Setup.{Setup}
 use Rattle.relay_server.specs.State.{Closed, Command, CommandState, Receiving, client_of}
 use Rattle.relay_server.specs.TurnLaws.{AskedIsAUnit, ChunkIsAnswered, CourseIsFixed, CourseIsOfAUnit, LineIsAnswered, NoUnitLacksACourse, TextIsAnswered, TurnIsOfItsUnit}
 use Rattle.relay_server.specs.Unit.{Asked, Faulty, Hello, Mail, Rcpt, Data, Bdat, Rset, Noop, Vrfy, Help, Quit, Asks, AsksBy, IsCommandUnit, announced_by, announced_of, asked_of_long}
-use Rattle.relay_server.proofs.OctetLemmas.{false_by}
 use Rattle.relay_server.proofs.TurnLemmas.{asked_is_unit, course_is_one, course_of_unit}
 use Rattle.relay_server.proofs.UnitLemmas.{no_unit_begins_another}
 
@@ -81,40 +76,13 @@ text_is_answered setup client envelope new text content rest more turn reads is 
     turn_is_of_its_unit setup (Receiving client envelope) new text rest more (course_of_text setup.max_content client envelope content) turn
     (record { content = content; reads = reads; course_is = refl }) is begins
 
--- no text of MAIL lacks a reading
-some_mail : (text : List ℕ) → ((read : Result MailSaid EnvelopeFault) → ReadsMail text read → ⊥) → ⊥
-some_mail text none =
-    none (Err BadPath) (inl (record {
-      none_allowed = λ path rest begins. false_by (is_reverse path) (λ allowed. none (mail_of path (mail_parameters_of rest)) (inr (record {
-        path = path;
-        rest = rest;
-        begins = begins;
-        allowed = allowed;
-        result_is = refl;
-      })));
-      result_is = refl;
-    }))
-
-some_rcpt : (text : List ℕ) → ((read : Result RcptSaid EnvelopeFault) → ReadsRcpt text read → ⊥) → ⊥
-some_rcpt text none =
-    none (Err BadPath) (inl (record {
-      none_allowed = λ path rest begins. false_by (is_forward path) (λ allowed. none (rcpt_of path (rcpt_parameters_of rest)) (inr (record {
-        path = path;
-        rest = rest;
-        begins = begins;
-        allowed = allowed;
-        result_is = refl;
-      })));
-      result_is = refl;
-    }))
-
 -- no reading asks nothing
 some_asked : (reading : Result line.Command LineFault) (octets : List ℕ) → ((what : Asked) → AsksBy reading octets what → ⊥) → ⊥
 some_asked (Err fault) octets none = none (Faulty fault) refl
 some_asked (Ok (line.Helo word)) octets none = none (Hello (client_of word Smtp)) refl
 some_asked (Ok (line.Ehlo word)) octets none = none (Hello (client_of word Esmtp)) refl
-some_asked (Ok (line.Mail text)) octets none = some_mail text (λ read reads. none (Mail read) (read, reads, refl))
-some_asked (Ok (line.Rcpt text)) octets none = some_rcpt text (λ read reads. none (Rcpt read) (read, reads, refl))
+some_asked (Ok (line.Mail text)) octets none = mail_is_some text (λ read reads. none (Mail read) (read, reads, refl))
+some_asked (Ok (line.Rcpt text)) octets none = rcpt_is_some text (λ read reads. none (Rcpt read) (read, reads, refl))
 some_asked (Ok line.Data) octets none = none Data refl
 some_asked (Ok (line.Bdat argument)) octets none = none (Bdat octets argument.last) refl
 some_asked (Ok line.Rset) octets none = none Rset refl

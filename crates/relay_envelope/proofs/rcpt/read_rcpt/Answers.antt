@@ -1,6 +1,9 @@
 -- Where no path begins the text, or it begins with one that may not stand there, which is its only one, none that may does.
-use Rattle.std.proofs.Common.{inl, refl, sym, ◌∙◌}
+use Rattle.std.proofs.Common.{inl, inr, refl, sym, subst, ◌∙◌}
 use Rattle.relay_envelope.specs.Path.{is_forward, value_of}
+use Rattle.relay_envelope.specs.Mail.{IsBehindPath, rcpt_of}
+use Rattle.relay_envelope.specs.ParameterRow.{SaysRcpt}
+use Rattle.relay_envelope.proofs.BehindPathLemmas.{behind_rcpt}
 use Rattle.relay_envelope.proofs.MailLemmas.{none_allowed}
 use Rattle.relay_envelope.proofs.rcpt.read_rcpt.Goals as goal
 
@@ -12,3 +15,9 @@ pub returns-then-not-is_forward : goal.returns-then-not-is_forward
 returns-then-not-is_forward c =
     let refused = sym c.is_forward.ensures ∙ c.if-not-is_forward.true in
     inl (record { none_allowed = none_allowed is_forward c.args.text.now (value_of c.in-Some.path) c.in-Some.rest.now c.in-Some.ensures refused; result_is = refl })
+
+pub returns : goal.returns
+returns c =
+    let allowed = sym c.is_forward.ensures ∙ c.if-not-is_forward.false in
+    let behind = behind_rcpt c.args.text.now (value_of c.in-Some.path) c.in-Some.rest.now c.in-Some.ensures allowed in
+    inr (subst (IsBehindPath is_forward SaysRcpt rcpt_of c.args.text.now) (sym c.behind_path.ensures) behind)
