@@ -14,7 +14,7 @@ test:
 	cp crates/relayd/out/relayd build/relayd
 	tests/one_line_at_a_time.sh build/relayd
 	tests/each_allocation_refused.sh build/relayd
-	tests/spool_on_a_file.sh crates/relay_spool_steps/out/relay_spool_steps
+	tests/spool_on_a_file.sh crates/relay_spool_tests/out/relay_spool_tests
 	tail -n 1 build/gate.log
 
 # Proves and builds the program, a line a crate, and holds its first dialogue.

@@ -2,7 +2,7 @@
 # Takes steps on a spool in a file, with the calls that it makes of the device written down by a shim, which lets some
 # fail: what the program answers, which calls it made in which order, and what the file holds then.
 #
-#   tests/spool_on_a_file.sh build/relay_spool_steps
+#   tests/spool_on_a_file.sh build/relay_spool_tests
 set -euo pipefail
 cd "$(dirname "$0")/.."
 
