@@ -1,0 +1,14 @@
+mod CodeLemmas
+mod FitLemmas
+mod FieldLemmas
+mod ValueLemmas
+mod RefusalLemmas
+mod RowLemmas
+mod PlaceLemmas
+mod EntryLemmas
+mod ChangeLemmas
+mod CustodyLemmas
+mod MarkLaws
+mod TimeLemmas
+mod TimeLaws
+mod StandLemmas

@@ -1,0 +1,3 @@
+//! Records read back.
+mod recipient;
+mod ruling;
