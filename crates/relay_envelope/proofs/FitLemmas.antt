@@ -1,5 +1,5 @@
 -- Lines that are written of what may be stored are within the limit of a command line.
-use Rattle.std.proofs.Common.{◌≡◌, ℕ, ◌≤◌, nat_le, Bool, true, false, List, [], ◌∷◌, ◌++◌, codes, length, Option, None, Some, sym, ap, ◌∙◌, arith, length-append}
+use Rattle.std.proofs.Common.{◌≡◌, ℕ, ◌+◌, ◌≤◌, nat_le, Bool, true, false, List, [], ◌∷◌, ◌++◌, codes, length, Option, None, Some, sym, ap, ◌∙◌, arith, length-append}
 use Rattle.std.specs.Int.{is_in_range}
 use Rattle.std.specs.Char.{to_ascii_lowercase}
 use Rattle.std.proofs.lemmas.List.{length-map}
@@ -8,7 +8,9 @@ use Rattle.std.proofs.lemmas.Bool.Decides.{nat_tests}
 use Rattle.relay_envelope.specs.Path.{Path, IsPath, path_text}
 use Rattle.relay_envelope.specs.Path.Path.{Null, Postmaster, Mailbox}
 use Rattle.relay_envelope.specs.Parameters.{is_envid, is_orcpt, is_readable_xtext}
-use Rattle.relay_envelope.specs.Envelope.{IsWrittenPath, envid_text, mail_text, may_be_envid, may_be_orcpt, notify_text, orcpt_text, outcomes_of, rcpt_text, ret_text, MailFits, RcptFits}
+use Rattle.relay_envelope.specs.Envelope.{IsEnvelope, IsRecipient, IsWrittenPath, envid_text, mail_text, may_be_envid, may_be_orcpt, notify_text, orcpt_text, outcomes_of, rcpt_text, ret_text}
+use Rattle.relay_envelope.specs.declared.envelope.Envelope.{Envelope}
+use Rattle.relay_envelope.specs.declared.envelope.Recipient.{Recipient}
 use Rattle.relay_envelope.specs.declared.parameters.Ret.{Ret}
 use Rattle.relay_envelope.specs.declared.parameters.Ret.TheVariants.{Full, Hdrs}
 use Rattle.relay_envelope.specs.declared.parameters.Notify.{Notify}
@@ -21,7 +23,7 @@ path_fits (Postmaster word) valid =
     omega (arith, same, length-append word (62 ∷ []))
 path_fits (Mailbox route local domain) valid = valid.1
 
-written_fits : (is_allowed : Path → Bool) (text : List ℕ) → IsWrittenPath is_allowed text → length text ≤ 256
+pub written_fits : (is_allowed : Path → Bool) (text : List ℕ) → IsWrittenPath is_allowed text → length text ≤ 256
 written_fits is_allowed text written =
     let fits = path_fits written.path written.valid in
     omega (arith, fits, ap length written.text_is)
@@ -63,14 +65,14 @@ orcpt_fits (Some orcpt) valid =
     let short = leb-true (length orcpt) 500 (and_parts (nat_le (length orcpt) 500) _ (and_parts _ _ valid).0).0 in
     omega (arith, short, length-append (codes " ORCPT=") orcpt)
 
-pub mail_fits : MailFits
+pub mail_fits : (envelope : Envelope) → IsEnvelope envelope → length (codes "MAIL FROM:" ++ mail_text envelope) + 2 ≤ 2048
 mail_fits envelope valid =
     let path = written_fits _ envelope.reverse_path valid.reverse_path in
     let ret = ret_fits envelope.ret in
     let envid = envid_fits envelope.envid valid.envid in
     omega (arith, path, ret, envid, length-append (envelope.reverse_path ++ ret_text envelope.ret) (envid_text envelope.envid), length-append envelope.reverse_path (ret_text envelope.ret), length-append (codes "MAIL FROM:") (mail_text envelope))
 
-pub rcpt_fits : RcptFits
+pub rcpt_fits : (recipient : Recipient) → IsRecipient recipient → length (codes "RCPT TO:" ++ rcpt_text recipient) + 2 ≤ 2048
 rcpt_fits recipient valid =
     let path = written_fits _ recipient.path valid.path in
     let notify = notify_fits recipient.notify in

@@ -1,17 +1,12 @@
 -- What is written is read again.
-use Rattle.std.proofs.Common.{◌≡◌, ℕ, ◌+◌, ◌<◌, ◌==◌, not, get_or, Bool, true, false, ◌&&◌, ◌||◌, inr, List, [], ◌∷◌, ◌++◌, codes, length, Option, None, Some, Ok, refl, sym, ap, ◌∙◌, arith, append_assoc, append-nil}
-use Rattle.std.specs.List.{after_first, before_first, flat_map, position_or_len, slice_split, list_all, AllByRecursion}
-use Rattle.std.proofs.lemmas.Bool.{cond-true, cond-false, and_parts, and_from, not-true, eqb-true, ltb-true, false_from_ne_true, false≢true}
-use Rattle.std.proofs.lemmas.Bool.Decides.{nat_tests}
-use Rattle.std.proofs.lemmas.List.Folds.{list_all-append}
-use Rattle.std.proofs.lemmas.List.{length-drop}
-use Rattle.std.proofs.lemmas.List.Sums.{AllPass-from_list_all, split_at_first, passes_at_first}
+use Rattle.std.proofs.Common.{◌≡◌, ℕ, ◌==◌, not, Bool, true, false, ◌||◌, inr, List, [], ◌∷◌, ◌++◌, codes, length, Option, None, Some, Ok, refl, sym, ap, ◌∙◌, arith, append_assoc, append-nil}
+use Rattle.std.specs.List.{slice_split}
+use Rattle.std.proofs.lemmas.Bool.{cond-true, cond-false, not-true, eqb-true, false_from_ne_true, false≢true}
+use Rattle.std.proofs.lemmas.List.Sums.{AllPass-from_list_all}
 use Rattle.std.proofs.lemmas.List.Splits.{slice_split_none}
 use Rattle.relay_lines.specs.Word.{is_word}
-use Rattle.relay_envelope.specs.Xtext.{Part, IsPart, part_text, is_xchar, is_digit, decoded}
-use Rattle.relay_envelope.specs.Xtext.Part.{Xchar, Hexchar}
 use Rattle.relay_envelope.specs.Path.{Path, BeginsWithPath, is_forward, is_reverse, stands_apart}
-use Rattle.relay_envelope.specs.Parameters.{are_readable, is_orcpt, is_address_type, is_original_address, is_type_octet, notify_of, rcpt_parameters_of, with_outcome, with_rcpt_parameter, is_envid, is_readable_xtext, is_octet, mail_parameters_of, with_each, with_mail_parameter, and_then, keyword_of, value_of_word, ret_of}
+use Rattle.relay_envelope.specs.Parameters.{is_orcpt, notify_of, rcpt_parameters_of, with_outcome, with_rcpt_parameter, is_envid, is_octet, mail_parameters_of, with_each, with_mail_parameter, and_then, keyword_of, value_of_word, ret_of}
 use Rattle.relay_envelope.specs.Mail.{Mail, Rcpt, mail_of, rcpt_of}
 use Rattle.relay_envelope.specs.Envelope.{IsWrittenPath, envid_text, mail_text, may_be_envid, ret_text, may_be_notify, may_be_orcpt, notify_text, orcpt_text, outcomes_of, rcpt_text, MailIsReadAgain, RcptIsReadAgain}
 use Rattle.relay_envelope.specs.declared.parameters.Ret.{Ret}
@@ -20,52 +15,17 @@ use Rattle.relay_envelope.specs.declared.parameters.Notify.{Notify}
 use Rattle.relay_envelope.specs.declared.parameters.Notify.TheVariants.{Never, On}
 use Rattle.relay_envelope.specs.declared.envelope.Envelope.{Envelope}
 use Rattle.relay_envelope.specs.declared.envelope.Recipient.{Recipient}
-use Rattle.relay_envelope.proofs.XtextLemmas.{decoded_is_spelled}
-
--- an xchar is no space, and a digit is none
-xchar_no_space : (octet : ℕ) → is_xchar octet ≡ true → not (octet == 32) ≡ true
-xchar_no_space octet test = grind (arith, nat_tests)
-
-digit_no_space : (octet : ℕ) → is_digit octet ≡ true → not (octet == 32) ≡ true
-digit_no_space octet test = grind (arith, nat_tests)
-
-parts_no_space : (parts : List Part) → AllByRecursion IsPart parts → list_all (λ octet. not (octet == 32)) (flat_map part_text parts) ≡ true
-parts_no_space [] valid = refl
-parts_no_space (Xchar octet ∷ parts) valid =
-    and_from (not (octet == 32)) (list_all (λ octet. not (octet == 32)) (flat_map part_text parts)) (xchar_no_space octet valid.0) (parts_no_space parts valid.1)
-parts_no_space (Hexchar high low ∷ parts) valid =
-    let rest = list_all (λ (octet : ℕ). not (octet == 32)) (flat_map part_text parts) in
-    and_from (not (high == 32)) (not (low == 32) && rest) (digit_no_space high valid.0.0)
-    (and_from (not (low == 32)) rest (digit_no_space low valid.0.1) (parts_no_space parts valid.1))
-
-readable_some : (octets : Option (List ℕ)) → are_readable octets ≡ true → (some : List ℕ) × (octets ≡ Some some)
-readable_some None h = absurd (false≢true h)
-readable_some (Some octets) h = (octets, refl)
-
--- xtext has no space
-xtext_no_space : (text : List ℕ) → is_readable_xtext text ≡ true → list_all (λ octet. not (octet == 32)) text ≡ true
-unfolding is_readable_xtext
-xtext_no_space text valid =
-    let some = readable_some (decoded text) valid in
-    let spells = (decoded_is_spelled text some.0).0 some.1 in
-    ap (list_all (λ octet. not (octet == 32))) spells.text_is ∙ parts_no_space spells.parts spells.are_parts
+use Rattle.relay_envelope.proofs.GraphicLemmas.{graphic, lacks_space, envid_graphic, orcpt_graphic}
 
 -- a text without a space is one part
-one_word : (text : List ℕ) → list_all (λ octet. not (octet == 32)) text ≡ true → slice_split (is_octet 32) text ≡ text ∷ []
+one_word : (text : List ℕ) → graphic text ≡ true → slice_split (is_octet 32) text ≡ text ∷ []
 one_word text all =
-    let none = AllPass-from_list_all (λ octet. not (octet == 32)) text all in
+    let none = AllPass-from_list_all (λ octet. not (octet == 32)) text (lacks_space text all) in
     slice_split_none (is_octet 32) text (λ k d h. not-true _ (none k d h))
 
 not_empty : (octet : ℕ) (text : List ℕ) → length (octet ∷ text) == 0 ≡ false
 not_empty octet text =
     false_from_ne_true (length (octet ∷ text) == 0) (λ h. let zero : length (octet ∷ text) ≡ 0 = eqb-true (length (octet ∷ text)) 0 h in omega arith)
-
--- a value of ENVID has no space
-envid_word : (envid : List ℕ) → is_envid envid ≡ true → slice_split (is_octet 32) (codes "ENVID=" ++ envid) ≡ (codes "ENVID=" ++ envid) ∷ []
-unfolding is_envid
-envid_word envid valid =
-    let readable = (and_parts _ (is_readable_xtext envid) valid).1 in
-    one_word (codes "ENVID=" ++ envid) (xtext_no_space envid readable)
 
 -- ENVID in a word is read
 envid_is_read : (envid : List ℕ) (ret : Option Ret) → is_envid envid ≡ true → with_mail_parameter (codes "ENVID=" ++ envid) (record { ret = ret; envid = None }) ≡ Ok (record { ret = ret; envid = Some envid })
@@ -76,7 +36,7 @@ envid_is_read envid ret valid =
 -- ENVID as the last word
 envid_last : (envid : List ℕ) (ret : Option Ret) → is_envid envid ≡ true → with_each with_mail_parameter (slice_split (is_octet 32) (codes "ENVID=" ++ envid)) (record { ret = ret; envid = None }) ≡ Ok (record { ret = ret; envid = Some envid })
 envid_last envid ret valid =
-    ap (λ words. with_each with_mail_parameter words (record { ret = ret; envid = None })) (envid_word envid valid)
+    ap (λ words. with_each with_mail_parameter words (record { ret = ret; envid = None })) (one_word (codes "ENVID=" ++ envid) (envid_graphic envid valid))
     ∙ ap (λ result. and_then (λ new. Ok new) result) (envid_is_read envid ret valid)
 
 -- RET and ENVID are read again
@@ -123,40 +83,6 @@ mail_is_read_again envelope valid =
       ap (λ (text : List ℕ). let again : Envelope = record { reverse_path = text; ret = envelope.ret; envid = envelope.envid; recipients = [] } in again) (sym valid.reverse_path.text_is),
     )
 
-type_no_space : (octet : ℕ) → is_type_octet octet ≡ true → not (octet == 32) ≡ true
-type_no_space octet test = grind (arith, nat_tests)
-
-types_no_space : (text : List ℕ) → list_all is_type_octet text ≡ true → list_all (λ octet. not (octet == 32)) text ≡ true
-types_no_space [] all = refl
-types_no_space (octet ∷ text) all =
-    let parts = and_parts (is_type_octet octet) (list_all is_type_octet text) all in
-    and_from (not (octet == 32)) (list_all (λ octet. not (octet == 32)) text) (type_no_space octet parts.0) (types_no_space text parts.1)
-
--- around its first ";" a value of ORCPT has no space
-orcpt_around : (orcpt : List ℕ) → is_address_type (before_first (is_octet 59) orcpt) ≡ true → is_original_address (after_first (is_octet 59) orcpt) ≡ true → list_all (λ octet. not (octet == 32)) orcpt ≡ true
-unfolding is_address_type is_original_address
-orcpt_around orcpt type address =
-    let place = position_or_len (is_octet 59) orcpt in
-    let front = before_first (is_octet 59) orcpt in
-    let back = after_first (is_octet 59) orcpt in
-    let types = and_parts _ (list_all is_type_octet front) type in
-    let readable = and_parts _ (is_readable_xtext back) address in
-    let some : 0 < length back = ltb-true 0 (length back) readable.0 in
-    let short = length-drop (place + 1) orcpt in
-    let within : place < length orcpt = omega (arith, some, short) in
-    let is_mark = eqb-true (get_or orcpt place 0) 59 (passes_at_first (is_octet 59) orcpt 0 within) in
-    let around = split_at_first (is_octet 59) orcpt 0 within ∙ ap (λ octet. front ++ octet ∷ back) is_mark in
-    ap (list_all (λ octet. not (octet == 32))) around
-    ∙ list_all-append (λ octet. not (octet == 32)) front (59 ∷ back)
-    ∙ and_from (list_all (λ octet. not (octet == 32)) front) (list_all (λ octet. not (octet == 32)) back) (types_no_space front types.1) (xtext_no_space back readable.1)
-
-orcpt_no_space : (orcpt : List ℕ) → is_orcpt orcpt ≡ true → list_all (λ octet. not (octet == 32)) orcpt ≡ true
-unfolding is_orcpt
-orcpt_no_space orcpt valid =
-    let parts = and_parts _ (is_original_address (after_first (is_octet 59) orcpt)) valid in
-    let front = and_parts _ (is_address_type (before_first (is_octet 59) orcpt)) parts.0 in
-    orcpt_around orcpt front.1 parts.1
-
 -- ORCPT in a word is read
 orcpt_is_read : (orcpt : List ℕ) (notify : Option Notify) → is_orcpt orcpt ≡ true → with_rcpt_parameter (codes "ORCPT=" ++ orcpt) (record { notify = notify; orcpt = None }) ≡ Ok (record { notify = notify; orcpt = Some orcpt })
 unfolding with_rcpt_parameter keyword_of value_of_word is_word
@@ -166,7 +92,7 @@ orcpt_is_read orcpt notify valid =
 -- ORCPT as the last word
 orcpt_last : (orcpt : List ℕ) (notify : Option Notify) → is_orcpt orcpt ≡ true → with_each with_rcpt_parameter (slice_split (is_octet 32) (codes "ORCPT=" ++ orcpt)) (record { notify = notify; orcpt = None }) ≡ Ok (record { notify = notify; orcpt = Some orcpt })
 orcpt_last orcpt notify valid =
-    ap (λ words. with_each with_rcpt_parameter words (record { notify = notify; orcpt = None })) (one_word (codes "ORCPT=" ++ orcpt) (orcpt_no_space orcpt valid))
+    ap (λ words. with_each with_rcpt_parameter words (record { notify = notify; orcpt = None })) (one_word (codes "ORCPT=" ++ orcpt) (orcpt_graphic orcpt valid))
     ∙ ap (λ result. and_then (λ new. Ok new) result) (orcpt_is_read orcpt notify valid)
 
 -- a list of outcomes alone is read again

@@ -1,6 +1,8 @@
 -- Envelopes (RFC 5321, section 2.3.1; RFC 3461, section 4), and how MAIL and RCPT are written.
-use Rattle.std.specs.Prelude.{◌≡◌, ℕ, ◌+◌, ◌≤◌, Bool, true, ◌||◌, List, [], ◌∷◌, ◌++◌, codes, length, Option, Some, None, Ok, if◌then◌else◌}
+use Rattle.std.specs.Prelude.{◌≡◌, ◌≢◌, ℕ, ◌≤◌, Bool, true, ◌||◌, List, [], ◌∷◌, ◌++◌, codes, length, Option, Some, None, Ok, if◌then◌else◌}
 use Rattle.std.specs.List.{AllByRecursion, join_with_byte}
+use Rattle.relay_lines.specs.Command.{Mail as MailCommand, Rcpt as RcptCommand}
+use Rattle.relay_lines.specs.WrittenCommand.{IsCommandLine}
 use Rattle.relay_envelope.specs.Path.{Path, IsPath, is_forward, is_reverse, path_text}
 use Rattle.relay_envelope.specs.Parameters.{is_envid, is_orcpt}
 use Rattle.relay_envelope.specs.Mail.{Mail, Rcpt, ReadsMail, ReadsRcpt}
@@ -81,6 +83,14 @@ pub record IsWrittenPath (is_allowed : Path → Bool) (text : List ℕ) : Type 0
   pub allowed : is_allowed path ≡ true
   pub text_is : text ≡ path_text path
 
+-- the text is a path of MAIL
+abbrev pub IsReversePath : List ℕ → Type 0
+IsReversePath text = IsWrittenPath is_reverse text
+
+-- the text is a path of RCPT
+abbrev pub IsForwardPath : List ℕ → Type 0
+IsForwardPath text = IsWrittenPath is_forward text
+
 -- ENVID, where it was given, is as it may be
 abbrev pub may_be_envid : Option (List ℕ) → Bool
 may_be_envid None = true
@@ -99,17 +109,21 @@ may_be_notify (Some (On outcomes)) = outcomes.success || outcomes.failure || out
 
 -- a recipient that may be stored
 pub record IsRecipient (recipient : Recipient) : Type 0 where
-  pub path : IsWrittenPath is_forward recipient.path
+  pub path : IsForwardPath recipient.path
   pub notify : may_be_notify recipient.notify ≡ true
   pub orcpt : may_be_orcpt recipient.orcpt ≡ true
 
 -- an envelope that may be stored: 1 to 100 recipients (RFC 5321, section 4.5.3.1.8)
 pub record IsEnvelope (envelope : Envelope) : Type 0 where
-  pub reverse_path : IsWrittenPath is_reverse envelope.reverse_path
+  pub reverse_path : IsReversePath envelope.reverse_path
   pub envid : may_be_envid envelope.envid ≡ true
   pub some : 1 ≤ length envelope.recipients
   pub within : length envelope.recipients ≤ 100
   pub recipients : AllByRecursion IsRecipient envelope.recipients
+
+-- A reverse path that isn't `<>` is a forward path.
+abbrev pub ReversePathIsForward : Type 0
+ReversePathIsForward = (text : List ℕ) → IsReversePath text → text ≢ codes "<>" → IsForwardPath text
 
 -- What is written of an envelope that may be stored is read again as the same.
 abbrev pub MailIsReadAgain : Type 0
@@ -127,16 +141,22 @@ RcptIsReadAgain =
 abbrev pub ReadMailIsValid : Type 0
 ReadMailIsValid =
     (text : List ℕ) (mail : Mail) → ReadsMail text (Ok mail)
-    → IsWrittenPath is_reverse (path_text mail.reverse_path) × (may_be_envid mail.parameters.envid ≡ true)
+    → IsReversePath (path_text mail.reverse_path) × (may_be_envid mail.parameters.envid ≡ true)
 
 -- What a RCPT said may be stored.
 abbrev pub ReadRcptIsValid : Type 0
 ReadRcptIsValid = (text : List ℕ) (rcpt : Rcpt) → ReadsRcpt text (Ok rcpt) → IsRecipient (recipient_from rcpt)
 
--- A MAIL that is written of what may be stored has at most 2,048 octets with its CR LF.
-abbrev pub MailFits : Type 0
-MailFits = (envelope : Envelope) → IsEnvelope envelope → length (codes "MAIL FROM:" ++ mail_text envelope) + 2 ≤ 2048
+-- The line of MAIL that is written of an envelope that may be stored is one of that MAIL, with its parameters and with none.
+abbrev pub MailIsCommandLine : Type 0
+MailIsCommandLine =
+    (envelope : Envelope) → IsEnvelope envelope
+    → IsCommandLine (codes "MAIL FROM:" ++ mail_text envelope) (MailCommand (mail_text envelope))
+    × IsCommandLine (codes "MAIL FROM:" ++ envelope.reverse_path) (MailCommand envelope.reverse_path)
 
--- A RCPT that is written of what may be stored has at most 2,048 octets with its CR LF.
-abbrev pub RcptFits : Type 0
-RcptFits = (recipient : Recipient) → IsRecipient recipient → length (codes "RCPT TO:" ++ rcpt_text recipient) + 2 ≤ 2048
+-- The line of RCPT that is written of a recipient that may be stored is one of that RCPT, with its parameters and with none.
+abbrev pub RcptIsCommandLine : Type 0
+RcptIsCommandLine =
+    (recipient : Recipient) → IsRecipient recipient
+    → IsCommandLine (codes "RCPT TO:" ++ rcpt_text recipient) (RcptCommand (rcpt_text recipient))
+    × IsCommandLine (codes "RCPT TO:" ++ recipient.path) (RcptCommand recipient.path)

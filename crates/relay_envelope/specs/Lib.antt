@@ -1,3 +1,4 @@
+pub mod HostName
 pub mod Xtext
 pub mod Row
 pub mod RowScan

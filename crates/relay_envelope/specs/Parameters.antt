@@ -58,11 +58,18 @@ is_address_type text = nat_lt 0 (length text) && list_all is_type_octet text
 unfoldable pub is_original_address : List ℕ → Bool
 is_original_address text = nat_lt 0 (length text) && is_readable_xtext text
 
+-- the type of the address that a value of ORCPT gives: what stands before its first ";"
+abbrev pub address_type_of : List ℕ → List ℕ
+address_type_of value = before_first (is_octet 59) value
+
+-- that address: what stands behind it
+abbrev pub address_of : List ℕ → List ℕ
+address_of value = after_first (is_octet 59) value
+
 -- a value of ORCPT: a type, ";" and an address (section 4.2), of at most 500 octets
 unfoldable pub is_orcpt : List ℕ → Bool
 is_orcpt value =
-    nat_le (length value) 500
-    && is_address_type (before_first (is_octet 59) value) && is_original_address (after_first (is_octet 59) value)
+    nat_le (length value) 500 && is_address_type (address_type_of value) && is_original_address (address_of value)
 
 -- no outcome is to be reported yet
 abbrev pub no_outcomes : Outcomes

@@ -1,11 +1,12 @@
 ghost use Rattle.std.specs.Prelude.{◌≡◌, ℕ, List, [], ◌∷◌, ◌++◌, length, IfOk, OnOk, OnErr, IsTrue, ◌↔◌};
 ghost use Rattle.std.specs.Option.{option_copied};
 ghost use Rattle.relay_envelope.specs.Path.{path_text, value_of};
+ghost use Rattle.relay_envelope.specs.Parameters.{address_of, address_type_of};
 ghost use Rattle.relay_envelope.specs.Mail.{mail_value, rcpt_value};
 ghost use Rattle.relay_envelope.specs.Envelope.{envelope_from, recipient_from};
 
 use crate::mail::Mail;
-use crate::parameters::{Notify, Ret};
+use crate::parameters::{Notify, Ret, type_and_address};
 use crate::path::Path;
 use crate::rcpt::Rcpt;
 use crate::xtext::Xtext;
@@ -83,6 +84,22 @@ impl Orcpt {
         ensures { result.now ≡ self.now }
     {
         self.written.as_slice()
+    }
+
+    /// The type of the address: what stands before the first `;`. It takes no memory.
+    pub fn address_type(&self) -> &[u8]
+        ensures { result.now ≡ address_type_of self.now }
+    {
+        let (address_type, _) = type_and_address(self.as_slice());
+        address_type
+    }
+
+    /// The address, which is xtext: what stands behind the first `;`. It takes no memory.
+    pub fn address(&self) -> &[u8]
+        ensures { result.now ≡ address_of self.now }
+    {
+        let (_, address) = type_and_address(self.as_slice());
+        address
     }
 }
 
@@ -166,6 +183,15 @@ impl Recipients {
         }
     }
 
+    /// No recipient, and room for just as many as are to come. It fails where memory runs out.
+    pub fn with_capacity(alloc: Global, count: usize) -> Result<Self, AllocError>
+        ensures { IfOk result (λ recipients. recipients ≡ []) }
+    {
+        Ok(Recipients {
+            items: Vec::with_capacity(alloc, count)?,
+        })
+    }
+
     /// How many recipients there are.
     pub fn len(&self) -> usize
         ensures { result ≡ length self.now }
@@ -200,7 +226,7 @@ impl Recipients {
     pub fn copy(&self, alloc: Global) -> Result<Self, AllocError>
         ensures { IfOk result (λ copy. copy ≡ self.now) }
     {
-        let mut copy = Recipients::new(alloc);
+        let mut copy = Recipients::with_capacity(alloc, self.len())?;
         for recipient in self.as_slice() {
             copy.push(recipient.copy(alloc)?)?;
         }

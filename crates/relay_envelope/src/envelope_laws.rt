@@ -1,5 +1,10 @@
 //! What is true of envelopes that may be stored, whoever writes and reads them.
-ghost use Rattle.relay_envelope.specs.Envelope.{MailIsReadAgain, RcptIsReadAgain, ReadMailIsValid, ReadRcptIsValid, MailFits, RcptFits};
+ghost use Rattle.relay_envelope.specs.Envelope.{ReversePathIsForward, MailIsReadAgain, RcptIsReadAgain, ReadMailIsValid, ReadRcptIsValid, MailIsCommandLine, RcptIsCommandLine};
+
+/// A reverse path that isn't `<>` is a forward path.
+pub fn reverse_path_is_forward()
+    ensures { ReversePathIsForward }
+{}
 
 /// What is written of an envelope that may be stored is read again as the same.
 pub fn mail_is_read_again()
@@ -21,12 +26,14 @@ pub fn read_rcpt_is_valid()
     ensures { ReadRcptIsValid }
 {}
 
-/// A MAIL that is written of what may be stored is within a command line's limit.
-pub fn mail_fits()
-    ensures { MailFits }
+/// The line of MAIL that is written of an envelope that may be stored is one of that MAIL, with its parameters and with
+/// none.
+pub fn mail_is_command_line()
+    ensures { MailIsCommandLine }
 {}
 
-/// A RCPT that is written of what may be stored is within a command line's limit.
-pub fn rcpt_fits()
-    ensures { RcptFits }
+/// The line of RCPT that is written of a recipient that may be stored is one of that RCPT, with its parameters and with
+/// none.
+pub fn rcpt_is_command_line()
+    ensures { RcptIsCommandLine }
 {}

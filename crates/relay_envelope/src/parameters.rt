@@ -6,7 +6,9 @@ ghost use Rattle.relay_envelope.specs.Parameters.{mail_answer, mail_parameters_o
 mod value;
 
 use crate::fault::EnvelopeFault;
-use crate::part::{first_part, is_word, keyword_and_value};
+use crate::part::{first_part, keyword_and_value};
+use relay_lines::word::is_word;
+pub(crate) use value::type_and_address;
 pub use value::{is_envid, is_orcpt};
 
 /// How much of a message a report returns (RFC 3461, section 4.3).

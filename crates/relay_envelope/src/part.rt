@@ -1,6 +1,5 @@
-//! Parts of a text round an octet, and words in any letter case.
+//! Parts of a text round an octet.
 ghost use Rattle.std.specs.Prelude.{◌≡◌, MatchOption};
-ghost use Rattle.relay_lines.specs.Word.{is_word};
 ghost use Rattle.relay_envelope.specs.Parameters.{FirstPart, OnePart, keyword_of, value_of_word};
 
 use memchr::memchr;
@@ -12,14 +11,6 @@ pub(crate) fn first_part(octet: u8, text: &[u8]) -> Option<(&[u8], &[u8])>
 {
     let place = memchr(octet, text)?;
     Some((&text[..place], &text[place + 1..]))
-}
-
-/// The text is this word, in any letter case (RFC 5321, section 2.4).
-#[tactic(auto, unfolding(relay_lines::specs::Word::is_word))]
-pub(crate) fn is_word(text: &[u8], word: &[u8]) -> bool
-    ensures { result ≡ is_word text.now word.now }
-{
-    text.eq_ignore_ascii_case(word)
 }
 
 /// A parameter's keyword, and its value, which is empty where it has no `=`.

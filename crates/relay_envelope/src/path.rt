@@ -12,7 +12,7 @@ mod mailbox;
 mod postmaster;
 
 use crate::row::row_before;
-pub use mailbox::Mailbox;
+pub use mailbox::{Mailbox, is_domain};
 pub use postmaster::Postmaster;
 
 /// A path that a reader cut out of a text: slices of that text, which nothing else makes.

@@ -1,8 +1,9 @@
 //! Rows of plain octets and quoted strings (RFC 5321, section 4.1.2).
 ghost use Rattle.std.specs.Prelude.{◌≡◌, ◌≢◌, ◌≤◌, ◌↔◌, ◌==◌, ◌&&◌, ◌++◌, ◌∷◌, ℕ, List, length, IfSome, IsTrue, MatchOption};
-ghost use Rattle.relay_lines.specs.Word.{is_printable as printable};
 ghost use Rattle.relay_envelope.specs.Row.{IsRow, RowBefore, is_plain as plain, is_text_octet as text_octet};
 ghost use Rattle.relay_envelope.specs.RowScan.{is_outside, place_after, row_len_from};
+
+use relay_lines::word::is_printable;
 
 /// Where in a row an octet stands.
 #[derive(Clone, Copy, Debug)]
@@ -97,10 +98,4 @@ fn is_text_octet(octet: u8) -> bool
     ensures { result ≡ text_octet octet }
 {
     is_printable(octet) && !matches!(octet, b'"' | b'\\')
-}
-
-fn is_printable(octet: u8) -> bool
-    ensures { result ≡ printable octet }
-{
-    matches!(octet, b' '..=b'~')
 }

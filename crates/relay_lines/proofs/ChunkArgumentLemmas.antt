@@ -1,5 +1,5 @@
 -- The argument of BDAT: what is read of it is what it spells.
-use Rattle.std.proofs.Common.{◌≡◌, ℕ, suc, ◌+◌, ◌<◌, ◌≤◌, Bool, true, false, List, [], ◌∷◌, ◌++◌, codes, map, length, get_or, take, drop, Option, None, Some, is_some, option_map, Result, Ok, Err, Bor, IsTrue, ◌↔◌, rules, nat_lt, nat_le, not, ◌==◌, inl, inr, refl, sym, ap, subst, ◌∙◌, arith, length-append, drop-cons}
+use Rattle.std.proofs.Common.{◌≡◌, ℕ, suc, ◌+◌, ◌<◌, ◌≤◌, Bool, true, false, List, [], ◌∷◌, ◌++◌, codes, decimal, ◌^◌, lit≤, map, length, get_or, take, drop, Option, None, Some, is_some, option_map, Result, Ok, Err, Bor, IsTrue, ◌↔◌, rules, nat_lt, nat_le, not, ◌==◌, inl, inr, refl, sym, ap, subst, ◌∙◌, arith, length-append, drop-cons}
 use Rattle.std.proofs.lemmas.List.{append-nil, map-append, take-append-drop, take_at, length-take, get_or-take, get_or_append_left, get_or_at}
 use Rattle.std.proofs.lemmas.List.Sums.{prefix_len_passes, prefix_len_stops, prefix_len-le-length, list_all-from_AllPass, AllPass-from_list_all}
 use Rattle.std.proofs.lemmas.Bool.{cases_Bool, cond-true, cond-false, and_parts, and_from, ltb-true, leb-true, lt-ltb, eq-eqb, ne_eqb, eqb-true, eqb-false, le-leb, false_from_ne_true, false≢true}
@@ -11,12 +11,12 @@ use Rattle.std.specs.Option.{option_copied}
 use Rattle.std.specs.Result.{result_ok}
 use Rattle.std.specs.Str.{IsUtf8}
 use Rattle.std.specs.Str.Parse.{digits_value, ParsesUnsigned}
-use Rattle.std.proofs.lemmas.Fmt.{IsAscii-from_digits}
+use Rattle.std.proofs.lemmas.Fmt.{IsAscii-from_digits, decimal_is_IsNumeral, digits_decimal, length-decimal-le}
 use Rattle.std.proofs.lemmas.Str.{IsUtf8-from_ascii}
 use Rattle.std.proofs.lemmas.Str.Parse.{IsNumeralModel, numerals_by_value, parse_digits}
 use Rattle.relay_octets.specs.LetterCase.{IsSameWord}
 use Rattle.relay_lines.specs.Word.{is_space, is_no_space, word_len, space_len, first_word, argument_of, is_word, behind_keyword}
-use Rattle.relay_lines.specs.ChunkArgument.{IsChunkSize, IsEndMarker, StandsBehindSize, SpellsBdat, BeginsWithBdat, are_digits, are_size_digits, size_of_digits, chunk_size_of, with_size, bdat_argument_of, begins_with_bdat, BdatArgumentIsOfSpelling, OneBdatArgument, ElevenDigitsAreTooMany, LeadingZeroSaysNothing, BdatBeginningIsTested}
+use Rattle.relay_lines.specs.ChunkArgument.{IsChunkSize, IsEndMarker, StandsBehindSize, SpellsBdat, BeginsWithBdat, are_digits, are_size_digits, size_of_digits, chunk_size_of, with_size, bdat_argument_of, begins_with_bdat, BdatArgumentIsOfSpelling, OneBdatArgument, ElevenDigitsAreTooMany, LeadingZeroSaysNothing, BdatBeginningIsTested, DecimalIsChunkSize}
 use Rattle.relay_lines.specs.declared.chunk_argument.BdatArgument.{BdatArgument}
 use Rattle.relay_lines.proofs.WordLemmas.{AllPass-weaker, first_word-join, argument_of-join, same_word, is_word-same, length-same_word}
 
@@ -299,3 +299,15 @@ parsed-size {E} text (Ok size) digits parses =
 parsed-size {E} text (Err fault) digits parses =
     let gives = parse_digits own {E = E} 32 text (Err fault) parses (digits_of_size text digits) in
     sym (cond-false (nat_lt (digits_value 10 text) 4294967296) _ _ (false_from_ne_true _ (λ test. gives (some_of_size text digits, ltb-true (digits_value 10 text) 4294967296 test))))
+
+pub decimal_is_chunk_size : DecimalIsChunkSize
+decimal_is_chunk_size size small =
+    let numeral = decimal_is_IsNumeral size (omega arith) in
+    let most : 2 ^ 32 ≤ 10 ^ 10 = lit≤ tt in
+    record {
+      some = numeral.0.0;
+      few = length-decimal-le 10 size (omega arith) (omega arith) (omega arith);
+      digits = AllPass-from_list_all is_ascii_digit (decimal size) (digits_decimal own size (omega arith));
+      value = numeral.1;
+      fits = small;
+    }

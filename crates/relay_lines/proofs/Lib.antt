@@ -1,6 +1,9 @@
 mod HeldLineLemmas
 mod WordLemmas
 mod CommandLemmas
+mod CommandFaultLemmas
+mod SpellingLemmas
+mod WrittenCommandLemmas
 mod ReplyLemmas
 mod ReplyReadingLemmas
 mod ReplyLawLemmas

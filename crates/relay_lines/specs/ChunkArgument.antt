@@ -1,5 +1,5 @@
 -- The argument of BDAT (RFC 3030, section 2): its chunk-size, and LAST at the last chunk of a message.
-use Rattle.std.specs.Prelude.{◌≡◌, ◌↔◌, ℕ, ◌<◌, ◌≤◌, ◌^◌, ◌==◌, nat_lt, Bool, true, false, IsTrue, ◌&&◌, List, [], ◌++◌, codes, length, take, Option, Some, None, option_map, if◌then◌else◌}
+use Rattle.std.specs.Prelude.{◌≡◌, ◌↔◌, ℕ, ◌<◌, ◌≤◌, ◌^◌, ◌==◌, nat_lt, Bool, true, false, IsTrue, ◌&&◌, List, [], ◌++◌, codes, decimal, length, take, Option, Some, None, option_map, if◌then◌else◌}
 use Rattle.std.specs.List.{list_all, AllPass}
 use Rattle.std.specs.Int.{is_in_range}
 use Rattle.std.specs.Char.{is_ascii_digit}
@@ -97,6 +97,10 @@ ElevenDigitsAreTooMany =
 abbrev pub LeadingZeroSaysNothing : Type 0
 LeadingZeroSaysNothing =
     (digits : List ℕ) (size : ℕ) → IsChunkSize digits size → length digits < 10 → IsChunkSize (codes "0" ++ digits) size
+
+-- The decimal of a number of 32 bits is its chunk-size.
+abbrev pub DecimalIsChunkSize : Type 0
+DecimalIsChunkSize = (size : ℕ) → size < 2 ^ 32 → IsChunkSize (decimal size) size
 
 -- The test of BDAT passes exactly where a line begins with it.
 abbrev pub BdatBeginningIsTested : Type 0

@@ -1,8 +1,9 @@
 -- Command lines (RFC 5321, section 4.1.1): the command that a line, without its CR LF, gives, or its first fault.
 use Rattle.std.specs.Prelude.{◌≡◌, ◌↔◌, ◌==◌, List, [], ◌∷◌, ◌++◌, ℕ, Bool, true, false, ◌||◌, length, codes, Option, Some, None, option_map, ok_or, find, Result, Ok, Err, if◌then◌else◌}
-use Rattle.std.specs.List.{AllPass, suffix_len}
+use Rattle.std.specs.List.{AllPass}
+use Rattle.relay_octets.specs.Line.{HasNoCrlf}
 use Rattle.relay_octets.specs.LetterCase.{IsSameWord}
-use Rattle.relay_lines.specs.Word.{is_printable, is_blank, is_word, are_printable, without_trailing_blanks, first_word, argument_of, behind_keyword, is_host_word, SplitsLine, BeginsWithKeyword, IsHostWord}
+use Rattle.relay_lines.specs.Word.{is_printable, is_word, are_printable, without_trailing_blanks, first_word, argument_of, behind_keyword, is_host_word, SplitsLine, BeginsWithKeyword, IsHostWord}
 use Rattle.relay_lines.specs.declared.command.LineFault.{LineFault}
 use Rattle.relay_lines.specs.declared.command.LineFault.TheVariants.{Unknown, BadByte, BadArgument, NotOffered, BadChunkSize}
 use Rattle.relay_lines.specs.declared.chunk_argument.BdatArgument.{BdatArgument}
@@ -216,43 +217,6 @@ BadChunkSizeIsFound =
     → (reading_of line ≡ Err BadChunkSize)
     ↔ (IsSameWord word (codes "BDAT") × ((chunk : BdatArgument) → ¬ SpellsBdat argument chunk))
 
--- A client's BDAT is read as it was written, in any letter case.
-abbrev pub BdatIsRead : Type 0
-BdatIsRead =
-    (verb text : List ℕ) (chunk : BdatArgument) → IsSameWord verb (codes "BDAT") → SpellsBdat text chunk
-    → reading_of (verb ++ codes " " ++ text) ≡ Ok (Bdat chunk)
-
--- A client's MAIL is read as it was written, in any letter case.
-abbrev pub MailIsRead : Type 0
-MailIsRead =
-    (verb keyword path : List ℕ) → IsSameWord verb (codes "MAIL") → IsSameWord keyword (codes "FROM:")
-    → AllPass is_printable path → suffix_len is_blank path ≡ 0
-    → reading_of (verb ++ codes " " ++ (keyword ++ path)) ≡ Ok (Mail path)
-
--- A client's RCPT is read as it was written, in any letter case.
-abbrev pub RcptIsRead : Type 0
-RcptIsRead =
-    (verb keyword path : List ℕ) → IsSameWord verb (codes "RCPT") → IsSameWord keyword (codes "TO:")
-    → AllPass is_printable path → suffix_len is_blank path ≡ 0
-    → reading_of (verb ++ codes " " ++ (keyword ++ path)) ≡ Ok (Rcpt path)
-
--- A client's HELO is read as it was written, in any letter case.
-abbrev pub HeloIsRead : Type 0
-HeloIsRead =
-    (verb host : List ℕ) → IsSameWord verb (codes "HELO") → IsHostWord host
-    → reading_of (verb ++ codes " " ++ host) ≡ Ok (Helo host)
-
--- A client's EHLO is read as it was written, in any letter case.
-abbrev pub EhloIsRead : Type 0
-EhloIsRead =
-    (verb host : List ℕ) → IsSameWord verb (codes "EHLO") → IsHostWord host
-    → reading_of (verb ++ codes " " ++ host) ≡ Ok (Ehlo host)
-
--- A client's line of a verb alone is read, in any letter case.
-pub record BareVerbsAreRead : Type 0 where
-  pub data_is : (verb : List ℕ) → IsSameWord verb (codes "DATA") → reading_of verb ≡ Ok Data
-  pub rset_is : (verb : List ℕ) → IsSameWord verb (codes "RSET") → reading_of verb ≡ Ok Rset
-  pub noop_is : (verb : List ℕ) → IsSameWord verb (codes "NOOP") → reading_of verb ≡ Ok Noop
-  pub vrfy_is : (verb : List ℕ) → IsSameWord verb (codes "VRFY") → reading_of verb ≡ Ok Vrfy
-  pub help_is : (verb : List ℕ) → IsSameWord verb (codes "HELP") → reading_of verb ≡ Ok Help
-  pub quit_is : (verb : List ℕ) → IsSameWord verb (codes "QUIT") → reading_of verb ≡ Ok Quit
+-- A line that is read as a command has no CR LF in it.
+abbrev pub CommandHasNoCrlf : Type 0
+CommandHasNoCrlf = (line : List ℕ) (command : Command) → reading_of line ≡ Ok command → HasNoCrlf line

@@ -52,10 +52,6 @@ pub record IsReply (reply : Reply) : Type 0 where
 abbrev pub one_line : ℕ → List ℕ → Reply
 one_line code text = made_of code (text ∷ [])
 
--- the octets begin with these, and some may have come behind them
-abbrev pub Begins : List ℕ → List ℕ → Type 0
-Begins front octets = (rest : List ℕ) × (octets ≡ front ++ rest)
-
 -- Reply-code: three digits, the first 2 to 5
 pub record IsCode (code : ℕ) : Type 0 where
   pub low : 200 ≤ code

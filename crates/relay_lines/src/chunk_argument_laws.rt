@@ -1,5 +1,5 @@
 //! What is true of the argument of BDAT, whoever reads it.
-ghost use Rattle.relay_lines.specs.ChunkArgument.{BdatArgumentIsOfSpelling, BdatBeginningIsTested, ElevenDigitsAreTooMany, LeadingZeroSaysNothing, OneBdatArgument};
+ghost use Rattle.relay_lines.specs.ChunkArgument.{BdatArgumentIsOfSpelling, BdatBeginningIsTested, DecimalIsChunkSize, ElevenDigitsAreTooMany, LeadingZeroSaysNothing, OneBdatArgument};
 
 /// What is read is spelled so, and what is spelled so is read.
 pub fn bdat_argument_is_of_spelling()
@@ -19,6 +19,11 @@ pub fn eleven_digits_are_too_many()
 /// A zero before the digits of a chunk-size says nothing.
 pub fn leading_zero_says_nothing()
     ensures { LeadingZeroSaysNothing }
+{}
+
+/// The decimal of a number of 32 bits is its chunk-size.
+pub fn decimal_is_chunk_size()
+    ensures { DecimalIsChunkSize }
 {}
 
 /// The test of BDAT passes exactly where a line begins with it.

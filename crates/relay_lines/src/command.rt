@@ -1,11 +1,16 @@
-ghost use Rattle.std.specs.Prelude.{◌≡◌};
-ghost use Rattle.relay_lines.specs.Command.{verb_of, command_of, reading_of, answer_of};
+ghost use Rattle.std.specs.Prelude.{◌≡◌, ◌++◌, OnOk, OnErr};
+ghost use Rattle.relay_octets.specs.Beginning.{Begins};
+ghost use Rattle.relay_octets.specs.Line.{crlf, line_text};
+ghost use Rattle.relay_lines.specs.Command.{verb_of, command_of, reading_of, answer_of, value_of, Bdat};
+ghost use Rattle.relay_lines.specs.WrittenCommand.{written_command};
 
 use crate::chunk_argument::{BadChunkSize, BdatArgument};
 use crate::word::{
     are_printable, argument_of, behind_keyword, first_word, is_host_word, is_word,
     without_trailing_blanks,
 };
+use itoa::Buffer;
+use std::alloc::AllocError;
 use thiserror::Error;
 
 /// A command (RFC 5321, section 4.1.1), with its parts as they came.
@@ -163,4 +168,65 @@ impl<'a> Command<'a> {
             }
         }
     }
+
+    /// Writes the command's line and its CR LF at the end of `out`, with the verb in upper case. Where memory runs
+    /// out, nothing is written. What is written is read as this command where its parts are such as a line may have:
+    /// a host word, or a printable text that ends in no blank and isn't too long.
+    pub fn write(&self, out: &mut Vec<u8>) -> Result<(), AllocError>
+        ensures ok { OnOk result (out.new.items ≡ out.old.items ++ line_text (written_command (value_of self.now))) }
+        ensures err { OnErr result (out.new.items ≡ out.old.items) }
+    {
+        let start = out.len();
+        let written = self.push(out);
+        if written.is_err() {
+            out.truncate(start);
+        }
+        written
+    }
+
+    /// Writes the command's line and its CR LF, or a beginning of them where memory runs out.
+    fn push(&self, out: &mut Vec<u8>) -> Result<(), AllocError>
+        ensures ok { OnOk result (out.new.items ≡ out.old.items ++ line_text (written_command (value_of self.now))) }
+        ensures front { Begins out.old.items out.new.items }
+    {
+        match *self {
+            Command::Helo(host) => push_line(out, b"HELO ", host, b""),
+            Command::Ehlo(host) => push_line(out, b"EHLO ", host, b""),
+            Command::Mail(text) => push_line(out, b"MAIL FROM:", text, b""),
+            Command::Rcpt(text) => push_line(out, b"RCPT TO:", text, b""),
+            Command::Data => push_line(out, b"DATA", b"", b""),
+            Command::Bdat(argument) => push_bdat(out, argument),
+            Command::Rset => push_line(out, b"RSET", b"", b""),
+            Command::Noop => push_line(out, b"NOOP", b"", b""),
+            Command::Vrfy => push_line(out, b"VRFY", b"", b""),
+            Command::Help => push_line(out, b"HELP", b"", b""),
+            Command::Quit => push_line(out, b"QUIT", b"", b""),
+        }
+    }
+}
+
+/// Writes a line of BDAT: the size, and LAST where it announces the last chunk.
+fn push_bdat(out: &mut Vec<u8>, argument: BdatArgument) -> Result<(), AllocError>
+    ensures ok { OnOk result (out.new.items ≡ out.old.items ++ line_text (written_command (Bdat argument))) }
+    ensures front { Begins out.old.items out.new.items }
+{
+    let mut digits = Buffer::new();
+    let size = digits.format(argument.size).as_bytes();
+    if argument.last {
+        push_line(out, b"BDAT ", size, b" LAST")
+    } else {
+        push_line(out, b"BDAT ", size, b"")
+    }
+}
+
+/// Writes a line in three parts, each of which may be empty, and CR LF.
+fn push_line(out: &mut Vec<u8>, verb: &[u8], argument: &[u8], more: &[u8]) -> Result<(), AllocError>
+    ensures ok { OnOk result (out.new.items ≡ out.old.items
+        ++ line_text (verb.now ++ (argument.now ++ more.now))) }
+    ensures front { Begins out.old.items out.new.items }
+{
+    out.extend_from_slice(verb)?;
+    out.extend_from_slice(argument)?;
+    out.extend_from_slice(more)?;
+    out.extend_from_slice(b"\r\n")
 }

@@ -1,6 +1,7 @@
 //! What is true of command lines, whoever reads them.
 ghost use Rattle.relay_lines.specs.Word.{AddressLiteralIsTested, HostWordIsTested};
-ghost use Rattle.relay_lines.specs.Command.{EveryLineSplits, SplitIsOne, ReadingIsOfWords, ReadingIsOfSpelling, BadByteIsFound, UnknownIsFound, BadArgumentIsFound, NotOfferedIsFound, BadChunkSizeIsFound, LetterCaseIsFree, MailIsRead, RcptIsRead, HeloIsRead, EhloIsRead, BdatIsRead, BareVerbsAreRead};
+ghost use Rattle.relay_lines.specs.WrittenCommand.{WrittenCommandIsRead};
+ghost use Rattle.relay_lines.specs.Command.{EveryLineSplits, SplitIsOne, ReadingIsOfWords, ReadingIsOfSpelling, BadByteIsFound, UnknownIsFound, BadArgumentIsFound, NotOfferedIsFound, BadChunkSizeIsFound, LetterCaseIsFree, CommandHasNoCrlf};
 
 /// A line has a word and an argument.
 pub fn every_line_splits()
@@ -48,39 +49,19 @@ pub fn bad_chunk_size_is_found()
     ensures { BadChunkSizeIsFound }
 {}
 
-/// A client's BDAT is read as it was written, in any letter case.
-pub fn bdat_is_read()
-    ensures { BdatIsRead }
-{}
-
 /// The letter case of a verb says nothing.
 pub fn letter_case_is_free()
     ensures { LetterCaseIsFree }
 {}
 
-/// A client's MAIL is read as it was written, in any letter case.
-pub fn mail_is_read()
-    ensures { MailIsRead }
+/// A line that is read as a command has no CR LF in it.
+pub fn command_has_no_crlf()
+    ensures { CommandHasNoCrlf }
 {}
 
-/// A client's RCPT is read as it was written, in any letter case.
-pub fn rcpt_is_read()
-    ensures { RcptIsRead }
-{}
-
-/// A client's HELO is read as it was written, in any letter case.
-pub fn helo_is_read()
-    ensures { HeloIsRead }
-{}
-
-/// A client's EHLO is read as it was written, in any letter case.
-pub fn ehlo_is_read()
-    ensures { EhloIsRead }
-{}
-
-/// A client's line of a verb alone is read, in any letter case.
-pub fn bare_verbs_are_read()
-    ensures { BareVerbsAreRead }
+/// What a client writes of a command is read as that command, has no CR LF in it, and is no longer than a line may be.
+pub fn written_command_is_read()
+    ensures { WrittenCommandIsRead }
 {}
 
 /// The test of an address literal passes exactly at one.

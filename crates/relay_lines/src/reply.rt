@@ -1,7 +1,8 @@
 ghost use Rattle.std.specs.Prelude.{◌≡◌, ◌<◌, ◌↔◌, ◌++◌, IsTrue, OnOk, OnErr};
 ghost use Rattle.std.specs.List.{AllByRecursion};
+ghost use Rattle.relay_octets.specs.Beginning.{Begins};
 ghost use Rattle.relay_octets.specs.Line.{crlf};
-ghost use Rattle.relay_lines.specs.Reply.{IsReplyLine, Begins, code_digits, last_line, lines_of_reply, middle_line, one_line, reply_text};
+ghost use Rattle.relay_lines.specs.Reply.{IsReplyLine, code_digits, last_line, lines_of_reply, middle_line, one_line, reply_text};
 
 use crate::line_buffer::LINE_LIMIT;
 use relay_octets::{Octets, find_crlf};

@@ -8,7 +8,8 @@ fn is_blank(octet: u8) -> bool
     octet == b' ' || octet == b'\t'
 }
 
-fn is_printable(octet: u8) -> bool
+/// Whether the octet is a printable one of ASCII, from the space to `~`.
+pub fn is_printable(octet: u8) -> bool
     ensures { result ≡ is_printable octet }
 {
     b' ' <= octet && octet <= b'~'
@@ -89,7 +90,7 @@ fn space_len(text: &[u8]) -> usize
 
 /// What stands before the first space.
 #[tactic(auto, unfolding(crate::specs::Word::first_word))]
-pub(crate) fn first_word(text: &[u8]) -> &[u8]
+pub fn first_word(text: &[u8]) -> &[u8]
     ensures { result.now ≡ first_word text.now }
 {
     &text[..word_len(text)]
@@ -106,7 +107,7 @@ pub(crate) fn argument_of(text: &[u8]) -> &[u8]
 
 /// Whether the text is this word, in any letter case (RFC 5321, section 2.4).
 #[tactic(auto, unfolding(crate::specs::Word::is_word))]
-pub(crate) fn is_word(text: &[u8], word: &[u8]) -> bool
+pub fn is_word(text: &[u8], word: &[u8]) -> bool
     ensures { result ≡ is_word text.now word.now }
 {
     text.eq_ignore_ascii_case(word)

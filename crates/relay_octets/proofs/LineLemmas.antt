@@ -3,8 +3,11 @@ use Rattle.std.proofs.Common.{◌≡◌, ℕ, ◌+◌, Bool, true, false, ◌&&�
 use Rattle.std.proofs.lemmas.List.{drop_at, length-take, take-append-drop}
 use Rattle.memchr.specs.Find.{OccursAt, Nowhere, NoneBefore, FindsNeedle}
 use Rattle.memchr.proofs.lemmas.MatchLemmas.{OccursAt-split, OccursAt-from_part}
-use Rattle.std.proofs.lemmas.Bool.{cases_Bool, and_parts, eqb-true, false≢true}
-use Rattle.relay_octets.specs.Line.{crlf, HasNoCrlf, ReadsLine, ends_in_cr, begins_with_lf, FirstLineIsOne, FirstLineStays, JoinHasNoCrlf}
+use Rattle.std.proofs.lemmas.Bool.{cases_Bool, and_parts, eqb-true, ne_eqb, false≢true}
+use Rattle.std.proofs.lemmas.List.Sums.{list_all-from_AllPass}
+use Rattle.std.proofs.Math.Bool.{and-false, or-false, or-true}
+use Rattle.std.specs.List.{list_all}
+use Rattle.relay_octets.specs.Line.{crlf, HasNoCrlf, ReadsLine, ends_in_cr, begins_with_lf, has_crlf, FirstLineIsOne, FirstLineStays, CrlfIsTested, NoCrIsNoCrlf, JoinHasNoCrlf}
 
 -- a CR LF behind some octets stands at their number
 occurs_behind : (octets before after : List ℕ) → octets ≡ before ++ crlf ++ after → OccursAt octets crlf (length before)
@@ -45,15 +48,6 @@ pub crlf_found : (octets : List ℕ) (answer : Option ℕ) → FindsNeedle octet
 crlf_found octets None nowhere = none_found octets nowhere
 crlf_found octets (Some place) first = first_found octets place first.0 first.1
 
--- whether a CR LF stands in the octets
-abbrev pub has_crlf : List ℕ → Bool
-has_crlf [] = false
-has_crlf (octet ∷ octets) = (octet == 13 && begins_with_lf octets) || has_crlf octets
-
-or-true : (b : Bool) → b || true ≡ true
-or-true true = refl
-or-true false = refl
-
 -- a CR LF between any octets is seen
 has_crlf_between : (before after : List ℕ) → has_crlf (before ++ (crlf ++ after)) ≡ true
 has_crlf_between [] after = refl
@@ -87,10 +81,6 @@ no_crlf_test (octet ∷ octets) none =
       | inr elsewhere ↦ ap (λ b. b || has_crlf octets) elsewhere ∙ later
     ]
 
-or-false : (b : Bool) → b || false ≡ b
-or-false true = refl
-or-false false = refl
-
 or_assoc : (a b c : Bool) → a || (b || c) ≡ a || b || c
 or_assoc true b c = refl
 or_assoc false b c = refl
@@ -110,13 +100,6 @@ has_crlf-append (octet ∷ []) back = across (octet == 13) (begins_with_lf back)
 has_crlf-append (octet ∷ next ∷ front) back =
     ap (λ b. (octet == 13 && next == 10) || b) (has_crlf-append (next ∷ front) back) ∙ or_assoc (octet == 13 && next == 10) (has_crlf (next ∷ front)) _
 
--- octets join without a CR LF where none stands across the join
-pub no_crlf_joined : JoinHasNoCrlf
-no_crlf_joined front back no_front no_back apart =
-    no_crlf_by_test (front ++ back) (has_crlf-append front back
-    ∙ ap (λ b. b || (has_crlf back || (ends_in_cr front && begins_with_lf back))) (no_crlf_test front no_front)
-    ∙ ap (λ b. b || (ends_in_cr front && begins_with_lf back)) (no_crlf_test back no_back) ∙ apart)
-
 -- a front of octets without a CR LF has none
 pub no_crlf_front : (front back : List ℕ) → HasNoCrlf (front ++ back) → HasNoCrlf front
 no_crlf_front front back none = record {
@@ -128,16 +111,54 @@ pub no_crlf_back : (front back : List ℕ) → HasNoCrlf (front ++ back) → Has
 no_crlf_back [] back none = none
 no_crlf_back (octet ∷ front) back none = no_crlf_back front back (no_crlf_tail octet (front ++ back) none)
 
--- no octets have no CR LF, and neither has one octet
+-- no octets have no CR LF
 pub no_crlf_nil : HasNoCrlf []
 no_crlf_nil = no_crlf_by_test [] refl
 
-and-false : (b : Bool) → b && false ≡ false
-and-false true = refl
-and-false false = refl
-
+-- one octet has none
 pub no_crlf_one : (octet : ℕ) → HasNoCrlf (octet ∷ [])
 no_crlf_one octet = no_crlf_by_test (octet ∷ []) (ap (λ b. b || false) (and-false (octet == 13)))
+
+-- of parts without a CR LF, the test of the join tells of the seam alone
+has_crlf-parts : (front back : List ℕ) → HasNoCrlf front → HasNoCrlf back → has_crlf (front ++ back) ≡ ends_in_cr front && begins_with_lf back
+has_crlf-parts front back no_front no_back =
+    let seam = ends_in_cr front && begins_with_lf back in
+    has_crlf-append front back ∙ ap (λ b. b || (has_crlf back || seam)) (no_crlf_test front no_front)
+    ∙ ap (λ b. b || seam) (no_crlf_test back no_back)
+
+-- octets join without a CR LF where neither part has one, and none stands across the join
+pub no_crlf_joined : (front back : List ℕ) → HasNoCrlf front → HasNoCrlf back → ends_in_cr front && begins_with_lf back ≡ false → HasNoCrlf (front ++ back)
+no_crlf_joined front back no_front no_back apart =
+    no_crlf_by_test (front ++ back) (has_crlf-parts front back no_front no_back ∙ apart)
+
+pub join_has_no_crlf : JoinHasNoCrlf
+join_has_no_crlf front back = (
+  λ none.
+      let no_front = no_crlf_front front back none in
+      let no_back = no_crlf_back front back none in
+      (no_front, no_back, sym (has_crlf-parts front back no_front no_back) ∙ no_crlf_test (front ++ back) none),
+  λ parts. no_crlf_joined front back parts.0 parts.1 parts.2,
+)
+
+pub crlf_is_tested : CrlfIsTested
+crlf_is_tested octets = (no_crlf_test octets, no_crlf_by_test octets)
+
+-- an octet that passes a test which a CR doesn't is no CR
+passes-no_cr : (test : ℕ → Bool) (octet : ℕ) → test 13 ≡ false → test octet ≡ true → octet == 13 ≡ false
+passes-no_cr test octet not_cr passed =
+    ne_eqb octet 13 (λ e. false≢true (sym not_cr ∙ ap test (sym e) ∙ passed))
+
+-- octets that all pass such a test hold no CR LF
+passes-no_crlf : (test : ℕ → Bool) (octets : List ℕ) → test 13 ≡ false → list_all test octets ≡ true → has_crlf octets ≡ false
+passes-no_crlf test [] not_cr all = refl
+passes-no_crlf test (octet ∷ octets) not_cr all =
+    let parts = and_parts (test octet) (list_all test octets) all in
+    ap (λ b. b && begins_with_lf octets || has_crlf octets) (passes-no_cr test octet not_cr parts.0)
+    ∙ passes-no_crlf test octets not_cr parts.1
+
+pub no_cr_is_no_crlf : NoCrIsNoCrlf
+no_cr_is_no_crlf test octets not_cr all =
+    no_crlf_by_test octets (passes-no_crlf test octets not_cr (list_all-from_AllPass test octets all))
 
 -- of two readings neither line is longer
 lines_agree : (line rest other more : List ℕ) → HasNoCrlf line → HasNoCrlf other → line ++ (crlf ++ rest) ≡ other ++ (crlf ++ more) → (line ≡ other) × (rest ≡ more)

@@ -1,6 +1,6 @@
 -- Lines (RFC 5321, section 2.3.8): a line ends with CR LF, and a CR or an LF alone ends none.
-use Rattle.std.specs.Prelude.{◌≡◌, ◌≢◌, ℕ, Bool, false, ◌==◌, ◌&&◌, List, [], ◌∷◌, ◌++◌}
-use Rattle.std.specs.List.{flat_map, AllByRecursion}
+use Rattle.std.specs.Prelude.{◌≡◌, ◌≢◌, ◌↔◌, ℕ, Bool, false, ◌==◌, ◌&&◌, ◌||◌, List, [], ◌∷◌, ◌++◌}
+use Rattle.std.specs.List.{flat_map, AllByRecursion, AllPass}
 
 -- the octets that end a line: CR LF
 abbrev pub crlf : List ℕ
@@ -37,6 +37,11 @@ abbrev pub begins_with_lf : List ℕ → Bool
 begins_with_lf [] = false
 begins_with_lf (octet ∷ octets) = octet == 10
 
+-- a CR LF stands in the octets
+abbrev pub has_crlf : List ℕ → Bool
+has_crlf [] = false
+has_crlf (octet ∷ octets) = (octet == 13 && begins_with_lf octets) || has_crlf octets
+
 -- the first line of a stream, and what follows it, are fixed by the stream
 abbrev pub FirstLineIsOne : Type 0
 FirstLineIsOne =
@@ -48,8 +53,17 @@ abbrev pub FirstLineStays : Type 0
 FirstLineStays =
     (stream line rest more : List ℕ) → ReadsLine stream line rest → ReadsLine (stream ++ more) line (rest ++ more)
 
+-- The test of CR LF fails exactly where none stands in the octets.
+abbrev pub CrlfIsTested : Type 0
+CrlfIsTested = (octets : List ℕ) → HasNoCrlf octets ↔ (has_crlf octets ≡ false)
+
+-- Octets without a CR hold no CR LF: that is, octets which all pass a test that a CR doesn't pass.
+abbrev pub NoCrIsNoCrlf : Type 0
+NoCrIsNoCrlf =
+    (test : ℕ → Bool) (octets : List ℕ) → test 13 ≡ false → AllPass test octets → HasNoCrlf octets
+
 -- Octets join without a CR LF exactly where neither part has one, and none stands across the join.
 abbrev pub JoinHasNoCrlf : Type 0
 JoinHasNoCrlf =
-    (front back : List ℕ) → HasNoCrlf front → HasNoCrlf back
-    → ends_in_cr front && begins_with_lf back ≡ false → HasNoCrlf (front ++ back)
+    (front back : List ℕ) → HasNoCrlf (front ++ back)
+    ↔ (HasNoCrlf front × HasNoCrlf back × (ends_in_cr front && begins_with_lf back ≡ false))

@@ -1,22 +1,12 @@
 -- Values of a configuration: names of hosts, addresses, and sizes.
-use Rattle.std.specs.Prelude.{◌≡◌, ◌≢◌, ℕ, ◌<◌, ◌≤◌, ◌^◌, Bool, false, ◌||◌, ◌==◌, List, [], ◌∷◌, ◌++◌, codes, decimal, length, pos}
-use Rattle.std.specs.List.{AllPass, AllByRecursion}
-use Rattle.std.specs.Char.{is_ascii_alphanumeric}
+use Rattle.std.specs.Prelude.{◌≡◌, ◌≢◌, ℕ, ◌<◌, ◌≤◌, ◌^◌, Bool, false, ◌==◌, List, [], ◌∷◌, ◌++◌, codes, decimal, length, pos}
+use Rattle.std.specs.List.{AllByRecursion}
 use Rattle.std.specs.Net.Addr.{ipv4_octets}
 use Rattle.std.specs.Net.Socket.{v4_ip, v4_port}
 use Rattle.std.specs.Net.Text.{ipv4_text}
 use Rattle.std.specs.declared.net.socket_addr.SocketAddrV4.{SocketAddrV4}
 use Rattle.toml.specs.Data.{Data, integer, string}
-
--- profile: a letter, a digit, `-` or `.`
-abbrev pub is_host_octet : ℕ → Bool
-is_host_octet octet = is_ascii_alphanumeric octet || octet == 45 || octet == 46
-
--- the name of a host has at most 255 octets (RFC 5321, section 4.5.3.1.2); profile: each is one of these
-pub record IsHostName (host : List ℕ) : Type 0 where
-  pub some_octet : 0 < length host
-  pub few_octets : length host ≤ 255
-  pub octets : AllPass is_host_octet host
+pub use Rattle.relay_envelope.specs.HostName.{IsHostName, is_host_octet}
 
 -- four numbers with "." between them, ":" and a port, each written without leading zeros
 abbrev pub address_text : SocketAddrV4 → List ℕ

@@ -1,12 +1,10 @@
-ghost use Rattle.std.specs.Prelude.{◌≡◌, ◌↔◌, IsTrue, IfOk, MatchOption};
-ghost use Rattle.relay_routes.specs.Value.{IsHostName, is_host_octet};
+ghost use Rattle.std.specs.Prelude.{◌≡◌, IfOk, MatchOption};
+ghost use Rattle.relay_envelope.specs.HostName.{IsHostName};
 
+use relay_envelope::is_host_name;
 use relay_octets::Octets;
 use std::alloc::{AllocError, Global};
 use std::marker::Model;
-
-/// The most octets of a host's name (RFC 5321, 4.5.3.1.2).
-const HOST_LIMIT: usize = 255;
 
 /// The name of a host: 1 to 255 letters, digits, `-` and `.`.
 #[derive(Debug, Drop)]
@@ -16,7 +14,7 @@ pub struct HostName {
 
 impl Model for HostName {
     ghost use Rattle.std.specs.Prelude.{List, ℕ};
-    ghost use Rattle.relay_routes.specs.Value.{IsHostName};
+    ghost use Rattle.relay_envelope.specs.HostName.{IsHostName};
 
     ghost Value = { List ℕ };
 
@@ -64,18 +62,4 @@ impl HostName {
         let octets = Octets::from_slice(alloc, self.octets.as_slice())?;
         Ok(HostName { octets })
     }
-}
-
-/// Whether the text is the name of a host.
-pub(crate) fn is_host_name(text: &[u8]) -> bool
-    ensures { IsTrue result ↔ IsHostName text.now }
-{
-    !text.is_empty() && text.len() <= HOST_LIMIT && text.iter().all(|octet| is_host_octet(*octet))
-}
-
-/// Whether a host's name may hold the octet.
-fn is_host_octet(octet: u8) -> bool
-    ensures { result ≡ is_host_octet octet }
-{
-    octet.is_ascii_alphanumeric() || octet == b'-' || octet == b'.'
 }

@@ -1,5 +1,4 @@
 ghost use Rattle.std.specs.Prelude.{◌≡◌, ◌≢◌, ◌↔◌, ◌≤◌, ◌<◌, [], None, Some, IsTrue, IsErrOf, IsSome, IfErr, OnOk, OnErr, MatchBool, length, option_copied};
-ghost use Rattle.relay_envelope.specs.Mailbox.{IsDomain, IsDomainName};
 ghost use Rattle.relay_envelope.specs.Path.{value_of};
 ghost use Rattle.relay_routes.specs.Routes.{HasNoOtherPlace, HasOtherPlace, IsRouteDomain, MayBeAdded, RefusesRoute, entry_of, hop_for, hop_of, with_lowered, with_route};
 
@@ -7,8 +6,7 @@ use crate::fault::RouteFault;
 use crate::hop::Hop;
 use crate::host_name::HostName;
 use indexmap::IndexMap;
-use relay_envelope::{Path, domain_of};
-use relay_lines::word::{are_domain_octets, is_address_literal};
+use relay_envelope::{Path, domain_of, is_domain};
 use std::alloc::{AllocError, Global};
 use std::marker::Model;
 use std::net::SocketAddrV4;
@@ -145,18 +143,4 @@ pub(crate) fn is_route_domain(domain: &[u8]) -> bool
     ensures { IsTrue result ↔ IsRouteDomain domain.now }
 {
     domain == b"*".as_slice() || is_domain(domain)
-}
-
-/// A domain, or an address literal.
-fn is_domain(domain: &[u8]) -> bool
-    ensures { IsTrue result ↔ IsDomain domain.now }
-{
-    is_domain_name(domain) || is_address_literal(domain)
-}
-
-/// A domain is not empty, and has letters, digits, `-`, `.` and `_` alone.
-fn is_domain_name(domain: &[u8]) -> bool
-    ensures { IsTrue result ↔ IsDomainName domain.now }
-{
-    !domain.is_empty() && are_domain_octets(domain)
 }

@@ -1,5 +1,6 @@
 ghost use Rattle.std.specs.Prelude.{◌≡◌, ◌++◌, codes, decimal, OnOk, OnErr};
-ghost use Rattle.relay_lines.specs.Reply.{Begins, one_line, reply_text};
+ghost use Rattle.relay_octets.specs.Beginning.{Begins};
+ghost use Rattle.relay_lines.specs.Reply.{one_line, reply_text};
 ghost use Rattle.relay_server.specs.Reply.{reply_of};
 
 use itoa::Buffer;

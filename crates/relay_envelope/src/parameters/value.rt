@@ -1,10 +1,10 @@
 ghost use Rattle.std.specs.Prelude.{◌≡◌};
 ghost use Rattle.std.specs.List.{list_all};
-ghost use Rattle.relay_lines.specs.Word.{is_printable as printable};
-ghost use Rattle.relay_envelope.specs.Parameters.{is_address_type, is_envid, is_orcpt, is_original_address, is_readable_xtext, is_type_octet};
+ghost use Rattle.relay_envelope.specs.Parameters.{address_of, address_type_of, is_address_type, is_envid, is_orcpt, is_original_address, is_readable_xtext, is_type_octet};
 
 use crate::part::first_part;
 use crate::xtext::first_octet;
+use relay_lines::word::is_printable;
 
 /// The most octets of ENVID as it is written (RFC 3461, section 4.4).
 const ENVID_LIMIT: usize = 100;
@@ -21,15 +21,22 @@ pub fn is_envid(value: &[u8]) -> bool
 }
 
 /// Whether the value is one of ORCPT (RFC 3461, section 4.2): a type, `;` and an address. It takes no memory.
-#[tactic(auto, unfolding(crate::specs::Parameters::is_orcpt, crate::specs::Parameters::is_original_address))]
+#[tactic(auto, unfolding(crate::specs::Parameters::is_orcpt))]
 pub fn is_orcpt(value: &[u8]) -> bool
     ensures { result ≡ is_orcpt value.now }
 {
+    let (address_type, address) = type_and_address(value);
+    value.len() <= ORCPT_LIMIT && is_address_type(address_type) && is_original_address(address)
+}
+
+/// What stands before the first `;` of ORCPT, and behind it; nothing stands behind it where there is none.
+pub(crate) fn type_and_address(value: &[u8]) -> (&[u8], &[u8])
+    ensures address_type { result.0.now ≡ address_type_of value.now }
+    ensures address { result.1.now ≡ address_of value.now }
+{
     match first_part(b';', value) {
-        Some((front, back)) => value.len() <= ORCPT_LIMIT
-            && is_address_type(front)
-            && is_original_address(back),
-        None => false,
+        Some((address_type, address)) => (address_type, address),
+        None => value.split_at(value.len()),
     }
 }
 
@@ -72,10 +79,4 @@ fn is_type_octet(octet: u8) -> bool
     ensures { result ≡ is_type_octet octet }
 {
     octet.is_ascii_alphanumeric() || octet == b'-'
-}
-
-fn is_printable(octet: u8) -> bool
-    ensures { result ≡ printable octet }
-{
-    matches!(octet, b' '..=b'~')
 }

@@ -92,8 +92,9 @@ fn is_local_part(local: &[u8]) -> bool
     !local.is_empty() && is_row(local)
 }
 
-/// A domain, or an address literal.
-fn is_domain(domain: &[u8]) -> bool
+/// Whether the text is what may stand behind the `@` of a mailbox (RFC 5321, section 4.1.2): a domain, or an address
+/// literal. It takes no memory.
+pub fn is_domain(domain: &[u8]) -> bool
     ensures { IsTrue result ↔ IsDomain domain.now }
 {
     is_domain_name(domain) || is_address_literal(domain)

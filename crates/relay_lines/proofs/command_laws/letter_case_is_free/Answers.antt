@@ -1,4 +1,4 @@
-use Rattle.relay_lines.proofs.CommandLemmas.{letter_case_is_free}
+use Rattle.relay_lines.proofs.SpellingLemmas.{letter_case_is_free}
 use Rattle.relay_lines.proofs.command_laws.letter_case_is_free.Goals as goal
 
 pub returns : goal.returns
