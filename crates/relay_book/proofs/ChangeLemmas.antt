@@ -1,5 +1,5 @@
 -- A list of changes, and one change more.
-use Rattle.std.proofs.Common.{◌≡◌, ◌≢◌, ◌⊎◌, ◌↔◌, inl, inr, ℕ, zero, suc, ◌+◌, ◌<◌, ◌≤◌, ◌==◌, Bool, true, false, List, [], ◌∷◌, ◌++◌, length, slice_get, Option, None, Some, refl, sym, subst, ap, ◌∙◌, arith, Contains, option_and_then, codes, length-append}
+use Rattle.std.proofs.Common.{◌≡◌, ◌⊎◌, inl, inr, ℕ, zero, suc, ◌<◌, ◌≤◌, false, List, [], ◌∷◌, ◌++◌, length, slice_get, Option, None, Some, refl, sym, ap, ◌∙◌, arith, option_and_then, length-append}
 use Rattle.std.proofs.lemmas.Bool.{cases_eq, cases_lt, false≢true}
 use Rattle.std.proofs.lemmas.Option.{slice_get_past, slice_get_within}
 use Rattle.relay_book.specs.declared.change.Accept.{Accept as AcceptFields}
@@ -9,7 +9,7 @@ use Rattle.relay_book.specs.declared.change.Change.TheVariants.{Accept, Outcome}
 use Rattle.relay_book.specs.Record.{is_null}
 use Rattle.relay_book.specs.Queue.{report_of}
 use Rattle.relay_book.specs.declared.fate.Way.{Way}
-use Rattle.relay_book.specs.Marks.{change_at, own_accept, report_for, made_by, message_at, Added, LeavesAt, Left}
+use Rattle.relay_book.specs.Marks.{change_at, own_accept, report_for, made_by, message_at, Added, LeavesAt}
 use Rattle.relay_book.proofs.PlaceLemmas.{none_some, some_is}
 
 -- one change more

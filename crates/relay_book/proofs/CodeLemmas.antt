@@ -1,10 +1,15 @@
 -- Encodings of which none begins another.
-use Rattle.std.proofs.Common.{◌≡◌, ℕ, suc, ◌+◌, ◌<◌, ◌≤◌, ◌^◌, Bool, true, false, List, [], ◌∷◌, ◌++◌, take, drop, length, Option, None, Some, refl, sym, subst, ap, ◌∙◌, arith, append_assoc, length-append}
+use Rattle.std.proofs.Common.{◌≡◌, ℕ, ◌+◌, ◌<◌, ◌≤◌, ◌^◌, List, [], ◌∷◌, ◌++◌, take, drop, length, refl, sym, ap, ◌∙◌, arith, append_assoc, length-append}
 use Rattle.std.specs.List.{flat_map, AllByRecursion}
 use Rattle.std.specs.Int.{w16, w32, w64, to_be_bytes, from_be_bytes}
 use Rattle.std.proofs.lemmas.Nat.{from_be_bytes-to_be_bytes_2, from_be_bytes-to_be_bytes_4, from_be_bytes-to_be_bytes_8}
 use Rattle.std.proofs.lemmas.List.{take_at, drop_at}
-use Rattle.relay_book.specs.Record.{octets_2, octets_4, octets_8, sized_2, sized_4}
+use Rattle.relay_book.specs.Record.{octets_2, octets_4, octets_8, sized_2}
+
+-- the first octet, or 0
+abbrev pub first_of : List ℕ → ℕ
+first_of [] = 0
+first_of (octet ∷ octets) = octet
 
 -- what begins with the encodings of two valid values has one value and one rest
 abbrev pub IsCode : {A : Type 0} → (A → Type 0) → (A → List ℕ) → Type 0

@@ -1,27 +1,24 @@
 -- What the fold tells of each place, change by change.
-use Rattle.std.proofs.Common.{◌≡◌, ◌≢◌, ◌⊎◌, ◌↔◌, inl, inr, ℕ, zero, suc, ◌+◌, ◌<◌, ◌≤◌, ◌==◌, Bool, true, false, ◌&&◌, ◌||◌, if◌then◌else◌, List, [], ◌∷◌, ◌++◌, map, length, slice_get, Option, None, Some, MatchOption, refl, sym, subst, ap, ◌∙◌, arith, Contains, option_and_then, append-nil}
+use Rattle.std.proofs.Common.{◌≡◌, ◌⊎◌, inl, inr, ℕ, zero, suc, ◌+◌, ◌<◌, Bool, true, false, ◌&&◌, ◌||◌, if◌then◌else◌, List, [], ◌∷◌, ◌++◌, map, length, slice_get, Option, None, Some, MatchOption, refl, sym, subst, ap, ◌∙◌, arith, Contains, option_and_then, append-nil}
 use Rattle.std.specs.Option.{option_map_or}
 use Rattle.std.specs.List.{list_any}
-use Rattle.std.proofs.lemmas.Bool.{cases_eq, cases_Bool, false≢true, and_parts, and_cases, and_left}
+use Rattle.std.proofs.lemmas.Bool.{cases_eq, false≢true, and_parts, and_cases}
 use Rattle.relay_envelope.specs.declared.envelope.Recipient.{Recipient}
 use Rattle.relay_book.specs.declared.change.Accept.{Accept as AcceptFields}
 use Rattle.relay_book.specs.declared.change.Outcome.{Outcome as OutcomeFields}
 use Rattle.relay_book.specs.declared.change.Ruling.{Ruling}
-use Rattle.relay_book.specs.declared.change.Verdict.{Verdict}
 use Rattle.relay_book.specs.declared.change.Change.{Change}
 use Rattle.relay_book.specs.declared.change.Change.TheVariants.{Accept, Outcome}
-use Rattle.relay_book.specs.declared.message.Place.{Place}
 use Rattle.relay_book.specs.declared.message.Message.{Message}
 use Rattle.relay_book.specs.DueReport.{way_of, fate_of, due_report_of, report_of_fate}
 use Rattle.relay_book.specs.Record.{is_null}
-use Rattle.relay_book.specs.Queue.{Queue, FitsQueue, FitsFrom, FitsMessage, Fitting, empty_queue, step, queue_of, held_of, held_place, holds_at, is_held, message_after, message_of, reported, report_of, reports_at, ruled, accepted}
+use Rattle.relay_book.specs.Queue.{Queue, FitsQueue, FitsMessage, step, held_place, holds_at, message_after, message_of, reported, report_of, reports_at, ruled, accepted}
 use Rattle.relay_book.specs.declared.fate.Way.{Way}
-use Rattle.relay_book.specs.declared.fate.Way.TheVariants.{ByTransfer, ByEnd}
-use Rattle.relay_book.specs.Marks.{change_at, own_accept, report_for, made_by, message_at, Added, LeavesAt, Left, Held, Transferred, Ended, FoldHolds, FoldKnows, ExactlyOne, IsOneOf, First, Second, Third, OneMoreHolds, Leaving, IsNew}
+use Rattle.relay_book.specs.Marks.{change_at, own_accept, report_for, message_at, Added, LeavesAt, Left}
 use Rattle.relay_book.specs.Book.{Rise}
-use Rattle.relay_book.proofs.PlaceLemmas.{none_some, some_is, stays, way_among, ruled_holds, ruled_length, ruled_way, way_ruled}
-use Rattle.relay_book.proofs.EntryLemmas.{holds, mark_held, held_mark, none_behind, message_below, joined_other, joined_here, rise_joined, rise_more, rise_ruled, ruled_other, ruled_same, ruled_comes}
-use Rattle.relay_book.proofs.ChangeLemmas.{joined, last, last_joined, change_last, change_other, change_within, Back, message_other, message_within, message_last, own_from, added_other, added_was, added_before, leaves_before, leaves_still, leaves_was, leaves_later}
+use Rattle.relay_book.proofs.PlaceLemmas.{none_some, some_is, stays, way_among, ruled_holds, ruled_way, way_ruled}
+use Rattle.relay_book.proofs.EntryLemmas.{holds, none_behind, message_below, joined_other, joined_here, rise_joined, rise_more, rise_ruled, ruled_other, ruled_same, ruled_comes}
+use Rattle.relay_book.proofs.ChangeLemmas.{joined, last, last_joined, change_last, change_other, Back, message_other, message_last, own_from, added_was, leaves_before, leaves_still, leaves_was}
 
 -- what the queue's messages are
 pub record Knows (changes : List Change) (queue : Queue) : Type 0 where
@@ -183,15 +180,18 @@ accept_known changes accept queue knows = record {
         → (message_at (joined changes (Accept accept)) number ≡ Some message.accept) × (length message.places ≡ length message.accept.envelope.recipients) × (message.number ≡ number)
     by number message is (inl same) =
         let none = none_behind 0 queue.next queue.messages queue.next knows.rise (omega arith) in
-        let here = some_is (accepted queue.next accept) message (sym (joined_here queue.messages queue.next (accepted queue.next accept) none) ∙ subst (λ n. message_of (queue.messages ++ (queue.next, accepted queue.next accept) ∷ []) n ≡ Some message) (sym same) is) in
-        (subst (λ n. message_at (joined changes (Accept accept)) n ≡ Some message.accept) (sym knows.next ∙ same)
-            (message_last changes (Accept accept) ∙ ap (λ (m : Message). Some m.accept) here),
-        subst (λ (m : Message). length m.places ≡ length m.accept.envelope.recipients) here (all_placed accept.at accept.envelope.recipients),
-        sym (ap (λ (m : Message). m.number) here) ∙ same)
+        let here = some_is (accepted queue.next accept) message (sym (joined_here queue.messages queue.next (accepted queue.next accept) none) ∙ subst (λ n. message_of (queue.messages ++ (queue.next, accepted queue.next accept) ∷ []) n ≡ Some message) (sym same) is) in (
+          subst (λ n. message_at (joined changes (Accept accept)) n ≡ Some message.accept) (sym knows.next ∙ same)
+              (message_last changes (Accept accept) ∙ ap (λ (m : Message). Some m.accept) here),
+          subst (λ (m : Message). length m.places ≡ length m.accept.envelope.recipients) here (all_placed accept.at accept.envelope.recipients),
+          sym (ap (λ (m : Message). m.number) here) ∙ same,
+        )
     by number message is (inr off) =
-        let before = sym (joined_other queue.messages queue.next number (accepted queue.next accept) off) ∙ is in
-        (message_other changes (Accept accept) number knows.back (λ same. off (knows.next ∙ sym same)) ∙ knows.accept number message before,
-        knows.places number message before, knows.number number message before)
+        let before = sym (joined_other queue.messages queue.next number (accepted queue.next accept) off) ∙ is in (
+          message_other changes (Accept accept) number knows.back (λ same. off (knows.next ∙ sym same)) ∙ knows.accept number message before,
+          knows.places number message before,
+          knows.number number message before,
+        )
 
 -- an outcome, and the message that it is for
 record Meets (changes : List Change) (outcome : OutcomeFields) (queue : Queue) (message : Message) : Type 0 where
@@ -225,7 +225,7 @@ null_reports message at (ruling ∷ rulings) null =
 cons_is_some : (octet : ℕ) (rest : List ℕ) → octet ∷ rest ≡ [] → ⊥
 cons_is_some octet rest e = let one : length (octet ∷ rest) ≡ 0 = ap length e in omega (arith, one)
 
-not_null : (message : Message) (outcome : OutcomeFields) (octet : ℕ) (rest : List ℕ) → FitsMessage message outcome → outcome.report ≡ octet ∷ rest → is_null message.accept.envelope.reverse_path ≡ false
+pub not_null : (message : Message) (outcome : OutcomeFields) (octet : ℕ) (rest : List ℕ) → FitsMessage message outcome → outcome.report ≡ octet ∷ rest → is_null message.accept.envelope.reverse_path ≡ false
 not_null message outcome octet rest fits is = by (is_null message.accept.envelope.reverse_path) refl
   where
     by : (test : Bool) → is_null message.accept.envelope.reverse_path ≡ test → is_null message.accept.envelope.reverse_path ≡ false
@@ -244,8 +244,8 @@ report_made changes outcome queue message octet rest meets is =
     let below = its_number changes outcome queue message meets in
     message_last changes (Outcome outcome)
     ∙ ap (report_for outcome outcome.report)
-        (ap (option_and_then own_accept) (change_other changes (Outcome outcome) outcome.message (λ same. omega (arith, same, below)))
-        ∙ own_from changes outcome.message message.accept (meets.knows.accept outcome.message message meets.is) (not_null message outcome octet rest meets.fits is))
+    (ap (option_and_then own_accept) (change_other changes (Outcome outcome) outcome.message (λ same. omega (arith, same, below)))
+    ∙ own_from changes outcome.message message.accept (meets.knows.accept outcome.message message meets.is) (not_null message outcome octet rest meets.fits is))
     ∙ ap (λ (report : List ℕ). report_for outcome report (Some message.accept)) is
 
 no_report_made : (changes : List Change) (outcome : OutcomeFields) (accept : AcceptFields) → outcome.report ≡ [] → message_at (joined changes (Outcome outcome)) (last changes) ≡ Some accept → ⊥
@@ -268,8 +268,8 @@ leaves_now changes outcome queue message number place way meets leaves =
     let below = its_number changes outcome queue message meets in
     let known = meets.knows.accept outcome.message message meets.is in
     let accept_is = some_is message.accept leaves.accept
-        (sym known ∙ subst (λ n. message_at changes n ≡ Some leaves.accept) (sym number_is)
-        (sym (message_other changes (Outcome outcome) number meets.knows.back (λ e. omega (arith, e, number_is, below))) ∙ leaves.message)) in
+    (sym known ∙ subst (λ n. message_at changes n ≡ Some leaves.accept) (sym number_is)
+    (sym (message_other changes (Outcome outcome) number meets.knows.back (λ e. omega (arith, e, number_is, below))) ∙ leaves.message)) in
     let ruling = subst (λ (o : OutcomeFields). Contains o.rulings (record { place = place; verdict = leaves.verdict })) (sym same) leaves.ruling in
     let ruled = ruled_way message.accept.at outcome.at message.places 0 outcome.rulings place leaves.verdict meets.fits.rulings ruling in
     record {
@@ -371,10 +371,10 @@ outcome_moves changes outcome queue message meets = record { kept = kept; stayed
         report_or_not (λ tail. holds (ruled outcome queue.messages ++ tail) (last changes) place ≡ true) queue.next outcome outcome.report message
         (λ none. absurd (no_report_made changes outcome added.0 none added.1))
         (λ octet rest is.
-            let same = some_is (report_of message.accept outcome) added.0 (sym (report_made changes outcome queue message octet rest meets is) ∙ added.1) in
-            came_held (ruled outcome queue.messages) queue.next (last changes) place (report_of message.accept outcome) meets.knows.next
-            (none_behind 0 queue.next (ruled outcome queue.messages) queue.next (rise_ruled outcome 0 queue.next queue.messages meets.knows.rise) (omega arith))
-            (subst (λ (a : AcceptFields). place < length a.envelope.recipients) (sym same) added.2))
+        let same = some_is (report_of message.accept outcome) added.0 (sym (report_made changes outcome queue message octet rest meets is) ∙ added.1) in
+        came_held (ruled outcome queue.messages) queue.next (last changes) place (report_of message.accept outcome) meets.knows.next
+        (none_behind 0 queue.next (ruled outcome queue.messages) queue.next (rise_ruled outcome 0 queue.next queue.messages meets.knows.rise) (omega arith))
+        (subst (λ (a : AcceptFields). place < length a.envelope.recipients) (sym same) added.2))
 
     one : (number place : ℕ) (way other : Way) → LeavesAt (joined changes (Outcome outcome)) (last changes) number place way
         → LeavesAt (joined changes (Outcome outcome)) (last changes) number place other → way ≡ other
@@ -410,11 +410,12 @@ outcome_known changes outcome queue message meets = record {
     old number one is =
         let comes = ruled_comes outcome 0 queue.next queue.messages number one meets.knows.rise is in
         let below = message_below 0 queue.next queue.messages number comes.old meets.knows.rise comes.old_is in
-        let next = meets.knows.next in
-        (message_other changes (Outcome outcome) number meets.knows.back (λ e. omega (arith, e, below, next))
-            ∙ meets.knows.accept number comes.old comes.old_is ∙ ap Some comes.accept,
-        sym comes.places ∙ meets.knows.places number comes.old comes.old_is ∙ ap (λ (a : AcceptFields). length a.envelope.recipients) comes.accept,
-        sym comes.number_is ∙ meets.knows.number number comes.old comes.old_is)
+        let next = meets.knows.next in (
+          message_other changes (Outcome outcome) number meets.knows.back (λ e. omega (arith, e, below, next))
+              ∙ meets.knows.accept number comes.old comes.old_is ∙ ap Some comes.accept,
+          sym comes.places ∙ meets.knows.places number comes.old comes.old_is ∙ ap (λ (a : AcceptFields). length a.envelope.recipients) comes.accept,
+          sym comes.number_is ∙ meets.knows.number number comes.old comes.old_is,
+        )
 
     new : (number : ℕ) (one : Message) (octet : ℕ) (rest : List ℕ) → outcome.report ≡ octet ∷ rest
         → message_of (ruled outcome queue.messages ++ (queue.next, accepted queue.next (report_of message.accept outcome)) ∷ []) number ≡ Some one
@@ -422,12 +423,13 @@ outcome_known changes outcome queue message meets = record {
     new number one octet rest report is (inl same) =
         let none = none_behind 0 queue.next (ruled outcome queue.messages) queue.next up (omega arith) in
         let here = some_is (accepted queue.next (report_of message.accept outcome)) one
-            (sym (joined_here (ruled outcome queue.messages) queue.next (accepted queue.next (report_of message.accept outcome)) none)
-            ∙ subst (λ n. message_of (ruled outcome queue.messages ++ (queue.next, accepted queue.next (report_of message.accept outcome)) ∷ []) n ≡ Some one) (sym same) is) in
-        (subst (λ n. message_at (joined changes (Outcome outcome)) n ≡ Some one.accept) (sym meets.knows.next ∙ same)
-            (report_made changes outcome queue message octet rest meets report ∙ ap (λ (m : Message). Some m.accept) here),
-        subst (λ (m : Message). length m.places ≡ length m.accept.envelope.recipients) here refl,
-        sym (ap (λ (m : Message). m.number) here) ∙ same)
+        (sym (joined_here (ruled outcome queue.messages) queue.next (accepted queue.next (report_of message.accept outcome)) none)
+        ∙ subst (λ n. message_of (ruled outcome queue.messages ++ (queue.next, accepted queue.next (report_of message.accept outcome)) ∷ []) n ≡ Some one) (sym same) is) in (
+          subst (λ n. message_at (joined changes (Outcome outcome)) n ≡ Some one.accept) (sym meets.knows.next ∙ same)
+              (report_made changes outcome queue message octet rest meets report ∙ ap (λ (m : Message). Some m.accept) here),
+          subst (λ (m : Message). length m.places ≡ length m.accept.envelope.recipients) here refl,
+          sym (ap (λ (m : Message). m.number) here) ∙ same,
+        )
     new number one octet rest report is (inr off) =
         old number one (sym (joined_other (ruled outcome queue.messages) queue.next number (accepted queue.next (report_of message.accept outcome)) off) ∙ is)
 

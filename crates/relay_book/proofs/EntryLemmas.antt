@@ -1,16 +1,15 @@
 -- Messages by rising numbers, and what an outcome leaves of them.
-use Rattle.std.proofs.Common.{◌≡◌, ◌≢◌, ◌⊎◌, inl, inr, ℕ, zero, suc, ◌+◌, ◌<◌, ◌≤◌, ◌==◌, Bool, true, false, cond, ◌&&◌, List, [], ◌∷◌, ◌++◌, length, flat_map, Option, None, Some, refl, sym, subst, ap, ◌∙◌, arith, if◌then◌else◌, Contains}
+use Rattle.std.proofs.Common.{◌≡◌, ◌⊎◌, inl, inr, ℕ, zero, suc, ◌+◌, ◌<◌, ◌≤◌, ◌==◌, Bool, true, false, List, [], ◌∷◌, ◌++◌, length, flat_map, Option, None, Some, refl, sym, subst, ap, ◌∙◌, arith, if◌then◌else◌, Contains}
 use Rattle.std.specs.Option.{option_map_or}
 use Rattle.std.specs.List.{list_any}
-use Rattle.std.proofs.lemmas.Bool.{cond-true, cond-false, cases_eq, cases_lt, cases_Bool, eq-eqb, ne_eqb, false≢true, or_parts}
+use Rattle.std.proofs.lemmas.Bool.{cond-true, cond-false, cases_eq, cases_lt, eq-eqb, ne_eqb, false≢true, or_parts}
 use Rattle.std.proofs.lemmas.List.Elements.{Contains-append_cases, Contains-append_left, Contains-append_right}
-use Rattle.relay_book.specs.declared.change.Accept.{Accept as AcceptFields}
 use Rattle.relay_book.specs.declared.change.Outcome.{Outcome as OutcomeFields}
 use Rattle.relay_book.specs.declared.message.Place.{Place}
 use Rattle.relay_book.specs.declared.message.Message.{Message}
 use Rattle.relay_book.specs.Queue.{holds_at, is_held, if_held, marks_from, marks_of_entry, message_after, message_of, ruled}
 use Rattle.relay_book.specs.Book.{Rise}
-use Rattle.relay_book.proofs.PlaceLemmas.{in_none, in_cons, head_in, tail_in, none_some, some_is, ruled_length}
+use Rattle.relay_book.proofs.PlaceLemmas.{in_none, in_cons, head_in, none_some, some_is, ruled_length}
 
 abbrev pub holds : List (ℕ × Message) → ℕ → ℕ → Bool
 holds entries number place = option_map_or (λ message. holds_at message.places place) (message_of entries number) false
@@ -236,20 +235,20 @@ ruled_same outcome least next (entry ∷ entries) place rise = by (ruled_same ou
         ap (λ (l : List (ℕ × Message)). holds l outcome.message place) (ruled_at outcome entry entries same)
         ∙ kept_or_not (λ l. holds l outcome.message place ≡ holds_at (message_after outcome entry.1).places place) entry.0 (message_after outcome entry.1) entries
         (λ _. ap (λ (o : Option Message). option_map_or (λ message. holds_at message.places place) o false)
-            (cond-true (entry.0 == outcome.message) (Some (message_after outcome entry.1)) (message_of entries outcome.message) on))
+        (cond-true (entry.0 == outcome.message) (Some (message_after outcome entry.1)) (message_of entries outcome.message) on))
         (λ none. ap (λ (o : Option Message). option_map_or (λ message. holds_at message.places place) o false)
-            (none_before (suc entry.0) next entries outcome.message rise.1 (omega (arith, same)))
-            ∙ sym (unheld (message_after outcome entry.1).places place none))
+        (none_before (suc entry.0) next entries outcome.message rise.1 (omega (arith, same)))
+        ∙ sym (unheld (message_after outcome entry.1).places place none))
         ∙ sym (ap (λ (o : Option Message). option_map_or (λ message. holds_at (message_after outcome message).places place) o false)
-            (cond-true (entry.0 == outcome.message) (Some entry.1) (message_of entries outcome.message) on))
+        (cond-true (entry.0 == outcome.message) (Some entry.1) (message_of entries outcome.message) on))
     by rest (inr out) =
         let off = ne_eqb entry.0 outcome.message out in
         ap (λ (l : List (ℕ × Message)). holds l outcome.message place) (ruled_past outcome entry entries out)
         ∙ ap (λ (o : Option Message). option_map_or (λ message. holds_at message.places place) o false)
-            (cond-false (entry.0 == outcome.message) (Some entry.1) (message_of (ruled outcome entries) outcome.message) off)
+        (cond-false (entry.0 == outcome.message) (Some entry.1) (message_of (ruled outcome entries) outcome.message) off)
         ∙ rest
         ∙ sym (ap (λ (o : Option Message). option_map_or (λ message. holds_at (message_after outcome message).places place) o false)
-            (cond-false (entry.0 == outcome.message) (Some entry.1) (message_of entries outcome.message) off))
+        (cond-false (entry.0 == outcome.message) (Some entry.1) (message_of entries outcome.message) off))
 
 -- what was accepted stays, and the number of places
 pub record Comes (entries : List (ℕ × Message)) (number : ℕ) (message : Message) : Type 0 where
@@ -299,10 +298,10 @@ ruled_comes outcome least next (entry ∷ entries) number message rise is =
     by more (inl same) =
         kept_or_not (λ l. message_of l number ≡ Some message → Comes (entry ∷ entries) number message) entry.0 (message_after outcome entry.1) entries
         (λ _ is. front (message_after outcome entry.1) entries refl (ruled_length entry.1.accept outcome.at entry.1.places outcome.rulings) refl
-            (λ there _. comes_same entries number message there) is (cases_eq entry.0 number))
+        (λ there _. comes_same entries number message there) is (cases_eq entry.0 number))
         (λ _ there. skip
-            (λ here. none_some message (sym (none_before (suc entry.0) next entries number rise.1 (omega (arith, here))) ∙ there))
-            (comes_same entries number message there))
+        (λ here. none_some message (sym (none_before (suc entry.0) next entries number rise.1 (omega (arith, here))) ∙ there))
+        (comes_same entries number message there))
         (sym (ap (λ (l : List (ℕ × Message)). message_of l number) (ruled_at outcome entry entries same)) ∙ is)
     by more (inr out) =
         front entry.1 (ruled outcome entries) refl refl refl (λ there _. more there)

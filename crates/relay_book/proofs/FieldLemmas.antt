@@ -1,5 +1,5 @@
 -- The fields of a recipient's record are one.
-use Rattle.std.proofs.Common.{◌≡◌, ◌≢◌, ℕ, suc, ◌+◌, ◌<◌, ◌≤◌, ◌^◌, true, List, [], ◌∷◌, ◌++◌, drop, length, Option, None, Some, refl, sym, subst, ap, ◌∙◌, arith, append_assoc}
+use Rattle.std.proofs.Common.{◌≡◌, ◌≢◌, ℕ, suc, ◌<◌, ◌^◌, true, List, [], ◌∷◌, ◌++◌, drop, length, Option, sym, subst, ap, ◌∙◌, arith, append_assoc}
 use Rattle.relay_envelope.specs.declared.envelope.Recipient.{Recipient}
 use Rattle.relay_envelope.specs.Envelope.{IsRecipient, IsWrittenPath, may_be_notify, may_be_orcpt}
 use Rattle.relay_envelope.specs.Path.{is_forward}

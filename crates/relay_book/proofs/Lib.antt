@@ -1,9 +1,14 @@
+mod FaultLemmas
 mod CodeLemmas
 mod FitLemmas
 mod FieldLemmas
 mod ValueLemmas
 mod RefusalLemmas
 mod RowLemmas
+mod MailFieldLemmas
+mod AcceptLemmas
+mod OutcomeLemmas
+mod ChangeFieldLemmas
 mod PlaceLemmas
 mod EntryLemmas
 mod ChangeLemmas
@@ -12,3 +17,9 @@ mod MarkLaws
 mod TimeLemmas
 mod TimeLaws
 mod StandLemmas
+mod LiveLemmas
+mod ToldLemmas
+mod ReadyLemmas
+mod StoredLemmas
+mod MarkRowLemmas
+pub mod Theorems

@@ -1,20 +1,19 @@
 -- The laws of marks.
-use Rattle.std.proofs.Common.{◌≡◌, ◌≢◌, ◌⊎◌, ◌↔◌, inl, inr, ℕ, zero, suc, ◌+◌, ◌<◌, ◌≤◌, Bool, true, false, List, [], ◌∷◌, ◌++◌, length, fold, Option, None, Some, refl, sym, subst, ap, ◌∙◌, arith, Contains, append_assoc, append-nil, length-append}
+use Rattle.std.proofs.Common.{◌≡◌, ◌⊎◌, inl, inr, ℕ, zero, suc, ◌<◌, Bool, true, false, List, [], ◌∷◌, ◌++◌, length, fold, Option, None, Some, refl, sym, subst, ap, ◌∙◌, arith, Contains, append_assoc, append-nil, length-append}
 use Rattle.std.specs.Option.{option_map_or}
 use Rattle.std.proofs.lemmas.Bool.{cases_eq, cases_Bool, false≢true}
-use Rattle.relay_book.specs.declared.change.Outcome.{Outcome as OutcomeFields}
 use Rattle.relay_book.specs.declared.change.Change.{Change}
-use Rattle.relay_book.specs.declared.change.Change.TheVariants.{Accept, Outcome}
+use Rattle.relay_book.specs.declared.change.Change.TheVariants.{Outcome}
 use Rattle.relay_book.specs.declared.message.Place.{Place}
 use Rattle.relay_book.specs.declared.message.Message.{Message}
-use Rattle.relay_book.specs.Queue.{Queue, FitsQueue, FitsFrom, Fitting, empty_queue, step, queue_of, held_of, holds_at, is_held, message_of}
+use Rattle.relay_book.specs.Queue.{Queue, FitsFrom, Fitting, empty_queue, step, queue_of, held_of, holds_at, message_of}
 use Rattle.relay_book.specs.declared.fate.Way.{Way}
 use Rattle.relay_book.specs.declared.fate.Way.TheVariants.{ByTransfer, ByEnd}
-use Rattle.relay_book.specs.Marks.{change_at, made_by, message_at, Added, LeavesAt, Left, Held, Transferred, Ended, FoldHolds, FoldKnows, ExactlyOne, IsOneOf, First, Second, Third, OneMoreHolds, Leaving, IsNew}
+use Rattle.relay_book.specs.Marks.{change_at, made_by, Added, LeavesAt, Left, Held, Transferred, Ended, FoldHolds, FoldKnows, ExactlyOne, IsOneOf, First, Second, Third, OneMoreHolds, Leaving, IsNew}
 use Rattle.relay_book.proofs.PlaceLemmas.{none_some}
 use Rattle.relay_book.proofs.EntryLemmas.{holds, mark_held, held_mark}
-use Rattle.relay_book.proofs.ChangeLemmas.{joined, last, Back, added_other, added_was, added_before, leaves_before, leaves_still, leaves_was, leaves_later, change_within}
-use Rattle.relay_book.proofs.CustodyLemmas.{Knows, Tells, Grows, grows}
+use Rattle.relay_book.proofs.ChangeLemmas.{joined, last, Back, added_other, added_was, added_before, leaves_still, leaves_was, leaves_later, change_within}
+use Rattle.relay_book.proofs.CustodyLemmas.{Knows, Tells, grows}
 
 nothing_at : (n : ℕ) → change_at [] n ≡ None
 nothing_at zero = refl
@@ -76,10 +75,11 @@ fold_holds changes fitting number place = (there, back)
 
     there : Contains (held_of (queue_of changes)) (number, place) → Held changes number place
     there h =
-        let held = (held_mark 0 (queue_of changes).next (queue_of changes).messages number place stands.knows.rise h).0 in
-        (held_added changes (queue_of changes) number place stands.knows held,
-        (λ left. stands.tells.held number place ByTransfer held left),
-        (λ left. stands.tells.held number place ByEnd held left))
+        let held = (held_mark 0 (queue_of changes).next (queue_of changes).messages number place stands.knows.rise h).0 in (
+          held_added changes (queue_of changes) number place stands.knows held,
+          (λ left. stands.tells.held number place ByTransfer held left),
+          (λ left. stands.tells.held number place ByEnd held left),
+        )
 
     gone : Held changes number place → (way : Way) → Left changes number place way → ⊥
     gone held ByTransfer left = held.1 left
@@ -123,7 +123,7 @@ exactly_one changes fitting number place added = by (cases_Bool (holds (queue_of
         First (added, not_transferred, not_ended) not_transferred not_ended
     by (inr out) = let left = stands.tells.left number place added out in of_way left.0 left.1
 
-fits_before : (queue : Queue) (changes : List Change) (change : Change) → FitsFrom queue (changes ++ change ∷ []) → FitsFrom queue changes
+pub fits_before : (queue : Queue) (changes : List Change) (change : Change) → FitsFrom queue (changes ++ change ∷ []) → FitsFrom queue changes
 fits_before queue [] change fits = tt
 fits_before queue (first ∷ changes) change fits = (fits.0, fits_before (step queue first) changes change fits.1)
 
@@ -148,9 +148,10 @@ one_more_holds changes change fitting number place = (there, back_again)
 
         by : (number ≡ last changes) ⊎ (number ≡ last changes → ⊥) → (Held changes number place × (Leaving changes change number place → ⊥)) ⊎ IsNew changes change number place
         by (inl same) = inr (same, held.0)
-        by (inr off) = inl
-            ((added_was changes change number place back off held.0, (λ left. held.1 (still ByTransfer left)), (λ left. held.2 (still ByEnd left))),
-            (λ leaving. gone leaving.0 (last changes, leaving.1)))
+        by (inr off) = inl (
+          (added_was changes change number place back off held.0, (λ left. held.1 (still ByTransfer left)), (λ left. held.2 (still ByEnd left))),
+          (λ leaving. gone leaving.0 (last changes, leaving.1)),
+        )
 
     not_left : Held changes number place → (Leaving changes change number place → ⊥) → (way : Way) → Left (joined changes change) number place way → ⊥
     not_left held stays way left = by (cases_eq left.0 (last changes))
@@ -171,7 +172,9 @@ one_more_holds changes change fitting number place = (there, back_again)
         omega (arith, same, later, within, parts)
 
     back_again : (Held changes number place × (Leaving changes change number place → ⊥)) ⊎ IsNew changes change number place → Held (joined changes change) number place
-    back_again (inl old) =
-        (added_other changes change number place back (added_before changes number place old.0.0) old.0.0,
-        not_left old.0 old.1 ByTransfer, not_left old.0 old.1 ByEnd)
+    back_again (inl old) = (
+      added_other changes change number place back (added_before changes number place old.0.0) old.0.0,
+      not_left old.0 old.1 ByTransfer,
+      not_left old.0 old.1 ByEnd,
+    )
     back_again (inr new) = (new.1, new_stays new.0 ByTransfer, new_stays new.0 ByEnd)

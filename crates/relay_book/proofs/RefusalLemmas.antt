@@ -1,13 +1,12 @@
 -- Where no verdict begins a text.
-use Rattle.std.proofs.Common.{◌≡◌, ◌≢◌, ℕ, suc, ◌+◌, ◌<◌, ◌≤◌, ◌^◌, List, [], ◌∷◌, ◌++◌, head_or, drop, length, refl, sym, subst, ap, ◌∙◌, arith, append_assoc, length-append, ◌⊎◌, inl, inr}
+use Rattle.std.proofs.Common.{◌≡◌, ℕ, suc, ◌+◌, ◌<◌, ◌≤◌, ◌^◌, List, [], ◌∷◌, ◌++◌, drop, length, refl, sym, subst, ap, ◌∙◌, arith, append_assoc, length-append}
 use Rattle.std.specs.List.{AllPass}
 use Rattle.std.specs.Int.{is_in_range}
-use Rattle.relay_book.specs.declared.change.Ruling.{Ruling}
 use Rattle.relay_book.specs.declared.change.Verdict.{Verdict}
 use Rattle.relay_book.specs.declared.change.Verdict.TheVariants.{Taken, Refused, Later, CantSend, NoRoute}
 use Rattle.relay_book.specs.Record.{IsRefusal, IsRuling, IsVerdict, octets_2, ruling_octets, verdict_octets}
 use Rattle.relay_book.specs.Fields.{HasNoRefusal, HasNone, refusal_octets}
-use Rattle.relay_book.proofs.CodeLemmas.{code_2, fronts, short_of_2}
+use Rattle.relay_book.proofs.CodeLemmas.{first_of, code_2, fronts, short_of_2}
 use Rattle.std.proofs.Common.{true, false}
 use Rattle.relay_book.proofs.FieldLemmas.{same_head}
 use Rattle.relay_book.proofs.ValueLemmas.{tag, tag_first}
@@ -81,12 +80,12 @@ no_tag text empty = record {
   none = λ verdict rest valid e.
       let within = tag_within verdict in
       let first = tag_first verdict rest in
-      let none = ap (head_or 0) e in
+      let none = ap first_of e in
       let nothing = head_of_empty text empty in
       omega (arith, within.0, first, none, nothing);
 }
   where
-    head_of_empty : (text : List ℕ) → length text ≡ 0 → head_or 0 text ≡ 0
+    head_of_empty : (text : List ℕ) → length text ≡ 0 → first_of text ≡ 0
     head_of_empty [] empty = refl
     head_of_empty (octet ∷ octets) empty = omega (arith, empty)
 
@@ -94,7 +93,7 @@ pub other_tag : (text : List ℕ) (number : ℕ) (rest : List ℕ) → text ≡ 
 other_tag text number rest is out = record {
   none = λ verdict more valid e.
       let within = tag_within verdict in
-      let same : number ≡ tag verdict = ap (head_or 0) (sym is ∙ e) ∙ tag_first verdict more in
+      let same : number ≡ tag verdict = ap first_of (sym is ∙ e) ∙ tag_first verdict more in
       out (omega (arith, same, within.0)) (omega (arith, same, within.1));
 }
 
@@ -102,7 +101,7 @@ pub no_refusal : (text rest : List ℕ) → text ≡ 3 ∷ rest → HasNoRefusal
 no_refusal text rest is out = record { none = λ verdict more valid e. by verdict more valid (sym is ∙ e) }
   where
     other : (n : ℕ) (rest more : List ℕ) → 3 ∷ rest ≡ n ∷ more → (n ≡ 3 → ⊥) → ⊥
-    other n rest more e off = off (sym (ap (head_or 0) e))
+    other n rest more e off = off (sym (ap first_of e))
 
     by : (verdict : Verdict) (more : List ℕ) → IsVerdict verdict → 3 ∷ rest ≡ verdict_octets verdict ++ more → ⊥
     by (Taken true) more valid e = other 1 rest more e (λ same. omega (arith, same))

@@ -1,5 +1,5 @@
 -- Rows of values, one after another.
-use Rattle.std.proofs.Common.{◌≡◌, ℕ, suc, ◌+◌, ◌<◌, ◌≤◌, List, [], ◌∷◌, ◌++◌, length, refl, sym, subst, ap, ◌∙◌, arith, append_assoc, append-nil, length-append}
+use Rattle.std.proofs.Common.{◌≡◌, ℕ, suc, ◌+◌, ◌<◌, ◌≤◌, List, [], ◌∷◌, ◌++◌, length, sym, ap, ◌∙◌, arith, append_assoc, append-nil, length-append}
 use Rattle.std.specs.List.{flat_map, AllByRecursion}
 use Rattle.relay_envelope.specs.declared.envelope.Recipient.{Recipient}
 use Rattle.relay_envelope.specs.Envelope.{IsRecipient}
@@ -43,7 +43,7 @@ row_from Valid octets_of code [] (value ∷ values) behind rest fewer all valid 
     none.none value (flat_map octets_of values ++ rest) valid.0 (e ∙ append_assoc (octets_of value) (flat_map octets_of values) rest)
 row_from Valid octets_of code (first ∷ done) (value ∷ values) behind rest fewer all valid none e =
     let same = code first value (flat_map octets_of done ++ behind) (flat_map octets_of values ++ rest) all.0 valid.0
-        (sym (append_assoc (octets_of first) (flat_map octets_of done) behind) ∙ e ∙ append_assoc (octets_of value) (flat_map octets_of values) rest) in
+    (sym (append_assoc (octets_of first) (flat_map octets_of done) behind) ∙ e ∙ append_assoc (octets_of value) (flat_map octets_of values) rest) in
     row_from Valid octets_of code done values behind rest (omega (arith, fewer)) all.1 valid.1 none same.1
 
 no_row : {A : Type 0} (Valid : A → Type 0) (octets_of : A → List ℕ) → IsCode Valid octets_of → (count done : ℕ) (text : List ℕ) (values : List A) (behind : List ℕ)

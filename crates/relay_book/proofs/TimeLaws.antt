@@ -1,6 +1,5 @@
 -- The law of due moments.
-use Rattle.std.proofs.Common.{◌≡◌, ◌⊎◌, inl, inr, ℕ, zero, suc, ◌+◌, ◌<◌, ◌≤◌, ◌==◌, Bool, true, false, cond, ◌&&◌, if◌then◌else◌, List, [], ◌∷◌, ◌++◌, length, fold, slice_get, Option, None, Some, MatchOption, refl, sym, subst, ap, ◌∙◌, arith, append_assoc, append-nil}
-use Rattle.std.specs.List.{list_any}
+use Rattle.std.proofs.Common.{◌≡◌, ◌⊎◌, inl, inr, ℕ, suc, ◌<◌, ◌==◌, Bool, ◌&&◌, if◌then◌else◌, List, [], ◌∷◌, ◌++◌, length, fold, slice_get, Option, None, Some, MatchOption, refl, sym, subst, ap, ◌∙◌, arith, append_assoc, append-nil}
 use Rattle.std.proofs.lemmas.List.Sums.{fold_push}
 use Rattle.std.proofs.lemmas.Bool.{cond-true, cond-false, cases_eq, eq-eqb, ne_eqb}
 use Rattle.relay_book.specs.declared.change.Accept.{Accept as AcceptFields}
@@ -11,12 +10,12 @@ use Rattle.relay_book.specs.declared.message.Place.{Place}
 use Rattle.relay_book.specs.declared.message.Message.{Message}
 use Rattle.relay_book.specs.DueMoment.{laters_of, laters_with, waits_in}
 use Rattle.relay_book.specs.DueLaw.{FoldDue}
-use Rattle.relay_book.specs.Queue.{Queue, FitsQueue, FitsFrom, FitsMessage, Fitting, accepted, empty_queue, is_held, if_held, message_after, message_of, queue_of, report_of, reported, ruled, step}
+use Rattle.relay_book.specs.Queue.{Queue, FitsQueue, FitsFrom, FitsMessage, accepted, empty_queue, message_after, message_of, report_of, reported, ruled, step}
 use Rattle.relay_book.specs.Book.{Rise}
 use Rattle.relay_book.proofs.PlaceLemmas.{none_some, some_is}
 use Rattle.relay_book.proofs.EntryLemmas.{joined_here, joined_other, kept_or_not, message_below, none_before, none_behind, rise_ruled, ruled_at, ruled_other, ruled_past}
-use Rattle.relay_book.proofs.ChangeLemmas.{joined, last, Back, change_within}
-use Rattle.relay_book.proofs.CustodyLemmas.{Grows, Knows, Tells, grows, report_or_not}
+use Rattle.relay_book.proofs.ChangeLemmas.{joined, Back, change_within}
+use Rattle.relay_book.proofs.CustodyLemmas.{Knows, grows, report_or_not}
 use Rattle.relay_book.proofs.MarkLaws.{Stands, none_known, none_told}
 use Rattle.relay_book.proofs.TimeLemmas.{AreTimed, IsTimed, timed_new, timed_ruled}
 
@@ -34,9 +33,9 @@ never : (changes : List Change) (number place : ℕ) → Back changes → length
 never changes number place back above =
     never_from changes number place
     (λ k outcome is same.
-        let before = back (suc k) outcome is in
-        let within = change_within changes (suc k) (Outcome outcome) is in
-        omega (arith, before, within, same, above))
+    let before = back (suc k) outcome is in
+    let within = change_within changes (suc k) (Outcome outcome) is in
+    omega (arith, before, within, same, above))
     []
 
 more_laters : (changes : List Change) (change : Change) (number place : ℕ) → laters_of (joined changes change) number place ≡ laters_with number place (laters_of changes number place) change
@@ -120,8 +119,8 @@ clocked_outcome changes outcome queue message knows found fits clocked = record 
         let it = ruled_is outcome 0 queue.next queue.messages message one knows.rise found (subst (λ n. message_of (ruled outcome queue.messages) n ≡ Some one) (sym same) is) in
         subst (λ n. IsKnown n one) same (subst (IsKnown outcome.message) it
         (timed_as message.accept.at (λ n. if waits_in n outcome.rulings then outcome.at ∷ laters_of changes outcome.message n else laters_of changes outcome.message n)
-            (laters_of (joined changes (Outcome outcome)) outcome.message) (message_after outcome message).places (λ place. sym (its_laters changes outcome place))
-            (timed_ruled message.accept outcome.at (laters_of changes outcome.message) message.places 0 outcome.rulings fits.rulings (clocked.timed outcome.message message found))))
+        (laters_of (joined changes (Outcome outcome)) outcome.message) (message_after outcome message).places (λ place. sym (its_laters changes outcome place))
+        (timed_ruled message.accept outcome.at (laters_of changes outcome.message) message.places 0 outcome.rulings fits.rulings (clocked.timed outcome.message message found))))
     old number one is (inr off) =
         timed_as one.accept.at (laters_of changes number) (laters_of (joined changes (Outcome outcome)) number) one.places
         (λ place. sym (other_laters changes outcome number place off))
@@ -132,8 +131,8 @@ clocked_outcome changes outcome queue message knows found fits clocked = record 
     new number one is (inl same) =
         let none = none_behind 0 queue.next (ruled outcome queue.messages) queue.next (rise_ruled outcome 0 queue.next queue.messages knows.rise) (omega arith) in
         let here = some_is (accepted queue.next (report_of message.accept outcome)) one
-            (sym (joined_here (ruled outcome queue.messages) queue.next (accepted queue.next (report_of message.accept outcome)) none)
-            ∙ subst (λ n. message_of (ruled outcome queue.messages ++ (queue.next, accepted queue.next (report_of message.accept outcome)) ∷ []) n ≡ Some one) (sym same) is) in
+        (sym (joined_here (ruled outcome queue.messages) queue.next (accepted queue.next (report_of message.accept outcome)) none)
+        ∙ subst (λ n. message_of (ruled outcome queue.messages ++ (queue.next, accepted queue.next (report_of message.accept outcome)) ∷ []) n ≡ Some one) (sym same) is) in
         let next = knows.next in
         let below = message_below 0 queue.next queue.messages outcome.message message knows.rise found in
         timed_first (joined changes (Outcome outcome)) number queue.next (report_of message.accept outcome) one

@@ -1,15 +1,14 @@
 -- When places are due, change by change.
-use Rattle.std.proofs.Common.{◌≡◌, ◌⊎◌, inl, inr, ℕ, zero, suc, ◌+◌, ◌-◌, ◌*◌, ◌^◌, ◌<◌, ◌≤◌, ◌==◌, min, nat_le, Bool, true, false, cond, ◌&&◌, ◌||◌, if◌then◌else◌, List, [], ◌∷◌, ◌++◌, map, length, fold, slice_get, slice_set, Option, None, Some, refl, sym, subst, ap, ◌∙◌, arith, pow_mono}
+use Rattle.std.proofs.Common.{◌≡◌, ◌⊎◌, inl, inr, ℕ, zero, suc, ◌+◌, ◌-◌, ◌*◌, ◌^◌, ◌<◌, ◌≤◌, ◌==◌, min, nat_le, Bool, true, false, ◌&&◌, ◌||◌, if◌then◌else◌, List, [], ◌∷◌, map, length, slice_get, slice_set, Option, None, Some, refl, sym, subst, ap, ◌∙◌, arith, pow_mono}
 use Rattle.std.specs.Option.{option_map_or}
-use Rattle.std.proofs.lemmas.Bool.{cond-true, cond-false, cases_eq, cases_lt, cases_Bool, eq-eqb, ne_eqb, false≢true}
+use Rattle.std.proofs.lemmas.Bool.{cases_eq, cases_lt, eq-eqb, ne_eqb, false≢true}
 use Rattle.relay_envelope.specs.declared.envelope.Recipient.{Recipient}
 use Rattle.relay_book.specs.declared.change.Accept.{Accept as AcceptFields}
 use Rattle.relay_book.specs.declared.change.Ruling.{Ruling}
 use Rattle.relay_book.specs.declared.change.Verdict.{Verdict}
 use Rattle.relay_book.specs.declared.change.Verdict.TheVariants.{Taken, Refused, Later, CantSend, NoRoute}
 use Rattle.relay_book.specs.declared.message.Place.{Place}
-use Rattle.relay_book.specs.declared.fate.Fate.{Fate}
-use Rattle.relay_book.specs.declared.fate.Fate.TheVariants.{Waits, Failed, Relayed}
+use Rattle.relay_book.specs.declared.fate.Fate.TheVariants.{Waits, Failed}
 use Rattle.relay_book.specs.DueReport.{fate_of, patience}
 use Rattle.relay_book.specs.DueMoment.{due_moment_of, wait_after, is_later, waits_in}
 use Rattle.relay_book.specs.Queue.{AreRulings, holds_at, is_held, held_place, place_after, places_after, places_ruled}
@@ -80,14 +79,14 @@ timed_after accept at laters places ruling holds timed n place = by (slice_get p
         → (ruling.place ≡ n) ⊎ (ruling.place ≡ n → ⊥) → IsTimed accept.at (laters_behind at laters ruling n) place
     after old is was got held (inl same) =
         let here = some_is (place_after at old (fate_of accept.at at ruling.verdict)) place
-            (sym (get_here places ruling.place old (place_after at old (fate_of accept.at at ruling.verdict)) is)
-            ∙ subst (λ m. slice_get (slice_set places ruling.place (place_after at old (fate_of accept.at at ruling.verdict))) m ≡ Some place) (sym same) got) in
+        (sym (get_here places ruling.place old (place_after at old (fate_of accept.at at ruling.verdict)) is)
+        ∙ subst (λ m. slice_get (slice_set places ruling.place (place_after at old (fate_of accept.at at ruling.verdict))) m ≡ Some place) (sym same) got) in
         let before = timed ruling.place old is was in
         let now = timed_later accept.at at (laters ruling.place) old ruling.verdict before (subst (λ (p : Place). p.held ≡ true) (sym here) held) in
         subst (IsTimed accept.at (laters_behind at laters ruling n)) here
         (subst (λ m. IsTimed accept.at (laters_behind at laters ruling m) (place_after at old (fate_of accept.at at ruling.verdict))) same
         (subst (λ (test : Bool). IsTimed accept.at (if test && is_later ruling.verdict then at ∷ laters ruling.place else laters ruling.place) (place_after at old (fate_of accept.at at ruling.verdict)))
-            (sym (eq-eqb ruling.place ruling.place refl)) now))
+        (sym (eq-eqb ruling.place ruling.place refl)) now))
     after old is was got held (inr out) =
         subst (λ (test : Bool). IsTimed accept.at (if test && is_later ruling.verdict then at ∷ laters n else laters n) place) (sym (ne_eqb ruling.place n out))
         (timed n place (sym (get_other places ruling.place n (place_after at old (fate_of accept.at at ruling.verdict)) out) ∙ got) held)

@@ -1,19 +1,17 @@
 -- Values of fields are one for each number or text.
-use Rattle.std.proofs.Common.{◌≡◌, ℕ, ◌+◌, ◌<◌, ◌≤◌, ◌^◌, ◌==◌, ◌||◌, Bool, true, false, List, [], ◌∷◌, ◌++◌, head_or, drop, length, Option, None, Some, refl, sym, subst, ap, ◌∙◌, arith, append_assoc, if◌then◌else◌}
+use Rattle.std.proofs.Common.{◌≡◌, ℕ, ◌==◌, ◌||◌, Bool, true, false, List, [], ◌∷◌, ◌++◌, drop, length, Option, None, Some, refl, sym, ap, ◌∙◌, append_assoc, if◌then◌else◌}
 use Rattle.std.proofs.lemmas.Bool.{false≢true}
-use Rattle.relay_envelope.specs.declared.envelope.Recipient.{Recipient}
 use Rattle.relay_envelope.specs.declared.parameters.Ret.{Ret}
 use Rattle.relay_envelope.specs.declared.parameters.Ret.TheVariants.{Full, Hdrs}
 use Rattle.relay_envelope.specs.declared.parameters.Notify.{Notify}
 use Rattle.relay_envelope.specs.declared.parameters.Notify.TheVariants.{Never, On}
 use Rattle.relay_envelope.specs.Parameters.{is_envid, is_orcpt, is_address_type}
 use Rattle.relay_envelope.specs.Envelope.{IsRecipient, may_be_envid, may_be_notify, may_be_orcpt, outcomes_of}
-use Rattle.relay_book.specs.declared.change.Ruling.{Ruling}
 use Rattle.relay_book.specs.declared.change.Verdict.{Verdict}
 use Rattle.relay_book.specs.declared.change.Verdict.TheVariants.{Taken, Refused, Later, CantSend, NoRoute}
-use Rattle.relay_book.specs.Record.{IsRefusal, IsRuling, IsVerdict, notify_number, octets_2, recipient_octets, ret_number, ruling_octets, sized_2, verdict_octets, written}
-use Rattle.relay_book.specs.Fields.{HasFields, SpellsFields, refusal_octets}
-use Rattle.relay_book.proofs.CodeLemmas.{IsCode, code_2, fronts}
+use Rattle.relay_book.specs.Record.{IsRefusal, IsRuling, IsVerdict, notify_number, octets_2, recipient_octets, ret_number, ruling_octets, verdict_octets, written}
+use Rattle.relay_book.specs.Fields.{refusal_octets}
+use Rattle.relay_book.proofs.CodeLemmas.{first_of, IsCode, code_2, fronts}
 use Rattle.relay_book.proofs.FieldLemmas.{fields_are_one, same_head, spells}
 
 -- RET
@@ -140,7 +138,7 @@ plain_text Later rest plain = refl
 plain_text CantSend rest plain = refl
 plain_text NoRoute rest plain = refl
 
-pub tag_first : (verdict : Verdict) (rest : List ℕ) → head_or 0 (verdict_octets verdict ++ rest) ≡ tag verdict
+pub tag_first : (verdict : Verdict) (rest : List ℕ) → first_of (verdict_octets verdict ++ rest) ≡ tag verdict
 unfolding tag
 tag_first (Taken true) rest = refl
 tag_first (Taken false) rest = refl
@@ -154,7 +152,7 @@ pub refusal_is_one : (code other : ℕ) (text field x y : List ℕ) → IsRefusa
     → (code ≡ other) × (text ≡ field) × (x ≡ y)
 refusal_is_one code other text field x y valid also e =
     let first = code_2 code other (length text ∷ (text ++ x)) (length field ∷ (field ++ y)) valid.code_fits also.code_fits
-        (sym (append_assoc (octets_2 code) (length text ∷ text) x) ∙ e ∙ append_assoc (octets_2 other) (length field ∷ field) y) in
+    (sym (append_assoc (octets_2 code) (length text ∷ text) x) ∙ e ∙ append_assoc (octets_2 other) (length field ∷ field) y) in
     let second = same_head (length text) (length field) (text ++ x) (field ++ y) first.1 in
     let third = fronts (length field) text field x y second.0 refl second.1 in
     (first.0, third.0, third.1)
@@ -181,16 +179,17 @@ pub code_verdict : IsCode IsVerdict verdict_octets
 code_verdict one two x y valid also e = by (is_refusal one) refl
   where
     same_tag : tag one ≡ tag two
-    same_tag = sym (tag_first one x) ∙ ap (head_or 0) e ∙ tag_first two y
+    same_tag = sym (tag_first one x) ∙ ap first_of e ∙ tag_first two y
 
     alike : is_refusal two ≡ is_refusal one
     alike = by_tag two ∙ ap (λ (n : ℕ). n == 3) (sym same_tag) ∙ sym (by_tag one)
 
     by : (test : Bool) → is_refusal one ≡ test → (one ≡ two) × (x ≡ y)
     by true r = refusals_are_one one two x y valid also r (alike ∙ r) e
-    by false r =
-        (sym (plain_again one r) ∙ ap from_tag same_tag ∙ plain_again two (alike ∙ r),
-        ap (drop 1) (sym (plain_text one x r) ∙ e ∙ plain_text two y (alike ∙ r)))
+    by false r = (
+      sym (plain_again one r) ∙ ap from_tag same_tag ∙ plain_again two (alike ∙ r),
+      ap (drop 1) (sym (plain_text one x r) ∙ e ∙ plain_text two y (alike ∙ r)),
+    )
 
 pub code_ruling : IsCode IsRuling ruling_octets
 code_ruling one two x y valid also e =

@@ -1,8 +1,9 @@
 -- The fields of records, one after another, and what no valid value begins. (Readers cut them; others judge them.)
-use Rattle.std.specs.Prelude.{◌≡◌, ◌≢◌, ℕ, ◌≤◌, ◌<◌, ◌^◌, List, ◌∷◌, ◌++◌, length}
+use Rattle.std.specs.Prelude.{◌≡◌, ◌≢◌, ℕ, ◌≤◌, ◌<◌, ◌^◌, true, List, ◌∷◌, ◌++◌, length}
 use Rattle.std.specs.List.{flat_map, AllByRecursion}
 use Rattle.relay_envelope.specs.declared.envelope.Recipient.{Recipient}
-use Rattle.relay_envelope.specs.Envelope.{IsRecipient}
+use Rattle.relay_envelope.specs.declared.envelope.Envelope.{Envelope}
+use Rattle.relay_envelope.specs.Envelope.{IsRecipient, IsReversePath, may_be_envid}
 use Rattle.relay_book.specs.declared.change.Accept.{Accept as AcceptFields}
 use Rattle.relay_book.specs.declared.change.Outcome.{Outcome as OutcomeFields}
 use Rattle.relay_book.specs.declared.change.Ruling.{Ruling}
@@ -74,21 +75,33 @@ pub record SpellsAccept (text : List ℕ) (at : ℕ) (path : List ℕ) (ret : �
   pub are_recipients : AreSome IsRecipient recipients
   pub stored_fits : length stored < 2 ^ 32
 
-pub record HasAcceptFields (accept : AcceptFields) (at : ℕ) (path : List ℕ) (ret : ℕ) (envid : List ℕ) (recipients : List Recipient) (stored : List ℕ) : Type 0 where
-  pub at_is : at ≡ accept.at
-  pub path_is : path ≡ accept.envelope.reverse_path
-  pub ret_is : ret ≡ ret_number accept.envelope.ret
-  pub envid_is : envid ≡ written accept.envelope.envid
-  pub recipients_are : recipients ≡ accept.envelope.recipients
-  pub stored_is : stored ≡ accept.stored_text
+-- what MAIL said may be stored
+pub record IsMail (envelope : Envelope) : Type 0 where
+  pub reverse_path : IsReversePath envelope.reverse_path
+  pub envid : may_be_envid envelope.envid ≡ true
 
--- no accept has these fields
-pub record IsNoAccept (at : ℕ) (path : List ℕ) (ret : ℕ) (envid : List ℕ) (recipients : List Recipient) (stored : List ℕ) : Type 0 where
-  pub none : (accept : AcceptFields) → IsAccept accept → HasAcceptFields accept at path ret envid recipients stored → ⊥
+pub record HasMailFields (envelope : Envelope) (path : List ℕ) (ret : ℕ) (envid : List ℕ) : Type 0 where
+  pub path_is : path ≡ envelope.reverse_path
+  pub ret_is : ret ≡ ret_number envelope.ret
+  pub envid_is : envid ≡ written envelope.envid
+
+-- no MAIL has these fields
+pub record IsNoMail (path : List ℕ) (ret : ℕ) (envid : List ℕ) : Type 0 where
+  pub none : (envelope : Envelope) → IsMail envelope → HasMailFields envelope path ret envid → ⊥
 
 -- the text is no accept
 pub record SpellsNoAccept (text : List ℕ) : Type 0 where
   pub none : (accept : AcceptFields) → IsAccept accept → text ≢ accept_octets accept
+
+-- an outcome up to its hop: its message, its moment, the hop
+pub record SpellsHead (text : List ℕ) (message at : ℕ) (hop rest : List ℕ) : Type 0 where
+  pub text_is : text ≡ octets_8 message ++ (octets_8 at ++ (sized_2 hop ++ rest))
+  pub message_fits : message < 2 ^ 64
+  pub at_fits : at < 2 ^ 64
+  pub hop_fits : length hop < 2 ^ 16
+
+pub record HasNoHead (text : List ℕ) : Type 0 where
+  pub none : (message at : ℕ) (hop rest : List ℕ) → SpellsHead text message at hop rest → ⊥
 
 -- the fields of an outcome
 pub record SpellsOutcome (text : List ℕ) (message at : ℕ) (hop : List ℕ) (rulings : List Ruling) (report : List ℕ) : Type 0 where
@@ -98,17 +111,6 @@ pub record SpellsOutcome (text : List ℕ) (message at : ℕ) (hop : List ℕ) (
   pub hop_fits : length hop < 2 ^ 16
   pub are_rulings : AreSome IsRuling rulings
   pub report_fits : length report < 2 ^ 32
-
-pub record HasOutcomeFields (outcome : OutcomeFields) (message at : ℕ) (hop : List ℕ) (rulings : List Ruling) (report : List ℕ) : Type 0 where
-  pub message_is : message ≡ outcome.message
-  pub at_is : at ≡ outcome.at
-  pub hop_is : hop ≡ outcome.hop
-  pub rulings_are : rulings ≡ outcome.rulings
-  pub report_is : report ≡ outcome.report
-
--- no outcome has these fields
-pub record IsNoOutcome (message at : ℕ) (hop : List ℕ) (rulings : List Ruling) (report : List ℕ) : Type 0 where
-  pub none : (outcome : OutcomeFields) → IsOutcome outcome → HasOutcomeFields outcome message at hop rulings report → ⊥
 
 -- the text is no outcome
 pub record SpellsNoOutcome (text : List ℕ) : Type 0 where

@@ -1,8 +1,7 @@
 -- Custody of each recipient (RFC 5321, section 6.1), by the list of changes. A change's number is its place in the list, from 1.
-use Rattle.std.specs.Prelude.{◌≡◌, ◌≢◌, ◌⊎◌, ◌↔◌, ℕ, zero, suc, ◌+◌, ◌<◌, Bool, true, false, List, [], ◌∷◌, ◌++◌, length, slice_get, Option, None, Some}
+use Rattle.std.specs.Prelude.{◌≡◌, ◌≢◌, ◌⊎◌, ◌↔◌, ℕ, zero, suc, ◌<◌, List, [], ◌∷◌, ◌++◌, length, slice_get, Option, None, Some}
 use Rattle.std.specs.Option.{option_and_then, option_map_or}
 use Rattle.std.specs.List.{Contains}
-use Rattle.relay_envelope.specs.declared.envelope.Recipient.{Recipient}
 use Rattle.relay_book.specs.declared.change.Accept.{Accept as AcceptFields}
 use Rattle.relay_book.specs.declared.change.Outcome.{Outcome as OutcomeFields}
 use Rattle.relay_book.specs.declared.change.Ruling.{Ruling}
@@ -141,10 +140,3 @@ ReportMayBeStored =
     (changes : List Change) → Fitting changes → (outcome : OutcomeFields) (message : Message)
     → FitsQueue (queue_of changes) (Outcome outcome) → message_of (queue_of changes).messages outcome.message ≡ Some message
     → outcome.report ≢ [] → IsAccept (report_of message.accept outcome)
-
--- What leaves by a change is listed once, in order of places.
-abbrev pub LeavingIsListed : Type 0
-LeavingIsListed =
-    (changes : List Change) (outcome : OutcomeFields) → Fitting (changes ++ Outcome outcome ∷ []) → (place : ℕ) (way : Way)
-    → Contains (leaving changes (Outcome outcome)) (place, way)
-    ↔ LeavesAt (changes ++ Outcome outcome ∷ []) (suc (length changes)) outcome.message place way

@@ -1,12 +1,11 @@
 -- Records: the one encoding of a change, and what a change may hold. Numbers are big endian.
-use Rattle.std.specs.Prelude.{◌≡◌, ℕ, ◌+◌, ◌≤◌, ◌<◌, ◌^◌, Bool, true, false, List, [], ◌∷◌, ◌++◌, length, codes, Option, Some, None, if◌then◌else◌}
+use Rattle.std.specs.Prelude.{◌≡◌, ◌≢◌, ℕ, ◌+◌, ◌≤◌, ◌<◌, ◌^◌, Bool, true, false, List, [], ◌∷◌, ◌++◌, length, codes, Option, Some, None, if◌then◌else◌}
 use Rattle.std.specs.List.{flat_map, AllByRecursion, AllPass}
 use Rattle.std.specs.Str.{bytes_eq}
 use Rattle.std.specs.Int.{w16, w32, w64, to_be_bytes, is_in_range}
 use Rattle.relay_trace.specs.declared.moment.TheConstants.{LAST_SECOND}
 use Rattle.relay_envelope.specs.HostName.{IsHostName}
 use Rattle.relay_envelope.specs.Envelope.{IsEnvelope}
-use Rattle.relay_envelope.specs.declared.envelope.Envelope.{Envelope}
 use Rattle.relay_envelope.specs.declared.envelope.Recipient.{Recipient}
 use Rattle.relay_envelope.specs.declared.parameters.Ret.{Ret}
 use Rattle.relay_envelope.specs.declared.parameters.Ret.TheVariants.{Full, Hdrs}
@@ -150,6 +149,10 @@ pub record IsOutcome (outcome : OutcomeFields) : Type 0 where
 abbrev pub IsChange : Change → Type 0
 IsChange (Accept accept) = IsAccept accept
 IsChange (Outcome outcome) = IsOutcome outcome
+
+-- the octets are the record of no change
+pub record IsNoRecord (text : List ℕ) : Type 0 where
+  pub none : (change : Change) → IsChange change → text ≢ encode change
 
 -- Two changes that may be stored have two encodings.
 abbrev pub EncodingIsOne : Type 0

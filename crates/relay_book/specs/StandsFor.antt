@@ -1,7 +1,7 @@
 -- What the bodies of a spool stand for: for now they are the encodings of changes, each of which fits those before it.
 use Rattle.std.specs.Prelude.{◌≡◌, ◌↔◌, ℕ, List, [], ◌∷◌, ◌++◌, map}
 use Rattle.relay_book.specs.declared.change.Change.{Change}
-use Rattle.relay_book.specs.Record.{IsChange, encode}
+use Rattle.relay_book.specs.Record.{encode}
 use Rattle.relay_book.specs.Queue.{Queue, FitsQueue, Fitting, empty_queue, queue_of, step}
 
 -- the bodies stand for these changes

@@ -1,6 +1,6 @@
 //! What is true of the custody of each recipient, by the list of changes.
 ghost use Rattle.relay_book.specs.DueLaw.{FoldDue};
-ghost use Rattle.relay_book.specs.Marks.{ExactlyOne, FoldHolds, FoldKnows, OneMoreHolds};
+ghost use Rattle.relay_book.specs.Marks.{ExactlyOne, FoldHolds, FoldKnows, MessageStays, OneMoreHolds, ReportMayBeStored};
 
 /// The queue of a list of changes holds exactly what is held.
 pub fn fold_holds()
@@ -25,4 +25,14 @@ pub fn fold_knows()
 /// The due moment of each held place is by its acceptance and its Later verdicts.
 pub fn fold_due()
     ensures { FoldDue }
+{}
+
+/// A message stays what it was accepted as, whatever changes follow.
+pub fn message_stays()
+    ensures { MessageStays }
+{}
+
+/// A report that an outcome queues may be stored as an accept.
+pub fn report_may_be_stored()
+    ensures { ReportMayBeStored }
 {}

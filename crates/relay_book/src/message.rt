@@ -98,7 +98,9 @@ impl Places {
     pub(crate) fn any_held_until(&self, due: u64) -> bool
         ensures { result ≡ list_any (is_held_until due) self.now }
     {
-        self.items.iter().any(|place| place.held && place.due == due)
+        self.items
+            .iter()
+            .any(|place| place.held && place.due == due)
     }
 
     /// Whether a place is held.

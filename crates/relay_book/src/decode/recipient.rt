@@ -126,12 +126,14 @@ fn read_row(alloc: Global, count: u8, text: &[u8]) -> Result<(Recipients, &[u8])
 {
     let mut recipients = Recipients::new(alloc);
     let mut rest = text;
-    for _ in 0..count {
-        let Some((rcpt, behind)) = read_recipient(rest) else {
-            return Err(BookFault::BadRecord);
-        };
-        recipients.push(Recipient::new(alloc, rcpt)?)?;
-        rest = behind;
+    for index in 0..count {
+        match read_recipient(rest) {
+            None => return Err(BookFault::BadRecord),
+            Some((rcpt, behind)) => {
+                recipients.push(Recipient::new(alloc, rcpt)?)?;
+                rest = behind;
+            }
+        }
     }
     Ok((recipients, rest))
 }

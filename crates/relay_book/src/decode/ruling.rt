@@ -8,18 +8,9 @@ ghost use Rattle.relay_book.specs.Fields.{AreSoMany, AreSome, HasNoCounted, HasN
 use crate::change::{Ruling, Rulings, Verdict};
 use crate::fault::BookFault;
 use crate::field::read_2;
+use crate::limits::{REFUSAL_LIMIT, is_printable};
 use relay_octets::Octets;
 use std::alloc::Global;
-
-/// The most octets of a refusal's text.
-const REFUSAL_LIMIT: usize = 200;
-
-/// Whether each octet is printable.
-fn is_printable(text: &[u8]) -> bool
-    ensures { IsTrue result ↔ AllPass (is_in_range 32 126) text.now }
-{
-    text.iter().all(|octet| (32..=126).contains(octet))
-}
 
 /// A refusal's code and its text, and what follows them.
 #[tactic(auto, using(crate::proofs::RefusalLemmas::none_short, crate::proofs::RefusalLemmas::none_without_length, crate::proofs::RefusalLemmas::none_cut, crate::proofs::RefusalLemmas::none_long, crate::proofs::RefusalLemmas::none_bad))]
@@ -100,10 +91,14 @@ fn read_row(alloc: Global, count: u8, text: &[u8]) -> Result<(Rulings, &[u8]), B
 {
     let mut rulings = Rulings::new(alloc);
     let mut rest = text;
-    for _ in 0..count {
-        let (ruling, behind) = read_ruling(alloc, rest)?;
-        rulings.push(ruling)?;
-        rest = behind;
+    for index in 0..count {
+        match read_ruling(alloc, rest) {
+            Err(fault) => return Err(fault),
+            Ok((ruling, behind)) => {
+                rulings.push(ruling)?;
+                rest = behind;
+            }
+        }
     }
     Ok((rulings, rest))
 }

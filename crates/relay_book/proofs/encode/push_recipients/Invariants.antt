@@ -1,7 +1,7 @@
 -- what is written, and what is to come
-use Rattle.std.proofs.Common.{◌≡◌, ◌++◌, ◌∷◌, drop, length}
+use Rattle.std.proofs.Common.{◌≡◌, ◌++◌, drop}
 use Rattle.std.specs.List.{flat_map}
-use Rattle.relay_book.specs.Record.{recipient_octets, counted}
+use Rattle.relay_book.specs.Record.{recipient_octets}
 use Rattle.relay_book.proofs.encode.push_recipients.Given as goal
 
 abbrev pub invariant-loop-recipient : goal.invariant-loop-recipient

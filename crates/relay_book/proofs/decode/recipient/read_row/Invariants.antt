@@ -6,5 +6,5 @@ use Rattle.relay_book.specs.Record.{recipient_octets}
 use Rattle.relay_book.specs.Fields.{AreSoMany}
 use Rattle.relay_book.proofs.decode.recipient.read_row.Given as goal
 
-abbrev pub invariant-loop : goal.invariant-loop
-invariant-loop l = AreSoMany IsRecipient l.index l.recipients × (l.text ≡ flat_map recipient_octets l.recipients ++ l.rest)
+abbrev pub invariant-loop-index : goal.invariant-loop-index
+invariant-loop-index l = AreSoMany IsRecipient l.index l.recipients × (l.text ≡ flat_map recipient_octets l.recipients ++ l.rest)
