@@ -40,10 +40,7 @@ pub fn append_bodies(rt: &HostRuntime, path: &str, count: u64) -> Result<String,
 /// them, a sync.
 pub fn sync_twice(rt: &HostRuntime, path: &str, count: u64) -> Result<String, Fail> {
     let octets: Vec<u8> = vec![in rt.alloc(); 7; LINK]?;
-    let file = OpenOptions::new()
-        .write(true)
-        .create(true)
-        .open(rt, path)?;
+    let file = OpenOptions::new().write(true).create(true).open(rt, path)?;
     for turn in 0..count {
         let Some(place) = turn.checked_mul(LINK as u64) else {
             return Err(Fail::new("too many octets"));
