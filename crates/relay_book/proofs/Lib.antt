@@ -1,0 +1,25 @@
+mod FaultLemmas
+mod CodeLemmas
+mod FitLemmas
+mod FieldLemmas
+mod ValueLemmas
+mod RefusalLemmas
+mod RowLemmas
+mod MailFieldLemmas
+mod AcceptLemmas
+mod OutcomeLemmas
+mod ChangeFieldLemmas
+mod PlaceLemmas
+mod EntryLemmas
+mod ChangeLemmas
+mod CustodyLemmas
+mod MarkLaws
+mod TimeLemmas
+mod TimeLaws
+mod StandLemmas
+mod LiveLemmas
+mod ToldLemmas
+mod ReadyLemmas
+mod StoredLemmas
+mod MarkRowLemmas
+pub mod Theorems

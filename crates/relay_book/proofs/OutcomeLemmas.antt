@@ -1,0 +1,172 @@
+-- The fields of an outcome are one.
+use Rattle.std.proofs.Common.{◌≡◌, ℕ, ◌<◌, ◌≤◌, ◌^◌, List, [], ◌++◌, length, sym, subst, ap, ◌∙◌, arith, append-nil}
+use Rattle.relay_trace.specs.declared.moment.TheConstants.{LAST_SECOND}
+use Rattle.relay_book.specs.declared.change.Outcome.{Outcome as OutcomeFields}
+use Rattle.relay_book.specs.declared.change.Ruling.{Ruling}
+use Rattle.relay_book.specs.Record.{IsOutcome, IsRuling, MayBeHop, counted, octets_2, octets_4, octets_8, outcome_octets, ruling_octets, sized_2, sized_4}
+use Rattle.relay_book.specs.Fields.{AreSome, HasNoCounted, HasNoHead, HasNoSized, IsNoSized, SpellsHead, SpellsNoOutcome, SpellsOutcome}
+use Rattle.relay_book.proofs.CodeLemmas.{code_2, code_4, code_8, code_sized}
+use Rattle.relay_book.proofs.FitLemmas.{hop_fits}
+use Rattle.relay_book.proofs.AcceptLemmas.{long_8}
+use Rattle.relay_book.proofs.RowLemmas.{counted_are_one}
+use Rattle.relay_book.proofs.ValueLemmas.{code_ruling}
+
+-- an outcome spells its fields
+pub spells_outcome : (text : List ℕ) (outcome : OutcomeFields) → IsOutcome outcome → text ≡ outcome_octets outcome
+    → SpellsOutcome text outcome.message outcome.at outcome.hop outcome.rulings outcome.report
+spells_outcome text outcome valid e = record {
+  text_is = e;
+  message_fits = valid.message;
+  at_fits = let moment = valid.moment in omega (arith, moment);
+  hop_fits = hop_fits outcome.hop valid.hop;
+  are_rulings = record { some = valid.some; within = valid.within; valid = valid.rulings };
+  report_fits = let report = valid.report in omega (arith, report);
+}
+
+pub are_rulings : (outcome : OutcomeFields) → IsOutcome outcome → AreSome IsRuling outcome.rulings
+are_rulings outcome valid = record { some = valid.some; within = valid.within; valid = valid.rulings }
+
+outcome_head : (text : List ℕ) (outcome : OutcomeFields) → IsOutcome outcome → text ≡ outcome_octets outcome
+    → SpellsHead text outcome.message outcome.at outcome.hop (counted ruling_octets outcome.rulings ++ sized_4 outcome.report)
+outcome_head text outcome valid e = record {
+  text_is = e;
+  message_fits = valid.message;
+  at_fits = let moment = valid.moment in omega (arith, moment);
+  hop_fits = hop_fits outcome.hop valid.hop;
+}
+
+-- a text has one head
+heads_are_one : (text : List ℕ) (message at : ℕ) (hop rest : List ℕ) (message2 at2 : ℕ) (hop2 rest2 : List ℕ) → SpellsHead text message at hop rest → SpellsHead text message2 at2 hop2 rest2
+    → (message ≡ message2) × (at ≡ at2) × (hop ≡ hop2) × (rest ≡ rest2)
+heads_are_one text message at hop rest message2 at2 hop2 rest2 one two =
+    let first = code_8 message message2 _ _ one.message_fits two.message_fits (sym one.text_is ∙ two.text_is) in
+    let second = code_8 at at2 _ _ one.at_fits two.at_fits first.1 in
+    let third = code_sized octets_2 (2 ^ 16) code_2 hop hop2 rest rest2 one.hop_fits two.hop_fits second.1 in
+    (first.0, second.0, third.0, third.1)
+
+-- where a part of the head is missing
+pub no_message : (text : List ℕ) → length text < 8 → HasNoHead text
+no_message text short = record { none = λ message at hop rest two. let long = long_8 text message _ two.text_is in omega (arith, short, long) }
+
+pub no_moment : (text : List ℕ) (message : ℕ) (behind : List ℕ) → text ≡ octets_8 message ++ behind → message < 2 ^ 64 → length behind < 8 → HasNoHead text
+no_moment text message behind is small short = record {
+  none = λ other at hop rest two.
+      let long = long_8 behind at _ (code_8 message other behind _ small two.message_fits (sym is ∙ two.text_is)).1 in
+      omega (arith, short, long);
+}
+
+pub no_hop : (text : List ℕ) (message : ℕ) (behind : List ℕ) (at : ℕ) (more : List ℕ) → text ≡ octets_8 message ++ behind → message < 2 ^ 64 → behind ≡ octets_8 at ++ more → at < 2 ^ 64
+    → HasNoSized more → HasNoHead text
+no_hop text message behind at more is small at_is at_small out = record {
+  none = λ other at2 hop rest two.
+      let first = code_8 message other behind _ small two.message_fits (sym is ∙ two.text_is) in
+      let second = code_8 at at2 more _ at_small two.at_fits (sym at_is ∙ first.1) in
+      out.none hop rest two.hop_fits second.1;
+}
+
+pub head_is : (text : List ℕ) (message : ℕ) (behind : List ℕ) (at : ℕ) (more hop rest : List ℕ) → text ≡ octets_8 message ++ behind → message < 2 ^ 64 → behind ≡ octets_8 at ++ more → at < 2 ^ 64
+    → more ≡ sized_2 hop ++ rest → length hop < 2 ^ 16 → SpellsHead text message at hop rest
+head_is text message behind at more hop rest is small at_is at_small hop_is hop_small = record {
+  text_is = is ∙ ap (λ (l : List ℕ). octets_8 message ++ l) (at_is ∙ ap (λ (l : List ℕ). octets_8 at ++ l) hop_is);
+  message_fits = small;
+  at_fits = at_small;
+  hop_fits = hop_small;
+}
+
+-- where a field is missing
+pub no_head : (text : List ℕ) → HasNoHead text → SpellsNoOutcome text
+no_head text out = record { none = λ outcome valid e. out.none _ _ _ _ (outcome_head text outcome valid e) }
+
+behind_head : (text : List ℕ) (message at : ℕ) (hop rest : List ℕ) (outcome : OutcomeFields) → SpellsHead text message at hop rest → IsOutcome outcome → text ≡ outcome_octets outcome
+    → rest ≡ counted ruling_octets outcome.rulings ++ sized_4 outcome.report
+behind_head text message at hop rest outcome head valid e = (heads_are_one text message at hop rest _ _ _ _ head (outcome_head text outcome valid e)).3
+
+pub no_rulings : (text : List ℕ) (message at : ℕ) (hop rest : List ℕ) → SpellsHead text message at hop rest → HasNoCounted IsRuling ruling_octets rest → SpellsNoOutcome text
+no_rulings text message at hop rest head out = record {
+  none = λ outcome valid e. out.none outcome.rulings (sized_4 outcome.report) (are_rulings outcome valid) (behind_head text message at hop rest outcome head valid e);
+}
+
+pub no_report : (text : List ℕ) (message at : ℕ) (hop rest : List ℕ) (rulings : List Ruling) (last : List ℕ) → SpellsHead text message at hop rest
+    → rest ≡ counted ruling_octets rulings ++ last → AreSome IsRuling rulings → IsNoSized last → SpellsNoOutcome text
+no_report text message at hop rest rulings last head counted_is some out = record {
+  none = λ outcome valid e.
+      let same = counted_are_one IsRuling ruling_octets code_ruling rulings outcome.rulings last (sized_4 outcome.report) some (are_rulings outcome valid)
+      (sym counted_is ∙ behind_head text message at hop rest outcome head valid e) in
+      let report = valid.report in
+      out.none outcome.report (omega (arith, report)) same.1;
+}
+
+pub outcome_spelled : (text : List ℕ) (message at : ℕ) (hop rest : List ℕ) (rulings : List Ruling) (last report : List ℕ) → SpellsHead text message at hop rest
+    → rest ≡ counted ruling_octets rulings ++ last → AreSome IsRuling rulings → last ≡ sized_4 report → length report < 2 ^ 32
+    → SpellsOutcome text message at hop rulings report
+outcome_spelled text message at hop rest rulings last report head counted_is some last_is fits = record {
+  text_is = head.text_is
+      ∙ ap (λ (l : List ℕ). octets_8 message ++ (octets_8 at ++ (sized_2 hop ++ l))) (counted_is ∙ ap (λ (l : List ℕ). counted ruling_octets rulings ++ l) last_is);
+  message_fits = head.message_fits;
+  at_fits = head.at_fits;
+  hop_fits = head.hop_fits;
+  are_rulings = some;
+  report_fits = fits;
+}
+
+-- two spellings have the same fields
+pub record AreSameOutcomes (message message2 at at2 : ℕ) (hop hop2 : List ℕ) (rulings rulings2 : List Ruling) (report report2 : List ℕ) : Type 0 where
+  pub message_is : message ≡ message2
+  pub at_is : at ≡ at2
+  pub hop_is : hop ≡ hop2
+  pub rulings_are : rulings ≡ rulings2
+  pub report_is : report ≡ report2
+
+pub same_as : (text : List ℕ) (message at : ℕ) (hop : List ℕ) (rulings : List Ruling) (report : List ℕ) (outcome : OutcomeFields)
+    → SpellsOutcome text message at hop rulings report → IsOutcome outcome → text ≡ outcome_octets outcome
+    → AreSameOutcomes message outcome.message at outcome.at hop outcome.hop rulings outcome.rulings report outcome.report
+same_as text message at hop rulings report outcome spelled valid e =
+    let mine : SpellsHead text message at hop (counted ruling_octets rulings ++ sized_4 report) =
+    record { text_is = spelled.text_is; message_fits = spelled.message_fits; at_fits = spelled.at_fits; hop_fits = spelled.hop_fits } in
+    let first = heads_are_one text message at hop _ _ _ _ _ mine (outcome_head text outcome valid e) in
+    let fourth = counted_are_one IsRuling ruling_octets code_ruling rulings outcome.rulings (sized_4 report) (sized_4 outcome.report) spelled.are_rulings (are_rulings outcome valid) first.3 in
+    let limit = valid.report in
+    let fifth = code_sized octets_4 (2 ^ 32) code_4 report outcome.report [] [] spelled.report_fits (omega (arith, limit)) (append-nil (sized_4 report) ∙ fourth.1 ∙ sym (append-nil (sized_4 outcome.report))) in
+    record { message_is = first.0; at_is = first.1; hop_is = first.2; rulings_are = fourth.0; report_is = fifth.0 }
+
+-- where a field is not as it may be
+pub bad_moment : (text : List ℕ) (message at : ℕ) (hop : List ℕ) (rulings : List Ruling) (report : List ℕ) → SpellsOutcome text message at hop rulings report → LAST_SECOND < at → SpellsNoOutcome text
+bad_moment text message at hop rulings report spelled late = record {
+  none = λ outcome valid e.
+      let same = (same_as text message at hop rulings report outcome spelled valid e).at_is in
+      let moment = valid.moment in
+      omega (arith, same, moment, late);
+}
+
+pub bad_hop : (text : List ℕ) (message at : ℕ) (hop : List ℕ) (rulings : List Ruling) (report : List ℕ) → SpellsOutcome text message at hop rulings report → (MayBeHop hop → ⊥) → SpellsNoOutcome text
+bad_hop text message at hop rulings report spelled out = record {
+  none = λ outcome valid e. out (subst MayBeHop (sym (same_as text message at hop rulings report outcome spelled valid e).hop_is) valid.hop);
+}
+
+pub bad_report : (text : List ℕ) (message at : ℕ) (hop : List ℕ) (rulings : List Ruling) (report : List ℕ) → SpellsOutcome text message at hop rulings report → 2 ^ 26 < length report → SpellsNoOutcome text
+bad_report text message at hop rulings report spelled long = record {
+  none = λ outcome valid e.
+      let same = ap length (same_as text message at hop rulings report outcome spelled valid e).report_is in
+      let limit = valid.report in
+      omega (arith, same, limit, long);
+}
+
+pub is_outcome : (text : List ℕ) (message at : ℕ) (hop : List ℕ) (rulings : List Ruling) (report : List ℕ) → SpellsOutcome text message at hop rulings report
+    → at ≤ LAST_SECOND → MayBeHop hop → length report ≤ 2 ^ 26
+    → IsOutcome (record { message = message; at = at; hop = hop; rulings = rulings; report = report })
+is_outcome text message at hop rulings report spelled moment may short = record {
+  message = spelled.message_fits;
+  moment = moment;
+  hop = may;
+  some = spelled.are_rulings.some;
+  within = spelled.are_rulings.within;
+  rulings = spelled.are_rulings.valid;
+  report = short;
+}
+
+pub outcome_is : (text : List ℕ) (message at : ℕ) (hop : List ℕ) (rulings : List Ruling) (report : List ℕ) → SpellsOutcome text message at hop rulings report
+    → text ≡ outcome_octets (record { message = message; at = at; hop = hop; rulings = rulings; report = report })
+outcome_is text message at hop rulings report spelled = spelled.text_is
+
+pub may_be_stored : (outcome : OutcomeFields) → outcome.message < 2 ^ 64 → outcome.at ≤ LAST_SECOND → MayBeHop outcome.hop → AreSome IsRuling outcome.rulings → length outcome.report ≤ 2 ^ 26 → IsOutcome outcome
+may_be_stored outcome message moment hop some report = record { message = message; moment = moment; hop = hop; some = some.some; within = some.within; rulings = some.valid; report = report }

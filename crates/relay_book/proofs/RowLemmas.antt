@@ -1,0 +1,102 @@
+-- Rows of values, one after another.
+use Rattle.std.proofs.Common.{◌≡◌, ℕ, suc, ◌+◌, ◌<◌, ◌≤◌, List, [], ◌∷◌, ◌++◌, length, sym, ap, ◌∙◌, arith, append_assoc, append-nil, length-append}
+use Rattle.std.specs.List.{flat_map, AllByRecursion}
+use Rattle.relay_envelope.specs.declared.envelope.Recipient.{Recipient}
+use Rattle.relay_envelope.specs.Envelope.{IsRecipient}
+use Rattle.relay_book.specs.declared.change.Ruling.{Ruling}
+use Rattle.relay_book.specs.Record.{IsRuling, counted, recipient_octets, ruling_octets}
+use Rattle.relay_book.specs.Fields.{AreSome, AreSoMany, HasNone, HasNoCounted, HasNoRow}
+use Rattle.relay_book.proofs.CodeLemmas.{IsCode, code_list}
+use Rattle.relay_book.proofs.FieldLemmas.{same_head}
+use Rattle.relay_book.proofs.ValueLemmas.{code_recipient, code_ruling}
+
+flat_joined : {A : Type 0} (octets_of : A → List ℕ) (values : List A) (value : A) → flat_map octets_of (values ++ value ∷ []) ≡ flat_map octets_of values ++ octets_of value
+flat_joined octets_of [] value = append-nil (octets_of value)
+flat_joined octets_of (first ∷ values) value =
+    ap (λ (l : List ℕ). octets_of first ++ l) (flat_joined octets_of values value)
+    ∙ sym (append_assoc (octets_of first) (flat_map octets_of values) (octets_of value))
+
+all_joined : {A : Type 0} (Valid : A → Type 0) (values : List A) (value : A) → AllByRecursion Valid values → Valid value → AllByRecursion Valid (values ++ value ∷ [])
+all_joined Valid [] value all valid = (valid, tt)
+all_joined Valid (first ∷ values) value all valid = (all.0, all_joined Valid values value all.1 valid)
+
+-- one value more is read
+pub one_more_read : {A : Type 0} (octets_of : A → List ℕ) (text : List ℕ) (values : List A) (value : A) (rest behind : List ℕ)
+    → text ≡ flat_map octets_of values ++ rest → rest ≡ octets_of value ++ behind → text ≡ flat_map octets_of (values ++ value ∷ []) ++ behind
+one_more_read octets_of text values value rest behind before is =
+    before ∙ ap (λ (l : List ℕ). flat_map octets_of values ++ l) is
+    ∙ sym (append_assoc (flat_map octets_of values) (octets_of value) behind)
+    ∙ sym (ap (λ (l : List ℕ). l ++ behind) (flat_joined octets_of values value))
+
+pub one_more_valid : {A : Type 0} (Valid : A → Type 0) (count : ℕ) (values : List A) (value : A) → AreSoMany Valid count values → Valid value → AreSoMany Valid (count + 1) (values ++ value ∷ [])
+one_more_valid Valid count values value are valid =
+    let parts = length-append values (value ∷ []) in
+    let many = are.so_many in
+    record { so_many = omega (arith, parts, many); valid = all_joined Valid values value are.valid valid }
+
+-- behind fewer values than so many stands no further one
+row_from : {A : Type 0} (Valid : A → Type 0) (octets_of : A → List ℕ) → IsCode Valid octets_of → (done values : List A) (behind rest : List ℕ)
+    → length done < length values → AllByRecursion Valid done → AllByRecursion Valid values → HasNone Valid octets_of behind
+    → flat_map octets_of done ++ behind ≡ flat_map octets_of values ++ rest → ⊥
+row_from Valid octets_of code done [] behind rest fewer all valid none e = omega (arith, fewer)
+row_from Valid octets_of code [] (value ∷ values) behind rest fewer all valid none e =
+    none.none value (flat_map octets_of values ++ rest) valid.0 (e ∙ append_assoc (octets_of value) (flat_map octets_of values) rest)
+row_from Valid octets_of code (first ∷ done) (value ∷ values) behind rest fewer all valid none e =
+    let same = code first value (flat_map octets_of done ++ behind) (flat_map octets_of values ++ rest) all.0 valid.0
+    (sym (append_assoc (octets_of first) (flat_map octets_of done) behind) ∙ e ∙ append_assoc (octets_of value) (flat_map octets_of values) rest) in
+    row_from Valid octets_of code done values behind rest (omega (arith, fewer)) all.1 valid.1 none same.1
+
+no_row : {A : Type 0} (Valid : A → Type 0) (octets_of : A → List ℕ) → IsCode Valid octets_of → (count done : ℕ) (text : List ℕ) (values : List A) (behind : List ℕ)
+    → done < count → AreSoMany Valid done values → text ≡ flat_map octets_of values ++ behind → HasNone Valid octets_of behind → HasNoRow Valid octets_of count text
+no_row Valid octets_of code count done text values behind fewer are is none = record {
+  none = λ others rest many e.
+      let here = are.so_many in
+      let there = many.so_many in
+      row_from Valid octets_of code values others behind rest (omega (arith, here, there, fewer)) are.valid many.valid none (sym is ∙ e);
+}
+
+pub no_recipient_row : (count done : ℕ) (text : List ℕ) (values : List Recipient) (behind : List ℕ)
+    → done < count → AreSoMany IsRecipient done values → text ≡ flat_map recipient_octets values ++ behind → HasNone IsRecipient recipient_octets behind
+    → HasNoRow IsRecipient recipient_octets count text
+no_recipient_row = no_row IsRecipient recipient_octets code_recipient
+
+pub no_ruling_row : (count done : ℕ) (text : List ℕ) (values : List Ruling) (behind : List ℕ)
+    → done < count → AreSoMany IsRuling done values → text ≡ flat_map ruling_octets values ++ behind → HasNone IsRuling ruling_octets behind
+    → HasNoRow IsRuling ruling_octets count text
+no_ruling_row = no_row IsRuling ruling_octets code_ruling
+
+-- a count, and the row behind it
+pub no_count : {A : Type 0} (Valid : A → Type 0) (octets_of : A → List ℕ) (text : List ℕ) → length text ≡ 0 → HasNoCounted Valid octets_of text
+no_count Valid octets_of text empty = record {
+  none = λ values rest some e. let long : length text ≡ suc (length (flat_map octets_of values ++ rest)) = ap length e in omega (arith, long, empty);
+}
+
+pub no_such_count : {A : Type 0} (Valid : A → Type 0) (octets_of : A → List ℕ) (text : List ℕ) (count : ℕ) (behind : List ℕ)
+    → text ≡ count ∷ behind → (1 ≤ count → count ≤ 100 → ⊥) → HasNoCounted Valid octets_of text
+no_such_count Valid octets_of text count behind is out = record {
+  none = λ values rest some e.
+      let same = (same_head count (length values) behind (flat_map octets_of values ++ rest) (sym is ∙ e)).0 in
+      let least = some.some in
+      let most = some.within in
+      out (omega (arith, same, least)) (omega (arith, same, most));
+}
+
+pub no_counted_row : {A : Type 0} (Valid : A → Type 0) (octets_of : A → List ℕ) (text : List ℕ) (count : ℕ) (behind : List ℕ)
+    → text ≡ count ∷ behind → HasNoRow Valid octets_of count behind → HasNoCounted Valid octets_of text
+no_counted_row Valid octets_of text count behind is none = record {
+  none = λ values rest some e.
+      let same = same_head count (length values) behind (flat_map octets_of values ++ rest) (sym is ∙ e) in
+      none.none values rest (record { so_many = sym same.0; valid = some.valid }) same.1;
+}
+
+pub is_counted : {A : Type 0} (Valid : A → Type 0) (octets_of : A → List ℕ) (text : List ℕ) (count : ℕ) (behind : List ℕ) (values : List A) (rest : List ℕ)
+    → text ≡ count ∷ behind → AreSoMany Valid count values → behind ≡ flat_map octets_of values ++ rest → text ≡ counted octets_of values ++ rest
+is_counted Valid octets_of text count behind values rest is are more =
+    is ∙ (λ i. sym are.so_many i ∷ more i)
+
+-- rows behind their counts are one
+pub counted_are_one : {A : Type 0} (Valid : A → Type 0) (octets_of : A → List ℕ) → IsCode Valid octets_of → (values others : List A) (x y : List ℕ)
+    → AreSome Valid values → AreSome Valid others → counted octets_of values ++ x ≡ counted octets_of others ++ y → (values ≡ others) × (x ≡ y)
+counted_are_one Valid octets_of code values others x y are also e =
+    let first = same_head (length values) (length others) (flat_map octets_of values ++ x) (flat_map octets_of others ++ y) e in
+    code_list Valid octets_of code values others x y first.0 are.valid also.valid first.1

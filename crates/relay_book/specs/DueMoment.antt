@@ -1,0 +1,38 @@
+-- When a place is due (RFC 5321, section 4.5.4.1): at acceptance, and behind its Later verdicts by a growing wait.
+use Rattle.std.specs.Prelude.{ℕ, ◌+◌, ◌-◌, ◌*◌, ◌^◌, ◌==◌, min, Bool, true, false, ◌&&◌, ◌||◌, List, [], ◌∷◌, length, fold, if◌then◌else◌}
+use Rattle.relay_book.specs.declared.change.Ruling.{Ruling}
+use Rattle.relay_book.specs.declared.change.Verdict.{Verdict}
+use Rattle.relay_book.specs.declared.change.Verdict.TheVariants.{Taken, Refused, Later, CantSend, NoRoute}
+use Rattle.relay_book.specs.declared.change.Change.{Change}
+use Rattle.relay_book.specs.declared.change.Change.TheVariants.{Accept, Outcome}
+
+-- profile: half an hour behind the first, twice as long behind each further one, and four hours at most, in seconds
+abbrev pub wait_after : ℕ → ℕ
+wait_after laters = min (1800 * 2 ^ (laters - 1)) 14400
+
+-- by the moment of acceptance and those of the Later verdicts, the last first
+abbrev pub due_moment_of : ℕ → List ℕ → ℕ
+due_moment_of accepted [] = accepted
+due_moment_of accepted (last ∷ before) = last + wait_after (length (last ∷ before))
+
+abbrev pub is_later : Verdict → Bool
+is_later (Taken dsn) = false
+is_later (Refused code text) = false
+is_later Later = true
+is_later CantSend = false
+is_later NoRoute = false
+
+-- a ruling is Later for this place
+abbrev pub waits_in : ℕ → List Ruling → Bool
+waits_in place [] = false
+waits_in place (ruling ∷ rulings) = (ruling.place == place && is_later ruling.verdict) || waits_in place rulings
+
+-- an outcome for this message that has Later for this place adds its moment
+abbrev pub laters_with : ℕ → ℕ → List ℕ → Change → List ℕ
+laters_with number place before (Accept accept) = before
+laters_with number place before (Outcome outcome) =
+    if outcome.message == number && waits_in place outcome.rulings then outcome.at ∷ before else before
+
+-- the moments of a place's Later verdicts, the last first
+abbrev pub laters_of : List Change → ℕ → ℕ → List ℕ
+laters_of changes number place = fold (laters_with number place) [] changes

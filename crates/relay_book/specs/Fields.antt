@@ -1,0 +1,117 @@
+-- The fields of records, one after another, and what no valid value begins. (Readers cut them; others judge them.)
+use Rattle.std.specs.Prelude.{◌≡◌, ◌≢◌, ℕ, ◌≤◌, ◌<◌, ◌^◌, true, List, ◌∷◌, ◌++◌, length}
+use Rattle.std.specs.List.{flat_map, AllByRecursion}
+use Rattle.relay_envelope.specs.declared.envelope.Recipient.{Recipient}
+use Rattle.relay_envelope.specs.declared.envelope.Envelope.{Envelope}
+use Rattle.relay_envelope.specs.Envelope.{IsRecipient, IsReversePath, may_be_envid}
+use Rattle.relay_book.specs.declared.change.Accept.{Accept as AcceptFields}
+use Rattle.relay_book.specs.declared.change.Outcome.{Outcome as OutcomeFields}
+use Rattle.relay_book.specs.declared.change.Ruling.{Ruling}
+use Rattle.relay_book.specs.Record.{IsAccept, IsOutcome, IsRefusal, IsRuling, accept_octets, counted, notify_number, octets_2, octets_8, outcome_octets, recipient_octets, ret_number, ruling_octets, sized_2, sized_4, written}
+
+-- a text behind its length, an octet, and a text behind its length
+pub record SpellsFields (text first : List ℕ) (number : ℕ) (second rest : List ℕ) : Type 0 where
+  pub text_is : text ≡ sized_2 first ++ (number ∷ (sized_2 second ++ rest))
+  pub first_fits : length first < 2 ^ 16
+  pub second_fits : length second < 2 ^ 16
+
+pub record HasFields (recipient : Recipient) (path : List ℕ) (number : ℕ) (orcpt : List ℕ) : Type 0 where
+  pub path_is : path ≡ recipient.path
+  pub notify_is : number ≡ notify_number recipient.notify
+  pub orcpt_is : orcpt ≡ written recipient.orcpt
+
+-- no text behind a length of two octets begins these octets
+pub record HasNoSized (text : List ℕ) : Type 0 where
+  pub none : (field rest : List ℕ) → length field < 2 ^ 16 → text ≢ sized_2 field ++ rest
+
+-- they are no text behind a length of four octets
+pub record IsNoSized (text : List ℕ) : Type 0 where
+  pub none : (field : List ℕ) → length field < 2 ^ 32 → text ≢ sized_4 field
+
+-- no fields begin them
+pub record HasNoFields (text : List ℕ) : Type 0 where
+  pub none : (first : List ℕ) (number : ℕ) (second rest : List ℕ) → SpellsFields text first number second rest → ⊥
+
+-- no recipient has these fields
+pub record IsNoRecipient (path : List ℕ) (number : ℕ) (orcpt : List ℕ) : Type 0 where
+  pub none : (recipient : Recipient) → IsRecipient recipient → HasFields recipient path number orcpt → ⊥
+
+-- no valid value begins the text
+pub record HasNone {A : Type 0} (Valid : A → Type 0) (octets_of : A → List ℕ) (text : List ℕ) : Type 0 where
+  pub none : (value : A) (rest : List ℕ) → Valid value → text ≢ octets_of value ++ rest
+
+-- so many values
+pub record AreSoMany {A : Type 0} (Valid : A → Type 0) (count : ℕ) (values : List A) : Type 0 where
+  pub so_many : length values ≡ count
+  pub valid : AllByRecursion Valid values
+
+-- so many valid values do not begin the text
+pub record HasNoRow {A : Type 0} (Valid : A → Type 0) (octets_of : A → List ℕ) (count : ℕ) (text : List ℕ) : Type 0 where
+  pub none : (values : List A) (rest : List ℕ) → AreSoMany Valid count values → text ≢ flat_map octets_of values ++ rest
+
+-- 1 to 100 valid values
+pub record AreSome {A : Type 0} (Valid : A → Type 0) (values : List A) : Type 0 where
+  pub some : 1 ≤ length values
+  pub within : length values ≤ 100
+  pub valid : AllByRecursion Valid values
+
+-- no valid values behind their count begin the text
+pub record HasNoCounted {A : Type 0} (Valid : A → Type 0) (octets_of : A → List ℕ) (text : List ℕ) : Type 0 where
+  pub none : (values : List A) (rest : List ℕ) → AreSome Valid values → text ≢ counted octets_of values ++ rest
+
+-- a refusal's code, and its text behind a length of one octet
+abbrev pub refusal_octets : ℕ → List ℕ → List ℕ
+refusal_octets code text = octets_2 code ++ (length text ∷ text)
+
+pub record HasNoRefusal (text : List ℕ) : Type 0 where
+  pub none : (code : ℕ) (field rest : List ℕ) → IsRefusal code field → text ≢ refusal_octets code field ++ rest
+
+-- the fields of an accept
+pub record SpellsAccept (text : List ℕ) (at : ℕ) (path : List ℕ) (ret : ℕ) (envid : List ℕ) (recipients : List Recipient) (stored : List ℕ) : Type 0 where
+  pub text_is : text ≡ octets_8 at ++ (sized_2 path ++ (ret ∷ (sized_2 envid ++ (counted recipient_octets recipients ++ sized_4 stored))))
+  pub at_fits : at < 2 ^ 64
+  pub path_fits : length path < 2 ^ 16
+  pub envid_fits : length envid < 2 ^ 16
+  pub are_recipients : AreSome IsRecipient recipients
+  pub stored_fits : length stored < 2 ^ 32
+
+-- what MAIL said may be stored
+pub record IsMail (envelope : Envelope) : Type 0 where
+  pub reverse_path : IsReversePath envelope.reverse_path
+  pub envid : may_be_envid envelope.envid ≡ true
+
+pub record HasMailFields (envelope : Envelope) (path : List ℕ) (ret : ℕ) (envid : List ℕ) : Type 0 where
+  pub path_is : path ≡ envelope.reverse_path
+  pub ret_is : ret ≡ ret_number envelope.ret
+  pub envid_is : envid ≡ written envelope.envid
+
+-- no MAIL has these fields
+pub record IsNoMail (path : List ℕ) (ret : ℕ) (envid : List ℕ) : Type 0 where
+  pub none : (envelope : Envelope) → IsMail envelope → HasMailFields envelope path ret envid → ⊥
+
+-- the text is no accept
+pub record SpellsNoAccept (text : List ℕ) : Type 0 where
+  pub none : (accept : AcceptFields) → IsAccept accept → text ≢ accept_octets accept
+
+-- an outcome up to its hop: its message, its moment, the hop
+pub record SpellsHead (text : List ℕ) (message at : ℕ) (hop rest : List ℕ) : Type 0 where
+  pub text_is : text ≡ octets_8 message ++ (octets_8 at ++ (sized_2 hop ++ rest))
+  pub message_fits : message < 2 ^ 64
+  pub at_fits : at < 2 ^ 64
+  pub hop_fits : length hop < 2 ^ 16
+
+pub record HasNoHead (text : List ℕ) : Type 0 where
+  pub none : (message at : ℕ) (hop rest : List ℕ) → SpellsHead text message at hop rest → ⊥
+
+-- the fields of an outcome
+pub record SpellsOutcome (text : List ℕ) (message at : ℕ) (hop : List ℕ) (rulings : List Ruling) (report : List ℕ) : Type 0 where
+  pub text_is : text ≡ octets_8 message ++ (octets_8 at ++ (sized_2 hop ++ (counted ruling_octets rulings ++ sized_4 report)))
+  pub message_fits : message < 2 ^ 64
+  pub at_fits : at < 2 ^ 64
+  pub hop_fits : length hop < 2 ^ 16
+  pub are_rulings : AreSome IsRuling rulings
+  pub report_fits : length report < 2 ^ 32
+
+-- the text is no outcome
+pub record SpellsNoOutcome (text : List ℕ) : Type 0 where
+  pub none : (outcome : OutcomeFields) → IsOutcome outcome → text ≢ outcome_octets outcome

@@ -1,0 +1,142 @@
+-- Custody of each recipient (RFC 5321, section 6.1), by the list of changes. A change's number is its place in the list, from 1.
+use Rattle.std.specs.Prelude.{◌≡◌, ◌≢◌, ◌⊎◌, ◌↔◌, ℕ, zero, suc, ◌<◌, List, [], ◌∷◌, ◌++◌, length, slice_get, Option, None, Some}
+use Rattle.std.specs.Option.{option_and_then, option_map_or}
+use Rattle.std.specs.List.{Contains}
+use Rattle.relay_book.specs.declared.change.Accept.{Accept as AcceptFields}
+use Rattle.relay_book.specs.declared.change.Outcome.{Outcome as OutcomeFields}
+use Rattle.relay_book.specs.declared.change.Ruling.{Ruling}
+use Rattle.relay_book.specs.declared.change.Verdict.{Verdict}
+use Rattle.relay_book.specs.declared.change.Change.{Change}
+use Rattle.relay_book.specs.declared.change.Change.TheVariants.{Accept, Outcome}
+use Rattle.relay_book.specs.declared.fate.Way.{Way}
+use Rattle.relay_book.specs.declared.fate.Way.TheVariants.{ByTransfer, ByEnd}
+use Rattle.relay_book.specs.DueReport.{fate_of, way_of}
+use Rattle.relay_book.specs.Queue.{report_of, FitsQueue, Fitting, queue_of, held_of, message_of}
+use Rattle.relay_book.specs.Record.{IsAccept}
+use Rattle.relay_book.specs.declared.message.Message.{Message}
+
+abbrev pub change_at : List Change → ℕ → Option Change
+change_at changes zero = None
+change_at changes (suc n) = slice_get changes n
+
+-- the accept that an accept is
+abbrev pub own_accept : Change → Option AcceptFields
+own_accept (Accept accept) = Some accept
+own_accept (Outcome outcome) = None
+
+-- the report of an outcome for a message, where it has one
+abbrev pub report_for : OutcomeFields → List ℕ → Option AcceptFields → Option AcceptFields
+report_for outcome [] message = None
+report_for outcome (octet ∷ report) None = None
+report_for outcome (octet ∷ report) (Some accept) = Some (report_of accept outcome)
+
+-- the message that a change made: its own, or the report of an outcome
+abbrev pub made_by : List Change → Option Change → Option AcceptFields
+made_by changes None = None
+made_by changes (Some (Accept accept)) = Some accept
+made_by changes (Some (Outcome outcome)) =
+    report_for outcome outcome.report (option_and_then own_accept (change_at changes outcome.message))
+
+-- the message of a number, as it was accepted
+abbrev pub message_at : List Change → ℕ → Option AcceptFields
+message_at changes number = made_by changes (change_at changes number)
+
+-- the place was added: its message has so many recipients
+abbrev pub Added : List Change → ℕ → ℕ → Type 0
+Added changes number place =
+    (accept : AcceptFields) × (message_at changes number ≡ Some accept) × (place < length accept.envelope.recipients)
+
+-- what leaves of a message by the verdicts of an outcome, and how, in order
+abbrev pub leaving_by : AcceptFields → ℕ → List Ruling → List (ℕ × Way)
+leaving_by accept at [] = []
+leaving_by accept at (ruling ∷ rulings) =
+    option_map_or (λ way. (ruling.place, way) ∷ []) (way_of (fate_of accept.at at ruling.verdict)) []
+    ++ leaving_by accept at rulings
+
+-- what leaves by a change, and how
+abbrev pub leaving : List Change → Change → List (ℕ × Way)
+leaving changes (Accept accept) = []
+leaving changes (Outcome outcome) =
+    option_map_or (λ accept. leaving_by accept outcome.at outcome.rulings) (message_at changes outcome.message) []
+
+-- the place left by this change in this way
+pub record LeavesAt (changes : List Change) (at number place : ℕ) (way : Way) : Type 0 where
+  pub accept : AcceptFields
+  pub outcome : OutcomeFields
+  pub verdict : Verdict
+  pub message : message_at changes number ≡ Some accept
+  pub change : change_at changes at ≡ Some (Outcome outcome)
+  pub its_message : outcome.message ≡ number
+  pub ruling : Contains outcome.rulings (record { place = place; verdict = verdict })
+  pub leaves : way_of (fate_of accept.at outcome.at verdict) ≡ Some way
+
+abbrev pub Left : List Change → ℕ → ℕ → Way → Type 0
+Left changes number place way = (at : ℕ) × LeavesAt changes at number place way
+
+abbrev pub Transferred : List Change → ℕ → ℕ → Type 0
+Transferred changes number place = Left changes number place ByTransfer
+
+abbrev pub Ended : List Change → ℕ → ℕ → Type 0
+Ended changes number place = Left changes number place ByEnd
+
+abbrev pub Held : List Change → ℕ → ℕ → Type 0
+Held changes number place =
+    Added changes number place × (Transferred changes number place → ⊥) × (Ended changes number place → ⊥)
+
+-- The fold holds what is held.
+abbrev pub FoldHolds : Type 0
+FoldHolds =
+    (changes : List Change) → Fitting changes → (number place : ℕ)
+    → Contains (held_of (queue_of changes)) (number, place) ↔ Held changes number place
+
+-- exactly one of three
+pub data IsOneOf (a b c : Type 0) : Type 0 where
+  First : a → (b → ⊥) → (c → ⊥) → IsOneOf a b c
+  Second : (a → ⊥) → b → (c → ⊥) → IsOneOf a b c
+  Third : (a → ⊥) → (b → ⊥) → c → IsOneOf a b c
+
+-- Each added place is held, transferred or ended, and only one of these.
+abbrev pub ExactlyOne : Type 0
+ExactlyOne =
+    (changes : List Change) → Fitting changes → (number place : ℕ) → Added changes number place
+    → IsOneOf (Held changes number place) (Transferred changes number place) (Ended changes number place)
+
+-- the place leaves by the last change
+abbrev pub Leaving : List Change → Change → ℕ → ℕ → Type 0
+Leaving changes change number place = (way : Way) × LeavesAt (changes ++ change ∷ []) (suc (length changes)) number place way
+
+-- the place is new with the last change
+abbrev pub IsNew : List Change → Change → ℕ → ℕ → Type 0
+IsNew changes change number place = (number ≡ suc (length changes)) × Added (changes ++ change ∷ []) number place
+
+-- One change more takes what leaves, and adds what is new.
+abbrev pub OneMoreHolds : Type 0
+OneMoreHolds =
+    (changes : List Change) (change : Change) → Fitting (changes ++ change ∷ []) → (number place : ℕ)
+    → Held (changes ++ change ∷ []) number place
+    ↔ ((Held changes number place × (Leaving changes change number place → ⊥)) ⊎ IsNew changes change number place)
+
+-- what the queue knows of a message: its number, what was accepted under it, and a place for each recipient
+pub record IsQueuedAs (changes : List Change) (number : ℕ) (message : Message) : Type 0 where
+  pub number_is : message.number ≡ number
+  pub accept_is : message_at changes number ≡ Some message.accept
+  pub places : length message.places ≡ length message.accept.envelope.recipients
+
+-- A queued message is the message of its number, with a place for each recipient.
+abbrev pub FoldKnows : Type 0
+FoldKnows =
+    (changes : List Change) → Fitting changes → (number : ℕ) (message : Message)
+    → message_of (queue_of changes).messages number ≡ Some message → IsQueuedAs changes number message
+
+-- A message stays what it was accepted as, whatever changes follow.
+abbrev pub MessageStays : Type 0
+MessageStays =
+    (changes : List Change) (change : Change) → Fitting (changes ++ change ∷ []) → (number : ℕ) (accept : AcceptFields)
+    → message_at changes number ≡ Some accept → message_at (changes ++ change ∷ []) number ≡ Some accept
+
+-- A report that an outcome queues may be stored as an accept.
+abbrev pub ReportMayBeStored : Type 0
+ReportMayBeStored =
+    (changes : List Change) → Fitting changes → (outcome : OutcomeFields) (message : Message)
+    → FitsQueue (queue_of changes) (Outcome outcome) → message_of (queue_of changes).messages outcome.message ≡ Some message
+    → outcome.report ≢ [] → IsAccept (report_of message.accept outcome)

@@ -1,0 +1,375 @@
+//! The queue of a node, in memory.
+ghost use Rattle.std.specs.Prelude.{◌≡◌, ◌<◌, ◌≤◌, ◌+◌, ◌^◌, ◌++◌, ℕ, [], ◌∷◌, false, true, IfOk, IsErrOf, IsTrue, ◌↔◌, OnErr, OnOk};
+ghost use Rattle.std.specs.List.{Contains, list_any};
+ghost use Rattle.std.specs.Option.{option_copied, option_map_or};
+ghost use Rattle.relay_book.specs.Book.{AllTold, AreTold, IsTold, is_held_until};
+ghost use Rattle.relay_book.specs.Queue.{FitsQueue, due_of, empty_queue, held_of, message_of, ruled, step};
+ghost use Rattle.relay_book.specs.Ready.{IsReady, entry_of, message_in};
+
+mod entries;
+mod make;
+mod questions;
+
+use crate::change::{Accept, Change, Outcome};
+use crate::fault::BookFault;
+use crate::judge::{fits_message, is_accept, is_outcome};
+use crate::message::{Message, Place};
+use crate::ready::{Made, Ready};
+use entries::{keep_queued, slot_after};
+use indexmap::IndexMap;
+use make::{accepted, made_of, moments_of, places_behind};
+use questions::{due_places, held_places};
+use relay_trace::Moment;
+use std::alloc::{AllocError, Global};
+use std::collections::BTreeSet;
+use std::marker::Model;
+
+/// The greatest number of a change.
+const LAST_NUMBER: u64 = 1 << 62;
+
+/// The queue of a node: the messages with a held place, and when these are due.
+#[derive(Drop)]
+pub struct Book {
+    next: u64,
+    messages: IndexMap<u64, Option<Message>>,
+    /// How many entries have ended: they are cleared away together, since one by one each would move all behind it.
+    ended: usize,
+    /// When each held place is due, with its message's number.
+    waiting: BTreeSet<(u64, u64), Global>,
+}
+
+impl Model for Book {
+    ghost use Rattle.indexmap.specs.IndexMap.{spare};
+    ghost use Rattle.relay_book.specs.Book.{AllTold, Rise, Shown, live, shown};
+
+    ghost Value = { Shown };
+
+    ghost view = { λ book. shown book.next book.messages.entries (spare book.messages) book.waiting.keys };
+
+    ghost invariant = { λ book. Rise 0 book.next book.messages.entries × AllTold book.waiting.keys (live book.messages.entries) };
+}
+
+impl Book {
+    /// A book without a message. It takes no memory.
+    pub fn new(alloc: Global) -> Self
+        ensures { result.queue ≡ empty_queue }
+    {
+        Book {
+            next: 1,
+            messages: IndexMap::new(alloc),
+            ended: 0,
+            waiting: BTreeSet::new(alloc),
+        }
+    }
+
+    /// The number of the next change. It takes no memory.
+    pub fn next_number(&self) -> u64
+        ensures { result ≡ self.now.queue.next }
+    {
+        self.next
+    }
+
+    /// The message of a number, while a place of it is held. It takes no memory.
+    #[tactic(auto, using(crate::proofs::LiveLemmas::live_lookup))]
+    pub fn message(&self, number: u64) -> Option<&Message>
+        ensures { option_copied result ≡ message_of self.now.queue.messages number }
+    {
+        match self.messages.get(&number) {
+            Some(slot) => slot.as_ref(),
+            None => None,
+        }
+    }
+
+    /// All held places, each with the number of its message, in order. It fails where memory runs out.
+    pub fn held(&self, alloc: Global) -> Result<Vec<(u64, u8)>, AllocError>
+        ensures { IfOk result (λ marks. marks.items ≡ held_of self.now.queue) }
+    {
+        held_places(alloc, &self.messages)
+    }
+
+    /// The held places that are due at a moment or before, each with the number of its message, in order. It fails where
+    /// memory runs out.
+    pub fn due(&self, alloc: Global, now: Moment) -> Result<Vec<(u64, u8)>, AllocError>
+        ensures { IfOk result (λ marks. marks.items ≡ due_of now self.now.queue) }
+    {
+        due_places(alloc, &self.messages, now.seconds())
+    }
+
+    /// Makes room for a change and makes ready what it queues, so that `commit` can't fail. It answers `BadRecord` exactly
+    /// where the change doesn't fit, and else fails where memory runs out. The queue is unchanged.
+    pub fn prepare(&mut self, alloc: Global, change: Change) -> Result<Ready, BookFault>
+        ensures queue { self.new.queue ≡ self.old.queue }
+        ensures ready { IfOk result (λ ready. IsReady self.new ready) }
+        ensures change { IfOk result (λ ready. ready.change ≡ change) }
+        ensures bad { IsErrOf result BookFault.BadRecord → ¬ FitsQueue self.old.queue change }
+    {
+        match change {
+            Change::Accept(accept) => self.prepare_accept(alloc, accept),
+            Change::Outcome(outcome) => self.prepare_outcome(alloc, outcome),
+        }
+    }
+
+    /// Applies a change that is ready, to the book as `prepare` left it. It takes no memory.
+    pub fn commit(&mut self, ready: Ready)
+        requires { IsReady self.old ready }
+        ensures { self.new.queue ≡ step self.old.queue ready.change }
+    {
+        let Ready { made, were_due } = ready;
+        match made {
+            Made::Accepted(message) => self.add(Some(message)),
+            Made::Ruled(outcome) => {
+                let number = outcome.message;
+                self.rule(&outcome);
+                self.add(None);
+                self.forget_all(number, were_due.as_slice());
+            }
+            Made::Reported(outcome, report) => {
+                let number = outcome.message;
+                self.rule(&outcome);
+                self.add(Some(report));
+                self.forget_all(number, were_due.as_slice());
+            }
+        }
+    }
+
+    /// Prepares a change and commits it. A fault leaves the queue unchanged.
+    pub fn apply(&mut self, alloc: Global, change: Change) -> Result<(), BookFault>
+        ensures ok { OnOk result (self.new.queue ≡ step self.old.queue change) }
+        ensures err { OnErr result (self.new.queue ≡ self.old.queue) }
+        ensures fits { OnOk result (FitsQueue self.old.queue change) }
+        ensures bad { IsErrOf result BookFault.BadRecord → ¬ FitsQueue self.old.queue change }
+    {
+        let ready = self.prepare(alloc, change)?;
+        self.commit(ready);
+        Ok(())
+    }
+
+    /// Judges an accept, and makes room for its message.
+    fn prepare_accept(&mut self, alloc: Global, accept: Accept) -> Result<Ready, BookFault>
+        ensures queue { self.new.queue ≡ self.old.queue }
+        ensures ready { IfOk result (λ ready. IsReady self.new ready) }
+        ensures change { IfOk result (λ ready. ready.change ≡ Change.Accept accept) }
+        ensures bad { IsErrOf result BookFault.BadRecord → ¬ FitsQueue self.old.queue (Change.Accept accept) }
+    {
+        if self.next > LAST_NUMBER || !is_accept(&accept) {
+            return Err(BookFault::BadRecord);
+        }
+        let made = Made::Accepted(accepted(alloc, self.next, accept)?);
+        self.tell_made(&made)?;
+        self.reserve()?;
+        Ok(Ready {
+            made,
+            were_due: Vec::new(alloc),
+        })
+    }
+
+    /// Judges an outcome, and makes room for what it leaves.
+    fn prepare_outcome(&mut self, alloc: Global, outcome: Outcome) -> Result<Ready, BookFault>
+        ensures queue { self.new.queue ≡ self.old.queue }
+        ensures ready { IfOk result (λ ready. IsReady self.new ready) }
+        ensures change { IfOk result (λ ready. ready.change ≡ Change.Outcome outcome) }
+        ensures bad { IsErrOf result BookFault.BadRecord → ¬ FitsQueue self.old.queue (Change.Outcome outcome) }
+    {
+        if !self.fits(&outcome) {
+            return Err(BookFault::BadRecord);
+        }
+        let Some(message) = self.message(outcome.message) else {
+            return Err(BookFault::BadRecord);
+        };
+        let number = outcome.message;
+        let were_due = moments_of(alloc, &message.places)?;
+        let places = places_behind(alloc, message, &outcome)?;
+        let made = made_of(alloc, self.next, message, outcome)?;
+        self.tell_all(number, places.as_slice())?;
+        self.tell_made(&made)?;
+        self.reserve()?;
+        Ok(Ready { made, were_due })
+    }
+
+    /// Whether an outcome fits the queue.
+    fn fits(&self, outcome: &Outcome) -> bool
+        ensures { IsTrue result ↔ FitsQueue self.now.queue (Change.Outcome outcome.now) }
+    {
+        if self.next > LAST_NUMBER || !is_outcome(outcome) {
+            return false;
+        }
+        match self.message(outcome.message) {
+            Some(message) => fits_message(message, outcome),
+            None => false,
+        }
+    }
+
+    /// Notes when the places of a new message are due.
+    fn tell_made(&mut self, made: &Made) -> Result<(), AllocError>
+        ensures queue { self.new.queue ≡ self.old.queue }
+        ensures room { self.new.room ≡ self.old.room }
+        ensures told { OnOk result (AllTold self.new.told (entry_of self.new.queue.next (message_in made.now))) }
+        ensures kept { (key : ℕ × ℕ) → Contains self.old.told key → Contains self.new.told key }
+    {
+        match made {
+            Made::Accepted(message) => self.tell_all(self.next, message.places.as_slice()),
+            Made::Ruled(_) => Ok(()),
+            Made::Reported(_, report) => self.tell_all(self.next, report.places.as_slice()),
+        }
+    }
+
+    /// Takes a number, for a message or for none. It takes no memory.
+    fn add(&mut self, message: Option<Message>)
+        requires room { 0 < self.old.room }
+        requires few { self.old.queue.next ≤ 2 ^ 62 }
+        requires told { AllTold self.old.told (entry_of self.old.queue.next message) }
+        ensures next { self.new.queue.next ≡ self.old.queue.next + 1 }
+        ensures messages { self.new.queue.messages ≡ self.old.queue.messages ++ entry_of self.old.queue.next message }
+    {
+        match message {
+            Some(message) => self.push(message),
+            None => self.pass(),
+        }
+    }
+
+    /// Puts a message behind the others. It takes no memory.
+    #[tactic(auto, using(crate::proofs::LiveLemmas::new_last, crate::proofs::LiveLemmas::live_last, crate::proofs::LiveLemmas::rise_last, crate::proofs::ToldLemmas::all_told_last))]
+    fn push(&mut self, message: Message)
+        requires room { 0 < self.old.room }
+        requires few { self.old.queue.next ≤ 2 ^ 62 }
+        requires told { AreTold self.old.told self.old.queue.next message.places }
+        ensures next { self.new.queue.next ≡ self.old.queue.next + 1 }
+        ensures messages { self.new.queue.messages ≡ self.old.queue.messages ++ (self.old.queue.next, message) ∷ [] }
+    {
+        if let Ok(_) = self.messages.insert(self.next, Some(message)) {}
+        self.next += 1;
+    }
+
+    /// Lets a number go by.
+    #[tactic(auto, using(crate::proofs::LiveLemmas::rise_next))]
+    fn pass(&mut self)
+        requires few { self.old.queue.next ≤ 2 ^ 62 }
+        ensures next { self.new.queue.next ≡ self.old.queue.next + 1 }
+        ensures messages { self.new.queue.messages ≡ self.old.queue.messages }
+    {
+        self.next += 1;
+    }
+
+    /// Rules on a message. What has ended leaves its entry empty.
+    #[tactic(auto, using(crate::proofs::LiveLemmas::live_absent, crate::proofs::LiveLemmas::live_ruled, crate::proofs::LiveLemmas::rise_set, crate::proofs::ToldLemmas::all_told_as))]
+    fn rule(&mut self, outcome: &Outcome)
+        requires { AllTold self.old.told (ruled outcome.now self.old.queue.messages) }
+        ensures next { self.new.queue.next ≡ self.old.queue.next }
+        ensures room { self.new.room ≡ self.old.room }
+        ensures told { self.new.told ≡ self.old.told }
+        ensures messages { self.new.queue.messages ≡ ruled outcome.now self.old.queue.messages }
+    {
+        if let Some(slot) = self.messages.get_mut(&outcome.message) {
+            *slot = slot_after(slot.take(), outcome);
+        }
+    }
+
+    /// Clears away the entries that have ended.
+    #[tactic(auto, using(crate::proofs::LiveLemmas::live_filter, crate::proofs::LiveLemmas::rise_filter, crate::proofs::ToldLemmas::all_told_as))]
+    fn compact(&mut self)
+        ensures queue { self.new.queue ≡ self.old.queue }
+        ensures room { self.old.room ≤ self.new.room }
+        ensures told { self.new.told ≡ self.old.told }
+    {
+        keep_queued(&mut self.messages);
+        self.ended = 0;
+    }
+
+    /// Makes room in the map.
+    fn reserve(&mut self) -> Result<(), AllocError>
+        ensures queue { self.new.queue ≡ self.old.queue }
+        ensures room { OnOk result (0 < self.new.room) }
+        ensures told { self.new.told ≡ self.old.told }
+        ensures all_told { AllTold self.new.told self.new.queue.messages }
+    {
+        self.messages.reserve(1)?;
+        Ok(())
+    }
+
+    /// Notes that a place of a message is due.
+    fn tell(&mut self, due: u64, number: u64) -> Result<(), AllocError>
+        ensures queue { self.new.queue ≡ self.old.queue }
+        ensures room { self.new.room ≡ self.old.room }
+        ensures told { OnOk result (Contains self.new.told (due, number)) }
+        ensures kept { (key : ℕ × ℕ) → Contains self.old.told key → Contains self.new.told key }
+    {
+        self.waiting.insert((due, number))?;
+        Ok(())
+    }
+
+    /// Notes when a place is due.
+    fn tell_place(&mut self, number: u64, place: Place) -> Result<(), AllocError>
+        ensures queue { self.new.queue ≡ self.old.queue }
+        ensures room { self.new.room ≡ self.old.room }
+        ensures told { OnOk result (IsTold self.new.told number place) }
+        ensures kept { (key : ℕ × ℕ) → Contains self.old.told key → Contains self.new.told key }
+    {
+        if place.held {
+            self.tell(place.due, number)
+        } else {
+            Ok(())
+        }
+    }
+
+    /// Notes when each held place is due.
+    fn tell_all(&mut self, number: u64, places: &[Place]) -> Result<(), AllocError>
+        ensures queue { self.new.queue ≡ self.old.queue }
+        ensures room { self.new.room ≡ self.old.room }
+        ensures told { OnOk result (AreTold self.new.told number places.now) }
+        ensures kept { (key : ℕ × ℕ) → Contains self.old.told key → Contains self.new.told key }
+    {
+        for place in places {
+            self.tell_place(number, *place)?;
+        }
+        Ok(())
+    }
+
+    /// Forgets that a place of a message was due, unless one still is.
+    fn forget(&mut self, due: u64, number: u64)
+        ensures queue { self.new.queue ≡ self.old.queue }
+        ensures room { self.new.room ≡ self.old.room }
+    {
+        if self.is_due_then(due, number) {
+            return;
+        }
+        self.waiting.remove(&(due, number));
+    }
+
+    /// Whether a held place of this message is due then.
+    fn is_due_then(&self, due: u64, number: u64) -> bool
+        ensures { result ≡ option_map_or (λ message. list_any (is_held_until due) message.places) (message_of self.now.queue.messages number) false }
+    {
+        match self.message(number) {
+            Some(message) => message.places.any_held_until(due),
+            None => false,
+        }
+    }
+
+    /// Forgets when places of a message were due, and clears away what has ended.
+    fn forget_all(&mut self, number: u64, moments: &[u64])
+        ensures { self.new.queue ≡ self.old.queue }
+    {
+        for due in moments {
+            self.forget(*due, number);
+        }
+        self.clear_away(number);
+    }
+
+    /// Counts a message that has ended, and clears away the entries that have, once they are half of all.
+    fn clear_away(&mut self, number: u64)
+        ensures { self.new.queue ≡ self.old.queue }
+    {
+        if self.message(number).is_none() {
+            self.count_ended();
+        }
+        if self.ended > self.messages.len() / 2 {
+            self.compact();
+        }
+    }
+
+    fn count_ended(&mut self)
+        ensures { self.new.queue ≡ self.old.queue }
+    {
+        self.ended = self.ended.saturating_add(1);
+    }
+}

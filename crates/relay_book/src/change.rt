@@ -1,0 +1,123 @@
+ghost use Rattle.std.specs.Prelude.{◌≡◌, List, [], ◌++◌, ◌∷◌, length, OnOk, OnErr};
+
+use relay_envelope::Envelope;
+use relay_octets::Octets;
+use relay_trace::Moment;
+use std::alloc::{AllocError, Global};
+use std::marker::Model;
+
+/// A message that was accepted.
+#[derive(Debug, Drop)]
+pub struct Accept {
+    /// When it was accepted.
+    pub at: Moment,
+    /// Who sent it to whom, and with which parameters.
+    pub envelope: Envelope,
+    /// The content behind its time stamp line; of a report, its text.
+    pub stored_text: Octets,
+}
+
+/// What an attempt says of a place.
+#[derive(Debug, Drop)]
+pub enum Verdict {
+    /// The hop has it.
+    Taken {
+        /// The hop offers DSN, so it makes the reports.
+        dsn: bool,
+    },
+    /// The hop refused it for good.
+    Refused {
+        /// The reply's code.
+        code: u16,
+        /// The text of the reply's last line: at most 200 octets of 32 to 126.
+        text: Octets,
+    },
+    /// It may be tried again.
+    Later,
+    /// The hop can't take this content.
+    CantSend,
+    /// There is no hop for it.
+    NoRoute,
+}
+
+/// A place and its verdict.
+#[derive(Debug, Drop)]
+pub struct Ruling {
+    /// The place, from 0.
+    pub place: u8,
+    /// What was said of it.
+    pub verdict: Verdict,
+}
+
+/// The verdicts of an attempt, by rising places.
+#[derive(Debug, Drop)]
+pub struct Rulings {
+    items: Vec<Ruling>,
+}
+
+impl Model for Rulings {
+    ghost use Rattle.std.specs.Prelude.{List};
+    ghost use Rattle.relay_book.specs.declared.change.Ruling.{Ruling};
+
+    ghost Value = { List Ruling };
+
+    ghost view = { λ rulings. rulings.items.items };
+}
+
+impl Rulings {
+    /// No verdict. It takes no memory.
+    pub fn new(alloc: Global) -> Self
+        ensures { result ≡ [] }
+    {
+        Rulings {
+            items: Vec::new(alloc),
+        }
+    }
+
+    /// How many there are.
+    pub fn len(&self) -> usize
+        ensures { result ≡ length self.now }
+    {
+        self.items.len()
+    }
+
+    /// The verdicts.
+    pub fn as_slice(&self) -> &[Ruling]
+        ensures { result.now ≡ self.now }
+    {
+        self.items.as_slice()
+    }
+
+    /// Adds a verdict at the end. Where memory runs out, none is added.
+    pub fn push(&mut self, ruling: Ruling) -> Result<(), AllocError>
+        ensures ok { OnOk result (self.new ≡ self.old ++ ruling ∷ []) }
+        ensures err { OnErr result (self.new ≡ self.old) }
+    {
+        self.items.push(ruling)?;
+        Ok(())
+    }
+}
+
+/// How an attempt ended.
+#[derive(Debug, Drop)]
+pub struct Outcome {
+    /// The number of its message.
+    pub message: u64,
+    /// When it ended.
+    pub at: Moment,
+    /// The name of the hop; empty exactly where no place had one.
+    pub hop: Octets,
+    /// What was said of the places, at least of one.
+    pub rulings: Rulings,
+    /// The text of the report that is due, and empty where none is.
+    pub report: Octets,
+}
+
+/// A change of the queue.
+#[derive(Debug, Drop)]
+pub enum Change {
+    /// A message was accepted.
+    Accept(Accept),
+    /// An attempt ended.
+    Outcome(Outcome),
+}

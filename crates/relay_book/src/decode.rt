@@ -1,0 +1,159 @@
+//! Records read back.
+ghost use Rattle.std.specs.Prelude.{◌≡◌, ◌≢◌, ◌<◌, ◌^◌, length, MatchOption, IfOk, IsErrOf, IsTrue, ◌↔◌};
+ghost use Rattle.relay_envelope.specs.Envelope.{IsRecipient, IsReversePath, may_be_envid, envelope_from};
+ghost use Rattle.relay_envelope.specs.Mail.{mail_value};
+ghost use Rattle.relay_book.specs.Record.{IsAccept, IsChange, IsNoRecord, IsOutcome, MayBeHop, accept_octets, encode, outcome_octets, sized_4, text_limit};
+ghost use Rattle.relay_book.specs.Fields.{HasNoHead, IsNoSized, SpellsHead, SpellsAccept, SpellsNoAccept, SpellsNoOutcome, SpellsOutcome};
+
+mod mail;
+mod recipient;
+mod ruling;
+
+use crate::change::{Accept, Change, Outcome, Rulings};
+use crate::fault::BookFault;
+use crate::field::{read_4, read_8, read_sized_2};
+use crate::limits::{REPORT_LIMIT, may_be_hop, text_limit};
+use mail::mail_of;
+use recipient::{read_fields, read_recipients};
+use relay_envelope::{Envelope, Recipients};
+use relay_octets::Octets;
+use relay_trace::Moment;
+use ruling::read_rulings;
+use std::alloc::Global;
+
+/// The change of which these octets are the record, with one copy of each text. It fails with `BadRecord` exactly where
+/// they are no record of a change, and where memory runs out.
+#[tactic(auto, using(crate::proofs::ChangeFieldLemmas::no_octet, crate::proofs::ChangeFieldLemmas::no_kind, crate::proofs::ChangeFieldLemmas::no_accept, crate::proofs::ChangeFieldLemmas::no_outcome))]
+pub fn decode_change(alloc: Global, text: &[u8]) -> Result<Change, BookFault>
+    ensures change { IfOk result (λ change. IsChange change × (text.now ≡ encode change)) }
+    ensures bad { IsErrOf result BookFault.BadRecord → IsNoRecord text.now }
+{
+    let Some((kind, fields)) = text.split_first() else {
+        return Err(BookFault::BadRecord);
+    };
+    match *kind {
+        1 => {
+            let accept = read_accept(alloc, fields)?;
+            Ok(Change::Accept(accept))
+        }
+        2 => {
+            let outcome = read_outcome(alloc, fields)?;
+            Ok(Change::Outcome(outcome))
+        }
+        _ => Err(BookFault::BadRecord),
+    }
+}
+
+/// The text behind its length of four octets that the whole text is.
+#[tactic(auto, using(crate::proofs::AcceptLemmas::no_last_short, crate::proofs::AcceptLemmas::no_last_other))]
+fn read_last(text: &[u8]) -> Option<&[u8]>
+    ensures { MatchOption result (IsNoSized text.now)
+        (λ field. (text.now ≡ sized_4 field.now) × (length field.now < 2 ^ 32)) }
+{
+    let (len, rest) = read_4(text)?;
+    if rest.len() == len as usize {
+        Some(rest)
+    } else {
+        None
+    }
+}
+
+/// The fields of an accept: its moment, the three of MAIL, the recipients and the stored text.
+type AcceptFields<'a> = (u64, &'a [u8], u8, &'a [u8], Recipients, &'a [u8]);
+
+/// Cuts an accept into its fields.
+#[tactic(auto, using(crate::proofs::AcceptLemmas::no_moment, crate::proofs::AcceptLemmas::no_mail_fields, crate::proofs::AcceptLemmas::no_recipients, crate::proofs::AcceptLemmas::no_stored_text, crate::proofs::AcceptLemmas::accept_spelled))]
+fn split_accept(alloc: Global, text: &[u8]) -> Result<AcceptFields<'_>, BookFault>
+    ensures fields { IfOk result (λ parts. SpellsAccept text.now parts.0 parts.1.now parts.2 parts.3.now parts.4 parts.5.now) }
+    ensures bad { IsErrOf result BookFault.BadRecord → SpellsNoAccept text.now }
+{
+    let Some((at, rest)) = read_8(text) else {
+        return Err(BookFault::BadRecord);
+    };
+    let Some((path, ret, envid, rest)) = read_fields(rest) else {
+        return Err(BookFault::BadRecord);
+    };
+    let (recipients, rest) = read_recipients(alloc, rest)?;
+    match read_last(rest) {
+        Some(stored_text) => Ok((at, path, ret, envid, recipients, stored_text)),
+        None => Err(BookFault::BadRecord),
+    }
+}
+
+/// The accept that the text spells.
+#[tactic(auto, using(crate::proofs::AcceptLemmas::bad_mail, crate::proofs::AcceptLemmas::bad_moment, crate::proofs::AcceptLemmas::bad_text, crate::proofs::AcceptLemmas::is_accept, crate::proofs::AcceptLemmas::accept_is))]
+fn read_accept(alloc: Global, text: &[u8]) -> Result<Accept, BookFault>
+    ensures accept { IfOk result (λ accept. IsAccept accept × (text.now ≡ accept_octets accept)) }
+    ensures bad { IsErrOf result BookFault.BadRecord → SpellsNoAccept text.now }
+{
+    let (at, path, ret, envid, recipients, stored_text) = split_accept(alloc, text)?;
+    let Some(mail) = mail_of(path, ret, envid) else {
+        return Err(BookFault::BadRecord);
+    };
+    let Ok(at) = Moment::new(at) else {
+        return Err(BookFault::BadRecord);
+    };
+    if stored_text.len() > text_limit(path) {
+        return Err(BookFault::BadRecord);
+    }
+    let mut envelope = Envelope::new(alloc, mail)?;
+    envelope.recipients = recipients;
+    Ok(Accept {
+        at,
+        envelope,
+        stored_text: Octets::from_slice(alloc, stored_text)?,
+    })
+}
+
+/// The fields of an outcome: its message, its moment, the hop, the verdicts and the report.
+type OutcomeFields<'a> = (u64, u64, &'a [u8], Rulings, &'a [u8]);
+
+/// An outcome's message, its moment and its hop, and what follows them.
+#[tactic(auto, using(crate::proofs::OutcomeLemmas::no_message, crate::proofs::OutcomeLemmas::no_moment, crate::proofs::OutcomeLemmas::no_hop, crate::proofs::OutcomeLemmas::head_is))]
+fn read_head(text: &[u8]) -> Option<(u64, u64, &[u8], &[u8])>
+    ensures { MatchOption result (HasNoHead text.now)
+        (λ parts. SpellsHead text.now parts.0 parts.1 parts.2.now parts.3.now) }
+{
+    let (message, rest) = read_8(text)?;
+    let (at, rest) = read_8(rest)?;
+    let (hop, rest) = read_sized_2(rest)?;
+    Some((message, at, hop, rest))
+}
+
+/// Cuts an outcome into its fields.
+#[tactic(auto, using(crate::proofs::OutcomeLemmas::no_head, crate::proofs::OutcomeLemmas::no_rulings, crate::proofs::OutcomeLemmas::no_report, crate::proofs::OutcomeLemmas::outcome_spelled))]
+fn split_outcome(alloc: Global, text: &[u8]) -> Result<OutcomeFields<'_>, BookFault>
+    ensures fields { IfOk result (λ parts. SpellsOutcome text.now parts.0 parts.1 parts.2.now parts.3 parts.4.now) }
+    ensures bad { IsErrOf result BookFault.BadRecord → SpellsNoOutcome text.now }
+{
+    let Some((message, at, hop, rest)) = read_head(text) else {
+        return Err(BookFault::BadRecord);
+    };
+    let (rulings, rest) = read_rulings(alloc, rest)?;
+    match read_last(rest) {
+        Some(report) => Ok((message, at, hop, rulings, report)),
+        None => Err(BookFault::BadRecord),
+    }
+}
+
+/// The outcome that the text spells.
+#[tactic(auto, using(crate::proofs::OutcomeLemmas::bad_moment, crate::proofs::OutcomeLemmas::bad_hop, crate::proofs::OutcomeLemmas::bad_report, crate::proofs::OutcomeLemmas::is_outcome, crate::proofs::OutcomeLemmas::outcome_is))]
+fn read_outcome(alloc: Global, text: &[u8]) -> Result<Outcome, BookFault>
+    ensures outcome { IfOk result (λ outcome. IsOutcome outcome × (text.now ≡ outcome_octets outcome)) }
+    ensures bad { IsErrOf result BookFault.BadRecord → SpellsNoOutcome text.now }
+{
+    let (message, at, hop, rulings, report) = split_outcome(alloc, text)?;
+    let Ok(at) = Moment::new(at) else {
+        return Err(BookFault::BadRecord);
+    };
+    if !may_be_hop(hop) || report.len() > REPORT_LIMIT {
+        return Err(BookFault::BadRecord);
+    }
+    Ok(Outcome {
+        message,
+        at,
+        hop: Octets::from_slice(alloc, hop)?,
+        rulings,
+        report: Octets::from_slice(alloc, report)?,
+    })
+}

@@ -1,0 +1,154 @@
+//! Records written.
+ghost use Rattle.std.specs.Prelude.{◌≡◌, ◌++◌, ◌∷◌, ◌<◌, ◌≤◌, ◌^◌, length, OnOk, IfOk};
+ghost use Rattle.std.specs.List.{flat_map, AllByRecursion};
+ghost use Rattle.relay_envelope.specs.Envelope.{IsEnvelope, IsRecipient};
+ghost use Rattle.relay_book.specs.Record.{IsAccept, IsChange, IsOutcome, IsRuling, IsVerdict, accept_octets, counted, encode, notify_number, octets_8, outcome_octets, recipient_octets, ret_number, ruling_octets, verdict_octets};
+
+use crate::change::{Accept, Change, Outcome, Ruling, Verdict};
+use crate::field::{push_1, push_2, push_8, push_sized_2, push_sized_4};
+use relay_envelope::{Notify, Recipient, Ret};
+use std::alloc::{AllocError, Global};
+
+/// The one record of a change that may be stored. It fails where memory runs out.
+pub fn encode_change(alloc: Global, change: &Change) -> Result<Vec<u8>, AllocError>
+    requires { IsChange change.now }
+    ensures { IfOk result (λ octets. octets.items ≡ encode change.now) }
+{
+    let mut out = Vec::new(alloc);
+    match change {
+        Change::Accept(accept) => {
+            out.reserve_exact(accept.stored_text.len())?;
+            push_1(&mut out, 1)?;
+            push_accept(&mut out, accept)?;
+        }
+        Change::Outcome(outcome) => {
+            push_1(&mut out, 2)?;
+            push_outcome(&mut out, outcome)?;
+        }
+    }
+    Ok(out)
+}
+
+/// Adds the fields of an accept.
+#[tactic(auto, using(crate::proofs::FitLemmas::reverse_path_fits, crate::proofs::FitLemmas::given_envid_fits, crate::proofs::FitLemmas::text_fits))]
+fn push_accept(out: &mut Vec<u8>, accept: &Accept) -> Result<(), AllocError>
+    requires { IsAccept accept.now }
+    ensures { OnOk result (out.new.items ≡ out.old.items ++ accept_octets accept.now) }
+{
+    let envelope = &accept.envelope;
+    push_8(out, accept.at.seconds())?;
+    push_sized_2(out, envelope.reverse_path.as_slice())?;
+    push_1(out, number_of_ret(envelope.ret))?;
+    match &envelope.envid {
+        Some(envid) => push_sized_2(out, envid.as_slice())?,
+        None => push_sized_2(out, b"")?,
+    }
+    push_recipients(out, envelope.recipients.as_slice())?;
+    push_sized_4(out, accept.stored_text.as_slice())
+}
+
+fn number_of_ret(ret: Option<Ret>) -> u8
+    ensures { result ≡ ret_number ret }
+{
+    match ret {
+        None => 0,
+        Some(Ret::Full) => 1,
+        Some(Ret::Hdrs) => 2,
+    }
+}
+
+/// Adds recipients behind their count.
+fn push_recipients(out: &mut Vec<u8>, recipients: &[Recipient]) -> Result<(), AllocError>
+    requires few { length recipients.now ≤ 100 }
+    requires valid { AllByRecursion IsRecipient recipients.now }
+    ensures { OnOk result (out.new.items ≡ out.old.items ++ counted recipient_octets recipients.now) }
+{
+    push_1(out, recipients.len() as u8)?;
+    for recipient in recipients {
+        push_recipient(out, recipient)?;
+    }
+    Ok(())
+}
+
+/// Adds a recipient.
+#[tactic(auto, using(crate::proofs::FitLemmas::path_fits, crate::proofs::FitLemmas::given_orcpt_fits))]
+fn push_recipient(out: &mut Vec<u8>, recipient: &Recipient) -> Result<(), AllocError>
+    requires { IsRecipient recipient.now }
+    ensures { OnOk result (out.new.items ≡ out.old.items ++ recipient_octets recipient.now) }
+{
+    push_sized_2(out, recipient.path.as_slice())?;
+    push_1(out, number_of_notify(recipient.notify))?;
+    match &recipient.orcpt {
+        Some(orcpt) => push_sized_2(out, orcpt.as_slice()),
+        None => push_sized_2(out, b""),
+    }
+}
+
+fn number_of_notify(notify: Option<Notify>) -> u8
+    ensures { result ≡ notify_number notify }
+{
+    match notify {
+        None => 0,
+        Some(Notify::Never) => 1,
+        Some(Notify::On(outcomes)) => {
+            let success = if outcomes.success { 2 } else { 0 };
+            let failure = if outcomes.failure { 4 } else { 0 };
+            let delay = if outcomes.delay { 8 } else { 0 };
+            success + failure + delay
+        }
+    }
+}
+
+/// Adds the fields of an outcome.
+fn push_outcome(out: &mut Vec<u8>, outcome: &Outcome) -> Result<(), AllocError>
+    requires { IsOutcome outcome.now }
+    ensures { OnOk result (out.new.items ≡ out.old.items ++ outcome_octets outcome.now) }
+{
+    push_8(out, outcome.message)?;
+    push_8(out, outcome.at.seconds())?;
+    push_sized_2(out, outcome.hop.as_slice())?;
+    push_rulings(out, outcome.rulings.as_slice())?;
+    push_sized_4(out, outcome.report.as_slice())
+}
+
+/// Adds verdicts behind their count.
+fn push_rulings(out: &mut Vec<u8>, rulings: &[Ruling]) -> Result<(), AllocError>
+    requires few { length rulings.now ≤ 100 }
+    requires valid { AllByRecursion IsRuling rulings.now }
+    ensures { OnOk result (out.new.items ≡ out.old.items ++ counted ruling_octets rulings.now) }
+{
+    push_1(out, rulings.len() as u8)?;
+    for ruling in rulings {
+        push_ruling(out, ruling)?;
+    }
+    Ok(())
+}
+
+/// Adds a place and its verdict.
+fn push_ruling(out: &mut Vec<u8>, ruling: &Ruling) -> Result<(), AllocError>
+    requires { IsRuling ruling.now }
+    ensures { OnOk result (out.new.items ≡ out.old.items ++ ruling_octets ruling.now) }
+{
+    push_1(out, ruling.place)?;
+    push_verdict(out, &ruling.verdict)
+}
+
+/// Adds a verdict.
+fn push_verdict(out: &mut Vec<u8>, verdict: &Verdict) -> Result<(), AllocError>
+    requires { IsVerdict verdict.now }
+    ensures { OnOk result (out.new.items ≡ out.old.items ++ verdict_octets verdict.now) }
+{
+    match verdict {
+        Verdict::Taken { dsn: true } => push_1(out, 1),
+        Verdict::Taken { dsn: false } => push_1(out, 2),
+        Verdict::Refused { code, text } => {
+            push_1(out, 3)?;
+            push_2(out, *code)?;
+            push_1(out, text.len() as u8)?;
+            out.extend_from_slice(text.as_slice())
+        }
+        Verdict::Later => push_1(out, 4),
+        Verdict::CantSend => push_1(out, 5),
+        Verdict::NoRoute => push_1(out, 6),
+    }
+}

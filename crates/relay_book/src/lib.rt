@@ -1,0 +1,28 @@
+//! Records and the book: which changes there are, how they are written, and what they leave in the queue.
+#![tactic(auto)]
+
+mod book;
+mod change;
+pub mod custody_laws;
+mod decode;
+mod due_report;
+mod encode;
+mod fate;
+mod fault;
+mod field;
+mod judge;
+mod limits;
+mod message;
+mod ready;
+pub mod record_laws;
+mod retry;
+
+pub use book::Book;
+pub use change::{Accept, Change, Outcome, Ruling, Rulings, Verdict};
+pub use decode::decode_change;
+pub use due_report::{DueReport, due_report_of};
+pub use encode::encode_change;
+pub use fate::{Fate, Way, fate_of};
+pub use fault::BookFault;
+pub use message::{Message, Place, Places};
+pub use ready::Ready;

@@ -1,0 +1,132 @@
+ghost use Rattle.std.specs.Prelude.{◌≡◌, ◌<◌, ◌≤◌, length, slice_get, slice_set, IfOk};
+ghost use Rattle.std.specs.List.{list_any};
+ghost use Rattle.relay_book.specs.Book.{is_held_until};
+ghost use Rattle.relay_book.specs.Queue.{is_held, message_after, places_after, places_ruled};
+
+use crate::change::{Accept, Outcome, Ruling};
+use crate::fate::fate_of;
+use crate::retry::place_after;
+use relay_trace::Moment;
+use std::alloc::{AllocError, Global};
+use std::marker::Model;
+
+/// A recipient's place in the queue.
+#[derive(Clone, Copy, Debug)]
+pub struct Place {
+    /// It is neither transferred nor ended.
+    pub held: bool,
+    /// How many Later verdicts it had, of which four and more are one; 0 where it isn't held.
+    pub laters: u8,
+    /// When it is due, in seconds from 1970; 0 where it isn't held. It may pass the greatest moment.
+    pub due: u64,
+}
+
+/// The places of a message, in the order of its recipients.
+#[derive(Debug, Drop)]
+pub struct Places {
+    items: Vec<Place>,
+}
+
+impl Model for Places {
+    ghost use Rattle.std.specs.Prelude.{List, length, ◌≤◌};
+    ghost use Rattle.relay_book.specs.declared.message.Place.{Place};
+
+    ghost Value = { List Place };
+
+    ghost view = { λ places. places.items.items };
+
+    ghost invariant = { λ places. length places.items.items ≤ 100 };
+}
+
+impl Places {
+    pub(crate) fn new(items: Vec<Place>) -> Self
+        requires { length items.items ≤ 100 }
+        ensures { result ≡ items.items }
+    {
+        Places { items }
+    }
+
+    /// The places.
+    pub fn as_slice(&self) -> &[Place]
+        ensures value { result.now ≡ self.now }
+        ensures within { length result.now ≤ 100 }
+    {
+        self.items.as_slice()
+    }
+
+    fn get(&self, index: usize) -> Option<Place>
+        ensures { result ≡ slice_get self.now index }
+    {
+        self.items.get(index).copied()
+    }
+
+    fn set(&mut self, index: usize, place: Place)
+        requires { index < length self.old }
+        ensures { self.new ≡ slice_set self.old index place }
+    {
+        self.items[index] = place;
+    }
+
+    /// A copy of the places. It fails where memory runs out.
+    pub(crate) fn copy(&self, alloc: Global) -> Result<Self, AllocError>
+        ensures { IfOk result (λ copy. copy ≡ self.now) }
+    {
+        Ok(Places::new(self.items.as_slice().to_vec(alloc)?))
+    }
+
+    /// Rules on one place.
+    fn rule_one(&mut self, accept: &Accept, at: Moment, ruling: &Ruling)
+        ensures { self.new ≡ places_after accept.now at self.old ruling.now }
+    {
+        let index = ruling.place as usize;
+        if let Some(place) = self.get(index) {
+            let fate = fate_of(accept.at, at, &ruling.verdict);
+            self.set(index, place_after(at, place, fate));
+        }
+    }
+
+    /// Rules on the places of an outcome.
+    pub(crate) fn rule(&mut self, accept: &Accept, outcome: &Outcome)
+        ensures { self.new ≡ places_ruled accept.now outcome.now.at self.old outcome.now.rulings }
+    {
+        for ruling in outcome.rulings.as_slice() {
+            self.rule_one(accept, outcome.at, ruling);
+        }
+    }
+
+    /// Whether a held place is due then.
+    pub(crate) fn any_held_until(&self, due: u64) -> bool
+        ensures { result ≡ list_any (is_held_until due) self.now }
+    {
+        self.items
+            .iter()
+            .any(|place| place.held && place.due == due)
+    }
+
+    /// Whether a place is held.
+    pub(crate) fn any_held(&self) -> bool
+        ensures { result ≡ list_any is_held self.now }
+    {
+        self.items.iter().any(|place| place.held)
+    }
+}
+
+/// A message with a held place.
+#[derive(Debug, Drop)]
+pub struct Message {
+    /// The number of the change that made it.
+    pub number: u64,
+    /// What was accepted.
+    pub accept: Accept,
+    /// The places of its recipients.
+    pub places: Places,
+}
+
+impl Message {
+    /// Rules on the places of an outcome.
+    pub(crate) fn rule(&mut self, outcome: &Outcome)
+        ensures { self.new ≡ message_after outcome.now self.old }
+    {
+        self.places.rule(&self.accept, outcome);
+    }
+}

@@ -1,0 +1,51 @@
+ghost use Rattle.std.specs.Prelude.{◌≡◌, ◌≤◌};
+ghost use Rattle.relay_book.specs.DueMoment.{wait_after};
+ghost use Rattle.relay_book.specs.Queue.{place_after};
+
+use crate::fate::Fate;
+use crate::message::Place;
+use relay_trace::Moment;
+
+/// How long a place waits behind as many Later verdicts, in seconds.
+fn wait_after(laters: u8) -> u64
+    requires some { 1 ≤ laters }
+    requires few { laters ≤ 4 }
+    ensures value { result ≡ wait_after laters }
+    ensures within { result ≤ 14400 }
+{
+    match laters {
+        1 => 1_800,
+        2 => 3_600,
+        3 => 7_200,
+        _ => 14_400,
+    }
+}
+
+/// A held place behind a verdict at a moment.
+pub(crate) fn place_after(at: Moment, place: Place, fate: Fate) -> Place
+    ensures { result ≡ place_after at place fate }
+{
+    match fate {
+        Fate::Waits => {
+            let laters = if place.laters < 4 {
+                place.laters + 1
+            } else {
+                4
+            };
+            Place {
+                held: true,
+                laters,
+                due: at.seconds() + wait_after(laters),
+            }
+        }
+        Fate::Failed => LEFT_PLACE,
+        Fate::Relayed(_) => LEFT_PLACE,
+    }
+}
+
+/// A place that left.
+const LEFT_PLACE: Place = Place {
+    held: false,
+    laters: 0,
+    due: 0,
+};
