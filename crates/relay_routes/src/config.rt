@@ -46,7 +46,8 @@ impl Config {
     ) -> Option<Self>
         ensures { MatchOption result (¬ IsConfig host max_content spool_limit routes) (λ config.
             (config.host ≡ host) × (config.listen ≡ listen) × (config.spool ≡ spool)
-            × (config.max_content ≡ max_content) × (config.spool_limit ≡ spool_limit) × (config.routes ≡ routes)) }
+            × (config.max_content ≡ max_content) × (config.spool_limit ≡ spool_limit)
+            × (config.routes ≡ routes)) }
     {
         if is_config(&host, max_content, spool_limit, &routes) {
             Some(Config {

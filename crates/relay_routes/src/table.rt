@@ -132,7 +132,8 @@ impl Table {
 
     /// Whether there is a route to this hop's name at another place.
     fn has_other_place(&self, hop: &Hop) -> bool
-        ensures { MatchBool result (HasOtherPlace self.now.routes hop.now) (HasNoOtherPlace self.now.routes hop.now) }
+        ensures { MatchBool result (HasOtherPlace self.now.routes hop.now)
+            (HasNoOtherPlace self.now.routes hop.now) }
     {
         match self.place_of(hop.name.as_slice()) {
             Some(place) => place != hop.at,

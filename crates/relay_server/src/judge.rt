@@ -169,7 +169,8 @@ fn add(
     mut transaction: Transaction,
 ) -> Result<Judged, AllocError>
     ensures course { IfOk result (IsReplied
-        (course_of_rcpt (setup_of server.now table.now) (Ok (rcpt_value rcpt.entry)) (standing.Open transaction.client transaction.envelope))) }
+        (course_of_rcpt (setup_of server.now table.now) (Ok (rcpt_value rcpt.entry))
+        (standing.Open transaction.client transaction.envelope))) }
     ensures held { (limit : ℕ) → IfOk result (IsReplyHeld limit) }
 {
     if transaction.envelope.recipients.len() >= RECIPIENT_LIMIT {
