@@ -3,6 +3,7 @@ use Rattle.std.proofs.Common.{◌≡◌, ℕ, ◌<◌, length, ◌==◌, codes, 
 use Rattle.std.specs.List.{slice_split}
 use Rattle.std.specs.Option.{option_and_then}
 use Rattle.std.proofs.lemmas.List.Splits.{length-slice_split}
+use Rattle.std.proofs.Math.Bool.{or-true}
 use Rattle.relay_lines.specs.Word.{is_word}
 use Rattle.relay_envelope.specs.Path.{Path, IsPath, is_forward, is_reverse}
 use Rattle.relay_envelope.specs.Parameters.{MailParameters, RcptParameters, and_then, is_envid, is_octet, is_orcpt, keyword_of, mail_parameters_of, no_outcomes, notify_of, rcpt_parameters_of, ret_of, value_of_word, with_each, with_envid, with_mail_parameter, with_notify, with_orcpt, with_outcome, with_outcomes, with_rcpt_parameter, with_ret}
@@ -67,11 +68,6 @@ mail_keeps word old new h e =
     (λ f. ret_keeps (is_some old.ret) (ret_of (value_of_word word)) old new Repeated BadValue h f)
     (λ f. envid_keeps (is_some old.envid) (is_envid (value_of_word word)) (value_of_word word) old new Repeated BadValue refl f)
     (λ f. absurd (never_ok UnknownParameter new f))
-
--- one or true is true
-or-true : (b : Bool) → b || true ≡ true
-or-true true = refl
-or-true false = refl
 
 -- a further word names one
 further_named : (a b d has_success has_failure has_delay : Bool) (old new : Outcomes) → cond a (cond has_success None (Some (record old { success = true }))) (cond b (cond has_failure None (Some (record old { failure = true }))) (cond d (cond has_delay None (Some (record old { delay = true }))) None)) ≡ Some new → new.success || new.failure || new.delay ≡ true
