@@ -17,30 +17,54 @@ fn main(rt: HostRuntime) -> Result<(), Fail> {
         Some(word) => word.as_str(),
         None => ".",
     };
-    let rows = fs::read_to_string(&rt, format!(in alloc; "{folder}/rows.in")?.as_str())?;
+    let rows = file(&rt, alloc, folder, "rows.in")?;
     for row in rows.as_str().lines() {
-        let Some((given, wanted)) = row.split_once(" => ") else {
-            println!(rt; "{row}")?;
-            continue;
-        };
-        let outcome = if let Some(lines) = given.strip_prefix("TEXT ") {
-            outcome_of(alloc, document_of(alloc, lines)?.as_str())?
-        } else if let Some(name) = given.strip_prefix("FILE ") {
-            let text = fs::read_to_string(&rt, format!(in alloc; "{folder}/{name}")?.as_str())?;
-            outcome_of(alloc, text.as_str())?
-        } else if let Some((name, path)) = given.split_once(" ") {
-            let text = fs::read_to_string(&rt, format!(in alloc; "{folder}/{name}")?.as_str())?;
-            hop_of(alloc, text.as_str(), path.as_bytes())?
-        } else {
-            String::from_str(alloc, "no row")?
-        };
-        if outcome.as_str() == wanted {
-            println!(rt; "{given} => {outcome}")?;
-        } else {
-            println!(rt; "{given} => {outcome}, and not {wanted}")?;
-        }
+        show(&rt, alloc, folder, row)?;
     }
     Ok(())
+}
+
+/// Prints a row and what comes of it; a line that is no row stands as it is.
+fn show(rt: &HostRuntime, alloc: Global, folder: &str, row: &str) -> Result<(), Fail> {
+    let Some((given, wanted)) = row.split_once(" => ") else {
+        println!(rt; "{row}")?;
+        return Ok(());
+    };
+    let outcome = outcome_of_row(rt, alloc, folder, given)?;
+    if outcome.as_str() == wanted {
+        println!(rt; "{given} => {outcome}")?;
+    } else {
+        println!(rt; "{given} => {outcome}, and not {wanted}")?;
+    }
+    Ok(())
+}
+
+/// What comes of the lines, of the file, or of the file and the path that a row gives.
+fn outcome_of_row(
+    rt: &HostRuntime,
+    alloc: Global,
+    folder: &str,
+    given: &str,
+) -> Result<String, Fail> {
+    if let Some(lines) = given.strip_prefix("TEXT ") {
+        return outcome_of(alloc, document_of(alloc, lines)?.as_str());
+    }
+    if let Some(name) = given.strip_prefix("FILE ") {
+        return outcome_of(alloc, file(rt, alloc, folder, name)?.as_str());
+    }
+    match given.split_once(" ") {
+        Some((name, path)) => hop_of(
+            alloc,
+            file(rt, alloc, folder, name)?.as_str(),
+            path.as_bytes(),
+        ),
+        None => Ok(String::from_str(alloc, "no row")?),
+    }
+}
+
+/// The text of a file of the folder.
+fn file(rt: &HostRuntime, alloc: Global, folder: &str, name: &str) -> Result<String, Fail> {
+    Ok(fs::read_to_string(rt, format!(in alloc; "{folder}/{name}")?.as_str())?)
 }
 
 /// The lines of a row, each with its end.
