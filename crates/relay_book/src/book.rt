@@ -1,10 +1,10 @@
 //! The queue of a node, in memory.
 ghost use Rattle.std.specs.Prelude.{◌≡◌, ◌<◌, ◌≤◌, ◌+◌, ◌^◌, ◌++◌, ℕ, [], ◌∷◌, false, true, IfOk, IsErrOf, IsTrue, ◌↔◌, OnErr, OnOk};
-ghost use Rattle.std.specs.List.{Contains, list_any};
+ghost use Rattle.std.specs.List.{Contains, flat_map, list_any};
 ghost use Rattle.std.specs.Option.{option_copied, option_map_or};
-ghost use Rattle.relay_book.specs.Book.{AllTold, AreTold, IsTold, is_held_until};
+ghost use Rattle.relay_book.specs.Book.{AllTold, AreTold, IsTold, is_held_until, marks_at};
 ghost use Rattle.relay_book.specs.Marks.{leaving_of};
-ghost use Rattle.relay_book.specs.Queue.{FitsQueue, due_of, empty_queue, held_of, message_of, ruled, step};
+ghost use Rattle.relay_book.specs.Queue.{FitsQueue, due_of, empty_queue, held_of, is_due_at, message_of, ruled, step};
 ghost use Rattle.relay_book.specs.Ready.{IsReady, entry_of, message_in};
 
 mod entries;
@@ -22,7 +22,7 @@ use entries::{keep_queued, slot_after};
 use indexmap::IndexMap;
 use leaving::leaving_by;
 use make::{accepted, made_of, moments_of, places_behind};
-use questions::{due_places, held_places};
+use questions::{held_places, numbers_until, push_due};
 use relay_trace::Moment;
 use std::alloc::{AllocError, Global};
 use std::collections::BTreeSet;
@@ -96,7 +96,9 @@ impl Book {
     pub fn due(&self, alloc: Global, now: Moment) -> Result<Vec<(u64, u8)>, AllocError>
         ensures { IfOk result (λ marks. marks.items ≡ due_of now self.now.queue) }
     {
-        due_places(alloc, &self.messages, now.seconds())
+        let latest = now.seconds();
+        let numbers = numbers_until(alloc, &self.waiting, latest)?;
+        self.due_among(alloc, &numbers, latest)
     }
 
     /// The places that leave by a change, each with its way, in order. It fails where memory runs out.
@@ -159,6 +161,25 @@ impl Book {
         let ready = self.prepare(alloc, change)?;
         self.commit(ready);
         Ok(())
+    }
+
+    /// The places of these messages that are due by then, in order.
+    #[tactic(auto, using(crate::proofs::DueLemmas::marks_next))]
+    fn due_among(
+        &self,
+        alloc: Global,
+        numbers: &BTreeSet<u64, Global>,
+        latest: u64,
+    ) -> Result<Vec<(u64, u8)>, AllocError>
+        ensures { IfOk result (λ marks. marks.items ≡ flat_map (marks_at (is_due_at latest) self.now.queue.messages) numbers.now.keys) }
+    {
+        let mut marks = Vec::new(alloc);
+        for number in numbers.iter() {
+            if let Some(message) = self.message(*number) {
+                push_due(&mut marks, *number, &message.places, latest)?;
+            }
+        }
+        Ok(marks)
     }
 
     /// Judges an accept, and makes room for its message.
