@@ -27,7 +27,8 @@ live [] = []
 live (entry ∷ entries) = if_there entry.0 entry.1 ++ live entries
 
 abbrev pub shown : ℕ → List (ℕ × Option Message) → ℕ → List (ℕ × ℕ) → Shown
-shown next entries room told = record { queue = record { next = next; messages = live entries }; room = room; told = told }
+shown next entries room told =
+    record { queue = record { next = next; messages = live entries }; room = room; told = told }
 
 -- a message with a held place; another has ended
 abbrev pub kept : Message → Option Message

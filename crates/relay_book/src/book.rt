@@ -36,7 +36,8 @@ const LAST_NUMBER: u64 = 1 << 62;
 pub struct Book {
     next: u64,
     messages: IndexMap<u64, Option<Message>>,
-    /// How many entries have ended: they are cleared away together, since one by one each would move all behind it.
+    /// How many entries have ended: they are cleared away together, since one by one each would move all
+    /// behind it.
     ended: usize,
     /// When each held place is due, with its message's number.
     waiting: BTreeSet<(u64, u64), Global>,
@@ -50,7 +51,8 @@ impl Model for Book {
 
     ghost view = { λ book. shown book.next book.messages.entries (spare book.messages) book.waiting.keys };
 
-    ghost invariant = { λ book. Rise 0 book.next book.messages.entries × AllTold book.waiting.keys (live book.messages.entries) };
+    ghost invariant = { λ book. Rise 0 book.next book.messages.entries
+        × AllTold book.waiting.keys (live book.messages.entries) };
 }
 
 impl Book {
@@ -91,8 +93,8 @@ impl Book {
         held_places(alloc, &self.messages)
     }
 
-    /// The held places that are due at a moment or before, each with the number of its message, in order. It fails where
-    /// memory runs out.
+    /// The held places that are due at a moment or before, each with the number of its message, in order. It
+    /// fails where memory runs out.
     pub fn due(&self, alloc: Global, now: Moment) -> Result<Vec<(u64, u8)>, AllocError>
         ensures { IfOk result (λ marks. marks.items ≡ due_of now self.now.queue) }
     {
@@ -114,8 +116,9 @@ impl Book {
         }
     }
 
-    /// Makes room for a change and makes ready what it queues, so that `commit` can't fail. It answers `BadRecord` exactly
-    /// where the change doesn't fit, and else fails where memory runs out. The queue is unchanged.
+    /// Makes room for a change and makes ready what it queues, so that `commit` can't fail. It answers
+    /// `BadRecord` exactly where the change doesn't fit, and else fails where memory runs out. The queue is
+    /// unchanged.
     pub fn prepare(&mut self, alloc: Global, change: Change) -> Result<Ready, BookFault>
         ensures queue { self.new.queue ≡ self.old.queue }
         ensures ready { IfOk result (λ ready. IsReady self.new ready) }
@@ -171,7 +174,8 @@ impl Book {
         numbers: &BTreeSet<u64, Global>,
         latest: u64,
     ) -> Result<Vec<(u64, u8)>, AllocError>
-        ensures { IfOk result (λ marks. marks.items ≡ flat_map (marks_at (is_due_at latest) self.now.queue.messages) numbers.now.keys) }
+        ensures { IfOk result (λ marks.
+            marks.items ≡ flat_map (marks_at (is_due_at latest) self.now.queue.messages) numbers.now.keys) }
     {
         let mut marks = Vec::new(alloc);
         for number in numbers.iter() {
@@ -206,7 +210,8 @@ impl Book {
         ensures queue { self.new.queue ≡ self.old.queue }
         ensures ready { IfOk result (λ ready. IsReady self.new ready) }
         ensures change { IfOk result (λ ready. ready.change ≡ Change.Outcome outcome) }
-        ensures bad { IsErrOf result BookFault.BadRecord → ¬ FitsQueue self.old.queue (Change.Outcome outcome) }
+        ensures bad { IsErrOf result BookFault.BadRecord
+            → ¬ FitsQueue self.old.queue (Change.Outcome outcome) }
     {
         if !self.fits(&outcome) {
             return Err(BookFault::BadRecord);
@@ -241,7 +246,8 @@ impl Book {
     fn tell_made(&mut self, made: &Made) -> Result<(), AllocError>
         ensures queue { self.new.queue ≡ self.old.queue }
         ensures room { self.new.room ≡ self.old.room }
-        ensures told { OnOk result (AllTold self.new.told (entry_of self.new.queue.next (message_in made.now))) }
+        ensures told { OnOk result
+            (AllTold self.new.told (entry_of self.new.queue.next (message_in made.now))) }
         ensures kept { (key : ℕ × ℕ) → Contains self.old.told key → Contains self.new.told key }
     {
         match made {
@@ -257,7 +263,8 @@ impl Book {
         requires few { self.old.queue.next ≤ 2 ^ 62 }
         requires told { AllTold self.old.told (entry_of self.old.queue.next message) }
         ensures next { self.new.queue.next ≡ self.old.queue.next + 1 }
-        ensures messages { self.new.queue.messages ≡ self.old.queue.messages ++ entry_of self.old.queue.next message }
+        ensures messages { self.new.queue.messages
+            ≡ self.old.queue.messages ++ entry_of self.old.queue.next message }
     {
         match message {
             Some(message) => self.push(message),
@@ -272,7 +279,8 @@ impl Book {
         requires few { self.old.queue.next ≤ 2 ^ 62 }
         requires told { AreTold self.old.told self.old.queue.next message.places }
         ensures next { self.new.queue.next ≡ self.old.queue.next + 1 }
-        ensures messages { self.new.queue.messages ≡ self.old.queue.messages ++ (self.old.queue.next, message) ∷ [] }
+        ensures messages { self.new.queue.messages
+            ≡ self.old.queue.messages ++ (self.old.queue.next, message) ∷ [] }
     {
         if let Ok(_) = self.messages.insert(self.next, Some(message)) {}
         self.next += 1;
@@ -375,7 +383,9 @@ impl Book {
 
     /// Whether a held place of this message is due then.
     fn is_due_then(&self, due: u64, number: u64) -> bool
-        ensures { result ≡ option_map_or (λ message. list_any (is_held_until due) message.places) (message_of self.now.queue.messages number) false }
+        ensures { result
+            ≡ option_map_or (λ message. list_any (is_held_until due) message.places)
+            (message_of self.now.queue.messages number) false }
     {
         match self.message(number) {
             Some(message) => message.places.any_held_until(due),

@@ -77,7 +77,8 @@ pub(super) fn push_due(
     places: &Places,
     latest: u64,
 ) -> Result<(), AllocError>
-    ensures { OnOk result (marks.new.items ≡ marks.old.items ++ marks_from (is_due_at latest) number 0 places.now) }
+    ensures { OnOk result
+        (marks.new.items ≡ marks.old.items ++ marks_from (is_due_at latest) number 0 places.now) }
 {
     for (index, place) in places.as_slice().iter().enumerate() {
         if place.held && place.due <= latest {

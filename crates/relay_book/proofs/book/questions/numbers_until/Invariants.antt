@@ -1,5 +1,5 @@
 -- the numbers of the keys so far are there
-use Rattle.std.proofs.Common.{◌≡◌, ◌++◌, ℕ, map, nat_cmp, Contains}
+use Rattle.std.proofs.Common.{ℕ, map, nat_cmp, Contains}
 use Rattle.std.specs.BTreeSet.{IsOrdered}
 use Rattle.relay_book.proofs.book.questions.numbers_until.Given as goal
 
