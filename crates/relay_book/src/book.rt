@@ -27,6 +27,7 @@ use relay_trace::Moment;
 use std::alloc::{AllocError, Global};
 use std::collections::BTreeSet;
 use std::marker::Model;
+use std::mem;
 
 /// The greatest number of a change.
 const LAST_NUMBER: u64 = 1 << 62;
@@ -41,6 +42,8 @@ pub struct Book {
     ended: usize,
     /// When each held place is due, with its message's number.
     waiting: BTreeSet<(u64, u64), Global>,
+    /// What was told for a change that isn't committed. Where it never is, the next one makes it forgotten.
+    fresh: Vec<(u64, u64)>,
 }
 
 impl Model for Book {
@@ -65,6 +68,7 @@ impl Book {
             messages: IndexMap::new(alloc),
             ended: 0,
             waiting: BTreeSet::new(alloc),
+            fresh: Vec::new(alloc),
         }
     }
 
@@ -125,6 +129,7 @@ impl Book {
         ensures change { IfOk result (λ ready. ready.change ≡ change) }
         ensures bad { IsErrOf result BookFault.BadRecord → ¬ FitsQueue self.old.queue change }
     {
+        self.forget_fresh(alloc);
         match change {
             Change::Accept(accept) => self.prepare_accept(alloc, accept),
             Change::Outcome(outcome) => self.prepare_outcome(alloc, outcome),
@@ -266,6 +271,7 @@ impl Book {
         ensures messages { self.new.queue.messages
             ≡ self.old.queue.messages ++ entry_of self.old.queue.next message }
     {
+        self.keep_fresh();
         match message {
             Some(message) => self.push(message),
             None => self.pass(),
@@ -351,6 +357,7 @@ impl Book {
         ensures kept { (key : ℕ × ℕ) → Contains self.old.told key → Contains self.new.told key }
     {
         if place.held {
+            self.note_fresh(place.due, number)?;
             self.tell(place.due, number)
         } else {
             Ok(())
@@ -368,6 +375,31 @@ impl Book {
             self.tell_place(number, *place)?;
         }
         Ok(())
+    }
+
+    /// Notes what is told for a change that isn't committed.
+    fn note_fresh(&mut self, due: u64, number: u64) -> Result<(), AllocError>
+        ensures { self.new ≡ self.old }
+    {
+        self.fresh.push((due, number))?;
+        Ok(())
+    }
+
+    /// The change is committed.
+    fn keep_fresh(&mut self)
+        ensures { self.new ≡ self.old }
+    {
+        self.fresh.clear();
+    }
+
+    /// Forgets what was told for a change that never was committed.
+    fn forget_fresh(&mut self, alloc: Global)
+        ensures { self.new.queue ≡ self.old.queue }
+    {
+        let fresh = mem::replace(&mut self.fresh, Vec::new(alloc));
+        for (due, number) in fresh.as_slice() {
+            self.forget(*due, *number);
+        }
     }
 
     /// Forgets that a place of a message was due, unless one still is.
