@@ -22,4 +22,6 @@ mod ToldLemmas
 mod ReadyLemmas
 mod StoredLemmas
 mod MarkRowLemmas
+mod LeavingLemmas
+mod DueLemmas
 pub mod Theorems
