@@ -1,0 +1,4 @@
+mod SeatLemmas
+mod AcceptLemmas
+mod ListenLemmas
+pub mod Theorems

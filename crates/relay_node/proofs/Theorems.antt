@@ -1,0 +1,1 @@
+-- What a crate above may cite of this one: each lemma proves a law that the crate exports.

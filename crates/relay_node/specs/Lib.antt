@@ -1,0 +1,5 @@
+pub mod Seats
+pub mod Acceptance
+pub mod Room
+pub mod Listening
+pub mod Node

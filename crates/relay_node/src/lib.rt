@@ -1,0 +1,10 @@
+//! A node: the sessions of its clients, and the records of the mail that it has taken from them (RFC
+//! 5321, sections 4.2.5 and 6.1).
+#![tactic(auto)]
+
+mod accept;
+mod intake;
+mod listen;
+mod node;
+mod receive;
+mod seats;
