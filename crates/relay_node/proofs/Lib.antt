@@ -1,4 +1,5 @@
 mod SeatLemmas
 mod AcceptLemmas
 mod ListenLemmas
+mod ReceiveLemmas
 pub mod Theorems

@@ -76,13 +76,15 @@ pub(crate) fn hear<D: Disk>(
         End::Taken(taken) => {
             seat.session
                 .reply(Answer::Queued(intake.number), &mut out)?;
-            let number = records.add(alloc, taken.change, taken.octets, used)?;
-            Ok(Received {
-                used,
-                out,
-                change: Some(number),
-                close: false,
-            })
+            match records.add(alloc, taken.change, taken.octets, used) {
+                Ok(number) => Ok(Received {
+                    used,
+                    out,
+                    change: Some(number),
+                    close: false,
+                }),
+                Err(fault) => Err(fault),
+            }
         }
     }
 }
