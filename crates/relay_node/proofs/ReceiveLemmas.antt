@@ -3,9 +3,10 @@ use Rattle.std.proofs.Common.{◌≡◌, ◌≤◌, ℕ, ◌+◌, Bool, true, fa
 use Rattle.std.specs.List.{AllByRecursion}
 use Rattle.relay_disk.specs.Device.{DiskWords}
 use Rattle.relay_server.specs.declared.offer.Answer.TheVariants.{Queued}
+use Rattle.relay_server.specs.declared.session.Next.TheVariants as next
 use Rattle.relay_server.specs.declared.session.Session.{Session}
 use Rattle.relay_server.specs.Dialogue.{Offered, Said}
-use Rattle.relay_server.specs.Session.{Answered, SaysMore, Stands, open_offers}
+use Rattle.relay_server.specs.Session.{Answered, SaysMore, Stands, next_of, open_offers}
 use Rattle.relay_server.specs.Setup.{setup_of_config}
 use Rattle.relay_server.proofs.Theorems.{more_is_more, what_stands_is_a_dialogue}
 use Rattle.relay_book.specs.declared.change.Accept.{Accept}
@@ -51,7 +52,7 @@ module _ (intake : Intake) (session : Session) (piece : List ℕ) (listened : Li
   ends_for_more is = subst (EndsBy intake session listened.used (length piece)) is ends.by
 
   -- how the session closed
-  pub ends_for_close : listened.end ≡ «end».Close → open_offers session ≡ []
+  pub ends_for_close : listened.end ≡ «end».Close → (open_offers session ≡ []) × (next_of session ≡ next.Close)
   ends_for_close is = subst (EndsBy intake session listened.used (length piece)) is ends.by
 
   -- how the open offer was taken
@@ -75,11 +76,12 @@ module _ {D : Type 0} (honest : Type 0) (words : DiskWords D) (intake : Intake) 
       (subst (λ size. HasRoom (acceptance_of intake) intake.config.now.spool_limit size offer accept) size_is room)
 
   -- no offer was queued
-  pub hears_quietly : (session : Session) (received : Received) → HasListened intake said session (take received.used piece) received.out.items → open_offers session ≡ [] → received.change ≡ None
+  pub hears_quietly : (session : Session) (received : Received) → HasListened intake said session (take received.used piece) received.out.items → open_offers session ≡ [] → received.change ≡ None → (received.close ≡ true → next_of session ≡ next.Close)
       → received.used ≤ length piece → (received.close ≡ false → received.used ≡ length piece) → Hears honest words intake.config.now changes intake.peer intake.at said piece session old old received
-  hears_quietly session received l none unchanged within whole = record {
+  hears_quietly session received l none unchanged closed within whole = record {
     later = l.later;
     says = record { stands = l.stands; settled = none };
+    closed = closed;
     talks = record {
       input = l.more.input;
       output = all_written l.more.written received.out.items said.output l.later.output l.more.output l.more.out;
@@ -96,14 +98,15 @@ module _ {D : Type 0} (honest : Type 0) (words : DiskWords D) (intake : Intake) 
   module _ (mid session : Session) (offer : Offered) (taken : Taken) (used : ℕ) (before after : List ℕ) (l : HasListened intake said mid (take used piece) before) (was_open : open_offers mid ≡ offer ∷ [])
       (is : IsTaken intake offer taken) (a : Answered (setup_of_config intake.config.now) l.later session (Queued intake.number) before after) (within : used ≤ length piece) (new : Kept D) where
     -- an offer was queued
-    pub hears_queued : (received : Received) (number : ℕ) → received.used ≡ used → received.out.items ≡ after → received.change ≡ Some number → open_offers session ≡ [] → number ≡ length changes + 1
+    pub hears_queued : (received : Received) (number : ℕ) → received.used ≡ used → received.out.items ≡ after → received.change ≡ Some number → received.close ≡ false → open_offers session ≡ [] → number ≡ length changes + 1
         → Adds honest words new changes taken.change used → Hears honest words intake.config.now changes intake.peer intake.at said piece session old new received
-    hears_queued received number used_is out_is some none count adds =
+    hears_queued received number used_is out_is some going none count adds =
         let more = queued_more intake said mid session (take used piece) before after offer l was_open a in
         let answers = queued_answers intake said mid session (take used piece) before after offer l was_open a in
         record {
           later = a.later;
           says = record { stands = a.stands; settled = none };
+          closed = λ is_last. absurd (closes (sym is_last ∙ going));
           talks = record {
             input = more.input ∙ ap (λ n. said.input ++ take n piece) (sym used_is);
             output = all_written more.written received.out.items said.output a.later.output more.output (out_is ∙ more.out);

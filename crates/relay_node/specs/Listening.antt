@@ -2,9 +2,10 @@
 use Rattle.std.specs.Prelude.{◌≡◌, ℕ, ◌≤◌, List, [], ◌∷◌, length, take, Option, Some, None}
 use Rattle.std.specs.List.{AllByRecursion}
 use Rattle.relay_server.specs.declared.session.Session.{Session}
+use Rattle.relay_server.specs.declared.session.Next.TheVariants as next
 use Rattle.relay_server.specs.Dialogue.{Offered, Said}
 use Rattle.relay_server.specs.DialogueLaws.{MayBeStored}
-use Rattle.relay_server.specs.Session.{SaysMore, Stands, open_offers}
+use Rattle.relay_server.specs.Session.{SaysMore, Stands, next_of, open_offers}
 use Rattle.relay_server.specs.Setup.{setup_of_config}
 use Rattle.relay_book.specs.declared.change.Accept.{Accept}
 use Rattle.relay_book.specs.declared.change.Change.TheVariants as change
@@ -48,7 +49,7 @@ pub record HasListened (intake : Intake) (said : Said) (session : Session) (octe
 -- the piece is used up, the session closes, or the offer that is open is taken
 abbrev pub EndsBy : Intake → Session → ℕ → ℕ → End → Type 0
 EndsBy intake session used len «end».More = (open_offers session ≡ []) × (used ≡ len)
-EndsBy intake session used len «end».Close = open_offers session ≡ []
+EndsBy intake session used len «end».Close = (open_offers session ≡ []) × (next_of session ≡ next.Close)
 EndsBy intake session used len («end».Taken taken) = (offer : Offered) × (open_offers session ≡ offer ∷ []) × IsTaken intake offer taken
 
 pub record Ends (intake : Intake) (session : Session) (piece : List ℕ) (listened : Listened) : Type 0 where

@@ -5,9 +5,10 @@ use Rattle.relay_disk.specs.Device.{DiskWords}
 use Rattle.relay_spool.specs.declared.fault.SpoolFault.TheVariants as spool_fault
 use Rattle.relay_routes.specs.declared.config.Config.{Config}
 use Rattle.relay_server.specs.declared.offer.Answer.TheVariants.{Queued}
+use Rattle.relay_server.specs.declared.session.Next.TheVariants as next
 use Rattle.relay_server.specs.declared.session.Session.{Session}
 use Rattle.relay_server.specs.Dialogue.{Offered, Said, IsDialogue, unread_behind}
-use Rattle.relay_server.specs.Session.{Stands, open_offers}
+use Rattle.relay_server.specs.Session.{Stands, next_of, open_offers}
 use Rattle.relay_server.specs.Setup.{Setup, setup_of_config}
 use Rattle.relay_server.specs.State.{Closed}
 use Rattle.relay_book.specs.declared.change.Accept.{Accept}
@@ -110,6 +111,7 @@ module _ {D : Type 0} (honest : Type 0) (words : DiskWords D) (config : Config) 
   pub record Hears (said : Said) (piece : List ℕ) (new_session : Session) (old new : Kept D) (received : Received) : Type 0 where
     pub later : Said
     pub says : Says (setup_of_config config) new_session later
+    pub closed : received.close ≡ true → next_of new_session ≡ next.Close
     pub talks : TalksOn said later piece old new received
 
   -- the same, on the session of this number of a node

@@ -1,5 +1,5 @@
 -- What was listened to, and what became of an offer that there is room for.
-use Rattle.std.proofs.Common.{refl}
+use Rattle.std.proofs.Common.{refl, sym}
 use Rattle.relay_server.specs.Setup.{setup_of_config}
 use Rattle.relay_node.proofs.ReceiveLemmas.{closes, cuts_talk, ends_for_close, ends_for_more, ends_for_taken, err_of, hears_queued, hears_quietly}
 use Rattle.relay_node.proofs.receive.hear.Goals as goal
@@ -9,14 +9,14 @@ returns-in-More-clause-hears g c = λ changes said keeps says.
     let ends = c.in_ok-used.ensures.ends in
     let by = ends_for_more _ _ _ _ ends c.in-More.is in
     hears_quietly g.D.Disk.honest g.D.Disk.words _ changes said c.args.piece.now c.args.records.now (c.next_number.ensures.kept changes keeps) c.size.ensures.size c.listen.new.session _
-    (c.in_ok-used.ensures.listens said says.stands) by.0 refl ends.within (λ _. by.1)
+    (c.in_ok-used.ensures.listens said says.stands) by.0 refl (λ is_last. absurd (closes (sym is_last))) ends.within (λ _. by.1)
 
 pub returns-in-Close-clause-hears : goal.returns-in-Close-clause-hears
 returns-in-Close-clause-hears g c = λ changes said keeps says.
     let ends = c.in_ok-used.ensures.ends in
-    let settled = ends_for_close _ _ _ _ ends c.in-Close.is in
+    let by = ends_for_close _ _ _ _ ends c.in-Close.is in
     hears_quietly g.D.Disk.honest g.D.Disk.words _ changes said c.args.piece.now c.args.records.now (c.next_number.ensures.kept changes keeps) c.size.ensures.size c.listen.new.session _
-    (c.in_ok-used.ensures.listens said says.stands) settled refl ends.within (λ going. absurd (closes going))
+    (c.in_ok-used.ensures.listens said says.stands) by.0 refl (λ _. by.1) ends.within (λ going. absurd (closes going))
 
 pub returns-in-More-clause-history : goal.returns-in-More-clause-history
 returns-in-More-clause-history g c =
@@ -26,9 +26,9 @@ returns-in-More-clause-history g c =
 
 pub returns-in-Close-clause-history : goal.returns-in-Close-clause-history
 returns-in-Close-clause-history g c =
-    let settled = ends_for_close _ _ _ _ c.in_ok-used.ensures.ends c.in-Close.is in
+    let by = ends_for_close _ _ _ _ c.in_ok-used.ensures.ends c.in-Close.is in
     let l = c.in_ok-used.ensures.listens c.requires.history.0 c.requires.history.1.stands in
-    (l.later, record { stands = l.stands; settled = settled })
+    (l.later, record { stands = l.stands; settled = by.0 })
 
 pub returns-in-Ok-clause-hears : goal.returns-in-Ok-clause-hears
 returns-in-Ok-clause-hears g c = λ changes said keeps says.
@@ -39,7 +39,7 @@ returns-in-Ok-clause-hears g c = λ changes said keeps says.
     let a = c.in_ok-reply-in-Taken.ensures.answered setup l.later l.stands in
     let added = c.in-Ok.ensures.ok changes keeps in
     hears_queued g.D.Disk.honest g.D.Disk.words _ changes said c.args.piece.now c.args.records.now (c.next_number.ensures.kept changes keeps) c.size.ensures.size
-    c.listen.new.session c.reply.new.self by.0 c.in-Taken.taken c.in_ok-used.field-0.used _ _ l by.1 by.2 a ends.within c.add.new.self _ c.in-Ok.number refl refl refl c.in_ok-reply-in-Taken.ensures.settled added.0 added.1
+    c.listen.new.session c.reply.new.self by.0 c.in-Taken.taken c.in_ok-used.field-0.used _ _ l by.1 by.2 a ends.within c.add.new.self _ c.in-Ok.number refl refl refl refl c.in_ok-reply-in-Taken.ensures.settled added.0 added.1
 
 pub returns-in-Ok-clause-history : goal.returns-in-Ok-clause-history
 returns-in-Ok-clause-history g c =
