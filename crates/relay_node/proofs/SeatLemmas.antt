@@ -47,3 +47,6 @@ none_below seats number below here lower low =
           | inl less ↦ inl (omega (arith, less))
           | inr same ↦ inr (ap suc same)
         ]
+
+pub others_of_put : (seats all : List (Option Seat)) (number : ℕ) (seat : Option Seat) → all ≡ slice_set seats number seat → OthersStay seats all number
+others_of_put seats all number seat is = subst (λ (l : List (Option Seat)). OthersStay seats l number) (sym is) (set_others seats number seat)
