@@ -1,5 +1,5 @@
 -- What a node has made of a client's octets.
-use Rattle.std.proofs.Common.{◌≡◌, ◌≤◌, ℕ, ◌+◌, Bool, true, false, List, [], ◌∷◌, ◌++◌, length, take, Result, Err, Option, None, Some, refl, sym, ap, ◌∙◌, subst, append-nil}
+use Rattle.std.proofs.Common.{◌≡◌, ◌≤◌, ◌<◌, ℕ, ◌+◌, Bool, true, false, List, [], ◌∷◌, ◌++◌, length, take, Result, Err, Option, None, Some, refl, sym, ap, ◌∙◌, subst, append-nil}
 use Rattle.std.specs.List.{AllByRecursion}
 use Rattle.relay_disk.specs.Device.{DiskWords}
 use Rattle.relay_server.specs.declared.offer.Answer.TheVariants.{Queued}
@@ -56,7 +56,7 @@ module _ (intake : Intake) (session : Session) (piece : List ℕ) (listened : Li
   ends_for_close is = subst (EndsBy intake session listened.used (length piece)) is ends.by
 
   -- how the open offer was taken
-  pub ends_for_taken : (taken : Taken) → listened.end ≡ «end».Taken taken → (offer : Offered) × (open_offers session ≡ offer ∷ []) × IsTaken intake offer taken
+  pub ends_for_taken : (taken : Taken) → listened.end ≡ «end».Taken taken → (0 < listened.used) × ((offer : Offered) × (open_offers session ≡ offer ∷ []) × IsTaken intake offer taken)
   ends_for_taken taken is = subst (EndsBy intake session listened.used (length piece)) is ends.by
 
 -- what was written behind nothing
@@ -77,8 +77,8 @@ module _ {D : Type 0} (honest : Type 0) (words : DiskWords D) (intake : Intake) 
 
   -- no offer was queued
   pub hears_quietly : (session : Session) (received : Received) → HasListened intake said session (take received.used piece) received.out.items → open_offers session ≡ [] → received.change ≡ None → (received.close ≡ true → next_of session ≡ next.Close)
-      → received.used ≤ length piece → (received.close ≡ false → received.used ≡ length piece) → Hears honest words intake.config.now changes intake.peer intake.at said piece session old old received
-  hears_quietly session received l none unchanged closed within whole = record {
+      → (received.close ≡ false → received.used ≡ length piece) → Hears honest words intake.config.now changes intake.peer intake.at said piece session old old received
+  hears_quietly session received l none unchanged closed whole = record {
     later = l.later;
     says = record { stands = l.stands; settled = none };
     closed = closed;
@@ -90,7 +90,6 @@ module _ {D : Type 0} (honest : Type 0) (words : DiskWords D) (intake : Intake) 
       makes =
           subst (Makes honest words intake.config.now changes intake.peer intake.at said l.later l.refused received.used old old) (sym unchanged)
           (subst (λ offers. AnswersMore said l.later l.refused offers []) none l.answers, refl);
-      within = within;
       whole = λ _ going. whole going;
     };
   }
@@ -120,7 +119,6 @@ module _ {D : Type 0} (honest : Type 0) (words : DiskWords D) (intake : Intake) 
               fits = fits offer is.accept is.room;
               adds = subst (λ n. Adds honest words new changes (change.Accept is.accept) n) (sym used_is) (subst (λ (c : Change). Adds honest words new changes c used) is.change_is adds);
             });
-            within = subst (λ n. n ≤ length piece) (sym used_is) within;
             whole = λ unchanged _. absurd (some_none number (sym some ∙ unchanged));
           };
         }
@@ -138,6 +136,8 @@ module _ {D : Type 0} (honest : Type 0) (words : DiskWords D) (intake : Intake) 
           within = within;
           later = a.later;
           input = more.input;
+          unwritten = more.written;
+          output = more.output;
           dialogue = what_stands_is_a_dialogue (setup_of_config intake.config.now) session a.later a.stands;
           refused = l.refused;
           no_room = no_room l.refused l.no_room;

@@ -1,5 +1,5 @@
 -- What the octets of a client come to, up to an offer that there is room for.
-use Rattle.std.specs.Prelude.{◌≡◌, ℕ, ◌≤◌, List, [], ◌∷◌, length, take, Option, Some, None}
+use Rattle.std.specs.Prelude.{◌≡◌, ℕ, ◌≤◌, ◌<◌, List, [], ◌∷◌, length, take, Option, Some, None}
 use Rattle.std.specs.List.{AllByRecursion}
 use Rattle.relay_server.specs.declared.session.Session.{Session}
 use Rattle.relay_server.specs.declared.session.Next.TheVariants as next
@@ -50,7 +50,8 @@ pub record HasListened (intake : Intake) (said : Said) (session : Session) (octe
 abbrev pub EndsBy : Intake → Session → ℕ → ℕ → End → Type 0
 EndsBy intake session used len «end».More = (open_offers session ≡ []) × (used ≡ len)
 EndsBy intake session used len «end».Close = (open_offers session ≡ []) × (next_of session ≡ next.Close)
-EndsBy intake session used len («end».Taken taken) = (offer : Offered) × (open_offers session ≡ offer ∷ []) × IsTaken intake offer taken
+EndsBy intake session used len («end».Taken taken) =
+    (0 < used) × ((offer : Offered) × (open_offers session ≡ offer ∷ []) × IsTaken intake offer taken)
 
 pub record Ends (intake : Intake) (session : Session) (piece : List ℕ) (listened : Listened) : Type 0 where
   pub within : listened.used ≤ length piece

@@ -1,5 +1,5 @@
 -- A node in its list of changes, and in what was said on its sessions.
-use Rattle.std.specs.Prelude.{◌≡◌, ◌⊎◌, ℕ, ◌+◌, ◌≤◌, ◌<◌, ◌^◌, Bool, true, false, List, [], ◌∷◌, ◌++◌, length, take, Option, Some, None}
+use Rattle.std.specs.Prelude.{◌≡◌, ◌≢◌, ◌⊎◌, ℕ, ◌+◌, ◌≤◌, ◌<◌, ◌^◌, Bool, true, false, List, [], ◌∷◌, ◌++◌, length, take, Option, Some, None}
 use Rattle.std.specs.List.{AllByRecursion}
 use Rattle.relay_disk.specs.Device.{DiskWords}
 use Rattle.relay_spool.specs.declared.fault.SpoolFault.TheVariants as spool_fault
@@ -104,7 +104,6 @@ module _ {D : Type 0} (honest : Type 0) (words : DiskWords D) (config : Config) 
     pub refused : List Offered
     pub no_room : HaveNoRoom old refused
     pub makes : Makes said later refused received.used old new received.change
-    pub within : received.used ≤ length piece
     pub whole : received.change ≡ None → received.close ≡ false → received.used ≡ length piece
 
   -- the same, on a session
@@ -120,13 +119,15 @@ module _ {D : Type 0} (honest : Type 0) (words : DiskWords D) (config : Config) 
     pub goes_on : GoesOn config new.seats number peer later received.close
     pub talks : TalksOn said later piece old.records new.records received
 
-  -- A stop came while a change was added. The call had used octets of the piece; of the dialogue behind them, which
-  -- has the answer that the offer is queued, nothing was handed out.
+  -- A stop came while a change was added. The call had used octets of the piece, and the dialogue behind them has the
+  -- answer that the offer is queued; but nobody was handed what was to be written.
   pub record CutsTalk (said : Said) (piece : List ℕ) (old new : Kept D) : Type 0 where
     pub used : ℕ
     pub within : used ≤ length piece
     pub later : Said
     pub input : later.input ≡ said.input ++ take used piece
+    pub unwritten : List ℕ
+    pub output : later.output ≡ said.output ++ unwritten
     pub dialogue : IsDialogue (setup_of_config config) later
     pub refused : List Offered
     pub no_room : HaveNoRoom old refused
@@ -136,11 +137,23 @@ module _ {D : Type 0} (honest : Type 0) (words : DiskWords D) (config : Config) 
     pub fits : FitsIn old offer accept
     pub cuts : Cuts honest words new changes (change.Accept accept) used
 
+-- octets of the piece were used, and where a change was made, one at least
+pub record UsesOctets (len : ℕ) (received : Received) : Type 0 where
+  pub within : received.used ≤ len
+  pub some : received.change ≢ None → 0 < received.used
+
 -- a node without a session and a note
 pub record IsIdle {D : Type 0} (config : Config) (node : Standing D) : Type 0 where
   pub config_is : node.config ≡ config
   pub free : AreFree node.seats
   pub noted : node.records.noted ≡ None
+
+-- all but the disk is the same
+pub record IsFused {D : Type 0} (old new : Kept D) : Type 0 where
+  pub size : new.spool.size ≡ old.spool.size
+  pub live : new.spool.live ≡ old.spool.live
+  pub queue : new.queue ≡ old.queue
+  pub noted : new.noted ≡ old.noted
 
 -- why no node is made on a disk: want of memory leaves the disk as it was
 abbrev pub RefusesToMake : {D : Type 0} → Type 0 → DiskWords D → D → D → Cause → Type 0

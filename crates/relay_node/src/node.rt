@@ -3,18 +3,18 @@ ghost use Rattle.std.specs.List.{Contains};
 ghost use Rattle.relay_book.specs.declared.change.Change.{Change};
 ghost use Rattle.relay_book.specs.Marks.{Held};
 ghost use Rattle.relay_book.specs.Queue.{held_of};
-ghost use Rattle.relay_disk.specs.Device.{FailsNot};
-ghost use Rattle.relay_node.specs.Node.{Connects, CutsTalk, IsIdle, Receives, RefusesToConnect, RefusesToEnd, RefusesToMake, RefusesToReceive, SaysAt};
+ghost use Rattle.relay_disk.specs.Device.{AddsNoImage, FailsNot};
+ghost use Rattle.relay_node.specs.Node.{Connects, CutsTalk, IsFused, IsIdle, Receives, RefusesToConnect, RefusesToEnd, RefusesToMake, RefusesToReceive, SaysAt, UsesOctets};
 ghost use Rattle.relay_node.specs.Seats.{IsFull, OthersStay, seat_at};
 ghost use Rattle.relay_records.specs.HeldPlace.{waiting_at};
 ghost use Rattle.relay_records.specs.Open.{FailsFor, Opens, RefusesImage};
-ghost use Rattle.relay_records.specs.Records.{Halted, Keeps};
+ghost use Rattle.relay_records.specs.Records.{Halted, Keeps, Stays};
 ghost use Rattle.relay_server.specs.Dialogue.{Said};
 ghost use Rattle.relay_spool.specs.Spool.{OnlyReads};
 
 use crate::receive::{Received, hear};
 use crate::seats::{Seat, Seats};
-use relay_disk::Disk;
+use relay_disk::{Disk, Reboot};
 use relay_records::{Cause, HeldPlace, NodeFault, NotOpened, Noted, Records};
 use relay_routes::Config;
 use relay_server::Session;
@@ -208,6 +208,7 @@ impl<D: Disk> Node<D> {
             → result ≡ Err NodeFault.Stopped
             → CutsTalk D.honest D.words self.old.config changes peer now said piece.now
                 self.old.records self.new.records }
+        ensures used { IfOk result (UsesOctets (length piece.now)) }
         ensures rest { OthersStay self.old.seats self.new.seats session × (self.new.config ≡ self.old.config) }
         ensures refused { self.old.records.spool.live ≡ true
             → IfErr result (RefusesToReceive D.words session self.old self.new) }
@@ -266,5 +267,21 @@ impl<D: Disk> Node<D> {
             return Err(NodeFault::Stopped);
         }
         Ok(self.records.place(number, place))
+    }
+}
+
+impl<D: Reboot> Node<D> {
+    /// Sets the fuse of the disk: so many calls pass, and each later one fails. Nothing else changes.
+    pub fn fuse(&mut self, calls: u64)
+        ensures rest { (self.new.config ≡ self.old.config) × (self.new.seats ≡ self.old.seats) }
+        ensures same { IsFused self.old.records self.new.records }
+        ensures kept { (changes : List Change) → Keeps D.Disk.honest D.Disk.words self.old.records changes
+            → Stays D.Disk.honest D.Disk.words self.old.records self.new.records changes }
+        ensures stop { D.Disk.honest
+            → AddsNoImage D.Disk.words self.old.records.spool.disk self.new.records.spool.disk }
+        ensures failures { FailsNot D.Disk.words self.old.records.spool.disk self.new.records.spool.disk }
+        ensures fuse { D.Disk.words.calls_left self.new.records.spool.disk ≡ Some calls }
+    {
+        self.records.fuse(calls);
     }
 }

@@ -1,6 +1,6 @@
-ghost use Rattle.std.specs.Prelude.{◌≡◌, List, IfErr, IfOk, IsTrue, Err};
+ghost use Rattle.std.specs.Prelude.{◌≡◌, List, length, IfErr, IfOk, IsTrue, Err};
 ghost use Rattle.relay_book.specs.declared.change.Change.{Change};
-ghost use Rattle.relay_node.specs.Node.{CutsTalk, HasHistory, Hears, RefusesToHear, Says};
+ghost use Rattle.relay_node.specs.Node.{CutsTalk, HasHistory, Hears, RefusesToHear, Says, UsesOctets};
 ghost use Rattle.relay_records.specs.Records.{Keeps};
 ghost use Rattle.relay_server.specs.Dialogue.{Said};
 ghost use Rattle.relay_server.specs.Setup.{setup_of_config};
@@ -47,6 +47,7 @@ pub(crate) fn hear<D: Disk>(
     ensures cut { (changes : List Change) (said : Said) → Keeps D.honest D.words records.old changes
         → Says (setup_of_config config.now) seat.old.session said → result ≡ Err NodeFault.Stopped
         → CutsTalk D.honest D.words config.now changes seat.old.peer now said piece.now records.old records.new }
+    ensures used { IfOk result (UsesOctets (length piece.now)) }
     ensures refused { IfErr result (RefusesToHear D.words records.old records.new) }
     ensures history { IfOk result (λ _. HasHistory config.now seat.new.session) }
     ensures peer { seat.new.peer ≡ seat.old.peer }
