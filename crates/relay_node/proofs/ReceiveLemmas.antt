@@ -12,6 +12,7 @@ use Rattle.relay_server.proofs.Theorems.{more_is_more, what_stands_is_a_dialogue
 use Rattle.relay_book.specs.declared.change.Accept.{Accept}
 use Rattle.relay_book.specs.declared.change.Change.{Change}
 use Rattle.relay_book.specs.declared.change.Change.TheVariants as change
+use Rattle.relay_book.specs.Record.{encode}
 use Rattle.relay_records.specs.declared.fault.NodeFault.{NodeFault}
 use Rattle.relay_records.specs.Records.{Adds, Cuts, Kept}
 use Rattle.relay_node.specs.declared.intake.Intake.{Intake}
@@ -98,8 +99,8 @@ module _ {D : Type 0} (honest : Type 0) (words : DiskWords D) (intake : Intake) 
       (is : IsTaken intake offer taken) (a : Answered (setup_of_config intake.config.now) l.later session (Queued intake.number) before after) (within : used ≤ length piece) (new : Kept D) where
     -- an offer was queued
     pub hears_queued : (received : Received) (number : ℕ) → received.used ≡ used → received.out.items ≡ after → received.change ≡ Some number → received.close ≡ false → open_offers session ≡ [] → number ≡ length changes + 1
-        → Adds honest words new changes taken.change used → Hears honest words intake.config.now changes intake.peer intake.at said piece session old new received
-    hears_queued received number used_is out_is some going none count adds =
+        → Adds honest words new changes taken.change used → new.spool.size ≡ old.spool.size + 5 + length (encode taken.change) → Hears honest words intake.config.now changes intake.peer intake.at said piece session old new received
+    hears_queued received number used_is out_is some going none count adds size =
         let more = queued_more intake said mid session (take used piece) before after offer l was_open a in
         let answers = queued_answers intake said mid session (take used piece) before after offer l was_open a in
         record {
@@ -118,6 +119,7 @@ module _ {D : Type 0} (honest : Type 0) (words : DiskWords D) (intake : Intake) 
               accept = is.accept;
               fits = fits offer is.accept is.room;
               adds = subst (λ n. Adds honest words new changes (change.Accept is.accept) n) (sym used_is) (subst (λ (c : Change). Adds honest words new changes c used) is.change_is adds);
+              size = size ∙ ap (λ (c : Change). old.spool.size + 5 + length (encode c)) is.change_is;
             });
             whole = λ unchanged _. absurd (some_none number (sym some ∙ unchanged));
           };

@@ -24,7 +24,7 @@ use Rattle.relay_node.specs.declared.node.Connected.{Connected}
 use Rattle.relay_node.specs.declared.receive.Received.{Received}
 use Rattle.relay_node.specs.declared.seats.Seat.{Seat}
 use Rattle.relay_node.specs.Acceptance.{Acceptance, acceptance_by}
-use Rattle.relay_node.specs.Room.{AnswersMore, HasRoom, Overfills}
+use Rattle.relay_node.specs.Room.{AnswersMore, HasRoom, Overfills, size_with}
 use Rattle.relay_node.specs.Seats.{AreFree, IsLeastFree, OthersStay, seat_at}
 
 -- what callers see of a node: its configuration, its sessions by number, and its records
@@ -91,6 +91,7 @@ module _ {D : Type 0} (honest : Type 0) (words : DiskWords D) (config : Config) 
     pub accept : Accept
     pub fits : FitsIn old offer accept
     pub adds : Adds honest words new changes (change.Accept accept) used
+    pub size : new.spool.size ≡ size_with old.spool.size accept
 
   -- the change that the call made, if it made one
   abbrev pub Makes : Said → Said → List Offered → ℕ → Kept D → Kept D → Option ℕ → Type 0

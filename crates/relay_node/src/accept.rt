@@ -59,5 +59,4 @@ fn stored_text(alloc: Global, stamp: &TimeStamp<'_>, content: &[u8]) -> Result<O
 fn is_address(_peer: [u8; 4])
     ensures four { length _peer ≡ 4 }
     ensures octets { All (λ octet. octet < 256) _peer }
-{
-}
+{}

@@ -45,7 +45,11 @@ impl Intake<'_> {
     /// The accept of the offer that is open, and none where its record would bring the spool past its
     /// limit. It answers `Full` exactly where changes have no numbers any more, and else fails where
     /// memory runs out.
-    pub(crate) fn consider(&self, alloc: Global, session: &Session) -> Result<Option<Taken>, NodeFault>
+    pub(crate) fn consider(
+        &self,
+        alloc: Global,
+        session: &Session,
+    ) -> Result<Option<Taken>, NodeFault>
         requires offer { HasOffer session.now }
         requires stored { (offer : Offered) → open_offers session.now ≡ offer ∷ []
             → MayBeStored (setup_of_config self.now.config.now) offer }

@@ -8,3 +8,7 @@ mod listen;
 mod node;
 mod receive;
 mod seats;
+
+pub use node::{Connected, Node};
+pub use receive::Received;
+pub use relay_records::{Cause, HeldPlace, NodeFault, NotOpened, Noted};

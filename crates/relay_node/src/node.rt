@@ -201,13 +201,13 @@ impl<D: Disk> Node<D> {
             → Keeps D.honest D.words self.old.records changes
             → SaysAt self.old.config self.old.seats session peer said
             → IfOk result (Receives D.honest D.words self.old.config changes peer now session said piece.now
-                self.old self.new) }
+            self.old self.new) }
         ensures cut { (changes : List Change) (peer : List ℕ) (said : Said)
             → Keeps D.honest D.words self.old.records changes
             → SaysAt self.old.config self.old.seats session peer said
             → result ≡ Err NodeFault.Stopped
             → CutsTalk D.honest D.words self.old.config changes peer now said piece.now
-                self.old.records self.new.records }
+            self.old.records self.new.records }
         ensures used { IfOk result (UsesOctets (length piece.now)) }
         ensures rest { OthersStay self.old.seats self.new.seats session × (self.new.config ≡ self.old.config) }
         ensures refused { self.old.records.spool.live ≡ true
@@ -244,7 +244,7 @@ impl<D: Disk> Node<D> {
         ensures marks { IfOk result (λ marks. marks.items ≡ held_of self.now.records.queue) }
         ensures kept { (changes : List Change) → Keeps D.honest D.words self.now.records changes
             → IfOk result (λ marks. (number place : ℕ)
-                → Contains {X = ℕ × ℕ} marks.items (number, place) ↔ Held changes number place) }
+            → Contains {X = ℕ × ℕ} marks.items (number, place) ↔ Held changes number place) }
         ensures stopped { (result ≡ Err NodeFault.Stopped) ↔ (self.now.records.spool.live ≡ false) }
         ensures faults { IfErr result (λ fault. (fault ≡ NodeFault.Stopped) ⊎ (fault ≡ NodeFault.NoMemory)) }
     {

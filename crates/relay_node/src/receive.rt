@@ -43,7 +43,7 @@ pub(crate) fn hear<D: Disk>(
     ensures hears { (changes : List Change) (said : Said) → Keeps D.honest D.words records.old changes
         → Says (setup_of_config config.now) seat.old.session said
         → IfOk result (Hears D.honest D.words config.now changes seat.old.peer now said piece.now
-            seat.new.session records.old records.new) }
+        seat.new.session records.old records.new) }
     ensures cut { (changes : List Change) (said : Said) → Keeps D.honest D.words records.old changes
         → Says (setup_of_config config.now) seat.old.session said → result ≡ Err NodeFault.Stopped
         → CutsTalk D.honest D.words config.now changes seat.old.peer now said piece.now records.old records.new }
@@ -75,8 +75,7 @@ pub(crate) fn hear<D: Disk>(
             close: true,
         }),
         End::Taken(taken) => {
-            seat.session
-                .reply(Answer::Queued(intake.number), &mut out)?;
+            seat.session.reply(Answer::Queued(intake.number), &mut out)?;
             match records.add(alloc, taken.change, taken.octets, used) {
                 Ok(number) => Ok(Received {
                     used,

@@ -39,7 +39,7 @@ returns-in-Ok-clause-hears g c = λ changes said keeps says.
     let a = c.in_ok-reply-in-Taken.ensures.answered setup l.later l.stands in
     let added = c.in-Ok.ensures.ok changes keeps in
     hears_queued g.D.Disk.honest g.D.Disk.words _ changes said c.args.piece.now c.args.records.now (c.next_number.ensures.kept changes keeps) c.size.ensures.size
-    c.listen.new.session c.reply.new.self by.1.0 c.in-Taken.taken c.in_ok-used.field-0.used _ _ l by.1.1 by.1.2 a ends.within c.add.new.self _ c.in-Ok.number refl refl refl refl c.in_ok-reply-in-Taken.ensures.settled added.0 added.1
+    c.listen.new.session c.reply.new.self by.1.0 c.in-Taken.taken c.in_ok-used.field-0.used _ _ l by.1.1 by.1.2 a ends.within c.add.new.self _ c.in-Ok.number refl refl refl refl c.in_ok-reply-in-Taken.ensures.settled added.0 added.1 c.in-Ok.ensures.grows.size
 
 pub returns-in-Ok-clause-history : goal.returns-in-Ok-clause-history
 returns-in-Ok-clause-history g c =

@@ -41,8 +41,8 @@ consider-requires-clause-stored c = λ offer is_open.
     let heard = c.in_ok-hear.ensures in
     let history = c.requires.history in
     let l =
-        listened_on c.args.self.now history.0 c.rounds.session c.hear.new.self c.args.piece.now c.rounds.used c.hear.new.used _ _ (c.rounds.invariant.so_far history.0 history.1) c.rounds.invariant.settled heard.used.no_less
-        (λ later stood. heard.hears setup later refl stood) in
+    listened_on c.args.self.now history.0 c.rounds.session c.hear.new.self c.args.piece.now c.rounds.used c.hear.new.used _ _ (c.rounds.invariant.so_far history.0 history.1) c.rounds.invariant.settled heard.used.no_less
+    (λ later stood. heard.hears setup later refl stood) in
     open_may_be_stored setup c.hear.new.self l.later offer l.stands is_open
 
 pub rounds-preserved : goal.rounds-preserved
@@ -55,8 +55,8 @@ rounds-preserved c =
       settled = c.in_ok-reply-in-None.ensures.settled;
       so_far = λ said stands.
           let l =
-              listened_on c.args.self.now said c.rounds.session c.hear.new.self c.args.piece.now c.rounds.used c.hear.new.used _ _ (c.rounds.invariant.so_far said stands) c.rounds.invariant.settled heard.used.no_less
-              (λ later stood. heard.hears setup later refl stood) in
+          listened_on c.args.self.now said c.rounds.session c.hear.new.self c.args.piece.now c.rounds.used c.hear.new.used _ _ (c.rounds.invariant.so_far said stands) c.rounds.invariant.settled heard.used.no_less
+          (λ later stood. heard.hears setup later refl stood) in
           listened_and_refused c.args.self.now said c.hear.new.self c.reply.new.self _ _ _ found.0 l found.1 found.2 c.in_ok-reply-in-None.ensures.settled
           (λ later stood. c.in_ok-reply-in-None.ensures.answered setup later stood);
     }
