@@ -2,5 +2,6 @@ mod SeatLemmas
 mod AcceptLemmas
 mod ListenLemmas
 mod ReceiveLemmas
+mod QueuedLemmas
 mod NodeLemmas
 pub mod Theorems

@@ -4,6 +4,7 @@
 
 mod accept;
 mod intake;
+pub mod laws;
 mod listen;
 mod node;
 mod receive;

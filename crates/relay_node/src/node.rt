@@ -3,14 +3,15 @@ ghost use Rattle.std.specs.List.{Contains};
 ghost use Rattle.relay_book.specs.declared.change.Change.{Change};
 ghost use Rattle.relay_book.specs.Marks.{Held};
 ghost use Rattle.relay_book.specs.Queue.{held_of};
-ghost use Rattle.relay_disk.specs.Device.{AddsNoImage, FailsNot};
+ghost use Rattle.relay_disk.specs.Device.{AddsNoImage, FailsNot, Only};
 ghost use Rattle.relay_node.specs.Node.{Connects, CutsTalk, IsFused, IsIdle, Receives, RefusesToConnect, RefusesToEnd, RefusesToMake, RefusesToReceive, SaysAt, UsesOctets};
 ghost use Rattle.relay_node.specs.Seats.{IsFull, OthersStay, seat_at};
 ghost use Rattle.relay_records.specs.HeldPlace.{waiting_at};
 ghost use Rattle.relay_records.specs.Open.{FailsFor, Opens, RefusesImage};
 ghost use Rattle.relay_records.specs.Records.{Halted, Keeps, Stays};
 ghost use Rattle.relay_server.specs.Dialogue.{Said};
-ghost use Rattle.relay_spool.specs.Spool.{OnlyReads};
+ghost use Rattle.relay_spool.specs.Image.{HasNoBody};
+ghost use Rattle.relay_spool.specs.Spool.{AtEachMoment, OnlyReads};
 
 use crate::receive::{Received, hear};
 use crate::seats::{Seat, Seats};
@@ -62,6 +63,10 @@ impl<D: Disk> Node<D> {
         ensures refused { IfErr result (λ refused. RefusesToMake D.honest D.words disk refused.disk refused.cause) }
         ensures failures { MatchResult result (λ node. FailsNot D.words disk node.records.spool.disk)
             (λ refused. FailsFor D.words disk refused.disk refused.cause) }
+        // Where a stop left nothing of the disk before, it leaves no change at any moment of this call.
+        ensures stop { D.honest → Only [] (D.words.may_leave disk) → MatchResult result
+            (λ node. AtEachMoment D.words disk node.records.spool.disk HasNoBody)
+            (λ refused. AtEachMoment D.words disk refused.disk HasNoBody) }
     {
         let Ok(seats) = Seats::new(alloc) else {
             return Err(NotOpened {
