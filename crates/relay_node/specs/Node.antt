@@ -138,10 +138,11 @@ module _ {D : Type 0} (honest : Type 0) (words : DiskWords D) (config : Config) 
     pub fits : FitsIn old offer accept
     pub cuts : Cuts honest words new changes (change.Accept accept) used
 
--- octets of the piece were used, and where a change was made, one at least
+-- octets of the piece were used: where a change was made, one at least, and where none was and nothing closed, all
 pub record UsesOctets (len : ℕ) (received : Received) : Type 0 where
   pub within : received.used ≤ len
   pub some : received.change ≢ None → 0 < received.used
+  pub whole : received.change ≡ None → received.close ≡ false → received.used ≡ len
 
 -- a node without a session and a note
 pub record IsIdle {D : Type 0} (config : Config) (node : Standing D) : Type 0 where
