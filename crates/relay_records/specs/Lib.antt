@@ -1,0 +1,4 @@
+pub mod Note
+pub mod Records
+pub mod Open
+pub mod HeldPlace

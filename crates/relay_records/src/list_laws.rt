@@ -1,0 +1,1 @@
+//! What is true of the list of changes that records keep.
