@@ -22,4 +22,5 @@ mod ToldLemmas
 mod ReadyLemmas
 mod StoredLemmas
 mod MarkRowLemmas
+mod LeavingLemmas
 pub mod Theorems

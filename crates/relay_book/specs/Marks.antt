@@ -11,7 +11,7 @@ use Rattle.relay_book.specs.declared.change.Change.TheVariants.{Accept, Outcome}
 use Rattle.relay_book.specs.declared.fate.Way.{Way}
 use Rattle.relay_book.specs.declared.fate.Way.TheVariants.{ByTransfer, ByEnd}
 use Rattle.relay_book.specs.DueReport.{fate_of, way_of}
-use Rattle.relay_book.specs.Queue.{report_of, FitsQueue, Fitting, queue_of, held_of, message_of}
+use Rattle.relay_book.specs.Queue.{Queue, report_of, FitsQueue, Fitting, queue_of, held_of, message_of}
 use Rattle.relay_book.specs.Record.{IsAccept}
 use Rattle.relay_book.specs.declared.message.Message.{Message}
 
@@ -59,6 +59,18 @@ leaving changes (Accept accept) = []
 leaving changes (Outcome outcome) =
     option_map_or (λ accept. leaving_by accept outcome.at outcome.rulings) (message_at changes outcome.message) []
 
+-- what leaves of a queue by a change, and how
+abbrev pub leaving_of : Queue → Change → List (ℕ × Way)
+leaving_of queue (Accept accept) = []
+leaving_of queue (Outcome outcome) =
+    option_map_or (λ message. leaving_by message.accept outcome.at outcome.rulings)
+    (message_of queue.messages outcome.message) []
+
+-- the message that a change rules on
+abbrev pub ruled_message : Change → Option ℕ
+ruled_message (Accept accept) = None
+ruled_message (Outcome outcome) = Some outcome.message
+
 -- the place left by this change in this way
 pub record LeavesAt (changes : List Change) (at number place : ℕ) (way : Way) : Type 0 where
   pub accept : AcceptFields
@@ -104,6 +116,19 @@ ExactlyOne =
 -- the place leaves by the last change
 abbrev pub Leaving : List Change → Change → ℕ → ℕ → Type 0
 Leaving changes change number place = (way : Way) × LeavesAt (changes ++ change ∷ []) (suc (length changes)) number place way
+
+-- What leaves of the queue of a list leaves by the list.
+abbrev pub QueueLeaves : Type 0
+QueueLeaves =
+    (changes : List Change) (change : Change) → Fitting changes → FitsQueue (queue_of changes) change
+    → leaving_of (queue_of changes) change ≡ leaving changes change
+
+-- A place leaves by the last change exactly where that rules on its message, and lists the place and its way.
+abbrev pub LeavingIsListed : Type 0
+LeavingIsListed =
+    (changes : List Change) (change : Change) → Fitting (changes ++ change ∷ []) → (number place : ℕ) (way : Way)
+    → LeavesAt (changes ++ change ∷ []) (suc (length changes)) number place way
+    ↔ ((ruled_message change ≡ Some number) × Contains {X = ℕ × Way} (leaving changes change) (place, way))
 
 -- the place is new with the last change
 abbrev pub IsNew : List Change → Change → ℕ → ℕ → Type 0

@@ -3,20 +3,24 @@ ghost use Rattle.std.specs.Prelude.{◌≡◌, ◌<◌, ◌≤◌, ◌+◌, ◌^
 ghost use Rattle.std.specs.List.{Contains, list_any};
 ghost use Rattle.std.specs.Option.{option_copied, option_map_or};
 ghost use Rattle.relay_book.specs.Book.{AllTold, AreTold, IsTold, is_held_until};
+ghost use Rattle.relay_book.specs.Marks.{leaving_of};
 ghost use Rattle.relay_book.specs.Queue.{FitsQueue, due_of, empty_queue, held_of, message_of, ruled, step};
 ghost use Rattle.relay_book.specs.Ready.{IsReady, entry_of, message_in};
 
 mod entries;
+mod leaving;
 mod make;
 mod questions;
 
 use crate::change::{Accept, Change, Outcome};
+use crate::fate::Way;
 use crate::fault::BookFault;
 use crate::judge::{fits_message, is_accept, is_outcome};
 use crate::message::{Message, Place};
 use crate::ready::{Made, Ready};
 use entries::{keep_queued, slot_after};
 use indexmap::IndexMap;
+use leaving::leaving_by;
 use make::{accepted, made_of, moments_of, places_behind};
 use questions::{due_places, held_places};
 use relay_trace::Moment;
@@ -93,6 +97,19 @@ impl Book {
         ensures { IfOk result (λ marks. marks.items ≡ due_of now self.now.queue) }
     {
         due_places(alloc, &self.messages, now.seconds())
+    }
+
+    /// The places that leave by a change, each with its way, in order. It fails where memory runs out.
+    pub fn leaving(&self, alloc: Global, change: &Change) -> Result<Vec<(u8, Way)>, AllocError>
+        ensures { IfOk result (λ places. places.items ≡ leaving_of self.now.queue change.now) }
+    {
+        match change {
+            Change::Accept(_) => Ok(Vec::new(alloc)),
+            Change::Outcome(outcome) => match self.message(outcome.message) {
+                Some(message) => leaving_by(alloc, &message.accept, outcome),
+                None => Ok(Vec::new(alloc)),
+            },
+        }
     }
 
     /// Makes room for a change and makes ready what it queues, so that `commit` can't fail. It answers `BadRecord` exactly

@@ -1,6 +1,6 @@
 //! What is true of the custody of each recipient, by the list of changes.
 ghost use Rattle.relay_book.specs.DueLaw.{FoldDue};
-ghost use Rattle.relay_book.specs.Marks.{ExactlyOne, FoldHolds, FoldKnows, MessageStays, OneMoreHolds, ReportMayBeStored};
+ghost use Rattle.relay_book.specs.Marks.{ExactlyOne, FoldHolds, FoldKnows, LeavingIsListed, MessageStays, OneMoreHolds, QueueLeaves, ReportMayBeStored};
 
 /// The queue of a list of changes holds exactly what is held.
 pub fn fold_holds()
@@ -15,6 +15,16 @@ pub fn exactly_one()
 /// One change more takes what leaves, and adds what is new.
 pub fn one_more_holds()
     ensures { OneMoreHolds }
+{}
+
+/// What leaves of the queue of a list leaves by the list.
+pub fn queue_leaves()
+    ensures { QueueLeaves }
+{}
+
+/// A place leaves by a change exactly where the change lists it.
+pub fn leaving_is_listed()
+    ensures { LeavingIsListed }
 {}
 
 /// A queued message is the message of its number, with a place for each recipient.
