@@ -53,7 +53,12 @@ impl<D: Disk> Records<D> {
             (λ refused. FailsFor D.words disk refused.disk refused.cause) }
     {
         match Spool::open(alloc, disk) {
-            Ok(Opened { spool, bodies: _bodies }) => Err(NotOpened {
+            Ok(
+                Opened {
+                    spool,
+                    bodies: _bodies,
+                },
+            ) => Err(NotOpened {
                 cause: Cause::Spool(SpoolFault::NoMemory),
                 disk: spool.into_disk(),
             }),

@@ -10,7 +10,7 @@ ghost use Rattle.relay_records.specs.Records.{Halted, Keeps, Stays};
 ghost use Rattle.relay_records.specs.HeldPlace.{IsWaiting, waiting_at};
 
 use crate::noted::Noted;
-use crate::place::HeldPlace;
+use crate::place::{HeldPlace, held_place};
 use relay_book::{Book, Message};
 use relay_disk::{Disk, Reboot};
 use relay_spool::Spool;
@@ -95,6 +95,17 @@ impl<D: Disk> Records<D> {
         ensures { IfOk result (λ marks. marks.items ≡ due_of now self.now.queue) }
     {
         self.book.due(alloc, now)
+    }
+
+    /// A place of a message, where it is held. It takes no memory.
+    pub fn place(&self, number: u64, place: u8) -> Option<HeldPlace<'_>>
+        ensures place { MatchOption result (waiting_at self.now.queue number place ≡ None)
+            (λ found. waiting_at self.now.queue number place ≡ Some (found.path.now, found.due)) }
+    {
+        match self.book.message(number) {
+            Some(message) => held_place(message, place),
+            None => None,
+        }
     }
 
     /// The last change whose append was begun, live or stopped. It is handed out once, and takes no memory.
