@@ -23,4 +23,5 @@ mod ReadyLemmas
 mod StoredLemmas
 mod MarkRowLemmas
 mod LeavingLemmas
+mod LengthLemmas
 pub mod Theorems

@@ -8,10 +8,12 @@ ghost use Rattle.relay_book.specs.Record.{encode};
 ghost use Rattle.relay_records.specs.Records.{Adds, Cuts, Grows, Keeps, RefusesToAdd, StandsForOrWith};
 
 use crate::fault::NodeFault;
+use crate::noted::note_of;
 use crate::records::Records;
-use relay_book::Change;
+use relay_book::{BookFault, Change};
 use relay_disk::Disk;
 use relay_octets::Octets;
+use relay_spool::SpoolFault;
 use std::alloc::Global;
 
 /// How many octets of a spool belong to a body beside its own.
@@ -45,9 +47,34 @@ impl<D: Disk> Records<D> {
         ensures full { (result ≡ Err NodeFault.Full)
             ↔ ((2 ^ 62 < self.old.queue.next) ⊎ (2 ^ 40 < self.old.spool.size + 5 + length octets)) }
     {
-        if !self.has_number() || SIZE_LIMIT - self.spool.size() < OVERHEAD + octets.len() {
+        if !self.has_number() || !self.has_room(&octets) {
             return Err(NodeFault::Full);
         }
-        Err(NodeFault::NoMemory)
+        let noted = note_of(alloc, &self.book, &change, octets, used)?;
+        let ready = match self.book.prepare(alloc, change) {
+            Ok(ready) => ready,
+            Err(BookFault::NoMemory) => return Err(NodeFault::NoMemory),
+            Err(BookFault::BadRecord) => unreachable!(),
+        };
+        let number = noted.number;
+        match self.spool.append(noted.octets.as_slice()) {
+            Ok(()) => {
+                self.book.commit(ready);
+                self.noted = Some(noted);
+                Ok(number)
+            }
+            Err(SpoolFault::Device) => {
+                self.noted = Some(noted);
+                Err(NodeFault::Stopped)
+            }
+            Err(_) => Err(NodeFault::NoMemory),
+        }
+    }
+
+    /// Whether the spool may grow by this body.
+    fn has_room(&self, octets: &Octets) -> bool
+        ensures { IsTrue result ↔ (self.now.spool.size + 5 + length octets.now ≤ 2 ^ 40) }
+    {
+        self.spool.size() + OVERHEAD + octets.len() <= SIZE_LIMIT
     }
 }
