@@ -17,7 +17,7 @@ use Rattle.relay_records.specs.Note.{IsNoted, NotesNext}
 use Rattle.relay_records.specs.Records.{Adds, Cuts, Halted, Keeps, Kept, StandsForOrWith}
 use Rattle.relay_records.proofs.ListLemmas.{fitting_more, next_of, queue_of_more}
 
-fits_is_change : (queue : Queue) (change : Change) → FitsQueue queue change → IsChange change
+pub fits_is_change : (queue : Queue) (change : Change) → FitsQueue queue change → IsChange change
 fits_is_change queue (Accept accept) fits = fits.1
 fits_is_change queue (Outcome outcome) fits = fits.2
 

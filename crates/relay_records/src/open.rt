@@ -7,10 +7,11 @@ ghost use Rattle.relay_records.specs.Records.{Keeps};
 ghost use Rattle.relay_records.specs.Open.{FailsFor, Opens, RefusesDisk, RefusesImage};
 
 use crate::fault::{Cause, NotOpened};
+use crate::reading::read_bodies;
 use crate::records::Records;
 use relay_book::Book;
 use relay_disk::Disk;
-use relay_spool::{Opened, Spool, SpoolFault};
+use relay_spool::{Opened, Spool};
 use std::alloc::Global;
 
 impl<D: Disk> Records<D> {
@@ -53,15 +54,17 @@ impl<D: Disk> Records<D> {
             (λ refused. FailsFor D.words disk refused.disk refused.cause) }
     {
         match Spool::open(alloc, disk) {
-            Ok(
-                Opened {
+            Ok(Opened { spool, bodies }) => match read_bodies(alloc, bodies) {
+                Ok(book) => Ok(Records {
                     spool,
-                    bodies: _bodies,
-                },
-            ) => Err(NotOpened {
-                cause: Cause::Spool(SpoolFault::NoMemory),
-                disk: spool.into_disk(),
-            }),
+                    book,
+                    noted: None,
+                }),
+                Err(cause) => Err(NotOpened {
+                    cause,
+                    disk: spool.into_disk(),
+                }),
+            },
             Err(refused) => Err(NotOpened {
                 cause: Cause::Spool(refused.fault),
                 disk: refused.disk,

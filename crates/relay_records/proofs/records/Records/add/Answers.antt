@@ -22,14 +22,13 @@ returns-clause-ok g c = λ changes keeps.
     let queue = ap (λ (r : Kept g.row.D.Denot). r.queue) c.self.view_is in
     let spool = ap (λ (r : Kept g.row.D.Denot). r.spool) c.self.view_is in
     let body = c.as_slice.result.now in
-    let fits = c.requires.fits numbered in
-    (
+    let fits = c.requires.fits numbered in (
       c.in_ok-noted.ensures.number ∙ ap (λ (q : Queue). q.next) (queue ∙ keeps.queue) ∙ next_of changes,
       added g.D.Disk.honest g.D.Disk.words c.args.self.now _ changes c.args.change body c.args.used keeps fits is
-      (c.in-Ok.ensures.committed ∙ ap (step c.ready_of.new.book.queue) c.in_ok-ready.ensures.change
+          (c.in-Ok.ensures.committed ∙ ap (step c.ready_of.new.book.queue) c.in_ok-ready.ensures.change
           ∙ ap (λ (q : Queue). step q c.args.change) (c.ready_of.ensures.queue ∙ queue))
-      (subst (λ (s : Stored g.row.D.Denot). IsAppended g.D.Disk.honest g.D.Disk.words s body c.append.new.spool) spool c.in-Ok.ensures.appended)
-      (noted_in_list changes c.self.inside.book.queue c.args.change c.args.octets c.args.used c.in_ok-noted.noted keeps.fitting
+          (subst (λ (s : Stored g.row.D.Denot). IsAppended g.D.Disk.honest g.D.Disk.words s body c.append.new.spool) spool c.in-Ok.ensures.appended)
+          (noted_in_list changes c.self.inside.book.queue c.args.change c.args.octets c.args.used c.in_ok-noted.noted keeps.fitting
           (queue ∙ keeps.queue) (subst (λ (q : Queue). FitsQueue q c.args.change) (sym queue) fits) c.requires.octets c.in_ok-noted.ensures),
     )
 
@@ -56,7 +55,7 @@ returns-in-Err-Device-clause-cut g c = λ changes keeps _.
     (left ∙ c.ready_of.ensures.queue ∙ queue) stopped
     (λ h. subst (λ (s : Stored g.row.D.Denot). AtEachMoment g.D.Disk.words s.disk c.append.new.spool.disk (HasBodies (IsBeforeOrWith s.bodies body))) spool (c.append.ensures.stop h))
     (noted_in_list changes c.self.inside.book.queue c.args.change c.args.octets c.args.used c.in_ok-noted.noted keeps.fitting
-        (queue ∙ keeps.queue) (subst (λ (q : Queue). FitsQueue q c.args.change) (sym queue) fits) c.requires.octets c.in_ok-noted.ensures)
+    (queue ∙ keeps.queue) (subst (λ (q : Queue). FitsQueue q c.args.change) (sym queue) fits) c.requires.octets c.in_ok-noted.ensures)
 
 pub returns-in-Err-Device-clause-stop : goal.returns-in-Err-Device-clause-stop
 returns-in-Err-Device-clause-stop g c = λ changes keeps h.
