@@ -1,3 +1,4 @@
 mod ListLemmas
 mod RecordLemmas
 mod ReadLemmas
+mod LawLemmas
