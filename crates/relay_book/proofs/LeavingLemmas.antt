@@ -11,8 +11,8 @@ use Rattle.relay_book.specs.declared.change.Change.TheVariants.{Accept, Outcome}
 use Rattle.relay_book.specs.declared.message.Message.{Message}
 use Rattle.relay_book.specs.declared.fate.Way.{Way}
 use Rattle.relay_book.specs.DueReport.{fate_of, way_of}
-use Rattle.relay_book.specs.Queue.{FitsMessage, FitsQueue, Fitting, empty_queue, message_of, queue_of}
-use Rattle.relay_book.specs.Marks.{LeavesAt, LeavingIsListed, QueueLeaves, leaving, leaving_by, leaving_of, message_at, ruled_message}
+use Rattle.relay_book.specs.Queue.{FitsMessage, empty_queue, message_of, queue_of}
+use Rattle.relay_book.specs.Marks.{LeavesAt, LeavingIsListed, QueueLeaves, leaving, leaving_by, message_at, ruled_message}
 use Rattle.relay_book.proofs.PlaceLemmas.{in_none, in_cons, head_in, tail_in, none_some, some_is}
 use Rattle.relay_book.proofs.ChangeLemmas.{Back, change_last, joined, last, message_other}
 use Rattle.relay_book.proofs.MarkLaws.{fits_before, stand}

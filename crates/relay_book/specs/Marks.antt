@@ -1,4 +1,5 @@
--- Custody of each recipient (RFC 5321, section 6.1), by the list of changes. A change's number is its place in the list, from 1.
+-- Custody of each recipient (RFC 5321, section 6.1), by the list of changes. A change's number is its place
+-- in the list, from 1.
 use Rattle.std.specs.Prelude.{◌≡◌, ◌≢◌, ◌⊎◌, ◌↔◌, ℕ, zero, suc, ◌<◌, List, [], ◌∷◌, ◌++◌, length, slice_get, Option, None, Some}
 use Rattle.std.specs.Option.{option_and_then, option_map_or}
 use Rattle.std.specs.List.{Contains}
@@ -44,7 +45,8 @@ message_at changes number = made_by changes (change_at changes number)
 -- the place was added: its message has so many recipients
 abbrev pub Added : List Change → ℕ → ℕ → Type 0
 Added changes number place =
-    (accept : AcceptFields) × (message_at changes number ≡ Some accept) × (place < length accept.envelope.recipients)
+    (accept : AcceptFields) × (message_at changes number ≡ Some accept)
+    × (place < length accept.envelope.recipients)
 
 -- what leaves of a message by the verdicts of an outcome, and how, in order
 abbrev pub leaving_by : AcceptFields → ℕ → List Ruling → List (ℕ × Way)
@@ -57,7 +59,8 @@ leaving_by accept at (ruling ∷ rulings) =
 abbrev pub leaving : List Change → Change → List (ℕ × Way)
 leaving changes (Accept accept) = []
 leaving changes (Outcome outcome) =
-    option_map_or (λ accept. leaving_by accept outcome.at outcome.rulings) (message_at changes outcome.message) []
+    option_map_or (λ accept. leaving_by accept outcome.at outcome.rulings)
+    (message_at changes outcome.message) []
 
 -- what leaves of a queue by a change, and how
 abbrev pub leaving_of : Queue → Change → List (ℕ × Way)
@@ -115,7 +118,8 @@ ExactlyOne =
 
 -- the place leaves by the last change
 abbrev pub Leaving : List Change → Change → ℕ → ℕ → Type 0
-Leaving changes change number place = (way : Way) × LeavesAt (changes ++ change ∷ []) (suc (length changes)) number place way
+Leaving changes change number place =
+    (way : Way) × LeavesAt (changes ++ change ∷ []) (suc (length changes)) number place way
 
 -- What leaves of the queue of a list leaves by the list.
 abbrev pub QueueLeaves : Type 0
@@ -126,20 +130,23 @@ QueueLeaves =
 -- A place leaves by the last change exactly where that rules on its message, and lists the place and its way.
 abbrev pub LeavingIsListed : Type 0
 LeavingIsListed =
-    (changes : List Change) (change : Change) → Fitting (changes ++ change ∷ []) → (number place : ℕ) (way : Way)
+    (changes : List Change) (change : Change) → Fitting (changes ++ change ∷ [])
+    → (number place : ℕ) (way : Way)
     → LeavesAt (changes ++ change ∷ []) (suc (length changes)) number place way
     ↔ ((ruled_message change ≡ Some number) × Contains {X = ℕ × Way} (leaving changes change) (place, way))
 
 -- the place is new with the last change
 abbrev pub IsNew : List Change → Change → ℕ → ℕ → Type 0
-IsNew changes change number place = (number ≡ suc (length changes)) × Added (changes ++ change ∷ []) number place
+IsNew changes change number place =
+    (number ≡ suc (length changes)) × Added (changes ++ change ∷ []) number place
 
 -- One change more takes what leaves, and adds what is new.
 abbrev pub OneMoreHolds : Type 0
 OneMoreHolds =
     (changes : List Change) (change : Change) → Fitting (changes ++ change ∷ []) → (number place : ℕ)
     → Held (changes ++ change ∷ []) number place
-    ↔ ((Held changes number place × (Leaving changes change number place → ⊥)) ⊎ IsNew changes change number place)
+    ↔ ((Held changes number place × (Leaving changes change number place → ⊥))
+    ⊎ IsNew changes change number place)
 
 -- what the queue knows of a message: its number, what was accepted under it, and a place for each recipient
 pub record IsQueuedAs (changes : List Change) (number : ℕ) (message : Message) : Type 0 where
@@ -156,12 +163,14 @@ FoldKnows =
 -- A message stays what it was accepted as, whatever changes follow.
 abbrev pub MessageStays : Type 0
 MessageStays =
-    (changes : List Change) (change : Change) → Fitting (changes ++ change ∷ []) → (number : ℕ) (accept : AcceptFields)
+    (changes : List Change) (change : Change) → Fitting (changes ++ change ∷ [])
+    → (number : ℕ) (accept : AcceptFields)
     → message_at changes number ≡ Some accept → message_at (changes ++ change ∷ []) number ≡ Some accept
 
 -- A report that an outcome queues may be stored as an accept.
 abbrev pub ReportMayBeStored : Type 0
 ReportMayBeStored =
     (changes : List Change) → Fitting changes → (outcome : OutcomeFields) (message : Message)
-    → FitsQueue (queue_of changes) (Outcome outcome) → message_of (queue_of changes).messages outcome.message ≡ Some message
+    → FitsQueue (queue_of changes) (Outcome outcome)
+    → message_of (queue_of changes).messages outcome.message ≡ Some message
     → outcome.report ≢ [] → IsAccept (report_of message.accept outcome)

@@ -12,7 +12,8 @@ pub(super) fn leaving_by(
     accept: &Accept,
     outcome: &Outcome,
 ) -> Result<Vec<(u8, Way)>, AllocError>
-    ensures { IfOk result (λ places. places.items ≡ leaving_by accept.now outcome.now.at outcome.now.rulings) }
+    ensures { IfOk result (λ places.
+        places.items ≡ leaving_by accept.now outcome.now.at outcome.now.rulings) }
 {
     let mut places = Vec::new(alloc);
     for ruling in outcome.rulings.as_slice() {

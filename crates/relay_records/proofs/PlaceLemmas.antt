@@ -1,0 +1,73 @@
+-- What the queue tells of a place is what the list of changes does.
+use Rattle.std.proofs.Common.{◌≡◌, ℕ, ◌<◌, Bool, true, false, List, [], ◌∷◌, zero, suc, length, slice_get, Option, None, Some, if◌then◌else◌, refl, sym, ap, ◌∙◌, subst, arith}
+use Rattle.std.specs.Option.{option_and_then, option_map, option_map_or}
+use Rattle.std.proofs.lemmas.Bool.{false≢true}
+use Rattle.relay_envelope.specs.declared.envelope.Recipient.{Recipient}
+use Rattle.relay_book.specs.declared.change.Change.{Change}
+use Rattle.relay_book.specs.declared.message.Message.{Message}
+use Rattle.relay_book.specs.declared.message.Place.{Place}
+use Rattle.relay_book.specs.HeldLaw.{holds_place}
+use Rattle.relay_book.specs.Marks.{Held}
+use Rattle.relay_book.specs.Queue.{Queue, Fitting, holds_at, is_held, message_of, queue_of}
+use Rattle.relay_book.proofs.Theorems.{fold_due, fold_finds, fold_knows}
+use Rattle.relay_records.specs.HeldPlace.{IsWaiting, waiting_at, waiting_for, waiting_in}
+
+none_is_some : {A : Type 0} (x : A) → None ≡ Some x → ⊥
+none_is_some x e = let b = ap is_there e in false≢true b
+  where
+    is_there : {A : Type 0} → Option A → Bool
+    is_there None = false
+    is_there (Some y) = true
+
+path_in : Option (List ℕ × ℕ) → List ℕ
+path_in None = []
+path_in (Some found) = found.0
+
+due_in : Option (List ℕ × ℕ) → ℕ
+due_in None = 0
+due_in (Some found) = found.1
+
+-- a place that waits is held, and has a recipient
+record Waits (place : Place) (recipient : Option Recipient) (path : List ℕ) (due : ℕ) : Type 0 where
+  held : place.held ≡ true
+  found : Recipient
+  recipient_is : recipient ≡ Some found
+  path_is : path ≡ found.path
+  due_is : due ≡ place.due
+
+waits_if : (place : Place) (recipient : Option Recipient) (path : List ℕ) (due : ℕ) (test : Bool) → place.held ≡ test
+    → (if test then option_map (λ (r : Recipient). (r.path, place.due)) recipient else None) ≡ Some (path, due) → Waits place recipient path due
+unfolding path_in due_in
+waits_if place (Some recipient) path due true held is =
+    record { held = held; found = recipient; recipient_is = refl; path_is = sym (ap path_in is); due_is = sym (ap due_in is) }
+waits_if place None path due true held is = absurd (none_is_some (path, due) is)
+waits_if place recipient path due false held is = absurd (none_is_some (path, due) is)
+
+module _ (changes : List Change) (fitting : Fitting changes) (number place : ℕ) where
+  queue : Queue
+  queue = queue_of changes
+
+  -- what the queue tells of a place that waits
+  waiting_is : (path : List ℕ) (due : ℕ) (message : Option Message) → message_of queue.messages number ≡ message
+      → option_and_then (waiting_in place) message ≡ Some (path, due) → IsWaiting changes number place path due
+  waiting_is path due None is waits = absurd (none_is_some (path, due) waits)
+  waiting_is path due (Some message) is waits = at (slice_get message.places place) refl waits
+    where
+      at : (found : Option Place) → slice_get message.places place ≡ found
+          → option_and_then (waiting_for (slice_get message.accept.envelope.recipients place)) found ≡ Some (path, due) → IsWaiting changes number place path due
+      at None at_is at_waits = absurd (none_is_some (path, due) at_waits)
+      at (Some found) at_is at_waits =
+          let known = fold_knows changes fitting number message is in
+          let told = waits_if found (slice_get message.accept.envelope.recipients place) path due found.held refl at_waits in
+          let holds : holds_place queue number place ≡ true =
+              ap (λ (m : Option Message). option_map_or (λ message. holds_at message.places place) m false) is
+              ∙ ap (λ (p : Option Place). option_map_or is_held p false) at_is ∙ told.held in
+          record {
+            held = (fold_finds changes fitting number place).0 holds;
+            accept = message.accept;
+            message = known.accept_is;
+            recipient = told.found;
+            at = told.recipient_is;
+            path_is = told.path_is;
+            due_is = told.due_is ∙ fold_due changes fitting number place message found is at_is told.held;
+          }
