@@ -23,9 +23,6 @@ mod ReadyLemmas
 mod StoredLemmas
 mod MarkRowLemmas
 mod LeavingLemmas
-<<<<<<< HEAD
 mod LengthLemmas
-=======
 mod DueLemmas
->>>>>>> 6912b0a4f33e5361d5fba46f995e3be70d25ae26
 pub mod Theorems

@@ -2,3 +2,4 @@ mod ListLemmas
 mod RecordLemmas
 mod ReadLemmas
 mod LawLemmas
+mod PlaceLemmas

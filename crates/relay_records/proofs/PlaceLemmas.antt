@@ -43,6 +43,21 @@ waits_if place (Some recipient) path due true held is =
 waits_if place None path due true held is = absurd (none_is_some (path, due) is)
 waits_if place recipient path due false held is = absurd (none_is_some (path, due) is)
 
+-- of two lists of one length both have a place, or none has
+both_there : {A B : Type 0} (place : ℕ) (xs : List A) (ys : List B) (x : A) → slice_get xs place ≡ Some x → length xs ≡ length ys → slice_get ys place ≡ None → ⊥
+both_there place [] ys x is long none = none_is_some x is
+both_there place (y ∷ xs) [] x is long none = let longer : suc (length xs) ≡ 0 = long in omega (arith, longer)
+both_there zero (y ∷ xs) (z ∷ ys) x is long none = none_is_some z (sym none)
+both_there (suc place) (y ∷ xs) (z ∷ ys) x is long none =
+    let longer : suc (length xs) ≡ suc (length ys) = long in
+    both_there place xs ys x is (omega (arith, longer)) none
+
+-- a held place with a recipient waits
+waits_at : (place : Place) (recipient : Recipient) (test : Bool) → test ≡ true
+    → (if test then option_map (λ (r : Recipient). (r.path, place.due)) (Some recipient) else None) ≡ None → ⊥
+waits_at place recipient true held is = none_is_some (recipient.path, place.due) (sym is)
+waits_at place recipient false held is = false≢true held
+
 module _ (changes : List Change) (fitting : Fitting changes) (number place : ℕ) where
   queue : Queue
   queue = queue_of changes
@@ -71,3 +86,25 @@ module _ (changes : List Change) (fitting : Fitting changes) (number place : ℕ
             path_is = told.path_is;
             due_is = told.due_is ∙ fold_due changes fitting number place message found is at_is told.held;
           }
+
+  -- a place that doesn't wait isn't held
+  isnt_held : (message : Option Message) → message_of queue.messages number ≡ message → option_and_then (waiting_in place) message ≡ None
+      → option_map_or (λ (m : Message). holds_at m.places place) message false ≡ true → ⊥
+  isnt_held None is waits holds = false≢true holds
+  isnt_held (Some message) is waits holds = at (slice_get message.places place) refl waits holds
+    where
+      at : (found : Option Place) → slice_get message.places place ≡ found
+          → option_and_then (waiting_for (slice_get message.accept.envelope.recipients place)) found ≡ None → option_map_or is_held found false ≡ true → ⊥
+      at None at_is at_waits at_holds = false≢true at_holds
+      at (Some found) at_is at_waits at_holds = of (slice_get message.accept.envelope.recipients place) refl
+        where
+          of : (recipient : Option Recipient) → slice_get message.accept.envelope.recipients place ≡ recipient → ⊥
+          of None of_is = both_there place message.places message.accept.envelope.recipients found at_is (fold_knows changes fitting number message is).places of_is
+          of (Some recipient) of_is =
+              waits_at found recipient found.held at_holds (subst (λ (r : Option Recipient). waiting_for r found ≡ None) of_is at_waits)
+
+  pub not_held : waiting_at queue number place ≡ None → Held changes number place → ⊥
+  not_held waits held = isnt_held (message_of queue.messages number) refl waits ((fold_finds changes fitting number place).1 held)
+
+  pub is_waiting : (path : List ℕ) (due : ℕ) → waiting_at queue number place ≡ Some (path, due) → IsWaiting changes number place path due
+  is_waiting path due waits = waiting_is path due (message_of queue.messages number) refl waits

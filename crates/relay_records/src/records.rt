@@ -101,6 +101,8 @@ impl<D: Disk> Records<D> {
     pub fn place(&self, number: u64, place: u8) -> Option<HeldPlace<'_>>
         ensures place { MatchOption result (waiting_at self.now.queue number place ≡ None)
             (λ found. waiting_at self.now.queue number place ≡ Some (found.path.now, found.due)) }
+        ensures kept { (changes : List Change) → Keeps D.honest D.words self.now changes → MatchOption result
+            (Held changes number place → ⊥) (λ found. IsWaiting changes number place found.path.now found.due) }
     {
         match self.book.message(number) {
             Some(message) => held_place(message, place),
