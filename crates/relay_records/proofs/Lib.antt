@@ -3,3 +3,4 @@ mod RecordLemmas
 mod ReadLemmas
 mod LawLemmas
 mod PlaceLemmas
+pub mod Theorems

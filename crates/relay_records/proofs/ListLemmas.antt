@@ -10,6 +10,7 @@ use Rattle.relay_book.specs.Queue.{Queue, FitsQueue, Fitting, empty_queue, held_
 use Rattle.relay_book.specs.declared.message.Message.{Message}
 use Rattle.relay_book.specs.Marks.{Held, IsQueuedAs}
 use Rattle.relay_book.specs.StandsFor.{StandsFor}
+use Rattle.relay_records.specs.ListLaws.{NextIsOneMore}
 use Rattle.relay_book.proofs.Theorems.{fold_holds, fold_knows, one_more_stands}
 
 next_after : (queue : Queue) (changes : List Change) → (fold step queue changes).next ≡ queue.next + length changes
@@ -17,9 +18,8 @@ next_after queue [] = omega arith
 next_after queue (Accept accept ∷ changes) = let rest = next_after (step queue (Accept accept)) changes in omega (arith, rest)
 next_after queue (Outcome outcome ∷ changes) = let rest = next_after (step queue (Outcome outcome)) changes in omega (arith, rest)
 
--- the next number is that of one change more
-pub next_of : (changes : List Change) → (queue_of changes).next ≡ length changes + 1
-next_of changes = let next = next_after empty_queue changes in omega (arith, next)
+pub next_is_one_more : NextIsOneMore
+next_is_one_more changes = let next = next_after empty_queue changes in omega (arith, next)
 
 -- one change more takes one step
 pub queue_of_more : (changes : List Change) (change : Change) → queue_of (changes ++ change ∷ []) ≡ step (queue_of changes) change

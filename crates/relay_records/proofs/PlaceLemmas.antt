@@ -1,5 +1,5 @@
 -- What the queue tells of a place is what the list of changes does.
-use Rattle.std.proofs.Common.{◌≡◌, ℕ, ◌<◌, Bool, true, false, List, [], ◌∷◌, zero, suc, length, slice_get, Option, None, Some, if◌then◌else◌, refl, sym, ap, ◌∙◌, subst, arith}
+use Rattle.std.proofs.Common.{◌≡◌, ℕ, ◌<◌, Bool, true, false, List, [], ◌∷◌, zero, suc, length, slice_get, Option, None, Some, MatchOption, if◌then◌else◌, refl, sym, ap, ◌∙◌, subst, arith}
 use Rattle.std.specs.Option.{option_and_then, option_map, option_map_or}
 use Rattle.std.proofs.lemmas.Bool.{false≢true}
 use Rattle.relay_envelope.specs.declared.envelope.Recipient.{Recipient}
@@ -36,7 +36,7 @@ record Waits (place : Place) (recipient : Option Recipient) (path : List ℕ) (d
   due_is : due ≡ place.due
 
 waits_if : (place : Place) (recipient : Option Recipient) (path : List ℕ) (due : ℕ) (test : Bool) → place.held ≡ test
-    → (if test then option_map (λ (r : Recipient). (r.path, place.due)) recipient else None) ≡ Some (path, due) → Waits place recipient path due
+    → (if test then option_map {U = List ℕ × ℕ} (λ (r : Recipient). (r.path, place.due)) recipient else None) ≡ Some (path, due) → Waits place recipient path due
 unfolding path_in due_in
 waits_if place (Some recipient) path due true held is =
     record { held = held; found = recipient; recipient_is = refl; path_is = sym (ap path_in is); due_is = sym (ap due_in is) }
@@ -54,16 +54,13 @@ both_there (suc place) (y ∷ xs) (z ∷ ys) x is long none =
 
 -- a held place with a recipient waits
 waits_at : (place : Place) (recipient : Recipient) (test : Bool) → test ≡ true
-    → (if test then option_map (λ (r : Recipient). (r.path, place.due)) (Some recipient) else None) ≡ None → ⊥
+    → (if test then option_map {U = List ℕ × ℕ} (λ (r : Recipient). (r.path, place.due)) (Some recipient) else None) ≡ None → ⊥
 waits_at place recipient true held is = none_is_some (recipient.path, place.due) (sym is)
 waits_at place recipient false held is = false≢true held
 
 module _ (changes : List Change) (fitting : Fitting changes) (number place : ℕ) where
-  queue : Queue
-  queue = queue_of changes
-
   -- what the queue tells of a place that waits
-  waiting_is : (path : List ℕ) (due : ℕ) (message : Option Message) → message_of queue.messages number ≡ message
+  waiting_is : (path : List ℕ) (due : ℕ) (message : Option Message) → message_of (queue_of changes).messages number ≡ message
       → option_and_then (waiting_in place) message ≡ Some (path, due) → IsWaiting changes number place path due
   waiting_is path due None is waits = absurd (none_is_some (path, due) waits)
   waiting_is path due (Some message) is waits = at (slice_get message.places place) refl waits
@@ -74,9 +71,9 @@ module _ (changes : List Change) (fitting : Fitting changes) (number place : ℕ
       at (Some found) at_is at_waits =
           let known = fold_knows changes fitting number message is in
           let told = waits_if found (slice_get message.accept.envelope.recipients place) path due found.held refl at_waits in
-          let holds : holds_place queue number place ≡ true =
-              ap (λ (m : Option Message). option_map_or (λ message. holds_at message.places place) m false) is
-              ∙ ap (λ (p : Option Place). option_map_or is_held p false) at_is ∙ told.held in
+          let holds : holds_place (queue_of changes) number place ≡ true =
+          ap (λ (m : Option Message). option_map_or (λ message. holds_at message.places place) m false) is
+          ∙ ap (λ (p : Option Place). option_map_or is_held p false) at_is ∙ told.held in
           record {
             held = (fold_finds changes fitting number place).0 holds;
             accept = message.accept;
@@ -88,7 +85,7 @@ module _ (changes : List Change) (fitting : Fitting changes) (number place : ℕ
           }
 
   -- a place that doesn't wait isn't held
-  isnt_held : (message : Option Message) → message_of queue.messages number ≡ message → option_and_then (waiting_in place) message ≡ None
+  isnt_held : (message : Option Message) → message_of (queue_of changes).messages number ≡ message → option_and_then (waiting_in place) message ≡ None
       → option_map_or (λ (m : Message). holds_at m.places place) message false ≡ true → ⊥
   isnt_held None is waits holds = false≢true holds
   isnt_held (Some message) is waits holds = at (slice_get message.places place) refl waits holds
@@ -103,8 +100,15 @@ module _ (changes : List Change) (fitting : Fitting changes) (number place : ℕ
           of (Some recipient) of_is =
               waits_at found recipient found.held at_holds (subst (λ (r : Option Recipient). waiting_for r found ≡ None) of_is at_waits)
 
-  pub not_held : waiting_at queue number place ≡ None → Held changes number place → ⊥
-  not_held waits held = isnt_held (message_of queue.messages number) refl waits ((fold_finds changes fitting number place).1 held)
+  not_held : waiting_at (queue_of changes) number place ≡ None → Held changes number place → ⊥
+  not_held waits held = isnt_held (message_of (queue_of changes).messages number) refl waits ((fold_finds changes fitting number place).1 held)
 
-  pub is_waiting : (path : List ℕ) (due : ℕ) → waiting_at queue number place ≡ Some (path, due) → IsWaiting changes number place path due
-  is_waiting path due waits = waiting_is path due (message_of queue.messages number) refl waits
+  is_waiting : (path : List ℕ) (due : ℕ) → waiting_at (queue_of changes) number place ≡ Some (path, due) → IsWaiting changes number place path due
+  is_waiting path due waits = waiting_is path due (message_of (queue_of changes).messages number) refl waits
+
+  -- what is answered of a place is what the list tells
+  pub place_by_list : {F : Type 0} (path : F → List ℕ) (due : F → ℕ) (waiting : Option (List ℕ × ℕ)) (found : Option F)
+      → waiting_at (queue_of changes) number place ≡ waiting → MatchOption found (waiting ≡ None) (λ f. waiting ≡ Some (path f, due f))
+      → MatchOption found (Held changes number place → ⊥) (λ f. IsWaiting changes number place (path f) (due f))
+  place_by_list path due waiting None is answered = not_held (is ∙ answered)
+  place_by_list path due waiting (Some f) is answered = is_waiting (path f) (due f) (is ∙ answered)

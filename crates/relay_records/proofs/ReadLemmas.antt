@@ -62,7 +62,7 @@ taken_front s (x ∷ xs) t y = y.1.0 ∙ ap (λ ys. x ∷ ys) (taken_front y.0 x
 pub texts_around : {A : Type 0} (rows : List (Vec ℕ Global)) (s t u : IntoIter (Vec ℕ Global) A) (given : List (Vec ℕ Global)) (row : Vec ℕ Global)
     → into_iter_items s ≡ rows → Yields into_iter_steps s given t → into_iter_items t ≡ row ∷ into_iter_items u
     → map (λ (r : Vec ℕ Global). r.items) rows
-        ≡ map (λ (r : Vec ℕ Global). r.items) given ++ row.items ∷ map (λ (r : Vec ℕ Global). r.items) (into_iter_items u)
+    ≡ map (λ (r : Vec ℕ Global). r.items) given ++ row.items ∷ map (λ (r : Vec ℕ Global). r.items) (into_iter_items u)
 texts_around rows s t u given row is yielded next =
     ap (map (λ (r : Vec ℕ Global). r.items)) (sym is ∙ taken_front s given t yielded ∙ ap (λ rest. given ++ rest) next)
     ∙ map-append (λ (r : Vec ℕ Global). r.items) given (row ∷ into_iter_items u)

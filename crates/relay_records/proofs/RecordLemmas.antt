@@ -15,7 +15,7 @@ use Rattle.relay_book.proofs.Theorems.{one_more_stands, queue_leaves, record_is_
 use Rattle.relay_records.specs.declared.noted.Noted.{Noted}
 use Rattle.relay_records.specs.Note.{IsNoted, NotesNext}
 use Rattle.relay_records.specs.Records.{Adds, Cuts, Halted, Keeps, Kept, StandsForOrWith}
-use Rattle.relay_records.proofs.ListLemmas.{fitting_more, next_of, queue_of_more}
+use Rattle.relay_records.proofs.ListLemmas.{fitting_more, next_is_one_more, queue_of_more}
 
 pub fits_is_change : (queue : Queue) (change : Change) → FitsQueue queue change → IsChange change
 fits_is_change queue (Accept accept) fits = fits.1
@@ -31,7 +31,7 @@ pub noted_in_list : (changes : List Change) (queue : Queue) (change : Change) (o
 noted_in_list changes queue change octets used note fitting queue_is fits octets_is notes = record {
   note = note;
   is = refl;
-  number = notes.number ∙ ap (λ (q : Queue). q.next) queue_is ∙ next_of changes;
+  number = notes.number ∙ ap (λ (q : Queue). q.next) queue_is ∙ next_is_one_more changes;
   octets = notes.octets_are ∙ octets_is;
   used_is = notes.used_is;
   accepted = notes.accepted;
@@ -100,7 +100,7 @@ module _ {D : Type 0} (honest : Type 0) (words : DiskWords D) where
         halted = record {
           stopped = stopped;
           fitting = keeps.fitting;
-          next = ap (λ (q : Queue). q.next) (queue ∙ keeps.queue) ∙ next_of changes;
+          next = ap (λ (q : Queue). q.next) (queue ∙ keeps.queue) ∙ next_is_one_more changes;
           images = λ h image left. image_stands old.spool.bodies changes change body image (keeps.bodies h) fits_list body_is ((stop h).now image left);
         };
         fits = fits_list;

@@ -1,5 +1,5 @@
 -- The list of changes that records keep is one, and a stop takes no change of it away.
-use Rattle.std.specs.Prelude.{◌≡◌, ◌⊎◌, List, [], ◌∷◌, ◌++◌, Option, Some}
+use Rattle.std.specs.Prelude.{◌≡◌, ◌⊎◌, ℕ, ◌+◌, List, [], ◌∷◌, ◌++◌, length, Option, Some}
 use Rattle.relay_disk.specs.Device.{DiskWords, ImagesWithin}
 use Rattle.relay_spool.specs.declared.fault.SpoolFault.TheVariants.{Device, NoMemory, Full}
 use Rattle.relay_book.specs.declared.change.Change.{Change}
@@ -8,6 +8,10 @@ use Rattle.relay_records.specs.declared.fault.Cause.{Cause}
 use Rattle.relay_records.specs.declared.fault.Cause.TheVariants.{Spool}
 use Rattle.relay_records.specs.Open.{Opens, RefusesImage}
 use Rattle.relay_records.specs.Records.{Halted, Keeps, Kept}
+
+-- The next number of a list is that of one change more.
+abbrev pub NextIsOneMore : Type 0
+NextIsOneMore = (changes : List Change) → (queue_of changes).next ≡ length changes + 1
 
 -- the device failed, memory ran out, or the spool is too large
 abbrev pub IsNoFaultOfImage : Cause → Type 0

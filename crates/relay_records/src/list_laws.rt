@@ -1,7 +1,12 @@
 //! What is true of the list of changes that records keep on an honest disk.
-ghost use Rattle.relay_records.specs.ListLaws.{HaltedIsNotRefused, HaltedIsOpened, KeptIsNotRefused, KeptIsOpened, OneListIsKept};
+ghost use Rattle.relay_records.specs.ListLaws.{HaltedIsNotRefused, HaltedIsOpened, KeptIsNotRefused, KeptIsOpened, NextIsOneMore, OneListIsKept};
 
 use relay_disk::Disk;
+
+/// The next number of a list is that of one change more.
+pub fn next_is_one_more()
+    ensures { NextIsOneMore }
+{}
 
 /// Records keep one list.
 pub fn one_list_is_kept<D: Disk>()

@@ -33,6 +33,6 @@ returns-in-Err-BadRecord-clause-refused c =
     is_bad texts body.items (map (λ (r : Vec ℕ Global). r.items) (into_iter_items c.next.new.self)) _ (c.loop-body.number + 1) c.loop-body.book.queue
     c.loop-body.invariant.leaves
     (texts_around c.args.bodies.items c.into_iter-body-iterator.result c.loop-body.body-iterator c.next.new.self given body
-        c.into_iter-body-iterator.ensures.into_iter_gives.0 c.loop-body.yielded_by c.in-Some.ensures.steps.0)
+    c.into_iter-body-iterator.ensures.into_iter_gives.0 c.loop-body.yielded_by c.in-Some.ensures.steps.0)
     (omega (arith, long, counted))
     (subst (NoneFits c.loop-body.book.queue) c.as_slice.ensures.value none)

@@ -5,7 +5,7 @@ use Rattle.relay_spool.specs.Spool.{AtEachMoment, IsAppended, IsBeforeOrWith, St
 use Rattle.relay_book.specs.Queue.{Queue, FitsQueue, step}
 use Rattle.relay_book.specs.Record.{encode}
 use Rattle.relay_records.specs.Records.{Keeps, Kept}
-use Rattle.relay_records.proofs.ListLemmas.{next_of}
+use Rattle.relay_records.proofs.ListLemmas.{next_is_one_more}
 use Rattle.relay_records.proofs.RecordLemmas.{added, body_is_short, cut_short, noted_in_list, stop_stands, stop_unmoved}
 use Rattle.relay_records.proofs.records.Records.add.Goals as goal
 
@@ -23,7 +23,7 @@ returns-clause-ok g c = λ changes keeps.
     let spool = ap (λ (r : Kept g.row.D.Denot). r.spool) c.self.view_is in
     let body = c.as_slice.result.now in
     let fits = c.requires.fits numbered in (
-      c.in_ok-noted.ensures.number ∙ ap (λ (q : Queue). q.next) (queue ∙ keeps.queue) ∙ next_of changes,
+      c.in_ok-noted.ensures.number ∙ ap (λ (q : Queue). q.next) (queue ∙ keeps.queue) ∙ next_is_one_more changes,
       added g.D.Disk.honest g.D.Disk.words c.args.self.now _ changes c.args.change body c.args.used keeps fits is
           (c.in-Ok.ensures.committed ∙ ap (step c.ready_of.new.book.queue) c.in_ok-ready.ensures.change
           ∙ ap (λ (q : Queue). step q c.args.change) (c.ready_of.ensures.queue ∙ queue))
