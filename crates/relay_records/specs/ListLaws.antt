@@ -17,36 +17,42 @@ NextIsOneMore = (changes : List Change) → (queue_of changes).next ≡ length c
 abbrev pub IsNoFaultOfImage : Cause → Type 0
 IsNoFaultOfImage cause = (cause ≡ Spool Device) ⊎ (cause ≡ Spool NoMemory) ⊎ (cause ≡ Spool Full)
 
--- The laws take what is said of a disk's type. The first disk is that of records; the other is one of which a stop leaves no more,
--- as it is where a stop has left it, or where it was handed back.
+-- Of the other disk a stop leaves nothing that it doesn't leave of the records' own: so it is with that disk
+-- itself, behind a stop, and where `open` has refused it.
 module _ {D : Type 0} (honest : Type 0) (words : DiskWords D) where
   -- Records keep one list.
   abbrev pub OneListIsKept : Type 0
   OneListIsKept =
-      (records : Kept D) (changes others : List Change) → Keeps honest words records changes → Keeps honest words records others → changes ≡ others
+      (records : Kept D) (changes others : List Change) → Keeps honest words records changes
+      → Keeps honest words records others → changes ≡ others
 
   -- What live records kept is opened as it was.
   abbrev pub KeptIsOpened : Type 0
   KeptIsOpened =
-      (records opened : Kept D) (changes : List Change) (disk : D) → Keeps honest words records changes → ImagesWithin words records.spool.disk disk
-      → Opens honest words disk opened → Keeps honest words opened changes
+      (records opened : Kept D) (changes : List Change) (disk : D) → Keeps honest words records changes
+      → ImagesWithin words records.spool.disk disk → Opens honest words disk opened
+      → Keeps honest words opened changes
 
   -- What stopped records kept is opened as it was, or with the change that was being added.
   abbrev pub HaltedIsOpened : Type 0
   HaltedIsOpened =
-      (records opened : Kept D) (changes : List Change) (pending : Option Change) (disk : D) → Halted honest words records changes pending
-      → ImagesWithin words records.spool.disk disk → Opens honest words disk opened
+      (records opened : Kept D) (changes : List Change) (pending : Option Change) (disk : D)
+      → Halted honest words records changes pending → ImagesWithin words records.spool.disk disk
+      → Opens honest words disk opened
       → Keeps honest words opened changes
-      ⊎ ((change : Change) × (pending ≡ Some change) × FitsQueue (queue_of changes) change × Keeps honest words opened (changes ++ change ∷ []))
+      ⊎ ((change : Change) × (pending ≡ Some change) × FitsQueue (queue_of changes) change
+      × Keeps honest words opened (changes ++ change ∷ []))
 
   -- What live records kept isn't refused for its octets.
   abbrev pub KeptIsNotRefused : Type 0
   KeptIsNotRefused =
-      (records : Kept D) (changes : List Change) (disk : D) (cause : Cause) → Keeps honest words records changes
-      → ImagesWithin words records.spool.disk disk → RefusesImage honest (words.seen disk) cause → IsNoFaultOfImage cause
+      (records : Kept D) (changes : List Change) (disk : D) (cause : Cause)
+      → Keeps honest words records changes → ImagesWithin words records.spool.disk disk
+      → RefusesImage honest (words.seen disk) cause → IsNoFaultOfImage cause
 
   -- Nor is what stopped records kept.
   abbrev pub HaltedIsNotRefused : Type 0
   HaltedIsNotRefused =
-      (records : Kept D) (changes : List Change) (pending : Option Change) (disk : D) (cause : Cause) → Halted honest words records changes pending
-      → ImagesWithin words records.spool.disk disk → RefusesImage honest (words.seen disk) cause → IsNoFaultOfImage cause
+      (records : Kept D) (changes : List Change) (pending : Option Change) (disk : D) (cause : Cause)
+      → Halted honest words records changes pending → ImagesWithin words records.spool.disk disk
+      → RefusesImage honest (words.seen disk) cause → IsNoFaultOfImage cause

@@ -1,4 +1,5 @@
--- The note of the last append that was begun: what whoever counts messages needs of a change, also where a stop left it open.
+-- The note of the last append that was begun: what whoever counts messages needs to know of a change, also
+-- where a stop left it open.
 use Rattle.std.specs.Prelude.{◌≡◌, ℕ, ◌+◌, Bool, true, false, List, [], ◌∷◌, length, Option, Some}
 use Rattle.relay_book.specs.declared.change.Change.{Change}
 use Rattle.relay_book.specs.declared.change.Change.TheVariants.{Accept, Outcome}
@@ -33,7 +34,8 @@ pub record IsNoted (noted : Option Noted) (changes : List Change) (change : Chan
   pub report : note.report ≡ queues_report change
 
 -- the note of a change that comes next in this queue
-pub record NotesNext (queue : Queue) (change : Change) (octets : List ℕ) (used : ℕ) (note : Noted) : Type 0 where
+pub record NotesNext (queue : Queue) (change : Change) (octets : List ℕ) (used : ℕ) (note : Noted)
+    : Type 0 where
   pub number : note.number ≡ queue.next
   pub octets_are : note.octets ≡ octets
   pub used_is : note.used ≡ used

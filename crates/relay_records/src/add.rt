@@ -25,9 +25,10 @@ const OVERHEAD: usize = 5;
 const SIZE_LIMIT: usize = 1 << 40;
 
 impl<D: Disk> Records<D> {
-    /// Adds a change: its record, in octets, goes to the spool, and then its effect to the queue. `used` is how much of its piece the
-    /// call had used. All growths come before the append. `NoMemory` and `Full` leave everything as it was; at `Stopped`
-    /// the device failed, and a stop leaves the changes as they were or with this one.
+    /// Adds a change, of which these octets are the record. It goes to the spool first, and then into the
+    /// queue, and the answer is its number; `used` is how many octets of its piece the call had used. All
+    /// growths come before the append. `NoMemory` and `Full` leave everything as it was. At `Stopped` the
+    /// device failed: a stop leaves the changes as they were or with this one, and it is noted.
     pub fn add(
         &mut self,
         alloc: Global,
@@ -38,12 +39,15 @@ impl<D: Disk> Records<D> {
         requires live { IsTrue self.old.spool.live }
         requires fits { self.old.queue.next ≤ 2 ^ 62 → FitsQueue self.old.queue change }
         requires octets { octets ≡ encode change }
-        ensures ok { (changes : List Change) → Keeps D.honest D.words self.old changes → IfOk result (λ number.
-            (number ≡ length changes + 1) × Adds D.honest D.words self.new changes change used) }
-        ensures cut { (changes : List Change) → Keeps D.honest D.words self.old changes → result ≡ Err NodeFault.Stopped
-            → Cuts D.honest D.words self.new changes change used }
+        ensures ok { (changes : List Change) → Keeps D.honest D.words self.old changes
+            → IfOk result (λ number. (number ≡ length changes + 1)
+            × Adds D.honest D.words self.new changes change used) }
+        ensures cut { (changes : List Change) → Keeps D.honest D.words self.old changes
+            → result ≡ Err NodeFault.Stopped → Cuts D.honest D.words self.new changes change used }
+        // A stop at any moment of the call leaves the changes as they were or with this one.
         ensures stop { (changes : List Change) → Keeps D.honest D.words self.old changes → D.honest
-            → AtEachMoment D.words self.old.spool.disk self.new.spool.disk (HasBodies (StandsForOrWith changes (Some change))) }
+            → AtEachMoment D.words self.old.spool.disk self.new.spool.disk
+            (HasBodies (StandsForOrWith changes (Some change))) }
         ensures grows { IfOk result (λ number. Grows D.words self.old change number self.new) }
         ensures refused { IfErr result (RefusesToAdd D.words self.old self.new) }
         ensures full { (result ≡ Err NodeFault.Full)
@@ -110,7 +114,8 @@ fn append<D: Disk>(
         (λ _. book.new.queue ≡ book.old.queue) }
     ensures stop { D.honest → AtEachMoment D.words spool.old.disk spool.new.disk
         (HasBodies (IsBeforeOrWith spool.old.bodies octets.now)) }
-    ensures device { IsErrOf result SpoolFault.Device → (spool.new.live ≡ false) × Fails D.words spool.old.disk spool.new.disk }
+    ensures device { IsErrOf result SpoolFault.Device
+        → (spool.new.live ≡ false) × Fails D.words spool.old.disk spool.new.disk }
     ensures other { IfErr result (λ fault. fault ≢ SpoolFault.Device → spool.new ≡ spool.old) }
 {
     match spool.append(octets) {

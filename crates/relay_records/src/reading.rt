@@ -9,8 +9,8 @@ use relay_book::{Book, BookFault, decode_change};
 use relay_spool::SpoolFault;
 use std::alloc::Global;
 
-/// Applies the change that a body records. It fails with `BadRecord` exactly where the body records none that fits, and where
-/// memory runs out.
+/// Applies the change that a body records. It fails with `BadRecord` exactly where the body records none that
+/// fits, and where memory runs out.
 fn read_body(alloc: Global, book: &mut Book, body: &[u8]) -> Result<(), BookFault>
     ensures reads { OnOk result (ReadsBody book.old.queue body.now book.new.queue) }
     ensures bad { IsErrOf result BookFault.BadRecord → NoneFits book.old.queue body.now }
