@@ -1,10 +1,8 @@
 -- What a disk is opened to, by what records kept.
-use Rattle.std.proofs.Common.{◌≡◌, ◌≢◌, ◌⊎◌, inl, inr, ℕ, ◌+◌, suc, List, [], ◌∷◌, ◌++◌, drop, fold, length, map, Option, Some, refl, sym, ap, ◌∙◌, subst, arith}
-use Rattle.relay_disk.specs.Device.{DiskWords, ImagesWithin}
-use Rattle.relay_spool.specs.declared.fault.SpoolFault.{SpoolFault}
+use Rattle.std.proofs.Common.{◌≡◌, inl, inr, ℕ, suc, List, [], ◌∷◌, ◌++◌, drop, fold, length, map, refl, sym, ap, ◌∙◌, subst, arith}
+use Rattle.relay_disk.specs.Device.{DiskWords}
 use Rattle.relay_spool.specs.declared.fault.SpoolFault.TheVariants.{Device, NotASpool, Damaged, NoMemory, NotEmpty, Full}
-use Rattle.relay_spool.specs.Image.{Bodies, NoSpool, DamagedAt, HasBodies, IsImageOf, Reading}
-use Rattle.relay_spool.specs.Spool.{EveryImageHas, ReadsAs}
+use Rattle.relay_spool.specs.Image.{Bodies, NoSpool, DamagedAt, IsImageOf, Reading}
 use Rattle.relay_spool.proofs.Theorems.{one_list_of_bodies, one_reading}
 use Rattle.relay_book.specs.declared.change.Change.{Change}
 use Rattle.relay_book.specs.Record.{encode}
@@ -15,7 +13,7 @@ use Rattle.relay_records.specs.declared.fault.Cause.{Cause}
 use Rattle.relay_records.specs.declared.fault.Cause.TheVariants.{Spool, BadRecord}
 use Rattle.relay_records.specs.ListLaws.{HaltedIsNotRefused, HaltedIsOpened, IsNoFaultOfImage, KeptIsNotRefused, KeptIsOpened, OneListIsKept}
 use Rattle.relay_records.specs.Open.{IsBadRecord, Opens, RefusesImage}
-use Rattle.relay_records.specs.Records.{Halted, Keeps, Kept, StandsForOrWith}
+use Rattle.relay_records.specs.Records.{Keeps, Kept}
 
 first_body : List (List ℕ) → List ℕ
 first_body [] = []

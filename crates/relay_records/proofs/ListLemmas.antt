@@ -1,5 +1,5 @@
 -- Lists of changes, and the queues that they leave.
-use Rattle.std.proofs.Common.{◌≡◌, ℕ, ◌+◌, ◌≤◌, ◌^◌, List, [], ◌∷◌, ◌++◌, fold, length, map, Option, None, Some, IfSome, Bor, ◌↔◌, refl, sym, ap, ◌∙◌, subst, arith}
+use Rattle.std.proofs.Common.{◌≡◌, ℕ, ◌+◌, List, [], ◌∷◌, ◌++◌, fold, length, map, Option, None, Some, IfSome, Bor, ◌↔◌, refl, sym, ap, ◌∙◌, subst, arith}
 use Rattle.std.specs.List.{Contains}
 use Rattle.std.specs.Option.{option_copied}
 use Rattle.std.proofs.lemmas.List.Sums.{fold-append}
@@ -9,7 +9,6 @@ use Rattle.relay_book.specs.Record.{encode}
 use Rattle.relay_book.specs.Queue.{Queue, FitsQueue, Fitting, empty_queue, held_of, message_of, queue_of, step}
 use Rattle.relay_book.specs.declared.message.Message.{Message}
 use Rattle.relay_book.specs.Marks.{Held, IsQueuedAs}
-use Rattle.relay_book.specs.StandsFor.{StandsFor}
 use Rattle.relay_records.specs.ListLaws.{NextIsOneMore}
 use Rattle.relay_book.proofs.Theorems.{fold_holds, fold_knows, one_more_stands}
 

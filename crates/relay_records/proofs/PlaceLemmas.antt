@@ -1,5 +1,5 @@
 -- What the queue tells of a place is what the list of changes does.
-use Rattle.std.proofs.Common.{◌≡◌, ℕ, ◌<◌, Bool, true, false, List, [], ◌∷◌, zero, suc, length, slice_get, Option, None, Some, MatchOption, if◌then◌else◌, refl, sym, ap, ◌∙◌, subst, arith}
+use Rattle.std.proofs.Common.{◌≡◌, ℕ, Bool, true, false, List, [], ◌∷◌, zero, suc, length, slice_get, Option, None, Some, MatchOption, if◌then◌else◌, refl, sym, ap, ◌∙◌, subst, arith}
 use Rattle.std.specs.Option.{option_and_then, option_map, option_map_or}
 use Rattle.std.proofs.lemmas.Bool.{false≢true}
 use Rattle.relay_envelope.specs.declared.envelope.Recipient.{Recipient}
@@ -8,7 +8,7 @@ use Rattle.relay_book.specs.declared.message.Message.{Message}
 use Rattle.relay_book.specs.declared.message.Place.{Place}
 use Rattle.relay_book.specs.HeldLaw.{holds_place}
 use Rattle.relay_book.specs.Marks.{Held}
-use Rattle.relay_book.specs.Queue.{Queue, Fitting, holds_at, is_held, message_of, queue_of}
+use Rattle.relay_book.specs.Queue.{Fitting, holds_at, is_held, message_of, queue_of}
 use Rattle.relay_book.proofs.Theorems.{fold_due, fold_finds, fold_knows}
 use Rattle.relay_records.specs.HeldPlace.{IsWaiting, waiting_at, waiting_for, waiting_in}
 

@@ -1,8 +1,8 @@
 -- What one change more does to records and to their list.
-use Rattle.std.proofs.Common.{◌≡◌, ◌≢◌, ◌⊎◌, inl, inr, ℕ, ◌+◌, ◌<◌, ◌^◌, true, false, List, [], ◌∷◌, ◌++◌, length, Option, Some, refl, sym, ap, ◌∙◌, subst, arith}
+use Rattle.std.proofs.Common.{◌≡◌, ◌≢◌, inl, inr, ℕ, ◌<◌, ◌^◌, false, List, [], ◌∷◌, ◌++◌, length, Some, refl, sym, ap, ◌∙◌, subst, arith}
 use Rattle.relay_disk.specs.Device.{DiskWords, EachImage}
 use Rattle.relay_spool.specs.Image.{HasBodies}
-use Rattle.relay_spool.specs.Spool.{AtEachMoment, EveryImageHas, IsAppended, IsBeforeOrWith, RefusesToAppend, Stored}
+use Rattle.relay_spool.specs.Spool.{AtEachMoment, IsAppended, IsBeforeOrWith, RefusesToAppend, Stored}
 use Rattle.relay_spool.specs.declared.fault.SpoolFault.{SpoolFault}
 use Rattle.relay_spool.specs.declared.fault.SpoolFault.TheVariants.{Device, NotASpool, Damaged, NoMemory, NotEmpty, Full}
 use Rattle.relay_book.specs.declared.change.Change.{Change}
@@ -14,7 +14,7 @@ use Rattle.relay_book.specs.StandsFor.{StandsFor}
 use Rattle.relay_book.proofs.Theorems.{one_more_stands, queue_leaves, record_is_short}
 use Rattle.relay_records.specs.declared.noted.Noted.{Noted}
 use Rattle.relay_records.specs.Note.{IsNoted, NotesNext}
-use Rattle.relay_records.specs.Records.{Adds, Cuts, Halted, Keeps, Kept, StandsForOrWith}
+use Rattle.relay_records.specs.Records.{Adds, Cuts, Keeps, Kept, StandsForOrWith}
 use Rattle.relay_records.proofs.ListLemmas.{fitting_more, next_is_one_more, queue_of_more}
 
 pub fits_is_change : (queue : Queue) (change : Change) → FitsQueue queue change → IsChange change

@@ -1,5 +1,5 @@
 -- The list of changes that records keep is one, and a stop takes no change of it away.
-use Rattle.std.specs.Prelude.{◌≡◌, ◌⊎◌, ℕ, ◌+◌, List, [], ◌∷◌, ◌++◌, length, Option, Some}
+use Rattle.std.specs.Prelude.{◌≡◌, ◌⊎◌, ◌+◌, List, [], ◌∷◌, ◌++◌, length, Option, Some}
 use Rattle.relay_disk.specs.Device.{DiskWords, ImagesWithin}
 use Rattle.relay_spool.specs.declared.fault.SpoolFault.TheVariants.{Device, NoMemory, Full}
 use Rattle.relay_book.specs.declared.change.Change.{Change}

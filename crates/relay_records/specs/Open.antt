@@ -1,5 +1,5 @@
 -- What a disk is opened to, and why one isn't.
-use Rattle.std.specs.Prelude.{◌≡◌, ◌≢◌, ℕ, ◌+◌, List, ◌∷◌, ◌++◌, length, Option, None}
+use Rattle.std.specs.Prelude.{◌≡◌, ◌≢◌, ℕ, ◌+◌, List, ◌∷◌, ◌++◌, length, None}
 use Rattle.relay_disk.specs.Device.{DiskWords, FailsNot}
 use Rattle.relay_spool.specs.Image.{HasBodies}
 use Rattle.relay_spool.specs.Spool.{FailsBy, ReadsAs, RefusesToCreate, RefusesToOpen}

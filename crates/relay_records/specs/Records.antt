@@ -7,7 +7,6 @@ use Rattle.relay_book.specs.Record.{encode}
 use Rattle.relay_book.specs.Queue.{Queue, FitsQueue, Fitting, queue_of, step}
 use Rattle.relay_book.specs.StandsFor.{StandsFor}
 use Rattle.relay_records.specs.declared.noted.Noted.{Noted}
-use Rattle.relay_records.specs.declared.fault.Cause.{Cause}
 use Rattle.relay_records.specs.declared.fault.NodeFault.{NodeFault}
 use Rattle.relay_records.specs.declared.fault.NodeFault.TheVariants.{NoMemory, Stopped, Unknown, TooMany, NotDue, Busy, Open, Full}
 use Rattle.relay_records.specs.Note.{IsNoted}

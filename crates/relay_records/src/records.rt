@@ -55,7 +55,7 @@ impl<D: Disk> Records<D> {
     pub fn has_number(&self) -> bool
         ensures { IsTrue result ↔ (self.now.queue.next ≤ 2 ^ 62) }
     {
-        self.book.next_number() <= LAST_NUMBER
+        self.next_number() <= LAST_NUMBER
     }
 
     /// Whether no device call has failed. It takes no memory.
@@ -108,7 +108,7 @@ impl<D: Disk> Records<D> {
             → MatchOption result (Held changes number place → ⊥)
             (λ found. IsWaiting changes number place found.path.now found.due) }
     {
-        match self.book.message(number) {
+        match self.message(number) {
             Some(message) => held_place(message, place),
             None => None,
         }

@@ -1,9 +1,8 @@
 -- One body more was read, or is the first that wasn't.
-use Rattle.std.proofs.Common.{◌≡◌, ◌+◌, ℕ, List, [], ◌∷◌, ◌++◌, length, map, Vec, sym, ap, ◌∙◌, subst, arith, rules, length-append}
+use Rattle.std.proofs.Common.{◌+◌, ℕ, List, [], ◌∷◌, map, Vec, sym, subst, arith, rules, length-append}
 use Rattle.std.proofs.lemmas.List.{length-map, map-append}
 use Rattle.std.specs.Vec.Iter.{into_iter_items}
 use Rattle.std.specs.declared.alloc.Global.{Global}
-use Rattle.relay_book.specs.Queue.{Queue}
 use Rattle.relay_book.specs.StandsFor.{ReadsBody}
 use Rattle.relay_records.specs.Open.{LeavesQueue, NoneFits}
 use Rattle.relay_records.proofs.ReadLemmas.{is_bad, leaves_more, texts_around}

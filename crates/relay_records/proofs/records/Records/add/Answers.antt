@@ -1,12 +1,12 @@
 -- The append decides what the records keep.
-use Rattle.std.proofs.Common.{◌≡◌, false, ◌≤◌, ◌^◌, ℕ, List, length, refl, rules, sym, ap, ◌∙◌, subst}
+use Rattle.std.proofs.Common.{◌≡◌, false, ◌≤◌, ◌^◌, rules, sym, ap, ◌∙◌, subst}
 use Rattle.relay_spool.specs.Image.{HasBodies}
 use Rattle.relay_spool.specs.Spool.{AtEachMoment, IsAppended, IsBeforeOrWith, Stored}
 use Rattle.relay_book.specs.Queue.{Queue, FitsQueue, step}
 use Rattle.relay_book.specs.Record.{encode}
-use Rattle.relay_records.specs.Records.{Keeps, Kept}
+use Rattle.relay_records.specs.Records.{Kept}
 use Rattle.relay_records.proofs.ListLemmas.{next_is_one_more}
-use Rattle.relay_records.proofs.RecordLemmas.{added, body_is_short, cut_short, noted_in_list, stop_stands, stop_unmoved}
+use Rattle.relay_records.proofs.RecordLemmas.{added, body_is_short, cut_short, noted_in_list, stop_stands}
 use Rattle.relay_records.proofs.records.Records.add.Goals as goal
 
 pub append-requires-clause-short : goal.append-requires-clause-short
