@@ -1,5 +1,5 @@
 -- What one change more does to records and to their list.
-use Rattle.std.proofs.Common.{◌≡◌, ◌≢◌, inl, inr, ℕ, ◌<◌, ◌^◌, false, List, [], ◌∷◌, ◌++◌, length, Some, refl, sym, ap, ◌∙◌, subst, arith}
+use Rattle.std.proofs.Common.{◌≡◌, ◌+◌, ◌≢◌, inl, inr, ℕ, ◌<◌, ◌^◌, false, List, [], ◌∷◌, ◌++◌, length, Some, refl, sym, ap, ◌∙◌, subst, arith}
 use Rattle.relay_disk.specs.Device.{DiskWords, EachImage}
 use Rattle.relay_spool.specs.Image.{HasBodies}
 use Rattle.relay_spool.specs.Spool.{AtEachMoment, IsAppended, IsBeforeOrWith, RefusesToAppend, Stored}
@@ -25,21 +25,6 @@ fits_is_change queue (Outcome outcome) fits = fits.2
 pub body_is_short : (queue : Queue) (change : Change) (body : List ℕ) → FitsQueue queue change → body ≡ encode change → length body < 2 ^ 32
 body_is_short queue change body fits is = subst (λ (b : List ℕ). length b < 2 ^ 32) (sym is) (record_is_short change (fits_is_change queue change fits))
 
--- a note of the next change is that of the change behind the list
-pub noted_in_list : (changes : List Change) (queue : Queue) (change : Change) (octets : List ℕ) (used : ℕ) (note : Noted) → Fitting changes
-    → queue ≡ queue_of changes → FitsQueue queue change → octets ≡ encode change → NotesNext queue change octets used note → IsNoted (Some note) changes change used
-noted_in_list changes queue change octets used note fitting queue_is fits octets_is notes = record {
-  note = note;
-  is = refl;
-  number = notes.number ∙ ap (λ (q : Queue). q.next) queue_is ∙ next_is_one_more changes;
-  octets = notes.octets_are ∙ octets_is;
-  used_is = notes.used_is;
-  accepted = notes.accepted;
-  left = notes.left ∙ ap (λ (q : Queue). leaving_of q change) queue_is
-      ∙ queue_leaves changes change fitting (subst (λ (q : Queue). FitsQueue q change) queue_is fits);
-  report = notes.report;
-}
-
 -- bodies with the record of a change that fits stand for one change more
 stands_with : (bodies before : List (List ℕ)) (changes : List Change) (change : Change) (body : List ℕ) → StandsFor before changes
     → FitsQueue (queue_of changes) change → body ≡ encode change → bodies ≡ before ++ body ∷ [] → StandsFor bodies (changes ++ change ∷ [])
@@ -54,12 +39,6 @@ stands_or_with bodies before changes change body stands fits body_is found =
       | inr more ↦ inr (change, refl, fits, stands_with bodies before changes change body stands fits body_is more)
     ]
 
--- an image with the bodies before, or with one more, stands for the changes, or for them with one more
-pub image_stands : (before : List (List ℕ)) (changes : List Change) (change : Change) (body image : List ℕ) → StandsFor before changes
-    → FitsQueue (queue_of changes) change → body ≡ encode change → HasBodies (IsBeforeOrWith before body) image → HasBodies (StandsForOrWith changes (Some change)) image
-image_stands before changes change body image stands fits body_is found =
-    (found.0, found.1, stands_or_with found.0 before changes change body stands fits body_is found.2)
-
 -- a refused append that isn't the device's changes nothing
 pub refused_otherwise : {D : Type 0} (words : DiskWords D) (old new : Stored D) (fault : SpoolFault) → RefusesToAppend words old new fault → fault ≢ Device → new ≡ old
 refused_otherwise words old new Device refused other = absurd (other refl)
@@ -69,72 +48,85 @@ refused_otherwise words old new NotASpool refused other = absurd refused
 refused_otherwise words old new (Damaged place) refused other = absurd refused
 refused_otherwise words old new NotEmpty refused other = absurd refused
 
-module _ {D : Type 0} (honest : Type 0) (words : DiskWords D) where
+-- The fields of the records are seen apart while a call changes them; `seen` is the value that they make.
+module _ {D : Type 0} (honest : Type 0) (words : DiskWords D) (seen old : Kept D) (seen_is : seen ≡ old)
+    (changes : List Change) (change : Change) (body : List ℕ) (keeps : Keeps honest words old changes)
+    (fits : FitsQueue old.queue change) (body_is : body ≡ encode change) where
+  fits_list : FitsQueue (queue_of changes) change
+  fits_list = subst (λ (q : Queue). FitsQueue q change) keeps.queue fits
+
+  seen_queue : seen.queue ≡ queue_of changes
+  seen_queue = ap (λ (r : Kept D). r.queue) seen_is ∙ keeps.queue
+
+  before : honest → StandsFor seen.spool.bodies changes
+  before h = subst (λ (r : Kept D). StandsFor r.spool.bodies changes) (sym seen_is) (keeps.bodies h)
+
+  with_one : honest → (bodies : List (List ℕ)) → bodies ≡ seen.spool.bodies ++ body ∷ [] → StandsFor bodies (changes ++ change ∷ [])
+  with_one h bodies are = stands_with bodies seen.spool.bodies changes change body (before h) fits_list body_is are
+
+  -- the next number is that of the change behind the list
+  pub number_is : (number : ℕ) → number ≡ seen.queue.next → number ≡ length changes + 1
+  number_is number next = next ∙ ap (λ (q : Queue). q.next) seen_queue ∙ next_is_one_more changes
+
+  -- the note is of the change behind the list
+  pub noted_here : (used : ℕ) (note : Noted) → NotesNext seen.queue change body used note → IsNoted (Some note) changes change used
+  noted_here used note notes = record {
+    note = note;
+    is = refl;
+    number = number_is note.number notes.number;
+    octets = notes.octets_are ∙ body_is;
+    used_is = notes.used_is;
+    accepted = notes.accepted;
+    left = notes.left ∙ ap (λ (q : Queue). leaving_of q change) seen_queue ∙ queue_leaves changes change keeps.fitting fits_list;
+    report = notes.report;
+  }
+
   -- the change was added
-  pub added : (old new : Kept D) (changes : List Change) (change : Change) (body : List ℕ) (used : ℕ) → Keeps honest words old changes
-      → FitsQueue old.queue change → body ≡ encode change → new.queue ≡ step old.queue change → IsAppended honest words old.spool body new.spool
+  pub added : (new : Kept D) (used : ℕ) → new.queue ≡ step seen.queue change → IsAppended honest words seen.spool body new.spool
       → IsNoted new.noted changes change used → Adds honest words new changes change used
-  added old new changes change body used keeps fits body_is queue appended noted =
-      let fits_list = subst (λ (q : Queue). FitsQueue q change) keeps.queue fits in
-      record {
-        keeps = record {
-          live = appended.live;
-          fitting = fitting_more changes change keeps.fitting fits_list;
-          queue = queue ∙ ap (λ (q : Queue). step q change) keeps.queue ∙ sym (queue_of_more changes change);
-          bodies = λ h. stands_with new.spool.bodies old.spool.bodies changes change body (keeps.bodies h) fits_list body_is (appended.bodies_are h);
-          images = λ h image left.
-              let found = appended.images h image left in
-              (found.0, found.1, stands_with found.0 old.spool.bodies changes change body (keeps.bodies h) fits_list body_is found.2);
+  added new used queue appended noted = record {
+    keeps = record {
+      live = appended.live;
+      fitting = fitting_more changes change keeps.fitting fits_list;
+      queue = queue ∙ ap (λ (q : Queue). step q change) seen_queue ∙ sym (queue_of_more changes change);
+      bodies = λ h. with_one h new.spool.bodies (appended.bodies_are h);
+      images = λ h image left. let found = appended.images h image left in (found.0, found.1, with_one h found.0 found.2);
+    };
+    noted = noted;
+  }
+
+  image_is : honest → (image : List ℕ) → HasBodies (IsBeforeOrWith seen.spool.bodies body) image → HasBodies (StandsForOrWith changes (Some change)) image
+  image_is h image found = (found.0, found.1, stands_or_with found.0 seen.spool.bodies changes change body (before h) fits_list body_is found.2)
+
+  -- what a stop leaves at any moment of the call
+  pub stop_stands : (new : D) → honest → AtEachMoment words seen.spool.disk new (HasBodies (IsBeforeOrWith seen.spool.bodies body))
+      → AtEachMoment words old.spool.disk new (HasBodies (StandsForOrWith changes (Some change)))
+  stop_stands new h stop = subst (λ (r : Kept D). AtEachMoment words r.spool.disk new (HasBodies (StandsForOrWith changes (Some change)))) seen_is moments
+    where
+      moments : AtEachMoment words seen.spool.disk new (HasBodies (StandsForOrWith changes (Some change)))
+      moments = record {
+        since = record {
+          later = stop.since.later;
+          each = λ image left. image_is h image (stop.since.each image left);
+          earlier = λ moment image early left. elim (stop.since.earlier moment image early left) [
+            | inl was ↦ inl was
+            | inr found ↦ inr (image_is h image found)
+          ];
         };
-        noted = noted;
+        now = λ image left. image_is h image (stop.now image left);
       }
 
   -- the device failed while the change was added
-  pub cut_short : (old new : Kept D) (changes : List Change) (change : Change) (body : List ℕ) (used : ℕ) → Keeps honest words old changes
-      → FitsQueue old.queue change → body ≡ encode change → new.queue ≡ old.queue → new.spool.live ≡ false
-      → (honest → AtEachMoment words old.spool.disk new.spool.disk (HasBodies (IsBeforeOrWith old.spool.bodies body)))
+  pub cut_short : (new : Kept D) (used : ℕ) → new.queue ≡ seen.queue → new.spool.live ≡ false
+      → (honest → AtEachMoment words seen.spool.disk new.spool.disk (HasBodies (IsBeforeOrWith seen.spool.bodies body)))
       → IsNoted new.noted changes change used → Cuts honest words new changes change used
-  cut_short old new changes change body used keeps fits body_is queue stopped stop noted =
-      let fits_list = subst (λ (q : Queue). FitsQueue q change) keeps.queue fits in
-      record {
-        halted = record {
-          stopped = stopped;
-          fitting = keeps.fitting;
-          next = ap (λ (q : Queue). q.next) (queue ∙ keeps.queue) ∙ next_is_one_more changes;
-          images = λ h image left. image_stands old.spool.bodies changes change body image (keeps.bodies h) fits_list body_is ((stop h).now image left);
-        };
-        fits = fits_list;
-        noted = noted;
-      }
-
-  -- what a stop leaves at any moment of the call
-  pub stop_stands : (old : Kept D) (new : D) (changes : List Change) (change : Change) (body : List ℕ) → Keeps honest words old changes
-      → FitsQueue old.queue change → body ≡ encode change → honest → AtEachMoment words old.spool.disk new (HasBodies (IsBeforeOrWith old.spool.bodies body))
-      → AtEachMoment words old.spool.disk new (HasBodies (StandsForOrWith changes (Some change)))
-  stop_stands old new changes change body keeps fits body_is h stop =
-      let fits_list = subst (λ (q : Queue). FitsQueue q change) keeps.queue fits in
-      let image_is = λ (image : List ℕ). image_stands old.spool.bodies changes change body image (keeps.bodies h) fits_list body_is in
-      record {
-        since = record {
-          later = stop.since.later;
-          each = λ image left. image_is image (stop.since.each image left);
-          earlier = λ moment image before left. elim (stop.since.earlier moment image before left) [ inl was ↦ inl was | inr found ↦ inr (image_is image found) ];
-        };
-        now = λ image left. image_is image (stop.now image left);
-      }
-
-  -- a stop leaves the changes as long as no call of the device was made
-  pub stop_unmoved : ((disk : D) (image : List ℕ) → words.left_since disk (words.moment disk) image → words.may_leave disk image) → (records : Kept D)
-      (changes : List Change) (change : Change) → Keeps honest words records changes → honest
-      → AtEachMoment words records.spool.disk records.spool.disk (HasBodies (StandsForOrWith changes (Some change)))
-  stop_unmoved only_now records changes change keeps h =
-      let stands : EachImage words records.spool.disk (HasBodies (StandsForOrWith changes (Some change))) =
-      λ image left. let found = keeps.images h image left in (found.0, found.1, inl found.2) in
-      record {
-        since = record {
-          later = omega arith;
-          each = λ image left. stands image (only_now records.spool.disk image left);
-          earlier = λ moment image before left. inl left;
-        };
-        now = stands;
-      }
+  cut_short new used queue stopped stop noted = record {
+    halted = record {
+      stopped = stopped;
+      fitting = keeps.fitting;
+      next = ap (λ (q : Queue). q.next) (queue ∙ seen_queue) ∙ next_is_one_more changes;
+      images = λ h image left. image_is h image ((stop h).now image left);
+    };
+    fits = fits_list;
+    noted = noted;
+  }
