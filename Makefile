@@ -14,6 +14,7 @@ test:
 	cp crates/relayd/out/relayd build/relayd
 	tests/one_line_at_a_time.sh build/relayd
 	tests/each_allocation_refused.sh build/relayd
+	tests/book_without_memory.sh crates/relay_book_tests/out/relay_book_tests
 	tests/spool_on_a_file.sh crates/relay_spool_tests/out/relay_spool_tests
 	tail -n 1 build/gate.log
 

@@ -107,3 +107,11 @@ header_section() {
 content_with_periods() {
     yes "$(printf '%074d\r\n%074d\r\n%074d\r\n.%073d\r' 0 0 0 0)" | head -n $((4 * $1)) || true
 }
+
+# The record of a message with a text of so many octets, 34 octets longer than the text.
+record_of() {
+    local length
+    length=$(printf '\\x%02x' $(($1 >> 24)) $(($1 >> 16 & 255)) $(($1 >> 8 & 255)) $(($1 & 255)))
+    printf '\x01\0\0\0\0\0\0\0\0\0\x05<a@b>\0\0\0\x01\0\x05<c@d>\0\0\0%b' "$length"
+    head -c "$1" /dev/zero | tr '\0' x
+}

@@ -78,3 +78,9 @@ of_words "library: a spool that is opened" octet 500 1500 4101 "$bench" open "$r
 of_words "library: appends to a spool on a file" append 500 1500 1 "$bench" append "$room/append.{}" {}
 of_words "library: look-ups in a table of 100 routes" look-up 10000 30000 1 "$bench" routes 100 {}
 of_words "library: look-ups in a table of 100,000 routes" look-up 10000 30000 1 "$bench" routes 100000 {}
+of_words "library: messages into a book" message 10000 30000 1 "$bench" fill {}
+of_words "library: messages into a book, and out" message 10000 30000 1 "$bench" drain {}
+of_words "library: what is due, 10 of 100 held messages" answer 10000 30000 1 "$bench" due 100 {}
+of_words "library: what is due, 10 of 100,000 held messages" answer 10000 30000 1 "$bench" due 100000 {}
+# A record is decoded 200 times.
+of_input "library: a record that is decoded" octet 100000 300000 200 record_of "$bench" decode

@@ -74,22 +74,34 @@ compare() {
             printf "%-52s %12.0f %s/s   %.2f of %s\n", name, count / ours * 1000000, unit, theirs / ours, label }'
 }
 
-# look_ups NAME COUNT MANY FEW: COUNT look-ups in a table of MANY routes, beside as many in one of FEW. What it takes to
-# make a table is measured without look-ups, and taken off.
-look_ups() {
+# among NAME UNIT COUNT WORD MANY FEW LABEL: COUNT turns of the measurement WORD among MANY, beside as many among FEW. What
+# it takes to make these is measured without turns, and taken off.
+among() {
     local count
-    rm -f "$room"/table.*
+    rm -f "$room"/made.*
     for ((run = 0; run < runs; run++)); do
-        for count in "$2" 0; do
-            micros_of "$bench routes $3 $count" >> "$room/table.many.$count"
-            micros_of "$bench routes $4 $count" >> "$room/table.few.$count"
+        for count in "$3" 0; do
+            micros_of "$bench $4 $5 $count" >> "$room/made.many.$count"
+            micros_of "$bench $4 $6 $count" >> "$room/made.few.$count"
         done
     done
-    awk -v name="$1" -v count="$2" \
-        -v ours=$(($(median < "$room/table.many.$2") - $(median < "$room/table.many.0"))) \
-        -v theirs=$(($(median < "$room/table.few.$2") - $(median < "$room/table.few.0"))) \
-        -v label="a table of $4" 'BEGIN {
-            printf "%-52s %12.0f %s/s   %.2f of %s\n", name, count / ours * 1000000, "look-ups", theirs / ours, label }'
+    awk -v name="$1" -v unit="$2" -v count="$3" -v label="$7" \
+        -v ours=$(($(median < "$room/made.many.$3") - $(median < "$room/made.many.0"))) \
+        -v theirs=$(($(median < "$room/made.few.$3") - $(median < "$room/made.few.0"))) 'BEGIN {
+            printf "%-52s %12.0f %s/s   %.2f of %s\n", name, count / ours * 1000000, unit, theirs / ours, label }'
+}
+
+# How much memory a program has that holds so many messages of 1 KiB, in octets: the median of RUNS runs.
+resident() {
+    for ((run = 0; run < runs; run++)); do
+        "$bench" hold "$1" | awk '{ print $(NF - 1) * 1024 }'
+    done | median
+}
+
+# held NAME COUNT: what each of COUNT held messages takes beside its text, by the memory of a program that has none.
+held() {
+    awk -v name="$1" -v count="$2" -v ours="$(resident "$2")" -v none="$(resident 0)" 'BEGIN {
+        printf "%-52s %12.0f octets a message, beside 1,024 of text\n", name, (ours - none) / count - 1024 }'
 }
 
 message_of 2631579 > "$room/refused"
@@ -148,4 +160,15 @@ compare "library: a spool of 256 MB that is opened" octets "$(stat -c %s "$room/
 # A device's syncs take from one to ten times their least: many short runs.
 runs=31 compare "library: appends to a spool on a file" appends 500 \
     "rm -f $disk/a; $bench append $disk/a 500" "rm -f $disk/b; $bench syncs $disk/b 500" "two bare syncs"
-look_ups "library: look-ups in a table of 100,000 routes" 1000000 100000 100
+among "library: look-ups in a table of 100,000 routes" look-ups 1000000 routes 100000 100 "a table of 100"
+compare "library: 100,000 messages into a book, and out" messages 100000 "$bench drain 100000" "$bench fill 100000" "filling alone"
+among "library: what is due, 10 of 100,000 held messages" answers 200000 due 100000 100 "10 of 100 held"
+held "library: 100,000 messages held in a book" 100000
+
+# A record of 1 MiB, which is decoded 200 times, and as many octets for `cat`.
+record_of 1048542 > "$room/record"
+for ((time = 0; time < 200; time++)); do
+    cat "$room/record"
+done > "$room/records"
+compare "library: a record of 1 MiB that is decoded" octets "$(stat -c %s "$room/records")" \
+    "$bench decode < $room/record" "cat $room/records | wc -c" "cat | wc -c"

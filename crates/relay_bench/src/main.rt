@@ -1,8 +1,10 @@
-//! One measurement a run: a library call over standard input, and a line of what it counted. The time is the driver's
-//! to take (bench/). Without a word each measurement runs on a few octets, and what it prints is fixed.
+//! One measurement a run: a library call over standard input, and a line of what it counted. The time is the
+//! driver's to take (bench/). Without a word each measurement runs on a few octets, and what it prints is
+//! fixed.
 #![tactic(auto)]
 
 mod blocks;
+mod books;
 mod commands;
 mod header;
 mod replies;
@@ -10,6 +12,7 @@ mod routes;
 mod spools;
 mod texts;
 
+use books::{ask_what_is_due, decode_record, drain_book, fill_book, hold_book};
 use commands::count_commands;
 use header::look_through_header;
 use replies::count_replies;
@@ -33,6 +36,12 @@ const HEADER: &[u8] = b"Received: x\r\nSubject: y\r\n\r\n";
 /// A content of two lines for the run without a word.
 const CONTENT: &[u8] = b"a\r\n.\r\n";
 
+/// A record of a message with one octet of text for the run without a word.
+const RECORD: &[u8] = b"\x01\0\0\0\0\0\0\0\0\0\x05<a@b>\0\0\0\x01\0\x05<c@d>\0\0\0\0\0\0\x01x";
+
+/// The measurements that read nothing.
+const IN_MEMORY: [&str; 5] = ["routes", "fill", "drain", "due", "hold"];
+
 /// Two dot texts for the run without a word.
 const TEXTS: &[u8] = b"..\r\na\r\n.\r\n.\r\n";
 
@@ -41,8 +50,13 @@ fn main(rt: HostRuntime) -> Result<(), Fail> {
     let words: Vec<String> = env::args(&rt)?.collect(alloc)?;
     if let Some(word) = words.get(1) {
         let line = match words.get(2) {
-            Some(count) if word.as_str() == "routes" => {
-                look_up(alloc, count_of(Some(count)), count_of(words.get(3)))?
+            Some(count) if IN_MEMORY.contains(&word.as_str()) => {
+                measure_in_memory(
+                    &rt,
+                    word.as_str(),
+                    count_of(Some(count)),
+                    count_of(words.get(3)),
+                )?
             }
             Some(path) => measure_file(&rt, word.as_str(), path.as_str(), count_of(words.get(3)))?,
             None => measure(alloc, word.as_str(), &mut rt.stdin())?,
@@ -50,19 +64,23 @@ fn main(rt: HostRuntime) -> Result<(), Fail> {
         println!(rt; "{}", line.as_str())?;
         return Ok(());
     }
-    let samples: [(&str, &[u8]); 6] = [
+    let samples: [(&str, &[u8]); 7] = [
         ("commands", COMMANDS),
         ("replies", REPLIES),
         ("header", HEADER),
         ("texts", TEXTS),
         ("plain", TEXTS),
         ("dots", CONTENT),
+        ("decode", RECORD),
     ];
     for (name, mut octets) in samples {
         let line = measure(alloc, name, &mut octets)?;
         println!(rt; "{}", line.as_str())?;
     }
-    println!(rt; "{}", look_up(alloc, 2, 3)?.as_str())?;
+    for (name, count) in [("routes", 2), ("fill", 3), ("drain", 3), ("due", 12)] {
+        let line = measure_in_memory(&rt, name, count, 3)?;
+        println!(rt; "{}", line.as_str())?;
+    }
     let path = "relay_bench_spool";
     // A run that was cut off may have left it.
     let _ = fs::remove_file(&rt, path);
@@ -79,6 +97,22 @@ fn count_of(word: Option<&String>) -> u64 {
     match word {
         Some(word) => word.as_str().parse().unwrap_or(1),
         None => 1,
+    }
+}
+
+/// Runs the measurement of this name on so much of its own making, so many times, and gives the line of what
+/// it counted.
+fn measure_in_memory(rt: &HostRuntime, name: &str, count: u64, times: u64) -> Result<String, Fail> {
+    if name == "routes" {
+        look_up(rt.alloc(), count, times)
+    } else if name == "fill" {
+        fill_book(rt.alloc(), count)
+    } else if name == "drain" {
+        drain_book(rt.alloc(), count)
+    } else if name == "due" {
+        ask_what_is_due(rt.alloc(), count, times)
+    } else {
+        hold_book(rt, count)
     }
 }
 
@@ -109,7 +143,11 @@ fn measure<R: Read>(alloc: Global, name: &str, reader: &mut R) -> Result<String,
         count_plain(alloc, reader)
     } else if name == "dots" {
         write_texts(alloc, reader)
+    } else if name == "decode" {
+        decode_record(alloc, reader)
     } else {
-        Err(Fail::new("the measurements are: commands, replies, header, texts, plain, dots"))
+        Err(Fail::new(
+            "the measurements are: commands, replies, header, texts, plain, dots, decode",
+        ))
     }
 }

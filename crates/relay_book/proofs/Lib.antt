@@ -22,4 +22,7 @@ mod ToldLemmas
 mod ReadyLemmas
 mod StoredLemmas
 mod MarkRowLemmas
+mod LeavingLemmas
+mod LengthLemmas
+mod DueLemmas
 pub mod Theorems

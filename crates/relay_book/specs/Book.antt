@@ -4,7 +4,7 @@ use Rattle.std.specs.List.{AllByRecursion, Contains, flat_map, list_any}
 use Rattle.relay_book.specs.declared.change.Outcome.{Outcome as OutcomeFields}
 use Rattle.relay_book.specs.declared.message.Place.{Place}
 use Rattle.relay_book.specs.declared.message.Message.{Message}
-use Rattle.relay_book.specs.Queue.{Queue, is_held, marks_from, marks_of_entry, message_after}
+use Rattle.relay_book.specs.Queue.{Queue, is_held, marks_from, marks_of_entry, message_after, message_of}
 
 -- the queue, room for messages, and the keys that tell when places are due
 pub record Shown : Type 0 where
@@ -27,7 +27,8 @@ live [] = []
 live (entry ∷ entries) = if_there entry.0 entry.1 ++ live entries
 
 abbrev pub shown : ℕ → List (ℕ × Option Message) → ℕ → List (ℕ × ℕ) → Shown
-shown next entries room told = record { queue = record { next = next; messages = live entries }; room = room; told = told }
+shown next entries room told =
+    record { queue = record { next = next; messages = live entries }; room = room; told = told }
 
 -- a message with a held place; another has ended
 abbrev pub kept : Message → Option Message
@@ -42,6 +43,10 @@ slot_after outcome (Some message) = kept (message_after outcome message)
 abbrev pub marks_of_slot : (Place → Bool) → ℕ → Option Message → List (ℕ × ℕ)
 marks_of_slot test number None = []
 marks_of_slot test number (Some message) = marks_from test number 0 message.places
+
+-- the places of a number's message that pass a test
+abbrev pub marks_at : (Place → Bool) → List (ℕ × Message) → ℕ → List (ℕ × ℕ)
+marks_at test entries number = marks_of_slot test number (message_of entries number)
 
 abbrev pub marks_live : (Place → Bool) → List (ℕ × Option Message) → List (ℕ × ℕ)
 marks_live test entries = flat_map (marks_of_entry test) (live entries)
@@ -65,3 +70,7 @@ AllTold keys entries = AllByRecursion (λ entry. AreTold keys entry.0 entry.1.pl
 -- a held place is due then
 abbrev pub is_held_until : ℕ → Place → Bool
 is_held_until due place = place.held && place.due == due
+
+-- the numbers of the keys up to a moment are among these
+abbrev pub HasNumbers : List (ℕ × ℕ) → ℕ → List ℕ → Type 0
+HasNumbers keys latest numbers = (key : ℕ × ℕ) → key.0 ≤ latest → Contains keys key → Contains numbers key.1

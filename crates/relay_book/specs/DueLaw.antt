@@ -10,5 +10,6 @@ use Rattle.relay_book.specs.Queue.{Fitting, queue_of, message_of}
 abbrev pub FoldDue : Type 0
 FoldDue =
     (changes : List Change) → Fitting changes → (number place : ℕ) (message : Message) (held : Place)
-    → message_of (queue_of changes).messages number ≡ Some message → slice_get message.places place ≡ Some held → held.held ≡ true
+    → message_of (queue_of changes).messages number ≡ Some message → slice_get message.places place ≡ Some held
+    → held.held ≡ true
     → held.due ≡ due_moment_of message.accept.at (laters_of changes number place)

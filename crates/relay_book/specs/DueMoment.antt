@@ -1,4 +1,5 @@
--- When a place is due (RFC 5321, section 4.5.4.1): at acceptance, and behind its Later verdicts by a growing wait.
+-- When a place is due (RFC 5321, section 4.5.4.1): at acceptance, and behind its Later verdicts by a growing
+-- wait.
 use Rattle.std.specs.Prelude.{ℕ, ◌+◌, ◌-◌, ◌*◌, ◌^◌, ◌==◌, min, Bool, true, false, ◌&&◌, ◌||◌, List, [], ◌∷◌, length, fold, if◌then◌else◌}
 use Rattle.relay_book.specs.declared.change.Ruling.{Ruling}
 use Rattle.relay_book.specs.declared.change.Verdict.{Verdict}
@@ -6,7 +7,8 @@ use Rattle.relay_book.specs.declared.change.Verdict.TheVariants.{Taken, Refused,
 use Rattle.relay_book.specs.declared.change.Change.{Change}
 use Rattle.relay_book.specs.declared.change.Change.TheVariants.{Accept, Outcome}
 
--- profile: half an hour behind the first, twice as long behind each further one, and four hours at most, in seconds
+-- profile: half an hour behind the first, twice as long behind each further one, and four hours at most, in
+-- seconds
 abbrev pub wait_after : ℕ → ℕ
 wait_after laters = min (1800 * 2 ^ (laters - 1)) 14400
 
@@ -25,7 +27,8 @@ is_later NoRoute = false
 -- a ruling is Later for this place
 abbrev pub waits_in : ℕ → List Ruling → Bool
 waits_in place [] = false
-waits_in place (ruling ∷ rulings) = (ruling.place == place && is_later ruling.verdict) || waits_in place rulings
+waits_in place (ruling ∷ rulings) =
+    (ruling.place == place && is_later ruling.verdict) || waits_in place rulings
 
 -- an outcome for this message that has Later for this place adds its moment
 abbrev pub laters_with : ℕ → ℕ → List ℕ → Change → List ℕ

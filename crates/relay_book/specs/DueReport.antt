@@ -1,4 +1,5 @@
--- What a verdict makes of a place, and which report is due (RFC 3461, section 5.2): by reverse path, verdict and NOTIFY.
+-- What a verdict makes of a place, and which report is due (RFC 3461, section 5.2): by reverse path, verdict
+-- and NOTIFY.
 use Rattle.std.specs.Prelude.{ℕ, ◌+◌, nat_le, Bool, true, false, List, Option, Some, None, if◌then◌else◌}
 use Rattle.relay_envelope.specs.declared.parameters.Notify.{Notify}
 use Rattle.relay_envelope.specs.declared.parameters.Notify.TheVariants.{Never, On}

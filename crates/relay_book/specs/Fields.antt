@@ -1,4 +1,5 @@
--- The fields of records, one after another, and what no valid value begins. (Readers cut them; others judge them.)
+-- The fields of records, one after another, and what no valid value begins. (Readers cut them; others judge
+-- them.)
 use Rattle.std.specs.Prelude.{◌≡◌, ◌≢◌, ℕ, ◌≤◌, ◌<◌, ◌^◌, true, List, ◌∷◌, ◌++◌, length}
 use Rattle.std.specs.List.{flat_map, AllByRecursion}
 use Rattle.relay_envelope.specs.declared.envelope.Recipient.{Recipient}
@@ -30,7 +31,8 @@ pub record IsNoSized (text : List ℕ) : Type 0 where
 
 -- no fields begin them
 pub record HasNoFields (text : List ℕ) : Type 0 where
-  pub none : (first : List ℕ) (number : ℕ) (second rest : List ℕ) → SpellsFields text first number second rest → ⊥
+  pub none : (first : List ℕ) (number : ℕ) (second rest : List ℕ)
+      → SpellsFields text first number second rest → ⊥
 
 -- no recipient has these fields
 pub record IsNoRecipient (path : List ℕ) (number : ℕ) (orcpt : List ℕ) : Type 0 where
@@ -46,8 +48,10 @@ pub record AreSoMany {A : Type 0} (Valid : A → Type 0) (count : ℕ) (values :
   pub valid : AllByRecursion Valid values
 
 -- so many valid values do not begin the text
-pub record HasNoRow {A : Type 0} (Valid : A → Type 0) (octets_of : A → List ℕ) (count : ℕ) (text : List ℕ) : Type 0 where
-  pub none : (values : List A) (rest : List ℕ) → AreSoMany Valid count values → text ≢ flat_map octets_of values ++ rest
+pub record HasNoRow {A : Type 0} (Valid : A → Type 0) (octets_of : A → List ℕ) (count : ℕ)
+    (text : List ℕ) : Type 0 where
+  pub none : (values : List A) (rest : List ℕ) → AreSoMany Valid count values
+      → text ≢ flat_map octets_of values ++ rest
 
 -- 1 to 100 valid values
 pub record AreSome {A : Type 0} (Valid : A → Type 0) (values : List A) : Type 0 where
@@ -56,19 +60,25 @@ pub record AreSome {A : Type 0} (Valid : A → Type 0) (values : List A) : Type 
   pub valid : AllByRecursion Valid values
 
 -- no valid values behind their count begin the text
-pub record HasNoCounted {A : Type 0} (Valid : A → Type 0) (octets_of : A → List ℕ) (text : List ℕ) : Type 0 where
-  pub none : (values : List A) (rest : List ℕ) → AreSome Valid values → text ≢ counted octets_of values ++ rest
+pub record HasNoCounted {A : Type 0} (Valid : A → Type 0) (octets_of : A → List ℕ)
+    (text : List ℕ) : Type 0 where
+  pub none : (values : List A) (rest : List ℕ) → AreSome Valid values
+      → text ≢ counted octets_of values ++ rest
 
 -- a refusal's code, and its text behind a length of one octet
 abbrev pub refusal_octets : ℕ → List ℕ → List ℕ
 refusal_octets code text = octets_2 code ++ (length text ∷ text)
 
 pub record HasNoRefusal (text : List ℕ) : Type 0 where
-  pub none : (code : ℕ) (field rest : List ℕ) → IsRefusal code field → text ≢ refusal_octets code field ++ rest
+  pub none : (code : ℕ) (field rest : List ℕ) → IsRefusal code field
+      → text ≢ refusal_octets code field ++ rest
 
 -- the fields of an accept
-pub record SpellsAccept (text : List ℕ) (at : ℕ) (path : List ℕ) (ret : ℕ) (envid : List ℕ) (recipients : List Recipient) (stored : List ℕ) : Type 0 where
-  pub text_is : text ≡ octets_8 at ++ (sized_2 path ++ (ret ∷ (sized_2 envid ++ (counted recipient_octets recipients ++ sized_4 stored))))
+pub record SpellsAccept (text : List ℕ) (at : ℕ) (path : List ℕ) (ret : ℕ) (envid : List ℕ)
+    (recipients : List Recipient) (stored : List ℕ) : Type 0 where
+  pub text_is : text
+      ≡ octets_8 at
+      ++ (sized_2 path ++ (ret ∷ (sized_2 envid ++ (counted recipient_octets recipients ++ sized_4 stored))))
   pub at_fits : at < 2 ^ 64
   pub path_fits : length path < 2 ^ 16
   pub envid_fits : length envid < 2 ^ 16
@@ -104,8 +114,10 @@ pub record HasNoHead (text : List ℕ) : Type 0 where
   pub none : (message at : ℕ) (hop rest : List ℕ) → SpellsHead text message at hop rest → ⊥
 
 -- the fields of an outcome
-pub record SpellsOutcome (text : List ℕ) (message at : ℕ) (hop : List ℕ) (rulings : List Ruling) (report : List ℕ) : Type 0 where
-  pub text_is : text ≡ octets_8 message ++ (octets_8 at ++ (sized_2 hop ++ (counted ruling_octets rulings ++ sized_4 report)))
+pub record SpellsOutcome (text : List ℕ) (message at : ℕ) (hop : List ℕ) (rulings : List Ruling)
+    (report : List ℕ) : Type 0 where
+  pub text_is : text
+      ≡ octets_8 message ++ (octets_8 at ++ (sized_2 hop ++ (counted ruling_octets rulings ++ sized_4 report)))
   pub message_fits : message < 2 ^ 64
   pub at_fits : at < 2 ^ 64
   pub hop_fits : length hop < 2 ^ 16

@@ -1,4 +1,5 @@
--- Custody of each recipient (RFC 5321, section 6.1), by the list of changes. A change's number is its place in the list, from 1.
+-- Custody of each recipient (RFC 5321, section 6.1), by the list of changes. A change's number is its place
+-- in the list, from 1.
 use Rattle.std.specs.Prelude.{◌≡◌, ◌≢◌, ◌⊎◌, ◌↔◌, ℕ, zero, suc, ◌<◌, List, [], ◌∷◌, ◌++◌, length, slice_get, Option, None, Some}
 use Rattle.std.specs.Option.{option_and_then, option_map_or}
 use Rattle.std.specs.List.{Contains}
@@ -11,7 +12,7 @@ use Rattle.relay_book.specs.declared.change.Change.TheVariants.{Accept, Outcome}
 use Rattle.relay_book.specs.declared.fate.Way.{Way}
 use Rattle.relay_book.specs.declared.fate.Way.TheVariants.{ByTransfer, ByEnd}
 use Rattle.relay_book.specs.DueReport.{fate_of, way_of}
-use Rattle.relay_book.specs.Queue.{report_of, FitsQueue, Fitting, queue_of, held_of, message_of}
+use Rattle.relay_book.specs.Queue.{Queue, report_of, FitsQueue, Fitting, queue_of, held_of, message_of}
 use Rattle.relay_book.specs.Record.{IsAccept}
 use Rattle.relay_book.specs.declared.message.Message.{Message}
 
@@ -44,7 +45,8 @@ message_at changes number = made_by changes (change_at changes number)
 -- the place was added: its message has so many recipients
 abbrev pub Added : List Change → ℕ → ℕ → Type 0
 Added changes number place =
-    (accept : AcceptFields) × (message_at changes number ≡ Some accept) × (place < length accept.envelope.recipients)
+    (accept : AcceptFields) × (message_at changes number ≡ Some accept)
+    × (place < length accept.envelope.recipients)
 
 -- what leaves of a message by the verdicts of an outcome, and how, in order
 abbrev pub leaving_by : AcceptFields → ℕ → List Ruling → List (ℕ × Way)
@@ -57,7 +59,20 @@ leaving_by accept at (ruling ∷ rulings) =
 abbrev pub leaving : List Change → Change → List (ℕ × Way)
 leaving changes (Accept accept) = []
 leaving changes (Outcome outcome) =
-    option_map_or (λ accept. leaving_by accept outcome.at outcome.rulings) (message_at changes outcome.message) []
+    option_map_or (λ accept. leaving_by accept outcome.at outcome.rulings)
+    (message_at changes outcome.message) []
+
+-- what leaves of a queue by a change, and how
+abbrev pub leaving_of : Queue → Change → List (ℕ × Way)
+leaving_of queue (Accept accept) = []
+leaving_of queue (Outcome outcome) =
+    option_map_or (λ message. leaving_by message.accept outcome.at outcome.rulings)
+    (message_of queue.messages outcome.message) []
+
+-- the message that a change rules on
+abbrev pub ruled_message : Change → Option ℕ
+ruled_message (Accept accept) = None
+ruled_message (Outcome outcome) = Some outcome.message
 
 -- the place left by this change in this way
 pub record LeavesAt (changes : List Change) (at number place : ℕ) (way : Way) : Type 0 where
@@ -103,18 +118,35 @@ ExactlyOne =
 
 -- the place leaves by the last change
 abbrev pub Leaving : List Change → Change → ℕ → ℕ → Type 0
-Leaving changes change number place = (way : Way) × LeavesAt (changes ++ change ∷ []) (suc (length changes)) number place way
+Leaving changes change number place =
+    (way : Way) × LeavesAt (changes ++ change ∷ []) (suc (length changes)) number place way
+
+-- What leaves of the queue of a list leaves by the list.
+abbrev pub QueueLeaves : Type 0
+QueueLeaves =
+    (changes : List Change) (change : Change) → Fitting changes → FitsQueue (queue_of changes) change
+    → leaving_of (queue_of changes) change ≡ leaving changes change
+
+-- A place leaves by the last change exactly where that rules on its message, and lists the place and its way.
+abbrev pub LeavingIsListed : Type 0
+LeavingIsListed =
+    (changes : List Change) (change : Change) → Fitting (changes ++ change ∷ [])
+    → (number place : ℕ) (way : Way)
+    → LeavesAt (changes ++ change ∷ []) (suc (length changes)) number place way
+    ↔ ((ruled_message change ≡ Some number) × Contains {X = ℕ × Way} (leaving changes change) (place, way))
 
 -- the place is new with the last change
 abbrev pub IsNew : List Change → Change → ℕ → ℕ → Type 0
-IsNew changes change number place = (number ≡ suc (length changes)) × Added (changes ++ change ∷ []) number place
+IsNew changes change number place =
+    (number ≡ suc (length changes)) × Added (changes ++ change ∷ []) number place
 
 -- One change more takes what leaves, and adds what is new.
 abbrev pub OneMoreHolds : Type 0
 OneMoreHolds =
     (changes : List Change) (change : Change) → Fitting (changes ++ change ∷ []) → (number place : ℕ)
     → Held (changes ++ change ∷ []) number place
-    ↔ ((Held changes number place × (Leaving changes change number place → ⊥)) ⊎ IsNew changes change number place)
+    ↔ ((Held changes number place × (Leaving changes change number place → ⊥))
+    ⊎ IsNew changes change number place)
 
 -- what the queue knows of a message: its number, what was accepted under it, and a place for each recipient
 pub record IsQueuedAs (changes : List Change) (number : ℕ) (message : Message) : Type 0 where
@@ -131,12 +163,14 @@ FoldKnows =
 -- A message stays what it was accepted as, whatever changes follow.
 abbrev pub MessageStays : Type 0
 MessageStays =
-    (changes : List Change) (change : Change) → Fitting (changes ++ change ∷ []) → (number : ℕ) (accept : AcceptFields)
+    (changes : List Change) (change : Change) → Fitting (changes ++ change ∷ [])
+    → (number : ℕ) (accept : AcceptFields)
     → message_at changes number ≡ Some accept → message_at (changes ++ change ∷ []) number ≡ Some accept
 
 -- A report that an outcome queues may be stored as an accept.
 abbrev pub ReportMayBeStored : Type 0
 ReportMayBeStored =
     (changes : List Change) → Fitting changes → (outcome : OutcomeFields) (message : Message)
-    → FitsQueue (queue_of changes) (Outcome outcome) → message_of (queue_of changes).messages outcome.message ≡ Some message
+    → FitsQueue (queue_of changes) (Outcome outcome)
+    → message_of (queue_of changes).messages outcome.message ≡ Some message
     → outcome.report ≢ [] → IsAccept (report_of message.accept outcome)

@@ -56,7 +56,8 @@ abbrev pub is_held : Place → Bool
 is_held place = place.held
 
 abbrev pub message_after : OutcomeFields → Message → Message
-message_after outcome message = record message { places = places_ruled message.accept outcome.at message.places outcome.rulings }
+message_after outcome message =
+    record message { places = places_ruled message.accept outcome.at message.places outcome.rulings }
 
 -- a message that has no held place isn't queued
 abbrev pub if_held : ℕ → Message → List (ℕ × Message)
@@ -82,7 +83,8 @@ abbrev pub report_recipient : List ℕ → Recipient
 report_recipient path = record { path = path; notify = None; orcpt = None }
 
 abbrev pub report_envelope : List ℕ → Envelope
-report_envelope path = record { reverse_path = codes "<>"; ret = None; envid = None; recipients = report_recipient path ∷ [] }
+report_envelope path =
+    record { reverse_path = codes "<>"; ret = None; envid = None; recipients = report_recipient path ∷ [] }
 
 abbrev pub report_of : AcceptFields → OutcomeFields → AcceptFields
 report_of accept outcome = record {
@@ -100,7 +102,8 @@ message_of (entry ∷ entries) number = if entry.0 == number then Some entry.1 e
 abbrev pub reported : ℕ → OutcomeFields → List ℕ → Option Message → List (ℕ × Message)
 reported number outcome [] message = []
 reported number outcome (octet ∷ report) None = []
-reported number outcome (octet ∷ report) (Some message) = (number, accepted number (report_of message.accept outcome)) ∷ []
+reported number outcome (octet ∷ report) (Some message) =
+    (number, accepted number (report_of message.accept outcome)) ∷ []
 
 -- one change more
 abbrev pub step : Queue → Change → Queue
@@ -110,7 +113,8 @@ step queue (Accept accept) = record {
 }
 step queue (Outcome outcome) = record {
   next = queue.next + 1;
-  messages = ruled outcome queue.messages ++ reported queue.next outcome outcome.report (message_of queue.messages outcome.message);
+  messages = ruled outcome queue.messages
+      ++ reported queue.next outcome outcome.report (message_of queue.messages outcome.message);
 }
 
 abbrev pub empty_queue : Queue
@@ -128,13 +132,16 @@ holds_at places n = option_map_or is_held (slice_get places n) false
 abbrev pub AreRulings : List Place → ℕ → List Ruling → Type 0
 AreRulings places least [] = Unit {0}
 AreRulings places least (ruling ∷ rulings) =
-    (least ≤ ruling.place) × (holds_at places ruling.place ≡ true) × AreRulings places (ruling.place + 1) rulings
+    (least ≤ ruling.place) × (holds_at places ruling.place ≡ true)
+    × AreRulings places (ruling.place + 1) rulings
 
 -- a report is due for this place
 abbrev pub reports_at : Message → ℕ → Ruling → Bool
 reports_at message at ruling =
     option_map_or
-    (λ recipient. option_map_or (λ _. true) (due_report_of message.accept.envelope.reverse_path recipient.notify (fate_of message.accept.at at ruling.verdict)) false)
+    (λ recipient. option_map_or (λ _. true)
+    (due_report_of message.accept.envelope.reverse_path recipient.notify
+    (fate_of message.accept.at at ruling.verdict)) false)
     (slice_get message.accept.envelope.recipients ruling.place) false
 
 abbrev pub is_no_route : Verdict → Bool
@@ -148,7 +155,8 @@ is_no_route NoRoute = true
 abbrev pub AllNoRoute : List Ruling → Type 0
 AllNoRoute rulings = AllByRecursion (λ ruling. is_no_route ruling.verdict ≡ true) rulings
 
--- an outcome fits a message: a hop's name is empty exactly where no place had a hop, a report exactly where none is due
+-- an outcome fits a message: a hop's name is empty exactly where no place had a hop, a report exactly where
+-- none is due
 pub record FitsMessage (message : Message) (outcome : OutcomeFields) : Type 0 where
   pub rulings : AreRulings message.places 0 outcome.rulings
   pub hop : (outcome.hop ≡ []) ↔ AllNoRoute outcome.rulings

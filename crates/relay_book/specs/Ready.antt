@@ -34,9 +34,11 @@ entry_of number (Some message) = (number, message) ∷ []
 -- the message that a change queues
 abbrev pub added_by : Queue → Change → List (ℕ × Message)
 added_by queue (Accept accept) = (queue.next, accepted queue.next accept) ∷ []
-added_by queue (Outcome outcome) = reported queue.next outcome outcome.report (message_of queue.messages outcome.message)
+added_by queue (Outcome outcome) =
+    reported queue.next outcome outcome.report (message_of queue.messages outcome.message)
 
--- the change fits the book, which has room for it; its message is made; and the keys tell when each place will be due
+-- the change fits the book, which has room for it; its message is made; and the keys tell when each place
+-- will be due
 pub record IsReady (book : Shown) (ready : ReadyShown) : Type 0 where
   pub fits : FitsQueue book.queue ready.change
   pub added : added_by book.queue ready.change ≡ entry_of book.queue.next ready.message

@@ -49,7 +49,8 @@ worth given number = if given then number else 0
 abbrev pub notify_number : Option Notify → ℕ
 notify_number None = 0
 notify_number (Some Never) = 1
-notify_number (Some (On outcomes)) = worth outcomes.success 2 + worth outcomes.failure 4 + worth outcomes.delay 8
+notify_number (Some (On outcomes)) =
+    worth outcomes.success 2 + worth outcomes.failure 4 + worth outcomes.delay 8
 
 -- a parameter as it was written, and no octet where it wasn't given
 abbrev pub written : Option (List ℕ) → List ℕ
@@ -58,7 +59,8 @@ written (Some text) = text
 
 -- a recipient: its path, NOTIFY and ORCPT
 abbrev pub recipient_octets : Recipient → List ℕ
-recipient_octets recipient = sized_2 recipient.path ++ notify_number recipient.notify ∷ sized_2 (written recipient.orcpt)
+recipient_octets recipient =
+    sized_2 recipient.path ++ notify_number recipient.notify ∷ sized_2 (written recipient.orcpt)
 
 -- elements behind their count of one octet
 abbrev pub counted : {A : Type 0} → (A → List ℕ) → List A → List ℕ
@@ -90,7 +92,8 @@ ruling_octets ruling = ruling.place ∷ verdict_octets ruling.verdict
 abbrev pub outcome_octets : OutcomeFields → List ℕ
 outcome_octets outcome =
     octets_8 outcome.message
-    ++ (octets_8 outcome.at ++ (sized_2 outcome.hop ++ (counted ruling_octets outcome.rulings ++ sized_4 outcome.report)))
+    ++ (octets_8 outcome.at
+    ++ (sized_2 outcome.hop ++ (counted ruling_octets outcome.rulings ++ sized_4 outcome.report)))
 
 -- the one encoding of a change
 abbrev pub encode : Change → List ℕ
@@ -156,4 +159,5 @@ pub record IsNoRecord (text : List ℕ) : Type 0 where
 
 -- Two changes that may be stored have two encodings.
 abbrev pub EncodingIsOne : Type 0
-EncodingIsOne = (change other : Change) → IsChange change → IsChange other → encode change ≡ encode other → change ≡ other
+EncodingIsOne =
+    (change other : Change) → IsChange change → IsChange other → encode change ≡ encode other → change ≡ other

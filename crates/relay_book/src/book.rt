@@ -1,24 +1,28 @@
 //! The queue of a node, in memory.
 ghost use Rattle.std.specs.Prelude.{◌≡◌, ◌<◌, ◌≤◌, ◌+◌, ◌^◌, ◌++◌, ℕ, [], ◌∷◌, false, true, IfOk, IsErrOf, IsTrue, ◌↔◌, OnErr, OnOk};
-ghost use Rattle.std.specs.List.{Contains, list_any};
+ghost use Rattle.std.specs.List.{Contains, flat_map, list_any};
 ghost use Rattle.std.specs.Option.{option_copied, option_map_or};
-ghost use Rattle.relay_book.specs.Book.{AllTold, AreTold, IsTold, is_held_until};
-ghost use Rattle.relay_book.specs.Queue.{FitsQueue, due_of, empty_queue, held_of, message_of, ruled, step};
+ghost use Rattle.relay_book.specs.Book.{AllTold, AreTold, IsTold, is_held_until, marks_at};
+ghost use Rattle.relay_book.specs.Marks.{leaving_of};
+ghost use Rattle.relay_book.specs.Queue.{FitsQueue, due_of, empty_queue, held_of, is_due_at, message_of, ruled, step};
 ghost use Rattle.relay_book.specs.Ready.{IsReady, entry_of, message_in};
 
 mod entries;
+mod leaving;
 mod make;
 mod questions;
 
 use crate::change::{Accept, Change, Outcome};
+use crate::fate::Way;
 use crate::fault::BookFault;
 use crate::judge::{fits_message, is_accept, is_outcome};
 use crate::message::{Message, Place};
 use crate::ready::{Made, Ready};
 use entries::{keep_queued, slot_after};
 use indexmap::IndexMap;
+use leaving::leaving_by;
 use make::{accepted, made_of, moments_of, places_behind};
-use questions::{due_places, held_places};
+use questions::{held_places, numbers_until, push_due};
 use relay_trace::Moment;
 use std::alloc::{AllocError, Global};
 use std::collections::BTreeSet;
@@ -32,7 +36,8 @@ const LAST_NUMBER: u64 = 1 << 62;
 pub struct Book {
     next: u64,
     messages: IndexMap<u64, Option<Message>>,
-    /// How many entries have ended: they are cleared away together, since one by one each would move all behind it.
+    /// How many entries have ended: they are cleared away together, since one by one each would move all
+    /// behind it.
     ended: usize,
     /// When each held place is due, with its message's number.
     waiting: BTreeSet<(u64, u64), Global>,
@@ -46,7 +51,8 @@ impl Model for Book {
 
     ghost view = { λ book. shown book.next book.messages.entries (spare book.messages) book.waiting.keys };
 
-    ghost invariant = { λ book. Rise 0 book.next book.messages.entries × AllTold book.waiting.keys (live book.messages.entries) };
+    ghost invariant = { λ book. Rise 0 book.next book.messages.entries
+        × AllTold book.waiting.keys (live book.messages.entries) };
 }
 
 impl Book {
@@ -87,16 +93,32 @@ impl Book {
         held_places(alloc, &self.messages)
     }
 
-    /// The held places that are due at a moment or before, each with the number of its message, in order. It fails where
-    /// memory runs out.
+    /// The held places that are due at a moment or before, each with the number of its message, in order. It
+    /// fails where memory runs out.
     pub fn due(&self, alloc: Global, now: Moment) -> Result<Vec<(u64, u8)>, AllocError>
         ensures { IfOk result (λ marks. marks.items ≡ due_of now self.now.queue) }
     {
-        due_places(alloc, &self.messages, now.seconds())
+        let latest = now.seconds();
+        let numbers = numbers_until(alloc, &self.waiting, latest)?;
+        self.due_among(alloc, &numbers, latest)
     }
 
-    /// Makes room for a change and makes ready what it queues, so that `commit` can't fail. It answers `BadRecord` exactly
-    /// where the change doesn't fit, and else fails where memory runs out. The queue is unchanged.
+    /// The places that leave by a change, each with its way, in order. It fails where memory runs out.
+    pub fn leaving(&self, alloc: Global, change: &Change) -> Result<Vec<(u8, Way)>, AllocError>
+        ensures { IfOk result (λ places. places.items ≡ leaving_of self.now.queue change.now) }
+    {
+        match change {
+            Change::Accept(_) => Ok(Vec::new(alloc)),
+            Change::Outcome(outcome) => match self.message(outcome.message) {
+                Some(message) => leaving_by(alloc, &message.accept, outcome),
+                None => Ok(Vec::new(alloc)),
+            },
+        }
+    }
+
+    /// Makes room for a change and makes ready what it queues, so that `commit` can't fail. It answers
+    /// `BadRecord` exactly where the change doesn't fit, and else fails where memory runs out. The queue is
+    /// unchanged.
     pub fn prepare(&mut self, alloc: Global, change: Change) -> Result<Ready, BookFault>
         ensures queue { self.new.queue ≡ self.old.queue }
         ensures ready { IfOk result (λ ready. IsReady self.new ready) }
@@ -144,6 +166,26 @@ impl Book {
         Ok(())
     }
 
+    /// The places of these messages that are due by then, in order.
+    #[tactic(auto, using(crate::proofs::DueLemmas::marks_next))]
+    fn due_among(
+        &self,
+        alloc: Global,
+        numbers: &BTreeSet<u64, Global>,
+        latest: u64,
+    ) -> Result<Vec<(u64, u8)>, AllocError>
+        ensures { IfOk result (λ marks.
+            marks.items ≡ flat_map (marks_at (is_due_at latest) self.now.queue.messages) numbers.now.keys) }
+    {
+        let mut marks = Vec::new(alloc);
+        for number in numbers.iter() {
+            if let Some(message) = self.message(*number) {
+                push_due(&mut marks, *number, &message.places, latest)?;
+            }
+        }
+        Ok(marks)
+    }
+
     /// Judges an accept, and makes room for its message.
     fn prepare_accept(&mut self, alloc: Global, accept: Accept) -> Result<Ready, BookFault>
         ensures queue { self.new.queue ≡ self.old.queue }
@@ -168,7 +210,8 @@ impl Book {
         ensures queue { self.new.queue ≡ self.old.queue }
         ensures ready { IfOk result (λ ready. IsReady self.new ready) }
         ensures change { IfOk result (λ ready. ready.change ≡ Change.Outcome outcome) }
-        ensures bad { IsErrOf result BookFault.BadRecord → ¬ FitsQueue self.old.queue (Change.Outcome outcome) }
+        ensures bad { IsErrOf result BookFault.BadRecord
+            → ¬ FitsQueue self.old.queue (Change.Outcome outcome) }
     {
         if !self.fits(&outcome) {
             return Err(BookFault::BadRecord);
@@ -203,7 +246,8 @@ impl Book {
     fn tell_made(&mut self, made: &Made) -> Result<(), AllocError>
         ensures queue { self.new.queue ≡ self.old.queue }
         ensures room { self.new.room ≡ self.old.room }
-        ensures told { OnOk result (AllTold self.new.told (entry_of self.new.queue.next (message_in made.now))) }
+        ensures told { OnOk result
+            (AllTold self.new.told (entry_of self.new.queue.next (message_in made.now))) }
         ensures kept { (key : ℕ × ℕ) → Contains self.old.told key → Contains self.new.told key }
     {
         match made {
@@ -219,7 +263,8 @@ impl Book {
         requires few { self.old.queue.next ≤ 2 ^ 62 }
         requires told { AllTold self.old.told (entry_of self.old.queue.next message) }
         ensures next { self.new.queue.next ≡ self.old.queue.next + 1 }
-        ensures messages { self.new.queue.messages ≡ self.old.queue.messages ++ entry_of self.old.queue.next message }
+        ensures messages { self.new.queue.messages
+            ≡ self.old.queue.messages ++ entry_of self.old.queue.next message }
     {
         match message {
             Some(message) => self.push(message),
@@ -234,7 +279,8 @@ impl Book {
         requires few { self.old.queue.next ≤ 2 ^ 62 }
         requires told { AreTold self.old.told self.old.queue.next message.places }
         ensures next { self.new.queue.next ≡ self.old.queue.next + 1 }
-        ensures messages { self.new.queue.messages ≡ self.old.queue.messages ++ (self.old.queue.next, message) ∷ [] }
+        ensures messages { self.new.queue.messages
+            ≡ self.old.queue.messages ++ (self.old.queue.next, message) ∷ [] }
     {
         if let Ok(_) = self.messages.insert(self.next, Some(message)) {}
         self.next += 1;
@@ -337,7 +383,9 @@ impl Book {
 
     /// Whether a held place of this message is due then.
     fn is_due_then(&self, due: u64, number: u64) -> bool
-        ensures { result ≡ option_map_or (λ message. list_any (is_held_until due) message.places) (message_of self.now.queue.messages number) false }
+        ensures { result
+            ≡ option_map_or (λ message. list_any (is_held_until due) message.places)
+            (message_of self.now.queue.messages number) false }
     {
         match self.message(number) {
             Some(message) => message.places.any_held_until(due),

@@ -1,10 +1,16 @@
 //! What is true of the custody of each recipient, by the list of changes.
 ghost use Rattle.relay_book.specs.DueLaw.{FoldDue};
-ghost use Rattle.relay_book.specs.Marks.{ExactlyOne, FoldHolds, FoldKnows, MessageStays, OneMoreHolds, ReportMayBeStored};
+ghost use Rattle.relay_book.specs.HeldLaw.{FoldFinds};
+ghost use Rattle.relay_book.specs.Marks.{ExactlyOne, FoldHolds, FoldKnows, LeavingIsListed, MessageStays, OneMoreHolds, QueueLeaves, ReportMayBeStored};
 
 /// The queue of a list of changes holds exactly what is held.
 pub fn fold_holds()
     ensures { FoldHolds }
+{}
+
+/// A place is held exactly where the queued message of its number holds it.
+pub fn fold_finds()
+    ensures { FoldFinds }
 {}
 
 /// Each added place is exactly one of held, transferred and ended.
@@ -15,6 +21,16 @@ pub fn exactly_one()
 /// One change more takes what leaves, and adds what is new.
 pub fn one_more_holds()
     ensures { OneMoreHolds }
+{}
+
+/// What leaves of the queue of a list leaves by the list.
+pub fn queue_leaves()
+    ensures { QueueLeaves }
+{}
+
+/// A place leaves by a change exactly where the change lists it.
+pub fn leaving_is_listed()
+    ensures { LeavingIsListed }
 {}
 
 /// A queued message is the message of its number, with a place for each recipient.

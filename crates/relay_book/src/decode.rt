@@ -21,8 +21,8 @@ use relay_trace::Moment;
 use ruling::read_rulings;
 use std::alloc::Global;
 
-/// The change of which these octets are the record, with one copy of each text. It fails with `BadRecord` exactly where
-/// they are no record of a change, and where memory runs out.
+/// The change of which these octets are the record, with one copy of each text. It fails with `BadRecord`
+/// exactly where they are no record of a change, and where memory runs out.
 #[tactic(auto, using(crate::proofs::ChangeFieldLemmas::no_octet, crate::proofs::ChangeFieldLemmas::no_kind, crate::proofs::ChangeFieldLemmas::no_accept, crate::proofs::ChangeFieldLemmas::no_outcome))]
 pub fn decode_change(alloc: Global, text: &[u8]) -> Result<Change, BookFault>
     ensures change { IfOk result (λ change. IsChange change × (text.now ≡ encode change)) }
@@ -64,7 +64,8 @@ type AcceptFields<'a> = (u64, &'a [u8], u8, &'a [u8], Recipients, &'a [u8]);
 /// Cuts an accept into its fields.
 #[tactic(auto, using(crate::proofs::AcceptLemmas::no_moment, crate::proofs::AcceptLemmas::no_mail_fields, crate::proofs::AcceptLemmas::no_recipients, crate::proofs::AcceptLemmas::no_stored_text, crate::proofs::AcceptLemmas::accept_spelled))]
 fn split_accept(alloc: Global, text: &[u8]) -> Result<AcceptFields<'_>, BookFault>
-    ensures fields { IfOk result (λ parts. SpellsAccept text.now parts.0 parts.1.now parts.2 parts.3.now parts.4 parts.5.now) }
+    ensures fields { IfOk result (λ parts.
+        SpellsAccept text.now parts.0 parts.1.now parts.2 parts.3.now parts.4 parts.5.now) }
     ensures bad { IsErrOf result BookFault.BadRecord → SpellsNoAccept text.now }
 {
     let Some((at, rest)) = read_8(text) else {
@@ -123,7 +124,8 @@ fn read_head(text: &[u8]) -> Option<(u64, u64, &[u8], &[u8])>
 /// Cuts an outcome into its fields.
 #[tactic(auto, using(crate::proofs::OutcomeLemmas::no_head, crate::proofs::OutcomeLemmas::no_rulings, crate::proofs::OutcomeLemmas::no_report, crate::proofs::OutcomeLemmas::outcome_spelled))]
 fn split_outcome(alloc: Global, text: &[u8]) -> Result<OutcomeFields<'_>, BookFault>
-    ensures fields { IfOk result (λ parts. SpellsOutcome text.now parts.0 parts.1 parts.2.now parts.3 parts.4.now) }
+    ensures fields { IfOk result (λ parts.
+        SpellsOutcome text.now parts.0 parts.1 parts.2.now parts.3 parts.4.now) }
     ensures bad { IsErrOf result BookFault.BadRecord → SpellsNoOutcome text.now }
 {
     let Some((message, at, hop, rest)) = read_head(text) else {

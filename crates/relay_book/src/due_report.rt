@@ -13,8 +13,8 @@ pub enum DueReport {
     OfRelay,
 }
 
-/// Which report is due of a place (RFC 3461, section 5.2): none to the null reverse path, and else by what became of
-/// the place and by its NOTIFY. It takes no memory.
+/// Which report is due of a place (RFC 3461, section 5.2): none to the null reverse path, and else by what
+/// became of the place and by its NOTIFY. It takes no memory.
 pub fn due_report_of(reverse_path: &[u8], notify: Option<Notify>, fate: Fate) -> Option<DueReport>
     ensures { result ≡ due_report_of reverse_path.now notify fate }
 {

@@ -92,8 +92,8 @@ fn is_refusal(_code: u16, text: &[u8]) -> bool
     text.len() <= REFUSAL_LIMIT && is_printable(text)
 }
 
-/// Whether an outcome fits its message: it rules on held places, which rise, names a hop unless no place had one, and
-/// has a report exactly where one is due.
+/// Whether an outcome fits its message: it rules on held places, which rise, names a hop unless no place had
+/// one, and has a report exactly where one is due.
 pub(crate) fn fits_message(message: &Message, outcome: &Outcome) -> bool
     ensures { IsTrue result ↔ FitsMessage message.now outcome.now }
 {
@@ -151,7 +151,9 @@ fn is_no_route(verdict: &Verdict) -> bool
 
 /// Whether there is a report exactly where one is due.
 fn report_fits(message: &Message, outcome: &Outcome) -> bool
-    ensures { IsTrue result ↔ ((outcome.now.report ≡ []) ↔ (list_any (reports_at message.now outcome.now.at) outcome.now.rulings ≡ false)) }
+    ensures { IsTrue result
+        ↔ ((outcome.now.report ≡ [])
+        ↔ (list_any (reports_at message.now outcome.now.at) outcome.now.rulings ≡ false)) }
 {
     let unreported = outcome.report.is_empty();
     let none_due = is_none_due(message, outcome);

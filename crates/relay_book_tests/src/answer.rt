@@ -1,34 +1,85 @@
 //! What comes of a row.
 use crate::fault::RowsFault;
+use crate::generate::decode_records;
 use crate::hex::octets_of;
+use crate::octets::{fits, values_that_fit};
 use relay_book::{Book, BookFault, decode_change, encode_change};
 use relay_trace::Moment;
 use std::alloc::{AllocError, Global};
 
-/// What comes of a row: a word, or places as `NUMBER.PLACE`.
-pub fn answer_of(alloc: Global, book: &mut Book, row: &str) -> Result<String, RowsFault> {
-    if let Some(text) = row.strip_prefix("apply ") {
-        applied(alloc, book, text)
-    } else if let Some(text) = row.strip_prefix("decode ") {
-        decoded(alloc, text)
-    } else if let Some(text) = row.strip_prefix("due ") {
-        due(alloc, book, text)
-    } else {
-        let places = book.held(alloc)?;
-        Ok(places_text(alloc, places.as_slice())?)
+/// What rows are about: a book, and a record at hand.
+#[derive(Drop)]
+pub struct Subject {
+    book: Book,
+    record: Vec<u8>,
+}
+
+impl Subject {
+    /// An empty book, and no record.
+    pub fn new(alloc: Global) -> Self {
+        Subject {
+            book: Book::new(alloc),
+            record: Vec::new(alloc),
+        }
+    }
+
+    /// What comes of a row: a word, places as `NUMBER.PLACE`, or values of an octet.
+    pub fn answer(&mut self, alloc: Global, row: &str) -> Result<String, RowsFault> {
+        if let Some(text) = row.strip_prefix("apply ") {
+            applied(alloc, &mut self.book, text)
+        } else if let Some(text) = row.strip_prefix("decode ") {
+            decoded(alloc, text)
+        } else if let Some(text) = row.strip_prefix("record ") {
+            self.take(alloc, text)
+        } else if let Some(text) = row.strip_prefix("octet ") {
+            let place = usize::try_from(number_in(text)?).unwrap_or(usize::MAX);
+            values_that_fit(alloc, &mut self.book, self.record.as_slice(), place)
+        } else if let Some(text) = row.strip_prefix("due ") {
+            due(alloc, &self.book, text)
+        } else if let Some(text) = row.strip_prefix("generate ") {
+            decode_records(alloc, number_in(text)?)
+        } else {
+            let places = self.book.held(alloc)?;
+            Ok(places_text(alloc, places.as_slice())?)
+        }
+    }
+
+    /// Takes a record in hand.
+    fn take(&mut self, alloc: Global, text: &str) -> Result<String, RowsFault> {
+        self.record = octets_of(alloc, text)?;
+        if fits(alloc, &mut self.book, self.record.as_slice())? {
+            Ok(format!(in alloc; "fits")?)
+        } else {
+            word(alloc, BookFault::BadRecord)
+        }
     }
 }
 
-/// Reads a record and applies its change.
+fn number_in(text: &str) -> Result<u64, RowsFault> {
+    match text.parse::<u64>() {
+        Ok(number) => Ok(number),
+        Err(_) => Err(RowsFault::Row),
+    }
+}
+
+/// Reads a record and applies its change. Where memory runs out it does so once more, since the book is to be
+/// as it was.
 fn applied(alloc: Global, book: &mut Book, text: &str) -> Result<String, RowsFault> {
     let record = octets_of(alloc, text)?;
-    match decode_change(alloc, record.as_slice()) {
+    let first = read_into(alloc, book, record.as_slice());
+    let last = match first {
+        Err(BookFault::NoMemory) => read_into(alloc, book, record.as_slice()),
+        Err(BookFault::BadRecord) => first,
+        Ok(()) => first,
+    };
+    match last {
         Err(fault) => word(alloc, fault),
-        Ok(change) => match book.apply(alloc, change) {
-            Err(fault) => word(alloc, fault),
-            Ok(()) => Ok(format!(in alloc; "applied")?),
-        },
+        Ok(()) => Ok(format!(in alloc; "applied")?),
     }
+}
+
+fn read_into(alloc: Global, book: &mut Book, record: &[u8]) -> Result<(), BookFault> {
+    book.apply(alloc, decode_change(alloc, record)?)
 }
 
 /// Reads a record and writes its change again.
@@ -57,11 +108,8 @@ fn word(alloc: Global, fault: BookFault) -> Result<String, RowsFault> {
 
 /// The places that are due at a moment.
 fn due(alloc: Global, book: &Book, text: &str) -> Result<String, RowsFault> {
-    let Ok(seconds) = text.parse::<u64>() else {
-        return Ok(format!(in alloc; "no moment")?);
-    };
-    let Ok(now) = Moment::new(seconds) else {
-        return Ok(format!(in alloc; "no moment")?);
+    let Ok(now) = Moment::new(number_in(text)?) else {
+        return Err(RowsFault::Row);
     };
     let places = book.due(alloc, now)?;
     Ok(places_text(alloc, places.as_slice())?)

@@ -6,6 +6,8 @@ use std::io::{Error, ErrorKind};
 pub enum RowsFault {
     /// A file couldn't be read, or a line not written.
     Stream,
+    /// A row is none.
+    Row,
     /// Memory ran out.
     NoMemory,
 }
@@ -15,6 +17,7 @@ impl RowsFault {
     pub fn text(self) -> &'static str {
         match self {
             RowsFault::Stream => "input or output",
+            RowsFault::Row => "not a row",
             RowsFault::NoMemory => "no memory",
         }
     }

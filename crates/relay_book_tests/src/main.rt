@@ -1,14 +1,18 @@
-//! Reads each row of data/: a change that one book applies, a question to that book, or a record to read. What comes of
-//! it is printed behind the row.
+//! Reads each row of data/, and prints behind it what comes of it. A row applies a change to a book, asks
+//! that book, reads a record, takes a record in hand and changes an octet of it, or decodes records of a
+//! fixed generator.
 #![tactic(auto)]
 
 mod answer;
+mod draw;
 mod fault;
+mod generate;
 mod hex;
+mod octets;
+mod tally;
 
-use answer::answer_of;
+use answer::Subject;
 use fault::RowsFault;
-use relay_book::Book;
 use std::test::Fail;
 use std::{env, fs};
 
@@ -20,7 +24,7 @@ fn main(rt: HostRuntime) -> Result<(), Fail> {
     }
 }
 
-/// Prints what comes of each row.
+/// Prints what comes of each row. The rows of a file are about one book.
 fn show_rows(rt: &HostRuntime) -> Result<(), RowsFault> {
     let alloc = rt.alloc();
     let words: Vec<String> = env::args(rt)?.collect(alloc)?;
@@ -28,10 +32,17 @@ fn show_rows(rt: &HostRuntime) -> Result<(), RowsFault> {
         Some(word) => word.as_str(),
         None => ".",
     };
-    let rows = fs::read_to_string(rt, format!(in alloc; "{folder}/rows.in")?.as_str())?;
-    let mut book = Book::new(alloc);
+    show_file(rt, format!(in alloc; "{folder}/rows.in")?.as_str())?;
+    show_file(rt, format!(in alloc; "{folder}/octets.in")?.as_str())
+}
+
+/// Prints what comes of each row of a file.
+fn show_file(rt: &HostRuntime, path: &str) -> Result<(), RowsFault> {
+    let alloc = rt.alloc();
+    let rows = fs::read_to_string(rt, path)?;
+    let mut subject = Subject::new(alloc);
     for row in rows.as_str().lines() {
-        let answer = answer_of(alloc, &mut book, row)?;
+        let answer = subject.answer(alloc, row)?;
         println!(rt; "{row} => {}", answer.as_str())?;
     }
     Ok(())

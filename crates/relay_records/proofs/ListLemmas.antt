@@ -1,5 +1,5 @@
 -- Lists of changes, and the queues that they leave.
-use Rattle.std.proofs.Common.{◌≡◌, ℕ, ◌+◌, ◌≤◌, ◌^◌, List, [], ◌∷◌, ◌++◌, fold, length, map, Option, None, Some, IfSome, Bor, ◌↔◌, refl, sym, ap, ◌∙◌, subst, arith}
+use Rattle.std.proofs.Common.{◌≡◌, ℕ, ◌+◌, List, [], ◌∷◌, ◌++◌, fold, length, map, Option, None, Some, IfSome, Bor, ◌↔◌, refl, sym, ap, ◌∙◌, subst, arith}
 use Rattle.std.specs.List.{Contains}
 use Rattle.std.specs.Option.{option_copied}
 use Rattle.std.proofs.lemmas.List.Sums.{fold-append}
@@ -9,7 +9,7 @@ use Rattle.relay_book.specs.Record.{encode}
 use Rattle.relay_book.specs.Queue.{Queue, FitsQueue, Fitting, empty_queue, held_of, message_of, queue_of, step}
 use Rattle.relay_book.specs.declared.message.Message.{Message}
 use Rattle.relay_book.specs.Marks.{Held, IsQueuedAs}
-use Rattle.relay_book.specs.StandsFor.{StandsFor}
+use Rattle.relay_records.specs.ListLaws.{NextIsOneMore}
 use Rattle.relay_book.proofs.Theorems.{fold_holds, fold_knows, one_more_stands}
 
 next_after : (queue : Queue) (changes : List Change) → (fold step queue changes).next ≡ queue.next + length changes
@@ -17,9 +17,8 @@ next_after queue [] = omega arith
 next_after queue (Accept accept ∷ changes) = let rest = next_after (step queue (Accept accept)) changes in omega (arith, rest)
 next_after queue (Outcome outcome ∷ changes) = let rest = next_after (step queue (Outcome outcome)) changes in omega (arith, rest)
 
--- the next number is that of one change more
-pub next_of : (changes : List Change) → (queue_of changes).next ≡ length changes + 1
-next_of changes = let next = next_after empty_queue changes in omega (arith, next)
+pub next_is_one_more : NextIsOneMore
+next_is_one_more changes = let next = next_after empty_queue changes in omega (arith, next)
 
 -- one change more takes one step
 pub queue_of_more : (changes : List Change) (change : Change) → queue_of (changes ++ change ∷ []) ≡ step (queue_of changes) change

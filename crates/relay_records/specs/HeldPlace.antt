@@ -12,10 +12,13 @@ use Rattle.relay_book.specs.Queue.{Queue, message_of}
 
 -- where a place is held, its recipient's path and when it is due
 abbrev pub waiting_for : Option Recipient → Place → Option (List ℕ × ℕ)
-waiting_for recipient place = if place.held then option_map (λ recipient. (recipient.path, place.due)) recipient else None
+waiting_for recipient place =
+    if place.held then option_map (λ recipient. (recipient.path, place.due)) recipient else None
 
 abbrev pub waiting_in : ℕ → Message → Option (List ℕ × ℕ)
-waiting_in place message = option_and_then (waiting_for (slice_get message.accept.envelope.recipients place)) (slice_get message.places place)
+waiting_in place message =
+    option_and_then
+    (waiting_for (slice_get message.accept.envelope.recipients place)) (slice_get message.places place)
 
 -- the path and the due moment of a held place of the queue
 abbrev pub waiting_at : Queue → ℕ → ℕ → Option (List ℕ × ℕ)

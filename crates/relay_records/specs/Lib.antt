@@ -2,3 +2,4 @@ pub mod Note
 pub mod Records
 pub mod Open
 pub mod HeldPlace
+pub mod ListLaws

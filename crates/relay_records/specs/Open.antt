@@ -1,8 +1,9 @@
 -- What a disk is opened to, and why one isn't.
-use Rattle.std.specs.Prelude.{◌≡◌, ◌≢◌, ℕ, ◌+◌, List, ◌∷◌, ◌++◌, length, Option, None}
+use Rattle.std.specs.Prelude.{◌≡◌, ◌≢◌, ℕ, ◌+◌, List, ◌∷◌, ◌++◌, length, None}
 use Rattle.relay_disk.specs.Device.{DiskWords, FailsNot}
 use Rattle.relay_spool.specs.Image.{HasBodies}
 use Rattle.relay_spool.specs.Spool.{FailsBy, ReadsAs, RefusesToCreate, RefusesToOpen}
+use Rattle.relay_spool.specs.declared.fault.SpoolFault.TheVariants.{NoMemory}
 use Rattle.relay_book.specs.declared.change.Change.{Change}
 use Rattle.relay_book.specs.Record.{encode}
 use Rattle.relay_book.specs.Queue.{Queue, FitsQueue, queue_of}
@@ -25,6 +26,17 @@ pub record IsBadRecord (number : ℕ) (bodies : List (List ℕ)) : Type 0 where
   pub changes : List Change
   pub stands : StandsFor front changes
   pub none_fits : NoneFits (queue_of changes) body
+
+-- the bodies stand for changes that leave this queue
+pub record LeavesQueue (bodies : List (List ℕ)) (queue : Queue) : Type 0 where
+  pub changes : List Change
+  pub stands : StandsFor bodies changes
+  pub queue_is : queue ≡ queue_of changes
+
+-- why bodies leave no queue
+abbrev pub RefusesBodies : List (List ℕ) → Cause → Type 0
+RefusesBodies bodies (Spool fault) = fault ≡ NoMemory
+RefusesBodies bodies (BadRecord number) = IsBadRecord number bodies
 
 -- why an image isn't opened
 abbrev pub RefusesImage : Type 0 → List ℕ → Cause → Type 0

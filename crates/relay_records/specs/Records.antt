@@ -7,12 +7,12 @@ use Rattle.relay_book.specs.Record.{encode}
 use Rattle.relay_book.specs.Queue.{Queue, FitsQueue, Fitting, queue_of, step}
 use Rattle.relay_book.specs.StandsFor.{StandsFor}
 use Rattle.relay_records.specs.declared.noted.Noted.{Noted}
-use Rattle.relay_records.specs.declared.fault.Cause.{Cause}
 use Rattle.relay_records.specs.declared.fault.NodeFault.{NodeFault}
 use Rattle.relay_records.specs.declared.fault.NodeFault.TheVariants.{NoMemory, Stopped, Unknown, TooMany, NotDue, Busy, Open, Full}
 use Rattle.relay_records.specs.Note.{IsNoted}
 
--- what a caller sees of records: the spool, the queue that its bodies leave, and the note of the last append that was begun
+-- what a caller sees of records: the spool, the queue that its bodies leave, and the note of the last append
+-- that was begun
 pub record Kept (D : Type 0) : Type 0 where
   pub spool : Stored D
   pub queue : Queue
@@ -22,7 +22,8 @@ pub record Kept (D : Type 0) : Type 0 where
 abbrev pub StandsForOrWith : List Change → Option Change → List (List ℕ) → Type 0
 StandsForOrWith changes pending bodies =
     StandsFor bodies changes
-    ⊎ ((change : Change) × (pending ≡ Some change) × FitsQueue (queue_of changes) change × StandsFor bodies (changes ++ change ∷ []))
+    ⊎ ((change : Change) × (pending ≡ Some change) × FitsQueue (queue_of changes) change
+    × StandsFor bodies (changes ++ change ∷ []))
 
 module _ {D : Type 0} (honest : Type 0) (words : DiskWords D) where
   -- the records are live, and keep these changes, as every image does that a stop may leave
@@ -57,7 +58,8 @@ module _ {D : Type 0} (honest : Type 0) (words : DiskWords D) where
     pub noted : IsNoted new.noted changes change used
 
 -- what a change that was added did to the records, whatever list they keep
-pub record Grows {D : Type 0} (words : DiskWords D) (old : Kept D) (change : Change) (number : ℕ) (new : Kept D) : Type 0 where
+pub record Grows {D : Type 0} (words : DiskWords D) (old : Kept D) (change : Change) (number : ℕ)
+    (new : Kept D) : Type 0 where
   pub number_is : number ≡ old.queue.next
   pub queue : new.queue ≡ step old.queue change
   pub size : new.spool.size ≡ old.spool.size + 5 + length (encode change)

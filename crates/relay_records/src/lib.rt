@@ -7,6 +7,7 @@ pub mod list_laws;
 mod noted;
 mod open;
 mod place;
+mod reading;
 mod records;
 
 pub use fault::{Cause, NodeFault, NotOpened};

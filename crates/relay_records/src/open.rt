@@ -7,20 +7,22 @@ ghost use Rattle.relay_records.specs.Records.{Keeps};
 ghost use Rattle.relay_records.specs.Open.{FailsFor, Opens, RefusesDisk, RefusesImage};
 
 use crate::fault::{Cause, NotOpened};
+use crate::reading::read_bodies;
 use crate::records::Records;
 use relay_book::Book;
 use relay_disk::Disk;
-use relay_spool::{Opened, Spool, SpoolFault};
+use relay_spool::{Opened, Spool};
 use std::alloc::Global;
 
 impl<D: Disk> Records<D> {
-    /// No changes, on a disk of size 0. A disk that isn't empty comes back unchanged, and one that failed with any octets.
-    /// It takes no memory.
+    /// No changes, on a disk of size 0. A disk that isn't empty comes back unchanged, and one that failed
+    /// with any octets. It takes no memory.
     pub fn create(alloc: Global, disk: D) -> Result<Self, NotOpened<D>>
         ensures keeps { IfOk result (λ records. Keeps D.honest D.words records []) }
         ensures new { IfOk result (λ records. (records.noted ≡ None) × (records.spool.size ≡ 18)) }
         ensures empty { D.honest → OnOk result (D.words.seen disk ≡ []) }
-        ensures refused { IfErr result (λ refused. RefusesDisk D.honest D.words disk refused.disk refused.cause) }
+        ensures refused { IfErr result
+            (λ refused. RefusesDisk D.honest D.words disk refused.disk refused.cause) }
         ensures stop { D.honest → Only [] (D.words.may_leave disk) → MatchResult result
             (λ records. AtEachMoment D.words disk records.spool.disk HasNoBody)
             (λ refused. AtEachMoment D.words disk refused.disk HasNoBody) }
@@ -40,9 +42,9 @@ impl<D: Disk> Records<D> {
         }
     }
 
-    /// The changes that a disk holds. The disk is synced and read, and not written: it comes back as it was where it is
-    /// refused. It needs memory for the bodies, and for one block and the queue beside them; each body is let go when it
-    /// has been read.
+    /// The changes that a disk holds. The disk is synced and read, and not written: where it is refused, it
+    /// comes back as it was. It needs memory for the bodies, and beside them for a block and the queue; each
+    /// body is let go when it has been read.
     pub fn open(alloc: Global, disk: D) -> Result<Self, NotOpened<D>>
         ensures opens { IfOk result (Opens D.honest D.words disk) }
         ensures refused { IfErr result (λ refused. RefusesImage D.honest (D.words.seen disk) refused.cause) }
@@ -53,15 +55,17 @@ impl<D: Disk> Records<D> {
             (λ refused. FailsFor D.words disk refused.disk refused.cause) }
     {
         match Spool::open(alloc, disk) {
-            Ok(
-                Opened {
+            Ok(Opened { spool, bodies }) => match read_bodies(alloc, bodies) {
+                Ok(book) => Ok(Records {
                     spool,
-                    bodies: _bodies,
-                },
-            ) => Err(NotOpened {
-                cause: Cause::Spool(SpoolFault::NoMemory),
-                disk: spool.into_disk(),
-            }),
+                    book,
+                    noted: None,
+                }),
+                Err(cause) => Err(NotOpened {
+                    cause,
+                    disk: spool.into_disk(),
+                }),
+            },
             Err(refused) => Err(NotOpened {
                 cause: Cause::Spool(refused.fault),
                 disk: refused.disk,

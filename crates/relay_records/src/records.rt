@@ -22,7 +22,8 @@ use std::mem;
 /// The greatest number of a change.
 pub(crate) const LAST_NUMBER: u64 = 1 << 62;
 
-/// All that a change touches: the spool, the queue that its bodies leave, and the note of the last append that was begun.
+/// All that a change touches: the spool, the queue that its bodies leave, and the note of the last append
+/// that was begun.
 #[derive(Drop)]
 pub struct Records<D: Disk> {
     pub(crate) spool: Spool<D>,
@@ -42,9 +43,10 @@ impl<D: Disk> Records<D> {
     /// The number of the next change, live or stopped. It takes no memory.
     pub fn next_number(&self) -> u64
         ensures number { result ≡ self.now.queue.next }
-        ensures kept { (changes : List Change) → Keeps D.honest D.words self.now changes → result ≡ length changes + 1 }
-        ensures halted { (changes : List Change) (pending : Option Change) → Halted D.honest D.words self.now changes pending
+        ensures kept { (changes : List Change) → Keeps D.honest D.words self.now changes
             → result ≡ length changes + 1 }
+        ensures halted { (changes : List Change) (pending : Option Change)
+            → Halted D.honest D.words self.now changes pending → result ≡ length changes + 1 }
     {
         self.book.next_number()
     }
@@ -53,7 +55,7 @@ impl<D: Disk> Records<D> {
     pub fn has_number(&self) -> bool
         ensures { IsTrue result ↔ (self.now.queue.next ≤ 2 ^ 62) }
     {
-        self.book.next_number() <= LAST_NUMBER
+        self.next_number() <= LAST_NUMBER
     }
 
     /// Whether no device call has failed. It takes no memory.
@@ -83,14 +85,15 @@ impl<D: Disk> Records<D> {
     /// All held places, each with the number of its message, in order. It fails where memory runs out.
     pub fn held(&self, alloc: Global) -> Result<Vec<(u64, u8)>, AllocError>
         ensures held { IfOk result (λ marks. marks.items ≡ held_of self.now.queue) }
-        ensures kept { (changes : List Change) → Keeps D.honest D.words self.now changes → IfOk result (λ marks.
-            (number place : ℕ) → Contains {X = ℕ × ℕ} marks.items (number, place) ↔ Held changes number place) }
+        ensures kept { (changes : List Change) → Keeps D.honest D.words self.now changes
+            → IfOk result (λ marks. (number place : ℕ)
+            → Contains {X = ℕ × ℕ} marks.items (number, place) ↔ Held changes number place) }
     {
         self.book.held(alloc)
     }
 
-    /// The held places that are due at a moment or before, each with the number of its message, in order. It fails where
-    /// memory runs out.
+    /// The held places that are due at a moment or before, each with the number of its message, in order. It
+    /// fails where memory runs out.
     pub fn due(&self, alloc: Global, now: Moment) -> Result<Vec<(u64, u8)>, AllocError>
         ensures { IfOk result (λ marks. marks.items ≡ due_of now self.now.queue) }
     {
@@ -101,8 +104,11 @@ impl<D: Disk> Records<D> {
     pub fn place(&self, number: u64, place: u8) -> Option<HeldPlace<'_>>
         ensures place { MatchOption result (waiting_at self.now.queue number place ≡ None)
             (λ found. waiting_at self.now.queue number place ≡ Some (found.path.now, found.due)) }
+        ensures kept { (changes : List Change) → Keeps D.honest D.words self.now changes
+            → MatchOption result (Held changes number place → ⊥)
+            (λ found. IsWaiting changes number place found.path.now found.due) }
     {
-        match self.book.message(number) {
+        match self.message(number) {
             Some(message) => held_place(message, place),
             None => None,
         }
@@ -132,7 +138,8 @@ impl<D: Disk> Records<D> {
 impl<D: Reboot> Records<D> {
     /// Sets the fuse of the disk: so many calls pass, and each later one fails. Nothing else changes.
     pub fn fuse(&mut self, calls: u64)
-        ensures same { (self.new.spool.size ≡ self.old.spool.size) × (self.new.spool.live ≡ self.old.spool.live)
+        ensures same { (self.new.spool.size ≡ self.old.spool.size)
+            × (self.new.spool.live ≡ self.old.spool.live)
             × (self.new.queue ≡ self.old.queue) × (self.new.noted ≡ self.old.noted) }
         ensures kept { (changes : List Change) → Keeps D.Disk.honest D.Disk.words self.old changes
             → Stays D.Disk.honest D.Disk.words self.old self.new changes }

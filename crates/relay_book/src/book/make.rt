@@ -15,7 +15,8 @@ use std::mem;
 /// The places of a message as it is accepted.
 fn start_places(alloc: Global, accept: &Accept) -> Result<Places, AllocError>
     requires { length accept.now.envelope.recipients ≤ 100 }
-    ensures { IfOk result (λ places. places ≡ map (λ recipient. held_place 0 accept.now.at) accept.now.envelope.recipients) }
+    ensures { IfOk result (λ places.
+        places ≡ map (λ recipient. held_place 0 accept.now.at) accept.now.envelope.recipients) }
 {
     let mut items = Vec::with_capacity(alloc, accept.envelope.recipients.len())?;
     for _ in accept.envelope.recipients.as_slice() {
@@ -41,7 +42,8 @@ pub(super) fn accepted(alloc: Global, number: u64, accept: Accept) -> Result<Mes
     })
 }
 
-/// The envelope of a report: from the null reverse path to the one of the message reported, without parameters.
+/// The envelope of a report: from the null reverse path to the one of the message reported, without
+/// parameters.
 fn report_envelope(alloc: Global, path: &PathBuf) -> Result<Envelope, AllocError>
     ensures { IfOk result (λ envelope. envelope ≡ report_envelope path.now) }
 {
@@ -68,7 +70,8 @@ pub(super) fn made_of(
     mut outcome: Outcome,
 ) -> Result<Made, AllocError>
     ensures change { IfOk result (λ made. change_of made ≡ Change.Outcome outcome) }
-    ensures message { IfOk result (λ made. entry_of number (message_in made) ≡ reported number outcome outcome.report (Some message.now)) }
+    ensures message { IfOk result (λ made.
+        entry_of number (message_in made) ≡ reported number outcome outcome.report (Some message.now)) }
 {
     if outcome.report.is_empty() {
         return Ok(Made::Ruled(outcome));

@@ -1,11 +1,14 @@
 //! The places of a book's entries.
-ghost use Rattle.std.specs.Prelude.{◌≡◌, ◌++◌, OnOk, IfOk};
-ghost use Rattle.relay_book.specs.Book.{marks_live, marks_of_slot};
+ghost use Rattle.std.specs.Prelude.{◌≡◌, ◌<◌, ◌^◌, ◌++◌, OnOk, IfOk};
+ghost use Rattle.std.specs.BTreeSet.{IsOrdered};
+ghost use Rattle.std.specs.Ordering.{nat_cmp};
+ghost use Rattle.relay_book.specs.Book.{HasNumbers, marks_live, marks_of_slot};
 ghost use Rattle.relay_book.specs.Queue.{is_due_at, is_held, marks_from};
 
 use crate::message::{Message, Places};
 use indexmap::IndexMap;
 use std::alloc::{AllocError, Global};
+use std::collections::BTreeSet;
 
 /// The places that are held, in order.
 #[tactic(auto, using(crate::proofs::MarkRowLemmas::marks_step, crate::proofs::MarkRowLemmas::marks_end))]
@@ -25,23 +28,21 @@ pub(super) fn held_places(
     Ok(marks)
 }
 
-/// The held places that are due by then, in order.
-#[tactic(auto, using(crate::proofs::MarkRowLemmas::marks_step, crate::proofs::MarkRowLemmas::marks_end))]
-pub(super) fn due_places(
+/// The numbers of the messages that may have a place due by then: no other message has one.
+pub(super) fn numbers_until(
     alloc: Global,
-    messages: &IndexMap<u64, Option<Message>>,
+    waiting: &BTreeSet<(u64, u64), Global>,
     latest: u64,
-) -> Result<Vec<(u64, u8)>, AllocError>
-    ensures { IfOk result (λ marks. marks.items ≡ marks_live (is_due_at latest) messages.now.entries) }
+) -> Result<BTreeSet<u64, Global>, AllocError>
+    requires { latest < 2 ^ 63 }
+    ensures told { IfOk result (λ numbers. HasNumbers waiting.now.keys latest numbers.keys) }
+    ensures rise { IfOk result (λ numbers. IsOrdered nat_cmp numbers) }
 {
-    let mut marks = Vec::new(alloc);
-    for index in 0..messages.len() {
-        let Some((number, slot)) = messages.get_index(index) else {
-            return Ok(marks);
-        };
-        push_due(&mut marks, *number, slot, latest)?;
+    let mut numbers = BTreeSet::new(alloc);
+    for key in waiting.range(..(latest + 1, 0)) {
+        numbers.insert(key.1)?;
     }
-    Ok(marks)
+    Ok(numbers)
 }
 
 /// Adds the held places of an entry.
@@ -69,28 +70,15 @@ fn push_held_of(marks: &mut Vec<(u64, u8)>, number: u64, places: &Places) -> Res
     Ok(())
 }
 
-/// Adds the places of an entry that are due by then.
-fn push_due(
-    marks: &mut Vec<(u64, u8)>,
-    number: u64,
-    slot: &Option<Message>,
-    latest: u64,
-) -> Result<(), AllocError>
-    ensures { OnOk result (marks.new.items ≡ marks.old.items ++ marks_of_slot (is_due_at latest) number slot.now) }
-{
-    match slot {
-        Some(message) => push_due_of(marks, number, &message.places, latest),
-        None => Ok(()),
-    }
-}
-
-fn push_due_of(
+/// Adds the places of a message that are due by then.
+pub(super) fn push_due(
     marks: &mut Vec<(u64, u8)>,
     number: u64,
     places: &Places,
     latest: u64,
 ) -> Result<(), AllocError>
-    ensures { OnOk result (marks.new.items ≡ marks.old.items ++ marks_from (is_due_at latest) number 0 places.now) }
+    ensures { OnOk result
+        (marks.new.items ≡ marks.old.items ++ marks_from (is_due_at latest) number 0 places.now) }
 {
     for (index, place) in places.as_slice().iter().enumerate() {
         if place.held && place.due <= latest {

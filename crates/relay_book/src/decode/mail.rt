@@ -24,7 +24,8 @@ fn reverse_path(text: &[u8]) -> Option<Path<'_>>
 
 /// The RET of a number.
 fn ret_of(number: u8) -> Option<Option<Ret>>
-    ensures { MatchOption result ((ret : Option AnyRet) → number ≢ ret_number ret) (λ ret. number ≡ ret_number ret) }
+    ensures { MatchOption result ((ret : Option AnyRet) → number ≢ ret_number ret)
+        (λ ret. number ≡ ret_number ret) }
 {
     match number {
         0 => Some(None),
@@ -55,7 +56,8 @@ fn envid_of(text: &[u8]) -> Option<Option<&[u8]>>
 pub(super) fn mail_of<'a>(path: &'a [u8], ret: u8, envid: &'a [u8]) -> Option<Mail<'a>>
     ensures { MatchOption result
         (IsNoMail path.now ret envid.now)
-        (λ mail. IsMail (envelope_from (mail_value mail)) × HasMailFields (envelope_from (mail_value mail)) path.now ret envid.now) }
+        (λ mail. IsMail (envelope_from (mail_value mail))
+        × HasMailFields (envelope_from (mail_value mail)) path.now ret envid.now) }
 {
     let path = reverse_path(path)?;
     let ret = ret_of(ret)?;

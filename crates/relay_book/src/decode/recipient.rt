@@ -74,7 +74,8 @@ fn orcpt_of(text: &[u8]) -> Option<Option<&[u8]>>
     }
 }
 
-/// A text behind its length, an octet, a text behind its length, and what follows them: what MAIL says, or a recipient.
+/// A text behind its length, an octet, a text behind its length, and what follows them: what MAIL says, or a
+/// recipient.
 #[tactic(auto, using(crate::proofs::FieldLemmas::no_path, crate::proofs::FieldLemmas::no_notify, crate::proofs::FieldLemmas::no_orcpt, crate::proofs::FieldLemmas::fields_are))]
 pub(crate) fn read_fields(text: &[u8]) -> Option<(&[u8], u8, &[u8], &[u8])>
     ensures { MatchOption result
@@ -92,7 +93,8 @@ pub(crate) fn read_fields(text: &[u8]) -> Option<(&[u8], u8, &[u8], &[u8])>
 fn recipient_of<'a>(path: &'a [u8], number: u8, orcpt: &'a [u8]) -> Option<Rcpt<'a>>
     ensures { MatchOption result
         (IsNoRecipient path.now number orcpt.now)
-        (λ rcpt. IsRecipient (recipient_from (rcpt_value rcpt)) × HasFields (recipient_from (rcpt_value rcpt)) path.now number orcpt.now) }
+        (λ rcpt. IsRecipient (recipient_from (rcpt_value rcpt))
+        × HasFields (recipient_from (rcpt_value rcpt)) path.now number orcpt.now) }
 {
     let path = forward_path(path)?;
     let notify = notify_of(number)?;

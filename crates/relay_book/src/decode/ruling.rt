@@ -16,7 +16,8 @@ use std::alloc::Global;
 #[tactic(auto, using(crate::proofs::RefusalLemmas::none_short, crate::proofs::RefusalLemmas::none_without_length, crate::proofs::RefusalLemmas::none_cut, crate::proofs::RefusalLemmas::none_long, crate::proofs::RefusalLemmas::none_bad))]
 fn read_refusal(text: &[u8]) -> Option<(u16, &[u8], &[u8])>
     ensures { MatchOption result (HasNoRefusal text.now)
-        (λ parts. IsRefusal parts.0 parts.1.now × (text.now ≡ refusal_octets parts.0 parts.1.now ++ parts.2.now)) }
+        (λ parts. IsRefusal parts.0 parts.1.now
+        × (text.now ≡ refusal_octets parts.0 parts.1.now ++ parts.2.now)) }
 {
     let (code, behind) = read_2(text)?;
     let (len, behind) = behind.split_first()?;
@@ -34,7 +35,8 @@ fn read_refusal(text: &[u8]) -> Option<(u16, &[u8], &[u8])>
 /// A verdict, and what follows it.
 #[tactic(auto, using(crate::proofs::RefusalLemmas::no_tag, crate::proofs::RefusalLemmas::other_tag, crate::proofs::RefusalLemmas::no_refusal))]
 fn read_verdict(alloc: Global, text: &[u8]) -> Result<(Verdict, &[u8]), BookFault>
-    ensures verdict { IfOk result (λ parts. IsVerdict parts.0 × (text.now ≡ verdict_octets parts.0 ++ parts.1.now)) }
+    ensures verdict { IfOk result (λ parts.
+        IsVerdict parts.0 × (text.now ≡ verdict_octets parts.0 ++ parts.1.now)) }
     ensures bad { IsErrOf result BookFault.BadRecord → HasNone IsVerdict verdict_octets text.now }
 {
     let Some((number, rest)) = text.split_first() else {
@@ -53,7 +55,8 @@ fn read_verdict(alloc: Global, text: &[u8]) -> Result<(Verdict, &[u8]), BookFaul
 
 /// A refusal with a copy of its text, and what follows it.
 fn read_refused(alloc: Global, text: &[u8]) -> Result<(Verdict, &[u8]), BookFault>
-    ensures verdict { IfOk result (λ parts. IsVerdict parts.0 × (3 ∷ text.now ≡ verdict_octets parts.0 ++ parts.1.now)) }
+    ensures verdict { IfOk result (λ parts.
+        IsVerdict parts.0 × (3 ∷ text.now ≡ verdict_octets parts.0 ++ parts.1.now)) }
     ensures bad { IsErrOf result BookFault.BadRecord → HasNoRefusal text.now }
 {
     let Some((code, field, rest)) = read_refusal(text) else {
@@ -66,7 +69,8 @@ fn read_refused(alloc: Global, text: &[u8]) -> Result<(Verdict, &[u8]), BookFaul
 /// A place and its verdict, and what follows them.
 #[tactic(auto, using(crate::proofs::RefusalLemmas::no_place, crate::proofs::RefusalLemmas::no_verdict))]
 fn read_ruling(alloc: Global, text: &[u8]) -> Result<(Ruling, &[u8]), BookFault>
-    ensures ruling { IfOk result (λ parts. IsRuling parts.0 × (text.now ≡ ruling_octets parts.0 ++ parts.1.now)) }
+    ensures ruling { IfOk result (λ parts.
+        IsRuling parts.0 × (text.now ≡ ruling_octets parts.0 ++ parts.1.now)) }
     ensures bad { IsErrOf result BookFault.BadRecord → HasNone IsRuling ruling_octets text.now }
 {
     let Some((place, behind)) = text.split_first() else {
