@@ -34,11 +34,14 @@ pub record IsTaken (intake : Intake) (offer : Offered) (taken : Taken) : Type 0 
 
 -- the open offer is taken, or there is no room for it
 abbrev pub Considers : Intake → Session → Option Taken → Type 0
-Considers intake session None = (offer : Offered) × (open_offers session ≡ offer ∷ []) × HasNoRoom intake offer
-Considers intake session (Some taken) = (offer : Offered) × (open_offers session ≡ offer ∷ []) × IsTaken intake offer taken
+Considers intake session None =
+    (offer : Offered) × (open_offers session ≡ offer ∷ []) × HasNoRoom intake offer
+Considers intake session (Some taken) =
+    (offer : Offered) × (open_offers session ≡ offer ∷ []) × IsTaken intake offer taken
 
 -- behind what was said these octets were read, and offers refused; what was written is this
-pub record HasListened (intake : Intake) (said : Said) (session : Session) (octets out : List ℕ) : Type 0 where
+pub record HasListened (intake : Intake) (said : Said) (session : Session)
+    (octets out : List ℕ) : Type 0 where
   pub later : Said
   pub stands : Stands (setup_of_config intake.config.now) session later
   pub more : SaysMore said later octets [] out

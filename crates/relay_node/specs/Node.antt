@@ -39,7 +39,8 @@ pub record Says (setup : Setup) (session : Session) (said : Said) : Type 0 where
   pub settled : open_offers session ≡ []
 
 -- the session of this number, whose client is at this address, stands behind what was said
-pub record SaysAt (config : Config) (seats : List (Option Seat)) (number : ℕ) (peer : List ℕ) (said : Said) : Type 0 where
+pub record SaysAt (config : Config) (seats : List (Option Seat)) (number : ℕ) (peer : List ℕ)
+    (said : Said) : Type 0 where
   pub seat : Seat
   pub at : seat_at seats number ≡ Some seat
   pub peer_is : seat.peer ≡ peer
@@ -58,19 +59,23 @@ HaveHistories config (Some seat ∷ seats) = HasHistory config seat.session × H
 -- what was said is a dialogue that the server has closed, and octets behind it belong to its rest
 pub record HasClosed (setup : Setup) (said : Said) : Type 0 where
   pub dialogue : IsDialogue setup said
-  pub unread : (octets : List ℕ) → (dialogue : IsDialogue setup (unread_behind said octets)) × (dialogue.state ≡ Closed)
+  pub unread : (octets : List ℕ) → (dialogue : IsDialogue setup (unread_behind said octets))
+      × (dialogue.state ≡ Closed)
 
 -- the session of this number goes on behind what was said, or it has closed, and is gone
 abbrev pub GoesOn : Config → List (Option Seat) → ℕ → List ℕ → Said → Bool → Type 0
-GoesOn config seats number peer said true = (seat_at seats number ≡ None) × HasClosed (setup_of_config config) said
+GoesOn config seats number peer said true =
+    (seat_at seats number ≡ None) × HasClosed (setup_of_config config) said
 GoesOn config seats number peer said false = SaysAt config seats number peer said
 
 -- nothing was said but this greeting
 abbrev pub greeted_by : List ℕ → Said
 greeted_by greeting = record { input = []; answers = []; output = greeting; offers = [] }
 
--- The words below are of a call at a moment, on a session with a client at this address, of a node that keeps these changes.
-module _ {D : Type 0} (honest : Type 0) (words : DiskWords D) (config : Config) (changes : List Change) (peer : List ℕ) (at : ℕ) where
+-- The words below are of a call at a moment, on a session with a client at this address, of a node that
+-- keeps these changes.
+module _ {D : Type 0} (honest : Type 0) (words : DiskWords D) (config : Config) (changes : List Change)
+    (peer : List ℕ) (at : ℕ) where
   -- how the next change is accepted
   abbrev pub next_acceptance : Acceptance
   next_acceptance = acceptance_by config peer (length changes + 1) at
@@ -84,7 +89,8 @@ module _ {D : Type 0} (honest : Type 0) (words : DiskWords D) (config : Config) 
   FitsIn old offer accept = HasRoom next_acceptance config.spool_limit old.spool.size offer accept
 
   -- behind the refused offers one was queued: the change of this number accepts it
-  pub record Queues (said later : Said) (refused : List Offered) (used : ℕ) (old new : Kept D) (number : ℕ) : Type 0 where
+  pub record Queues (said later : Said) (refused : List Offered) (used : ℕ) (old new : Kept D)
+      (number : ℕ) : Type 0 where
     pub number_is : number ≡ length changes + 1
     pub offer : Offered
     pub answers : AnswersMore said later refused (offer ∷ []) (Queued number ∷ [])
@@ -99,7 +105,8 @@ module _ {D : Type 0} (honest : Type 0) (words : DiskWords D) (config : Config) 
   Makes said later refused used old new (Some number) = Queues said later refused used old new number
 
   -- what the call did behind what was said: it used all of the piece, unless a change or a close stopped it
-  pub record TalksOn (said later : Said) (piece : List ℕ) (old new : Kept D) (received : Received) : Type 0 where
+  pub record TalksOn (said later : Said) (piece : List ℕ) (old new : Kept D)
+      (received : Received) : Type 0 where
     pub input : later.input ≡ said.input ++ take received.used piece
     pub output : later.output ≡ said.output ++ received.out.items
     pub refused : List Offered
@@ -108,20 +115,22 @@ module _ {D : Type 0} (honest : Type 0) (words : DiskWords D) (config : Config) 
     pub whole : received.change ≡ None → received.close ≡ false → received.used ≡ length piece
 
   -- the same, on a session
-  pub record Hears (said : Said) (piece : List ℕ) (new_session : Session) (old new : Kept D) (received : Received) : Type 0 where
+  pub record Hears (said : Said) (piece : List ℕ) (new_session : Session) (old new : Kept D)
+      (received : Received) : Type 0 where
     pub later : Said
     pub says : Says (setup_of_config config) new_session later
     pub closed : received.close ≡ true → next_of new_session ≡ next.Close
     pub talks : TalksOn said later piece old new received
 
   -- the same, on the session of this number of a node
-  pub record Receives (number : ℕ) (said : Said) (piece : List ℕ) (old new : Standing D) (received : Received) : Type 0 where
+  pub record Receives (number : ℕ) (said : Said) (piece : List ℕ) (old new : Standing D)
+      (received : Received) : Type 0 where
     pub later : Said
     pub goes_on : GoesOn config new.seats number peer later received.close
     pub talks : TalksOn said later piece old.records new.records received
 
-  -- A stop came while a change was added. The call had used octets of the piece, and the dialogue behind them has the
-  -- answer that the offer is queued; but nobody was handed what was to be written.
+  -- A stop came while a change was added. The call had used octets of the piece, and the dialogue behind
+  -- them has the answer that the offer is queued; but nobody was handed what was to be written.
   pub record CutsTalk (said : Said) (piece : List ℕ) (old new : Kept D) : Type 0 where
     pub used : ℕ
     pub within : used ≤ length piece
@@ -138,7 +147,8 @@ module _ {D : Type 0} (honest : Type 0) (words : DiskWords D) (config : Config) 
     pub fits : FitsIn old offer accept
     pub cuts : Cuts honest words new changes (change.Accept accept) used
 
--- octets of the piece were used: where a change was made, one at least, and where none was and nothing closed, all
+-- octets of the piece were used: where a change was made, one at least, and where none was and nothing
+-- closed, all
 pub record UsesOctets (len : ℕ) (received : Received) : Type 0 where
   pub within : received.used ≤ len
   pub some : received.change ≢ None → 0 < received.used

@@ -20,7 +20,8 @@ pub record Overfills (acceptance : Acceptance) (limit size : ℕ) (offer : Offer
   pub passes : limit < size_with size accept
 
 -- the number may be a change's; with the record of this offer's accept the spool stays within its limit
-pub record HasRoom (acceptance : Acceptance) (limit size : ℕ) (offer : Offered) (accept : Accept) : Type 0 where
+pub record HasRoom (acceptance : Acceptance) (limit size : ℕ) (offer : Offered)
+    (accept : Accept) : Type 0 where
   pub number : acceptance.number ≤ 2 ^ 62
   pub is_accept : IsAcceptOf acceptance offer accept
   pub room : size_with size accept ≤ limit
@@ -29,7 +30,8 @@ pub record HasRoom (acceptance : Acceptance) (limit size : ℕ) (offer : Offered
 abbrev pub refusals : List Offered → List Answer
 refusals offers = map (λ _. answer.Full) offers
 
--- behind what was said these offers were refused for want of room, and then these were made and had these answers
+-- behind what was said these offers were refused for want of room, and then these were made and had these
+-- answers
 pub record AnswersMore (said later : Said) (refused last : List Offered) (given : List Answer) : Type 0 where
   pub offers : later.offers ≡ said.offers ++ (refused ++ last)
   pub answers : later.answers ≡ said.answers ++ (refusals refused ++ given)

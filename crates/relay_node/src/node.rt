@@ -6,7 +6,7 @@ ghost use Rattle.relay_book.specs.Queue.{held_of};
 ghost use Rattle.relay_disk.specs.Device.{AddsNoImage, FailsNot, Only};
 ghost use Rattle.relay_node.specs.Node.{Connects, CutsTalk, IsFused, IsIdle, Receives, RefusesToConnect, RefusesToEnd, RefusesToMake, RefusesToReceive, SaysAt, UsesOctets};
 ghost use Rattle.relay_node.specs.Seats.{IsFull, OthersStay, seat_at};
-ghost use Rattle.relay_records.specs.HeldPlace.{waiting_at};
+ghost use Rattle.relay_records.specs.HeldPlace.{IsWaiting, waiting_at};
 ghost use Rattle.relay_records.specs.Open.{FailsFor, Opens, RefusesImage};
 ghost use Rattle.relay_records.specs.Records.{Halted, Keeps, Stays};
 ghost use Rattle.relay_server.specs.Dialogue.{Said};
@@ -60,7 +60,8 @@ impl<D: Disk> Node<D> {
     pub fn create(alloc: Global, config: Config, disk: D) -> Result<Self, NotOpened<D>>
         ensures keeps { IfOk result (λ node. Keeps D.honest D.words node.records []) }
         ensures idle { IfOk result (IsIdle config) }
-        ensures refused { IfErr result (λ refused. RefusesToMake D.honest D.words disk refused.disk refused.cause) }
+        ensures refused { IfErr result
+            (λ refused. RefusesToMake D.honest D.words disk refused.disk refused.cause) }
         ensures failures { MatchResult result (λ node. FailsNot D.words disk node.records.spool.disk)
             (λ refused. FailsFor D.words disk refused.disk refused.cause) }
         // Where a stop left nothing of the disk before, it leaves no change at any moment of this call.
@@ -214,7 +215,8 @@ impl<D: Disk> Node<D> {
             → CutsTalk D.honest D.words self.old.config changes peer now said piece.now
             self.old.records self.new.records }
         ensures used { IfOk result (UsesOctets (length piece.now)) }
-        ensures rest { OthersStay self.old.seats self.new.seats session × (self.new.config ≡ self.old.config) }
+        ensures rest { OthersStay self.old.seats self.new.seats session
+            × (self.new.config ≡ self.old.config) }
         ensures refused { self.old.records.spool.live ≡ true
             → IfErr result (RefusesToReceive D.words session self.old self.new) }
         ensures stopped { self.old.records.spool.live ≡ false
@@ -265,6 +267,9 @@ impl<D: Disk> Node<D> {
         ensures place { IfOk result (λ found. MatchOption found
             (waiting_at self.now.records.queue number place ≡ None)
             (λ held. waiting_at self.now.records.queue number place ≡ Some (held.path.now, held.due))) }
+        ensures kept { (changes : List Change) → Keeps D.honest D.words self.now.records changes
+            → IfOk result (λ found. MatchOption found (Held changes number place → ⊥)
+            (λ held. IsWaiting changes number place held.path.now held.due)) }
         ensures stopped { (result ≡ Err NodeFault.Stopped) ↔ (self.now.records.spool.live ≡ false) }
         ensures faults { IfErr result (λ fault. fault ≡ NodeFault.Stopped) }
     {

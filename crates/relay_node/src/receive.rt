@@ -46,7 +46,8 @@ pub(crate) fn hear<D: Disk>(
         seat.new.session records.old records.new) }
     ensures cut { (changes : List Change) (said : Said) → Keeps D.honest D.words records.old changes
         → Says (setup_of_config config.now) seat.old.session said → result ≡ Err NodeFault.Stopped
-        → CutsTalk D.honest D.words config.now changes seat.old.peer now said piece.now records.old records.new }
+        → CutsTalk D.honest D.words config.now changes seat.old.peer now said piece.now
+        records.old records.new }
     ensures used { IfOk result (UsesOctets (length piece.now)) }
     ensures refused { IfErr result (RefusesToHear D.words records.old records.new) }
     ensures history { IfOk result (λ _. HasHistory config.now seat.new.session) }
