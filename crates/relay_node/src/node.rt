@@ -60,6 +60,7 @@ impl<D: Disk> Node<D> {
     pub fn create(alloc: Global, config: Config, disk: D) -> Result<Self, NotOpened<D>>
         ensures keeps { IfOk result (λ node. Keeps D.honest D.words node.records []) }
         ensures idle { IfOk result (IsIdle config) }
+        ensures size { IfOk result (λ node. node.records.spool.size ≡ 18) }
         ensures refused { IfErr result
             (λ refused. RefusesToMake D.honest D.words disk refused.disk refused.cause) }
         ensures failures { MatchResult result (λ node. FailsNot D.words disk node.records.spool.disk)

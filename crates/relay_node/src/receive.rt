@@ -60,8 +60,7 @@ pub(crate) fn hear<D: Disk>(
         size: records.size(),
         at: now,
     };
-    let Listened { used, out, end } = intake.listen(alloc, &mut seat.session, piece)?;
-    let mut out = out;
+    let Listened { used, mut out, end } = intake.listen(alloc, &mut seat.session, piece)?;
     match end {
         End::More => Ok(Received {
             used,
