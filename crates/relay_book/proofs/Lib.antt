@@ -23,5 +23,6 @@ mod ReadyLemmas
 mod StoredLemmas
 mod MarkRowLemmas
 mod LeavingLemmas
+mod LengthLemmas
 mod DueLemmas
 pub mod Theorems

@@ -10,6 +10,7 @@ use Rattle.relay_book.specs.Queue.{Queue, FitsFrom, Fitting, empty_queue, step, 
 use Rattle.relay_book.specs.declared.fate.Way.{Way}
 use Rattle.relay_book.specs.declared.fate.Way.TheVariants.{ByTransfer, ByEnd}
 use Rattle.relay_book.specs.Marks.{change_at, made_by, Added, LeavesAt, Left, Held, Transferred, Ended, FoldHolds, FoldKnows, ExactlyOne, IsOneOf, First, Second, Third, OneMoreHolds, Leaving, IsNew}
+use Rattle.relay_book.specs.HeldLaw.{FoldFinds, holds_place}
 use Rattle.relay_book.proofs.PlaceLemmas.{none_some}
 use Rattle.relay_book.proofs.EntryLemmas.{holds, mark_held, held_mark}
 use Rattle.relay_book.proofs.ChangeLemmas.{joined, last, Back, added_other, added_was, added_before, leaves_still, leaves_was, leaves_later, change_within}
@@ -178,3 +179,14 @@ one_more_holds changes change fitting number place = (there, back_again)
       not_left old.0 old.1 ByEnd,
     )
     back_again (inr new) = (new.1, new_stays new.0 ByTransfer, new_stays new.0 ByEnd)
+
+pub fold_finds : FoldFinds
+fold_finds changes fitting number place = (there, back)
+  where
+    there : holds_place (queue_of changes) number place ≡ true → Held changes number place
+    there held = (fold_holds changes fitting number place).0 (mark_held (queue_of changes).messages number place held)
+
+    back : Held changes number place → holds_place (queue_of changes) number place ≡ true
+    back held =
+        let rise = (stand changes fitting).knows.rise in
+        (held_mark 0 (queue_of changes).next (queue_of changes).messages number place rise ((fold_holds changes fitting number place).1 held)).0

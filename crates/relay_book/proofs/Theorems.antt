@@ -3,8 +3,9 @@
 -- records, and the bodies of a spool
 pub use Rattle.relay_book.proofs.ChangeFieldLemmas.{encoding_is_one}
 pub use Rattle.relay_book.proofs.StandLemmas.{none_stand_for_none, one_more_stands, queue_is_read, bodies_stand_for_one}
+pub use Rattle.relay_book.proofs.LengthLemmas.{record_is_short}
 -- custody
-pub use Rattle.relay_book.proofs.MarkLaws.{fold_holds, fold_knows, exactly_one, one_more_holds}
+pub use Rattle.relay_book.proofs.MarkLaws.{fold_finds, fold_holds, fold_knows, exactly_one, one_more_holds}
 pub use Rattle.relay_book.proofs.LeavingLemmas.{queue_leaves, leaving_is_listed}
 pub use Rattle.relay_book.proofs.StoredLemmas.{message_stays, report_may_be_stored}
 -- due moments

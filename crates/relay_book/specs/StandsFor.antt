@@ -1,8 +1,8 @@
 -- What the bodies of a spool stand for: for now they are the encodings of changes, each of which fits those
 -- before it.
-use Rattle.std.specs.Prelude.{◌≡◌, ◌↔◌, ℕ, List, [], ◌∷◌, ◌++◌, map}
+use Rattle.std.specs.Prelude.{◌≡◌, ◌↔◌, ℕ, ◌<◌, ◌^◌, List, [], ◌∷◌, ◌++◌, length, map}
 use Rattle.relay_book.specs.declared.change.Change.{Change}
-use Rattle.relay_book.specs.Record.{encode}
+use Rattle.relay_book.specs.Record.{IsChange, encode}
 use Rattle.relay_book.specs.Queue.{Queue, FitsQueue, Fitting, empty_queue, queue_of, step}
 
 -- the bodies stand for these changes
@@ -45,3 +45,7 @@ abbrev pub BodiesStandForOne : Type 0
 BodiesStandForOne =
     (bodies : List (List ℕ)) (changes others : List Change) → StandsFor bodies changes
     → StandsFor bodies others → changes ≡ others
+
+-- A record is short enough to be a body: its length fits four octets.
+abbrev pub RecordIsShort : Type 0
+RecordIsShort = (change : Change) → IsChange change → length (encode change) < 2 ^ 32

@@ -1,10 +1,16 @@
 //! What is true of the custody of each recipient, by the list of changes.
 ghost use Rattle.relay_book.specs.DueLaw.{FoldDue};
+ghost use Rattle.relay_book.specs.HeldLaw.{FoldFinds};
 ghost use Rattle.relay_book.specs.Marks.{ExactlyOne, FoldHolds, FoldKnows, LeavingIsListed, MessageStays, OneMoreHolds, QueueLeaves, ReportMayBeStored};
 
 /// The queue of a list of changes holds exactly what is held.
 pub fn fold_holds()
     ensures { FoldHolds }
+{}
+
+/// A place is held exactly where the queued message of its number holds it.
+pub fn fold_finds()
+    ensures { FoldFinds }
 {}
 
 /// Each added place is exactly one of held, transferred and ended.

@@ -1,6 +1,6 @@
 //! What is true of records, and of the bodies of a spool.
 ghost use Rattle.relay_book.specs.Record.{EncodingIsOne};
-ghost use Rattle.relay_book.specs.StandsFor.{BodiesStandForOne, NoneStandForNone, OneMoreStands, QueueIsRead};
+ghost use Rattle.relay_book.specs.StandsFor.{BodiesStandForOne, NoneStandForNone, OneMoreStands, QueueIsRead, RecordIsShort};
 
 /// Two changes that may be stored have two encodings.
 pub fn encoding_is_one()
@@ -25,4 +25,9 @@ pub fn queue_is_read()
 /// Bodies stand for one list of changes.
 pub fn bodies_stand_for_one()
     ensures { BodiesStandForOne }
+{}
+
+/// A record is short enough to be a body.
+pub fn record_is_short()
+    ensures { RecordIsShort }
 {}

@@ -1,0 +1,7 @@
+mod SeatLemmas
+mod AcceptLemmas
+mod ListenLemmas
+mod ReceiveLemmas
+mod QueuedLemmas
+mod NodeLemmas
+pub mod Theorems

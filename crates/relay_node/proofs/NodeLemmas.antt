@@ -1,0 +1,114 @@
+-- The sessions of a node with what was said on them, and a call on one of them.
+use Rattle.std.proofs.Common.{◌≡◌, ◌≢◌, ℕ, ◌+◌, ◌≤◌, ◌<◌, zero, suc, Bool, true, false, List, [], ◌∷◌, length, Option, None, Some, refl, sym, ap, ◌∙◌, subst}
+use Rattle.std.specs.Prelude.{slice_set}
+use Rattle.std.proofs.lemmas.List.{get_or-set_same}
+use Rattle.relay_disk.specs.Device.{DiskWords}
+use Rattle.relay_routes.specs.declared.config.Config.{Config}
+use Rattle.relay_server.specs.declared.session.Next.TheVariants as next
+use Rattle.relay_server.specs.declared.session.Session.{Session}
+use Rattle.relay_server.specs.Dialogue.{Said}
+use Rattle.relay_server.specs.Session.{Stands, next_of}
+use Rattle.relay_server.specs.Setup.{Setup, setup_of_config}
+use Rattle.relay_server.proofs.Theorems.{close_is_closed, closed_is_a_dialogue, what_stands_is_a_dialogue}
+use Rattle.relay_book.specs.declared.change.Change.{Change}
+use Rattle.relay_records.specs.Records.{Kept}
+use Rattle.relay_node.specs.declared.receive.Received.{Received}
+use Rattle.relay_node.specs.declared.seats.Seat.{Seat}
+use Rattle.relay_node.specs.Node.{GoesOn, HasClosed, HasHistory, HaveHistories, Hears, Receives, Says, SaysAt, Standing}
+use Rattle.relay_node.specs.Seats.{AreFree, seat_at}
+use Rattle.relay_node.proofs.SeatLemmas.{taken_is_none}
+
+module _ (config : Config) where
+  pub history_at : (seats : List (Option Seat)) (number : ℕ) (seat : Seat) → HaveHistories config seats → seat_at seats number ≡ Some seat → HasHistory config seat.session
+  history_at [] number seat all e = absurd (cc)
+  history_at (None ∷ seats) zero seat all e = absurd (cc)
+  history_at (None ∷ seats) (suc number) seat all e = history_at seats number seat all e
+  history_at (Some first ∷ seats) zero seat all e =
+      let same : first ≡ seat = cc in
+      subst (λ (s : Seat). HasHistory config s.session) same all.0
+  history_at (Some first ∷ seats) (suc number) seat all e = history_at seats number seat all.1 e
+
+  pub taken_histories : (seats : List (Option Seat)) (number : ℕ) → HaveHistories config seats → HaveHistories config (slice_set seats number None)
+  taken_histories [] number all = all
+  taken_histories (None ∷ seats) zero all = all
+  taken_histories (None ∷ seats) (suc number) all = taken_histories seats number all
+  taken_histories (Some first ∷ seats) zero all = all.1
+  taken_histories (Some first ∷ seats) (suc number) all = (all.0, taken_histories seats number all.1)
+
+  pub put_histories : (seats : List (Option Seat)) (number : ℕ) (seat : Seat) → HaveHistories config seats → HasHistory config seat.session → HaveHistories config (slice_set seats number (Some seat))
+  put_histories [] number seat all history = all
+  put_histories (None ∷ seats) zero seat all history = (history, all)
+  put_histories (None ∷ seats) (suc number) seat all history = put_histories seats number seat all history
+  put_histories (Some first ∷ seats) zero seat all history = (history, all.1)
+  put_histories (Some first ∷ seats) (suc number) seat all history = (all.0, put_histories seats number seat all.1 history)
+
+  -- where a seat was taken out
+  pub rest_has_histories : (seats rest : List (Option Seat)) (number : ℕ) → rest ≡ slice_set seats number None → HaveHistories config seats → HaveHistories config rest
+  rest_has_histories seats rest number is all = subst (HaveHistories config) (sym is) (taken_histories seats number all)
+
+  -- where one was put
+  pub all_have_histories : (seats all : List (Option Seat)) (number : ℕ) (seat : Seat) → all ≡ slice_set seats number (Some seat) → HaveHistories config seats → HasHistory config seat.session → HaveHistories config all
+  all_have_histories seats all number seat is before history = subst (HaveHistories config) (sym is) (put_histories seats number seat before history)
+
+  -- nothing was said on free seats
+  pub free_histories : (seats : List (Option Seat)) → AreFree seats → HaveHistories config seats
+  free_histories [] free = tt
+  free_histories (None ∷ seats) free = free_histories seats free
+  free_histories (Some seat ∷ seats) free = absurd free
+
+  -- a session was put under its number
+  pub says_at : (seats all : List (Option Seat)) (number : ℕ) (seat : Seat) (peer : List ℕ) (said : Said) → number < length seats → all ≡ slice_set seats number (Some seat) → seat.peer ≡ peer → Says (setup_of_config config) seat.session said → SaysAt config all number peer said
+  says_at seats all number seat peer said within is peer_is says = record {
+    seat = seat;
+    at = ap (λ (l : List (Option Seat)). seat_at l number) is ∙ get_or-set_same seats number (Some seat) None within;
+    peer_is = peer_is;
+    says = says;
+  }
+
+-- a node of these parts
+abbrev standing_of : {D : Type 0} → Config → List (Option Seat) → Kept D → Standing D
+standing_of config seats records = record { config = config; seats = seats; records = records }
+
+-- a session that tells its caller to close has closed
+has_closed : (setup : Setup) (session : Session) (said : Said) → Stands setup session said → next_of session ≡ next.Close → HasClosed setup said
+has_closed setup session said stands told = record {
+  dialogue = what_stands_is_a_dialogue setup session said stands;
+  unread = λ octets. closed_is_a_dialogue setup session said octets stands (close_is_closed setup session said stands told);
+}
+
+-- the seat that was taken out is the session's
+one_some : (seat other : Seat) → Some seat ≡ Some other → seat ≡ other
+one_some seat other e = cc
+
+module _ {D : Type 0} (honest : Type 0) (words : DiskWords D) (config : Config) (changes : List Change) (peer : List ℕ) (at number : ℕ) (said : Said) (piece : List ℕ)
+    (old : List (Option Seat)) (taken : Seat) (is : SaysAt config old number peer said) (was : Some taken ≡ seat_at old number) where
+  pub peer_of_taken : taken.peer ≡ peer
+  peer_of_taken = ap (λ (s : Seat). s.peer) (one_some taken is.seat (was ∙ is.at)) ∙ is.peer_is
+
+  pub taken_says : Says (setup_of_config config) taken.session said
+  taken_says = subst (λ (s : Seat). Says (setup_of_config config) s.session said) (sym (one_some taken is.seat (was ∙ is.at))) is.says
+
+  module _ (new : Seat) (peer_kept : new.peer ≡ taken.peer) (before after : Kept D) (received : Received)
+      (hears : Says (setup_of_config config) taken.session said → Hears honest words config changes taken.peer at said piece new.session before after received) where
+    heard : Hears honest words config changes peer at said piece new.session before after received
+    heard = subst (λ p. Hears honest words config changes p at said piece new.session before after received) peer_of_taken (hears taken_says)
+
+    -- the session was put back
+    pub receives_on : (mid all : List (Option Seat)) → received.close ≡ false → number < length mid → all ≡ slice_set mid number (Some new)
+        → Receives honest words config changes peer at number said piece (standing_of config old before) (standing_of config all after) received
+    receives_on mid all going within set = record {
+      later = heard.later;
+      goes_on = subst (GoesOn config all number peer heard.later) (sym going) (says_at config mid all number new peer heard.later within set (peer_kept ∙ peer_of_taken) heard.says);
+      talks = heard.talks;
+    }
+
+    -- the session has closed
+    pub receives_last : (rest : List (Option Seat)) → received.close ≡ true → rest ≡ slice_set old number None
+        → Receives honest words config changes peer at number said piece (standing_of config old before) (standing_of config rest after) received
+    receives_last rest is_last set = record {
+      later = heard.later;
+      goes_on =
+          subst (GoesOn config rest number peer heard.later) (sym is_last)
+          (ap (λ (l : List (Option Seat)). seat_at l number) set ∙ taken_is_none old number, has_closed (setup_of_config config) new.session heard.later heard.says.stands (heard.closed is_last));
+      talks = heard.talks;
+    }

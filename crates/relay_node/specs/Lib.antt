@@ -1,0 +1,6 @@
+pub mod Seats
+pub mod Acceptance
+pub mod Room
+pub mod Queued
+pub mod Listening
+pub mod Node

@@ -1,0 +1,37 @@
+-- Which offers the spool has room for, and how those without are answered.
+use Rattle.std.specs.Prelude.{◌≡◌, ℕ, ◌+◌, ◌≤◌, ◌<◌, ◌^◌, List, [], ◌∷◌, ◌++◌, length, map}
+use Rattle.relay_server.specs.declared.offer.Answer.{Answer}
+use Rattle.relay_server.specs.declared.offer.Answer.TheVariants as answer
+use Rattle.relay_server.specs.Dialogue.{Offered, Said}
+use Rattle.relay_book.specs.declared.change.Accept.{Accept}
+use Rattle.relay_book.specs.declared.change.Change.TheVariants as change
+use Rattle.relay_book.specs.Record.{encode}
+use Rattle.relay_node.specs.Acceptance.{Acceptance, IsAcceptOf}
+
+-- the octets that a spool of this size takes with the record of an accept: five stand around the record
+abbrev pub size_with : ℕ → Accept → ℕ
+size_with size accept = size + 5 + length (encode (change.Accept accept))
+
+-- the number may be a change's; with the record of this offer's accept the spool would pass its limit
+pub record Overfills (acceptance : Acceptance) (limit size : ℕ) (offer : Offered) : Type 0 where
+  pub number : acceptance.number ≤ 2 ^ 62
+  pub accept : Accept
+  pub is_accept : IsAcceptOf acceptance offer accept
+  pub passes : limit < size_with size accept
+
+-- the number may be a change's; with the record of this offer's accept the spool stays within its limit
+pub record HasRoom (acceptance : Acceptance) (limit size : ℕ) (offer : Offered)
+    (accept : Accept) : Type 0 where
+  pub number : acceptance.number ≤ 2 ^ 62
+  pub is_accept : IsAcceptOf acceptance offer accept
+  pub room : size_with size accept ≤ limit
+
+-- each of these offers is answered that there is no room for it
+abbrev pub refusals : List Offered → List Answer
+refusals offers = map (λ _. answer.Full) offers
+
+-- behind what was said these offers were refused for want of room, and then these were made and had these
+-- answers
+pub record AnswersMore (said later : Said) (refused last : List Offered) (given : List Answer) : Type 0 where
+  pub offers : later.offers ≡ said.offers ++ (refused ++ last)
+  pub answers : later.answers ≡ said.answers ++ (refusals refused ++ given)

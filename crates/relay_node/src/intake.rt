@@ -1,0 +1,75 @@
+ghost use Rattle.std.specs.Prelude.{◌≡◌, ◌↔◌, ◌<◌, ◌^◌, IfOk, IfErr, Err, ◌⊎◌, ◌∷◌, []};
+ghost use Rattle.relay_node.specs.Listening.{Considers};
+ghost use Rattle.relay_server.specs.Dialogue.{Offered};
+ghost use Rattle.relay_server.specs.DialogueLaws.{MayBeStored};
+ghost use Rattle.relay_server.specs.Session.{HasOffer, open_offers};
+ghost use Rattle.relay_server.specs.Setup.{setup_of_config};
+
+use crate::accept::accept_of;
+use relay_book::{Change, encode_change};
+use relay_octets::Octets;
+use relay_records::NodeFault;
+use relay_routes::Config;
+use relay_server::Session;
+use relay_trace::Moment;
+use std::alloc::Global;
+
+/// The greatest number of a change.
+const LAST_NUMBER: u64 = 1 << 62;
+
+/// How many octets of a spool stand around each record.
+const AROUND_RECORD: u64 = 5;
+
+/// What a node accepts mail by in one call.
+#[derive(Clone, Copy)]
+pub(crate) struct Intake<'a> {
+    pub(crate) config: &'a Config,
+    /// The IPv4 address of the client.
+    pub(crate) peer: [u8; 4],
+    /// The number of the next change.
+    pub(crate) number: u64,
+    /// How many octets the spool takes.
+    pub(crate) size: usize,
+    /// When mail counts as accepted.
+    pub(crate) at: Moment,
+}
+
+/// An accept that there is room for, and its record.
+#[derive(Drop)]
+pub(crate) struct Taken {
+    pub(crate) change: Change,
+    pub(crate) octets: Octets,
+}
+
+impl Intake<'_> {
+    /// The accept of the offer that is open, and none where its record would bring the spool past its
+    /// limit. It answers `Full` exactly where changes have no numbers any more, and else fails where
+    /// memory runs out.
+    pub(crate) fn consider(
+        &self,
+        alloc: Global,
+        session: &Session,
+    ) -> Result<Option<Taken>, NodeFault>
+        requires offer { HasOffer session.now }
+        requires stored { (offer : Offered) → open_offers session.now ≡ offer ∷ []
+            → MayBeStored (setup_of_config self.now.config.now) offer }
+        ensures considers { IfOk result (Considers self.now session.now) }
+        ensures full { (result ≡ Err NodeFault.Full) ↔ (2 ^ 62 < self.now.number) }
+        ensures refused { IfErr result (λ fault. (fault ≡ NodeFault.NoMemory) ⊎ (fault ≡ NodeFault.Full)) }
+    {
+        if self.number > LAST_NUMBER {
+            return Err(NodeFault::Full);
+        }
+        let Some(offer) = session.offer() else {
+            unreachable!()
+        };
+        let accept = accept_of(alloc, self.config, self.peer, self.number, self.at, &offer)?;
+        let change = Change::Accept(accept);
+        let octets = Octets::new(encode_change(alloc, &change)?);
+        let room = self.config.spool_limit.saturating_sub(self.size as u64);
+        if room < AROUND_RECORD + octets.len() as u64 {
+            return Ok(None);
+        }
+        Ok(Some(Taken { change, octets }))
+    }
+}

@@ -1,0 +1,7 @@
+//! What is true of the calls of a node, whoever makes them.
+ghost use Rattle.relay_node.specs.Queued.{QueuedGrows};
+
+/// A call on a session adds to the offers that were queued just those that it queues.
+pub fn queued_grows()
+    ensures { QueuedGrows }
+{}

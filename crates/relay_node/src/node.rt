@@ -1,0 +1,310 @@
+ghost use Rattle.std.specs.Prelude.{◌≡◌, ◌↔◌, ◌+◌, ◌⊎◌, ℕ, [], true, false, List, length, Option, None, Some, Err, IfErr, IfOk, OnOk, MatchOption, MatchResult};
+ghost use Rattle.std.specs.List.{Contains};
+ghost use Rattle.relay_book.specs.declared.change.Change.{Change};
+ghost use Rattle.relay_book.specs.Marks.{Held};
+ghost use Rattle.relay_book.specs.Queue.{held_of};
+ghost use Rattle.relay_disk.specs.Device.{AddsNoImage, FailsNot, Only};
+ghost use Rattle.relay_node.specs.Node.{Connects, CutsTalk, IsFused, IsIdle, Receives, RefusesToConnect, RefusesToEnd, RefusesToMake, RefusesToReceive, SaysAt, UsesOctets};
+ghost use Rattle.relay_node.specs.Seats.{IsFull, OthersStay, seat_at};
+ghost use Rattle.relay_records.specs.HeldPlace.{IsWaiting, waiting_at};
+ghost use Rattle.relay_records.specs.Open.{FailsFor, Opens, RefusesImage};
+ghost use Rattle.relay_records.specs.Records.{Halted, Keeps, Stays};
+ghost use Rattle.relay_server.specs.Dialogue.{Said};
+ghost use Rattle.relay_spool.specs.Image.{HasNoBody};
+ghost use Rattle.relay_spool.specs.Spool.{AtEachMoment, OnlyReads};
+
+use crate::receive::{Received, hear};
+use crate::seats::{Seat, Seats};
+use relay_disk::{Disk, Reboot};
+use relay_records::{Cause, HeldPlace, NodeFault, NotOpened, Noted, Records};
+use relay_routes::Config;
+use relay_server::Session;
+use relay_spool::SpoolFault;
+use relay_trace::Moment;
+use std::alloc::Global;
+use std::marker::Model;
+
+/// A session that was opened.
+#[derive(Debug, Drop)]
+pub struct Connected {
+    /// Its number, 0 to 63.
+    pub session: usize,
+    /// What goes to the client: the greeting.
+    pub out: Vec<u8>,
+}
+
+/// A node: up to 64 sessions, and the records of the mail that they took in. Where the device fails,
+/// the node is stopped: every later call answers that, but for `into_disk`, `take_noted` and
+/// `next_number`, and its disk has to be opened again.
+pub struct Node<D: Disk> {
+    alloc: Global,
+    config: Config,
+    seats: Seats,
+    records: Records<D>,
+}
+
+// Written out, so that a crate that drops a node calls this, and doesn't look into each part where it
+// drops one.
+impl<D: Disk + Drop> Drop for Node<D> {
+    fn drop(self) {
+        let Node {
+            alloc: _,
+            config: _config,
+            seats: _seats,
+            records: _records,
+        } = self;
+    }
+}
+
+impl<D: Disk> Model for Node<D> {
+    ghost use Rattle.relay_node.specs.Node.{Standing, HaveHistories};
+
+    ghost Value = { Standing D };
+
+    ghost view = { λ node. record { config = node.config; seats = node.seats; records = node.records } };
+
+    ghost invariant = { λ node. HaveHistories node.config node.seats };
+}
+
+impl<D: Disk> Node<D> {
+    /// A node without changes, on a disk of size 0. A disk that isn't empty comes back unchanged, and
+    /// one that failed with any octets.
+    pub fn create(alloc: Global, config: Config, disk: D) -> Result<Self, NotOpened<D>>
+        ensures keeps { IfOk result (λ node. Keeps D.honest D.words node.records []) }
+        ensures idle { IfOk result (IsIdle config) }
+        ensures size { IfOk result (λ node. node.records.spool.size ≡ 18) }
+        ensures refused { IfErr result
+            (λ refused. RefusesToMake D.honest D.words disk refused.disk refused.cause) }
+        ensures failures { MatchResult result (λ node. FailsNot D.words disk node.records.spool.disk)
+            (λ refused. FailsFor D.words disk refused.disk refused.cause) }
+        // Where a stop left nothing of the disk before, it leaves no change at any moment of this call.
+        ensures stop { D.honest → Only [] (D.words.may_leave disk) → MatchResult result
+            (λ node. AtEachMoment D.words disk node.records.spool.disk HasNoBody)
+            (λ refused. AtEachMoment D.words disk refused.disk HasNoBody) }
+    {
+        let Ok(seats) = Seats::new(alloc) else {
+            return Err(NotOpened {
+                cause: Cause::Spool(SpoolFault::NoMemory),
+                disk,
+            });
+        };
+        match Records::create(alloc, disk) {
+            Ok(records) => Ok(Node {
+                alloc,
+                config,
+                seats,
+                records,
+            }),
+            Err(refused) => Err(refused),
+        }
+    }
+
+    /// A node of the changes that a disk holds, whatever configuration they were made under. The disk
+    /// is synced and read, and not written: it comes back as it was where it is refused.
+    pub fn open(alloc: Global, config: Config, disk: D) -> Result<Self, NotOpened<D>>
+        ensures opens { IfOk result (λ node. Opens D.honest D.words disk node.records) }
+        ensures idle { IfOk result (IsIdle config) }
+        ensures refused { IfErr result (λ refused. RefusesImage D.honest (D.words.seen disk) refused.cause) }
+        ensures keeps { D.honest → MatchResult result
+            (λ node. OnlyReads D.words disk node.records.spool.disk)
+            (λ refused. OnlyReads D.words disk refused.disk) }
+        ensures failures { MatchResult result (λ node. FailsNot D.words disk node.records.spool.disk)
+            (λ refused. FailsFor D.words disk refused.disk refused.cause) }
+    {
+        let Ok(seats) = Seats::new(alloc) else {
+            return Err(NotOpened {
+                cause: Cause::Spool(SpoolFault::NoMemory),
+                disk,
+            });
+        };
+        match Records::open(alloc, disk) {
+            Ok(records) => Ok(Node {
+                alloc,
+                config,
+                seats,
+                records,
+            }),
+            Err(refused) => Err(refused),
+        }
+    }
+
+    /// The disk, live or stopped. It takes no memory.
+    pub fn into_disk(self) -> D
+        ensures { result ≡ self.records.spool.disk }
+    {
+        let Node {
+            alloc: _,
+            config: _config,
+            seats: _seats,
+            records,
+        } = self;
+        records.into_disk()
+    }
+
+    /// The number of the next change, live or stopped. It takes no memory.
+    pub fn next_number(&self) -> u64
+        ensures number { result ≡ self.now.records.queue.next }
+        ensures kept { (changes : List Change) → Keeps D.honest D.words self.now.records changes
+            → result ≡ length changes + 1 }
+        ensures halted { (changes : List Change) (pending : Option Change)
+            → Halted D.honest D.words self.now.records changes pending → result ≡ length changes + 1 }
+    {
+        self.records.next_number()
+    }
+
+    /// The last change whose append was begun, live or stopped. It is handed out once, and takes no
+    /// memory.
+    pub fn take_noted(&mut self) -> Option<Noted>
+        ensures noted { result ≡ self.old.records.noted }
+        ensures rest { self.new ≡ record self.old { records = record self.old.records { noted = None } } }
+    {
+        self.records.take_noted()
+    }
+
+    /// Opens a session for a client at this address, under the least free number, and greets it.
+    pub fn connect(&mut self, peer: [u8; 4]) -> Result<Connected, NodeFault>
+        ensures connects { IfOk result (Connects peer self.old self.new) }
+        ensures rest { (self.new.records ≡ self.old.records) × (self.new.config ≡ self.old.config) }
+        ensures refused { IfErr result (RefusesToConnect self.old self.new) }
+        ensures stopped { (result ≡ Err NodeFault.Stopped) ↔ (self.old.records.spool.live ≡ false) }
+        ensures too_many { (result ≡ Err NodeFault.TooMany)
+            ↔ ((self.old.records.spool.live ≡ true) × IsFull self.old.seats) }
+    {
+        if !self.records.is_live() {
+            return Err(NodeFault::Stopped);
+        }
+        let Some(number) = self.seats.free() else {
+            return Err(NodeFault::TooMany);
+        };
+        let Ok((session, out)) = Session::new(self.alloc, &self.config) else {
+            return Err(NodeFault::NoMemory);
+        };
+        self.seats.put(number, Seat { session, peer });
+        Ok(Connected {
+            session: number,
+            out,
+        })
+    }
+
+    /// Frees the number of a session whose connection has ended. It takes no memory.
+    pub fn ended(&mut self, session: usize) -> Result<(), NodeFault>
+        ensures gone { OnOk result (seat_at self.new.seats session ≡ None) }
+        ensures others { OthersStay self.old.seats self.new.seats session }
+        ensures rest { (self.new.records ≡ self.old.records) × (self.new.config ≡ self.old.config) }
+        ensures refused { IfErr result (RefusesToEnd self.old self.new) }
+        ensures stopped { (result ≡ Err NodeFault.Stopped) ↔ (self.old.records.spool.live ≡ false) }
+        ensures unknown { (result ≡ Err NodeFault.Unknown)
+            ↔ ((self.old.records.spool.live ≡ true) × (seat_at self.old.seats session ≡ None)) }
+    {
+        if !self.records.is_live() {
+            return Err(NodeFault::Stopped);
+        }
+        let Some(_seat) = self.seats.take(session) else {
+            return Err(NodeFault::Unknown);
+        };
+        Ok(())
+    }
+
+    /// Uses octets of a client, all of them or up to a change or a close. The answer 250 to mail is
+    /// handed out only behind the append of its change: from then on every stop leaves it. A message
+    /// whose record would bring the spool past the configured limit is answered that the spool is full
+    /// (452), and the session goes on. Want of memory, and `Full` where a message came and changes have no
+    /// numbers any more, end the session without an octet.
+    pub fn receive(
+        &mut self,
+        session: usize,
+        piece: &[u8],
+        now: Moment,
+    ) -> Result<Received, NodeFault>
+        ensures receives { (changes : List Change) (peer : List ℕ) (said : Said)
+            → Keeps D.honest D.words self.old.records changes
+            → SaysAt self.old.config self.old.seats session peer said
+            → IfOk result (Receives D.honest D.words self.old.config changes peer now session said piece.now
+            self.old self.new) }
+        ensures cut { (changes : List Change) (peer : List ℕ) (said : Said)
+            → Keeps D.honest D.words self.old.records changes
+            → SaysAt self.old.config self.old.seats session peer said
+            → result ≡ Err NodeFault.Stopped
+            → CutsTalk D.honest D.words self.old.config changes peer now said piece.now
+            self.old.records self.new.records }
+        ensures used { IfOk result (UsesOctets (length piece.now)) }
+        ensures rest { OthersStay self.old.seats self.new.seats session
+            × (self.new.config ≡ self.old.config) }
+        ensures refused { self.old.records.spool.live ≡ true
+            → IfErr result (RefusesToReceive D.words session self.old self.new) }
+        ensures stopped { self.old.records.spool.live ≡ false
+            → (result ≡ Err NodeFault.Stopped) × (self.new ≡ self.old) }
+        ensures unknown { (result ≡ Err NodeFault.Unknown)
+            ↔ ((self.old.records.spool.live ≡ true) × (seat_at self.old.seats session ≡ None)) }
+    {
+        if !self.records.is_live() {
+            return Err(NodeFault::Stopped);
+        }
+        let Some(seat) = self.seats.take(session) else {
+            return Err(NodeFault::Unknown);
+        };
+        let mut seat = seat;
+        let received = hear(
+            self.alloc,
+            &self.config,
+            &mut self.records,
+            &mut seat,
+            piece,
+            now,
+        )?;
+        if received.close {
+            return Ok(received);
+        }
+        self.seats.put(session, seat);
+        Ok(received)
+    }
+
+    /// All held places, each with the number of its message, in order.
+    pub fn marks(&self, alloc: Global) -> Result<Vec<(u64, u8)>, NodeFault>
+        ensures marks { IfOk result (λ marks. marks.items ≡ held_of self.now.records.queue) }
+        ensures kept { (changes : List Change) → Keeps D.honest D.words self.now.records changes
+            → IfOk result (λ marks. (number place : ℕ)
+            → Contains {X = ℕ × ℕ} marks.items (number, place) ↔ Held changes number place) }
+        ensures stopped { (result ≡ Err NodeFault.Stopped) ↔ (self.now.records.spool.live ≡ false) }
+        ensures faults { IfErr result (λ fault. (fault ≡ NodeFault.Stopped) ⊎ (fault ≡ NodeFault.NoMemory)) }
+    {
+        if !self.records.is_live() {
+            return Err(NodeFault::Stopped);
+        }
+        Ok(self.records.held(alloc)?)
+    }
+
+    /// The path of a held place, and when it is due; none where no place is held there. It takes no
+    /// memory.
+    pub fn place(&self, number: u64, place: u8) -> Result<Option<HeldPlace<'_>>, NodeFault>
+        ensures place { IfOk result (λ found. MatchOption found
+            (waiting_at self.now.records.queue number place ≡ None)
+            (λ held. waiting_at self.now.records.queue number place ≡ Some (held.path.now, held.due))) }
+        ensures kept { (changes : List Change) → Keeps D.honest D.words self.now.records changes
+            → IfOk result (λ found. MatchOption found (Held changes number place → ⊥)
+            (λ held. IsWaiting changes number place held.path.now held.due)) }
+        ensures stopped { (result ≡ Err NodeFault.Stopped) ↔ (self.now.records.spool.live ≡ false) }
+        ensures faults { IfErr result (λ fault. fault ≡ NodeFault.Stopped) }
+    {
+        if !self.records.is_live() {
+            return Err(NodeFault::Stopped);
+        }
+        Ok(self.records.place(number, place))
+    }
+}
+
+impl<D: Reboot> Node<D> {
+    /// Sets the fuse of the disk: so many calls pass, and each later one fails. Nothing else changes.
+    pub fn fuse(&mut self, calls: u64)
+        ensures rest { (self.new.config ≡ self.old.config) × (self.new.seats ≡ self.old.seats) }
+        ensures same { IsFused self.old.records self.new.records }
+        ensures kept { (changes : List Change) → Keeps D.Disk.honest D.Disk.words self.old.records changes
+            → Stays D.Disk.honest D.Disk.words self.old.records self.new.records changes }
+        ensures stop { D.Disk.honest
+            → AddsNoImage D.Disk.words self.old.records.spool.disk self.new.records.spool.disk }
+        ensures failures { FailsNot D.Disk.words self.old.records.spool.disk self.new.records.spool.disk }
+        ensures fuse { D.Disk.words.calls_left self.new.records.spool.disk ≡ Some calls }
+    {
+        self.records.fuse(calls);
+    }
+}

@@ -1,0 +1,90 @@
+ghost use Rattle.std.specs.Prelude.{◌≡◌, List, length, IfErr, IfOk, IsTrue, Err};
+ghost use Rattle.relay_book.specs.declared.change.Change.{Change};
+ghost use Rattle.relay_node.specs.Node.{CutsTalk, HasHistory, Hears, RefusesToHear, Says, UsesOctets};
+ghost use Rattle.relay_records.specs.Records.{Keeps};
+ghost use Rattle.relay_server.specs.Dialogue.{Said};
+ghost use Rattle.relay_server.specs.Setup.{setup_of_config};
+
+use crate::intake::Intake;
+use crate::listen::{End, Listened};
+use crate::seats::Seat;
+use relay_disk::Disk;
+use relay_records::{NodeFault, Records};
+use relay_routes::Config;
+use relay_server::Answer;
+use relay_trace::Moment;
+use std::alloc::Global;
+
+/// What a node has done with octets of a client.
+#[derive(Debug, Drop)]
+pub struct Received {
+    /// How many octets of the piece it has used.
+    pub used: usize,
+    /// What goes to the client.
+    pub out: Vec<u8>,
+    /// The number of the change that was made, if one was.
+    pub change: Option<u64>,
+    /// The session is gone: what there is to write is written, and the connection closed.
+    pub close: bool,
+}
+
+/// Hears a client, up to a change or a close, or to the end of the piece. The reply to an offer is
+/// made before its change is added, and handed out behind that alone.
+pub(crate) fn hear<D: Disk>(
+    alloc: Global,
+    config: &Config,
+    records: &mut Records<D>,
+    seat: &mut Seat,
+    piece: &[u8],
+    now: Moment,
+) -> Result<Received, NodeFault>
+    requires live { IsTrue records.old.spool.live }
+    requires history { HasHistory config.now seat.old.session }
+    ensures hears { (changes : List Change) (said : Said) → Keeps D.honest D.words records.old changes
+        → Says (setup_of_config config.now) seat.old.session said
+        → IfOk result (Hears D.honest D.words config.now changes seat.old.peer now said piece.now
+        seat.new.session records.old records.new) }
+    ensures cut { (changes : List Change) (said : Said) → Keeps D.honest D.words records.old changes
+        → Says (setup_of_config config.now) seat.old.session said → result ≡ Err NodeFault.Stopped
+        → CutsTalk D.honest D.words config.now changes seat.old.peer now said piece.now
+        records.old records.new }
+    ensures used { IfOk result (UsesOctets (length piece.now)) }
+    ensures refused { IfErr result (RefusesToHear D.words records.old records.new) }
+    ensures history { IfOk result (λ _. HasHistory config.now seat.new.session) }
+    ensures peer { seat.new.peer ≡ seat.old.peer }
+{
+    let intake = Intake {
+        config,
+        peer: seat.peer,
+        number: records.next_number(),
+        size: records.size(),
+        at: now,
+    };
+    let Listened { used, mut out, end } = intake.listen(alloc, &mut seat.session, piece)?;
+    match end {
+        End::More => Ok(Received {
+            used,
+            out,
+            change: None,
+            close: false,
+        }),
+        End::Close => Ok(Received {
+            used,
+            out,
+            change: None,
+            close: true,
+        }),
+        End::Taken(taken) => {
+            seat.session.reply(Answer::Queued(intake.number), &mut out)?;
+            match records.add(alloc, taken.change, taken.octets, used) {
+                Ok(number) => Ok(Received {
+                    used,
+                    out,
+                    change: Some(number),
+                    close: false,
+                }),
+                Err(fault) => Err(fault),
+            }
+        }
+    }
+}

@@ -1,0 +1,6 @@
+mod ListLemmas
+mod RecordLemmas
+mod ReadLemmas
+mod LawLemmas
+mod PlaceLemmas
+pub mod Theorems

@@ -1,0 +1,5 @@
+pub mod Note
+pub mod Records
+pub mod Open
+pub mod HeldPlace
+pub mod ListLaws

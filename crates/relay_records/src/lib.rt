@@ -1,0 +1,16 @@
+//! The records of a node: the spool, the queue and the note, which one call grows by a change.
+#![tactic(auto)]
+
+mod add;
+mod fault;
+pub mod list_laws;
+mod noted;
+mod open;
+mod place;
+mod reading;
+mod records;
+
+pub use fault::{Cause, NodeFault, NotOpened};
+pub use noted::Noted;
+pub use place::HeldPlace;
+pub use records::Records;

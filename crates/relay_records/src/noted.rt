@@ -1,0 +1,68 @@
+//! The note of the last append that was begun.
+ghost use Rattle.std.specs.Prelude.{◌≡◌, IfOk};
+ghost use Rattle.relay_records.specs.Note.{NotesNext, accepted_by, queues_report};
+
+use relay_book::{Book, Change, Way};
+use relay_octets::Octets;
+use std::alloc::{AllocError, Global};
+
+/// The last change whose append was begun, also where a stop left it open.
+#[derive(Debug, Drop)]
+pub struct Noted {
+    /// Its number.
+    pub number: u64,
+    /// Its record.
+    pub octets: Octets,
+    /// How many octets of its piece the call had used when the append began.
+    pub used: usize,
+    /// The recipients of an accept; 0 for an outcome.
+    pub accepted: usize,
+    /// Each place that left by it, in order, and how.
+    pub left: Vec<(u8, Way)>,
+    /// Whether it queued a report.
+    pub report: bool,
+}
+
+/// How many recipients a change accepts.
+fn accepted_by(change: &Change) -> usize
+    ensures { result ≡ accepted_by change.now }
+{
+    match change {
+        Change::Accept(accept) => accept.envelope.recipients.as_slice().len(),
+        Change::Outcome(_) => 0,
+    }
+}
+
+/// Whether a change queues a report.
+fn queues_report(change: &Change) -> bool
+    ensures { result ≡ queues_report change.now }
+{
+    match change {
+        Change::Accept(_) => false,
+        Change::Outcome(outcome) => match outcome.report.as_slice() {
+            [] => false,
+            [_, ..] => true,
+        },
+    }
+}
+
+/// The note of the next change, of which these octets are the record. It fails where memory runs out.
+pub(crate) fn note_of(
+    alloc: Global,
+    book: &Book,
+    change: &Change,
+    octets: Octets,
+    used: usize,
+) -> Result<Noted, AllocError>
+    ensures { IfOk result (NotesNext book.now.queue change.now octets used) }
+{
+    let left = book.leaving(alloc, change)?;
+    Ok(Noted {
+        number: book.next_number(),
+        octets,
+        used,
+        accepted: accepted_by(change),
+        left,
+        report: queues_report(change),
+    })
+}

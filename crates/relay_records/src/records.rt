@@ -1,0 +1,152 @@
+//! The records of a node, and what they answer.
+ghost use Rattle.std.specs.Prelude.{◌≡◌, ◌↔◌, ◌+◌, ◌≤◌, ◌^◌, ℕ, List, length, Option, None, Some, IfOk, IfSome, IsTrue, MatchOption};
+ghost use Rattle.std.specs.List.{Contains};
+ghost use Rattle.std.specs.Option.{option_copied, option_map};
+ghost use Rattle.relay_disk.specs.Device.{AddsNoImage, FailsNot};
+ghost use Rattle.relay_book.specs.declared.change.Change.{Change};
+ghost use Rattle.relay_book.specs.Marks.{Held, IsQueuedAs};
+ghost use Rattle.relay_book.specs.Queue.{due_of, held_of, message_of};
+ghost use Rattle.relay_records.specs.Records.{Halted, Keeps, Stays};
+ghost use Rattle.relay_records.specs.HeldPlace.{IsWaiting, waiting_at};
+
+use crate::noted::Noted;
+use crate::place::{HeldPlace, held_place};
+use relay_book::{Book, Message};
+use relay_disk::{Disk, Reboot};
+use relay_spool::Spool;
+use relay_trace::Moment;
+use std::alloc::{AllocError, Global};
+use std::marker::Model;
+use std::mem;
+
+/// The greatest number of a change.
+pub(crate) const LAST_NUMBER: u64 = 1 << 62;
+
+/// All that a change touches: the spool, the queue that its bodies leave, and the note of the last append
+/// that was begun.
+#[derive(Drop)]
+pub struct Records<D: Disk> {
+    pub(crate) spool: Spool<D>,
+    pub(crate) book: Book,
+    pub(crate) noted: Option<Noted>,
+}
+
+impl<D: Disk> Model for Records<D> {
+    ghost use Rattle.relay_records.specs.Records.{Kept};
+
+    ghost Value = { Kept D };
+
+    ghost view = { λ r. record { spool = r.spool; queue = r.book.queue; noted = r.noted } };
+}
+
+impl<D: Disk> Records<D> {
+    /// The number of the next change, live or stopped. It takes no memory.
+    pub fn next_number(&self) -> u64
+        ensures number { result ≡ self.now.queue.next }
+        ensures kept { (changes : List Change) → Keeps D.honest D.words self.now changes
+            → result ≡ length changes + 1 }
+        ensures halted { (changes : List Change) (pending : Option Change)
+            → Halted D.honest D.words self.now changes pending → result ≡ length changes + 1 }
+    {
+        self.book.next_number()
+    }
+
+    /// Whether another change can be numbered: numbers end at 2^62. It takes no memory.
+    pub fn has_number(&self) -> bool
+        ensures { IsTrue result ↔ (self.now.queue.next ≤ 2 ^ 62) }
+    {
+        self.next_number() <= LAST_NUMBER
+    }
+
+    /// Whether no device call has failed. It takes no memory.
+    pub fn is_live(&self) -> bool
+        ensures { result ≡ self.now.spool.live }
+    {
+        self.spool.is_live()
+    }
+
+    /// How many octets the spool takes. It takes no memory.
+    pub fn size(&self) -> usize
+        ensures size { result ≡ self.now.spool.size }
+        ensures limit { result ≤ 2 ^ 40 }
+    {
+        self.spool.size()
+    }
+
+    /// The message of a number, while a place of it is held. It takes no memory.
+    pub fn message(&self, number: u64) -> Option<&Message>
+        ensures message { option_copied result ≡ message_of self.now.queue.messages number }
+        ensures kept { (changes : List Change) → Keeps D.honest D.words self.now changes
+            → IfSome result (λ message. IsQueuedAs changes number message.now) }
+    {
+        self.book.message(number)
+    }
+
+    /// All held places, each with the number of its message, in order. It fails where memory runs out.
+    pub fn held(&self, alloc: Global) -> Result<Vec<(u64, u8)>, AllocError>
+        ensures held { IfOk result (λ marks. marks.items ≡ held_of self.now.queue) }
+        ensures kept { (changes : List Change) → Keeps D.honest D.words self.now changes
+            → IfOk result (λ marks. (number place : ℕ)
+            → Contains {X = ℕ × ℕ} marks.items (number, place) ↔ Held changes number place) }
+    {
+        self.book.held(alloc)
+    }
+
+    /// The held places that are due at a moment or before, each with the number of its message, in order. It
+    /// fails where memory runs out.
+    pub fn due(&self, alloc: Global, now: Moment) -> Result<Vec<(u64, u8)>, AllocError>
+        ensures { IfOk result (λ marks. marks.items ≡ due_of now self.now.queue) }
+    {
+        self.book.due(alloc, now)
+    }
+
+    /// A place of a message, where it is held. It takes no memory.
+    pub fn place(&self, number: u64, place: u8) -> Option<HeldPlace<'_>>
+        ensures place { MatchOption result (waiting_at self.now.queue number place ≡ None)
+            (λ found. waiting_at self.now.queue number place ≡ Some (found.path.now, found.due)) }
+        ensures kept { (changes : List Change) → Keeps D.honest D.words self.now changes
+            → MatchOption result (Held changes number place → ⊥)
+            (λ found. IsWaiting changes number place found.path.now found.due) }
+    {
+        match self.message(number) {
+            Some(message) => held_place(message, place),
+            None => None,
+        }
+    }
+
+    /// The last change whose append was begun, live or stopped. It is handed out once, and takes no memory.
+    pub fn take_noted(&mut self) -> Option<Noted>
+        ensures noted { result ≡ self.old.noted }
+        ensures rest { self.new ≡ record self.old { noted = None } }
+    {
+        mem::replace(&mut self.noted, None)
+    }
+
+    /// The disk, live or stopped. It takes no memory.
+    pub fn into_disk(self) -> D
+        ensures { result ≡ self.spool.disk }
+    {
+        let Records {
+            spool,
+            book: _book,
+            noted: _noted,
+        } = self;
+        spool.into_disk()
+    }
+}
+
+impl<D: Reboot> Records<D> {
+    /// Sets the fuse of the disk: so many calls pass, and each later one fails. Nothing else changes.
+    pub fn fuse(&mut self, calls: u64)
+        ensures same { (self.new.spool.size ≡ self.old.spool.size)
+            × (self.new.spool.live ≡ self.old.spool.live)
+            × (self.new.queue ≡ self.old.queue) × (self.new.noted ≡ self.old.noted) }
+        ensures kept { (changes : List Change) → Keeps D.Disk.honest D.Disk.words self.old changes
+            → Stays D.Disk.honest D.Disk.words self.old self.new changes }
+        ensures stop { D.Disk.honest → AddsNoImage D.Disk.words self.old.spool.disk self.new.spool.disk }
+        ensures failures { FailsNot D.Disk.words self.old.spool.disk self.new.spool.disk }
+        ensures fuse { D.Disk.words.calls_left self.new.spool.disk ≡ Some calls }
+    {
+        self.spool.fuse(calls);
+    }
+}
