@@ -25,7 +25,7 @@ pub(crate) fn read_bodies(alloc: Global, bodies: Vec<Vec<u8>>) -> Result<Book, C
     ensures refused { IfErr result (RefusesBodies (texts_of bodies)) }
 {
     let mut book = Book::new(alloc);
-    let mut number = 0;
+    let mut number: usize = 0;
     for body in bodies {
         number += 1;
         match read_body(alloc, &mut book, body.as_slice()) {

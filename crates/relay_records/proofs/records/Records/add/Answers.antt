@@ -10,18 +10,17 @@ append-requires-clause-short g c =
     (c.as_slice.ensures ∙ c.in_ok-noted.ensures.octets_are ∙ c.requires.octets)
 
 pub returns-clause-ok : goal.returns-clause-ok
-returns-clause-ok g c = λ changes keeps.
-    (
-      number_is g.D.Disk.honest g.D.Disk.words _ c.args.self.now c.self.view_is changes c.args.change c.args.octets keeps
+returns-clause-ok g c = λ changes keeps. (
+  number_is g.D.Disk.honest g.D.Disk.words _ c.args.self.now c.self.view_is changes c.args.change c.args.octets keeps
       (c.requires.fits (search rules)) c.requires.octets c.in_ok-noted.noted.number c.in_ok-noted.ensures.number,
-      added g.D.Disk.honest g.D.Disk.words _ c.args.self.now c.self.view_is changes c.args.change c.as_slice.result.now keeps
+  added g.D.Disk.honest g.D.Disk.words _ c.args.self.now c.self.view_is changes c.args.change c.as_slice.result.now keeps
       (c.requires.fits (search rules)) (c.as_slice.ensures ∙ c.in_ok-noted.ensures.octets_are ∙ c.requires.octets) _ c.args.used
       (c.in-Ok.ensures.committed ∙ ap (step c.ready_of.new.book.queue) c.in_ok-ready.ensures.change
-          ∙ ap (λ (q : Queue). step q c.args.change) c.ready_of.ensures.queue)
+      ∙ ap (λ (q : Queue). step q c.args.change) c.ready_of.ensures.queue)
       c.in-Ok.ensures.appended
       (noted_here g.D.Disk.honest g.D.Disk.words _ c.args.self.now c.self.view_is changes c.args.change c.args.octets keeps
-          (c.requires.fits (search rules)) c.requires.octets c.args.used c.in_ok-noted.noted c.in_ok-noted.ensures),
-    )
+      (c.requires.fits (search rules)) c.requires.octets c.args.used c.in_ok-noted.noted c.in_ok-noted.ensures),
+)
 
 pub returns-clause-stop : goal.returns-clause-stop
 returns-clause-stop g c = λ changes keeps h.
@@ -37,7 +36,7 @@ returns-in-Err-Device-clause-cut g c = λ changes keeps _.
     (c.requires.fits (search rules)) (c.as_slice.ensures ∙ c.in_ok-noted.ensures.octets_are ∙ c.requires.octets) _ c.args.used
     (left ∙ c.ready_of.ensures.queue) stopped c.append.ensures.stop
     (noted_here g.D.Disk.honest g.D.Disk.words _ c.args.self.now c.self.view_is changes c.args.change c.args.octets keeps
-        (c.requires.fits (search rules)) c.requires.octets c.args.used c.in_ok-noted.noted c.in_ok-noted.ensures)
+    (c.requires.fits (search rules)) c.requires.octets c.args.used c.in_ok-noted.noted c.in_ok-noted.ensures)
 
 pub returns-in-Err-Device-clause-stop : goal.returns-in-Err-Device-clause-stop
 returns-in-Err-Device-clause-stop g c = λ changes keeps h.
