@@ -1,0 +1,4 @@
+mod AcceptedLemmas
+mod LinkLemmas
+mod WholeLemmas
+pub mod Theorems
