@@ -1,17 +1,16 @@
 -- What one round with a client does to what was said.
-use Rattle.std.proofs.Common.{◌≡◌, ◌≤◌, ℕ, List, [], ◌∷◌, ◌++◌, take, refl, sym, ap, ◌∙◌, subst, append-nil, append_assoc}
+use Rattle.std.proofs.Common.{◌≡◌, ◌≤◌, ℕ, List, [], ◌∷◌, ◌++◌, take, sym, ap, ◌∙◌, append-nil, append_assoc}
 use Rattle.std.proofs.lemmas.List.{map-append}
 use Rattle.std.specs.List.{AllByRecursion, slice_range}
-use Rattle.relay_server.specs.declared.offer.Answer.{Answer}
 use Rattle.relay_server.specs.declared.offer.Answer.TheVariants as answer
 use Rattle.relay_server.specs.declared.session.Session.{Session}
 use Rattle.relay_server.specs.Dialogue.{Offered, Said}
-use Rattle.relay_server.specs.Session.{Answered, Hears, SaysMore, Stands, open_offers}
+use Rattle.relay_server.specs.Session.{Answered, Hears, Stands, open_offers}
 use Rattle.relay_server.specs.Setup.{setup_of_config}
 use Rattle.relay_server.proofs.Theorems.{more_is_more, open_is_new, piece_goes_on}
 use Rattle.relay_node.specs.declared.intake.Intake.{Intake}
 use Rattle.relay_node.specs.Listening.{HasListened, HasNoRoom}
-use Rattle.relay_node.specs.Room.{AnswersMore, refusals}
+use Rattle.relay_node.specs.Room.{refusals}
 
 -- a row behind another's end
 pub joins : {A : Type 0} (first second third mid all : List A) → mid ≡ first ++ (second ++ []) → all ≡ mid ++ third → all ≡ first ++ (second ++ third)

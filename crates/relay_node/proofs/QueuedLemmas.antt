@@ -1,5 +1,5 @@
 -- What a call adds to the offers that were queued.
-use Rattle.std.proofs.Common.{◌≡◌, ℕ, List, [], ◌∷◌, ◌++◌, length, refl, ap, ◌∙◌, arith}
+use Rattle.std.proofs.Common.{◌≡◌, List, [], ◌∷◌, ◌++◌, length, refl, ap, ◌∙◌, arith}
 use Rattle.relay_server.specs.declared.offer.Answer.{Answer}
 use Rattle.relay_server.specs.declared.offer.Answer.TheVariants.{Queued, Full}
 use Rattle.relay_server.specs.Dialogue.{Offered}

@@ -1,12 +1,12 @@
 -- What a node has made of a client's octets.
-use Rattle.std.proofs.Common.{◌≡◌, ◌≤◌, ◌<◌, ℕ, ◌+◌, Bool, true, false, List, [], ◌∷◌, ◌++◌, length, take, Result, Err, Option, None, Some, refl, sym, ap, ◌∙◌, subst, append-nil}
+use Rattle.std.proofs.Common.{◌≡◌, ◌≤◌, ◌<◌, ℕ, ◌+◌, true, false, List, [], ◌∷◌, ◌++◌, length, take, Result, Err, None, Some, refl, sym, ap, ◌∙◌, subst, append-nil}
 use Rattle.std.specs.List.{AllByRecursion}
 use Rattle.relay_disk.specs.Device.{DiskWords}
 use Rattle.relay_server.specs.declared.offer.Answer.TheVariants.{Queued}
 use Rattle.relay_server.specs.declared.session.Next.TheVariants as next
 use Rattle.relay_server.specs.declared.session.Session.{Session}
 use Rattle.relay_server.specs.Dialogue.{Offered, Said}
-use Rattle.relay_server.specs.Session.{Answered, SaysMore, Stands, next_of, open_offers}
+use Rattle.relay_server.specs.Session.{Answered, SaysMore, next_of, open_offers}
 use Rattle.relay_server.specs.Setup.{setup_of_config}
 use Rattle.relay_server.proofs.Theorems.{more_is_more, what_stands_is_a_dialogue}
 use Rattle.relay_book.specs.declared.change.Accept.{Accept}
@@ -22,7 +22,7 @@ use Rattle.relay_node.specs.declared.listen.Listened.{Listened}
 use Rattle.relay_node.specs.declared.receive.Received.{Received}
 use Rattle.relay_node.specs.Acceptance.{acceptance_by}
 use Rattle.relay_node.specs.Listening.{Ends, EndsBy, HasListened, HasNoRoom, IsTaken, acceptance_of}
-use Rattle.relay_node.specs.Node.{CutsTalk, FitsIn, HasHistory, HaveNoRoom, Hears, Makes, Queues, TalksOn}
+use Rattle.relay_node.specs.Node.{CutsTalk, FitsIn, HaveNoRoom, Hears, Makes}
 use Rattle.relay_node.specs.Room.{AnswersMore, HasRoom, Overfills, refusals}
 use Rattle.relay_node.proofs.ListenLemmas.{joins}
 

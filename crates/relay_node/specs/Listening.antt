@@ -1,10 +1,9 @@
 -- What the octets of a client come to, up to an offer that there is room for.
-use Rattle.std.specs.Prelude.{◌≡◌, ℕ, ◌≤◌, ◌<◌, List, [], ◌∷◌, length, take, Option, Some, None}
+use Rattle.std.specs.Prelude.{◌≡◌, ℕ, ◌≤◌, ◌<◌, List, [], ◌∷◌, length, Option, Some, None}
 use Rattle.std.specs.List.{AllByRecursion}
 use Rattle.relay_server.specs.declared.session.Session.{Session}
 use Rattle.relay_server.specs.declared.session.Next.TheVariants as next
 use Rattle.relay_server.specs.Dialogue.{Offered, Said}
-use Rattle.relay_server.specs.DialogueLaws.{MayBeStored}
 use Rattle.relay_server.specs.Session.{SaysMore, Stands, next_of, open_offers}
 use Rattle.relay_server.specs.Setup.{setup_of_config}
 use Rattle.relay_book.specs.declared.change.Accept.{Accept}

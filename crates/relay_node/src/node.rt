@@ -1,10 +1,12 @@
-ghost use Rattle.std.specs.Prelude.{◌≡◌, ◌↔◌, ◌+◌, ◌⊎◌, ℕ, [], true, false, List, length, Option, None, Some, Err, IfErr, IfOk, OnOk, MatchOption, MatchResult};
+ghost use Rattle.std.specs.Prelude.{◌≡◌, ◌↔◌, ◌+◌, ◌⊎◌, ℕ, [], true, false, List, length, Option, None, Some, Err};
+ghost use Rattle.std.specs.Prelude.{IfErr, IfOk, OnOk, MatchOption, MatchResult};
 ghost use Rattle.std.specs.List.{Contains};
 ghost use Rattle.relay_book.specs.declared.change.Change.{Change};
 ghost use Rattle.relay_book.specs.Marks.{Held};
 ghost use Rattle.relay_book.specs.Queue.{held_of};
 ghost use Rattle.relay_disk.specs.Device.{AddsNoImage, FailsNot, Only};
-ghost use Rattle.relay_node.specs.Node.{Connects, CutsTalk, IsFused, IsIdle, Receives, RefusesToConnect, RefusesToEnd, RefusesToMake, RefusesToReceive, SaysAt, UsesOctets};
+ghost use Rattle.relay_node.specs.Node.{Connects, CutsTalk, IsFused, IsIdle, Receives, SaysAt, UsesOctets};
+ghost use Rattle.relay_node.specs.Node.{RefusesToConnect, RefusesToEnd, RefusesToMake, RefusesToReceive};
 ghost use Rattle.relay_node.specs.Seats.{IsFull, OthersStay, seat_at};
 ghost use Rattle.relay_records.specs.HeldPlace.{IsWaiting, waiting_at};
 ghost use Rattle.relay_records.specs.Open.{FailsFor, Opens, RefusesImage};

@@ -60,7 +60,7 @@ fn two_messages(alloc: Global, calls: u64) -> Result<(usize, Node<MemoryDisk>), 
     let mut node = node(alloc, 67_108_864)?;
     let session = connected(&mut node)?;
     node.fuse(calls);
-    let mut queued = 0;
+    let mut queued: usize = 0;
     for _ in 0..2 {
         if let Ok(received) = node.receive(session, MAIL, start()?)
             && received
@@ -69,7 +69,7 @@ fn two_messages(alloc: Global, calls: u64) -> Result<(usize, Node<MemoryDisk>), 
                 .windows(10)
                 .any(|text| text == b"250 queued".as_slice())
         {
-            queued += 1;
+            queued = queued.saturating_add(1);
         }
     }
     Ok((queued, node))
@@ -88,7 +88,7 @@ fn each_message_that_was_answered_250_is_found(rt: HostRuntime) -> Result<(), Fa
                 return Err(Fail::new("no marks"));
             };
             assert!(rt;
-                queued <= marks.len() && marks.len() <= queued + 1,
+                queued <= marks.len() && marks.len() <= queued.saturating_add(1),
                 "{calls} calls, pick {pick}"
             );
             assert!(rt; calls < 8 || queued == 2, "{calls} calls");

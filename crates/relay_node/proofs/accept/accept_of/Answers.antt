@@ -1,5 +1,5 @@
 -- What is accepted of an offer that may be stored may be stored.
-use Rattle.std.proofs.Common.{rules, refl, arith}
+use Rattle.std.proofs.Common.{rules}
 use Rattle.relay_server.specs.Session.{offered}
 use Rattle.relay_node.proofs.AcceptLemmas.{accept_may_be_stored}
 use Rattle.relay_node.proofs.accept.accept_of.Goals as goal

@@ -1,9 +1,7 @@
 -- A session that was just made stands behind its greeting.
-use Rattle.std.proofs.Common.{◌≡◌, refl, subst, sym}
+use Rattle.std.proofs.Common.{refl}
 use Rattle.relay_server.specs.Setup.{setup_of_config}
-use Rattle.relay_node.specs.declared.seats.Seat.{Seat}
 use Rattle.relay_node.specs.Node.{Says, greeted_by}
-use Rattle.relay_node.specs.Seats.{OthersStay}
 use Rattle.relay_node.proofs.NodeLemmas.{all_have_histories, says_at}
 use Rattle.relay_node.proofs.SeatLemmas.{others_of_put}
 use Rattle.relay_node.proofs.node.Node.connect.Goals as goal

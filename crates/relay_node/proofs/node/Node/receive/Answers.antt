@@ -1,8 +1,6 @@
 -- A session is taken out, heard, and put back.
-use Rattle.std.proofs.Common.{◌≡◌, Option, None, Some, length, rules, refl, sym, ap, ◌∙◌, arith}
+use Rattle.std.proofs.Common.{None, length, sym, ap, ◌∙◌, arith}
 use Rattle.std.proofs.lemmas.List.{length-set}
-use Rattle.relay_node.specs.declared.seats.Seat.{Seat}
-use Rattle.relay_node.specs.Seats.{seat_at}
 use Rattle.relay_node.proofs.NodeLemmas.{all_have_histories, history_at, receives_last, receives_on, rest_has_histories}
 use Rattle.relay_node.proofs.SeatLemmas.{has_seat}
 use Rattle.relay_node.proofs.node.Node.receive.Goals as goal

@@ -1,5 +1,5 @@
 -- no number so far is free
-use Rattle.std.proofs.Common.{◌≡◌, ◌≢◌, ◌<◌, ◌≤◌, ◌-◌, ℕ, length, None}
+use Rattle.std.proofs.Common.{◌≢◌, ◌<◌, ◌≤◌, ◌-◌, ℕ, length, None}
 use Rattle.relay_node.specs.Seats.{seat_at}
 use Rattle.relay_node.proofs.seats.Seats.free.Given as goal
 

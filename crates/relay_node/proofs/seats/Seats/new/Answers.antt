@@ -1,5 +1,5 @@
 -- Each seat that is added is free.
-use Rattle.std.proofs.Common.{◌≡◌, ◌+◌, ◌<◌, ◌++◌, ◌∷◌, [], None, length, length-append, ap, ◌∙◌, arith, rules}
+use Rattle.std.proofs.Common.{◌≡◌, ◌<◌, ◌++◌, ◌∷◌, [], None, length, length-append, ap, ◌∙◌, arith, rules}
 use Rattle.relay_node.proofs.SeatLemmas.{free_more}
 use Rattle.relay_node.proofs.seats.Seats.new.Goals as goal
 

@@ -1,5 +1,5 @@
 -- so many seats are free
-use Rattle.std.proofs.Common.{◌≡◌, ◌≤◌, ◌-◌, length}
+use Rattle.std.proofs.Common.{◌≤◌, ◌-◌, length}
 use Rattle.relay_node.specs.Seats.{AreFree}
 use Rattle.relay_node.proofs.seats.Seats.new.Given as goal
 
