@@ -1,6 +1,7 @@
 #!/usr/bin/env bash
 # Holds dialogues once for each allocation of the program, which is refused: either all goes well all the same, or the
-# program says so, ends with status 1, and has written a beginning of the replies.
+# program says so, ends with status 1, and has written a beginning of the replies. A disk in memory that can't grow is a device
+# that failed.
 #
 #   tests/each_allocation_refused.sh build/relayd
 set -euo pipefail
@@ -26,7 +27,7 @@ hold_without() {
         [ ! -s "$room/errors" ] || fail "status 0, and a fault line"
     else
         [ "$status" -eq 1 ] || fail "status $status"
-        [ "$(cat "$room/errors")" = "relayd: no memory" ] || fail "the fault line is: $(cat "$room/errors")"
+        grep -qxE "relayd: (no memory|device)" "$room/errors" || fail "the fault line is: $(cat "$room/errors")"
         cmp -s -n "$(stat -c %s "$room/out")" "$room/out" "$replies" || fail "no beginning of the replies"
     fi
 }

@@ -1,9 +1,9 @@
 -- What `relayd session` is told before it serves.
-use Rattle.std.specs.Prelude.{ℕ, [], ◌∷◌, codes}
+use Rattle.std.specs.Prelude.{◌≡◌, ℕ, List, [], ◌∷◌, codes}
 use Rattle.std.specs.declared.net.socket_addr.SocketAddrV4.{SocketAddrV4}
 use Rattle.relay_routes.specs.Routes.{Route}
-use Rattle.relay_server.specs.Setup.{Setup}
-use Rattle.relay_session.specs.declared.peer.Peer.{Peer}
+use Rattle.relay_routes.specs.declared.config.Config.{Config}
+use Rattle.relay_server.specs.Setup.{Setup, setup_of_config}
 
 -- this host's own address, and a port
 abbrev pub loopback_at : ℕ → SocketAddrV4
@@ -29,7 +29,19 @@ session_setup = record {
   routes = record { host = codes "relay.example"; routes = only_route ∷ [] };
 }
 
--- profile: a session from standard input has no peer and no clock, so its mail comes from 127.0.0.1
--- at the moment 0
-abbrev pub session_peer : Peer
-session_peer = record { address = 127 ∷ 0 ∷ 0 ∷ 1 ∷ []; moment = 0 }
+-- profile: the spool of a session from standard input has at most 67,108,864 octets
+abbrev pub session_limit : ℕ
+session_limit = 67108864
+
+-- profile: a session from standard input has no peer, so its mail comes from 127.0.0.1
+abbrev pub session_peer : List ℕ
+session_peer = 127 ∷ 0 ∷ 0 ∷ 1 ∷ []
+
+-- profile: it has no clock, so its mail comes at the moment 0
+abbrev pub session_moment : ℕ
+session_moment = 0
+
+-- the configuration of a session from standard input, as far as its dialogue goes by it
+pub record IsProfile (config : Config) : Type 0 where
+  pub setup : setup_of_config config ≡ session_setup
+  pub limit : config.spool_limit ≡ session_limit

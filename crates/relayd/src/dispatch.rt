@@ -1,7 +1,10 @@
-ghost use Rattle.std.specs.Prelude.{◌≡◌, ◌≢◌, ◌⊎◌, [], ◌∷◌, map};
+ghost use Rattle.std.specs.Prelude.{◌≡◌, ◌≢◌, ◌⊎◌, [], ◌∷◌, map, MatchResult};
 ghost use Rattle.clap.specs.Words.{kind_of};
-ghost use Rattle.relayd.specs.Arguments.{AreWrong, HasFault, HasServed, faults_in};
+ghost use Rattle.relayd.specs.Arguments.{AreWrong, AskForSession, faults_in};
+ghost use Rattle.relayd.specs.Session.{IsBegun, IsServed};
 
+use crate::fault::Fault;
+use crate::listing::{init, list};
 use crate::streams::session;
 use crate::words::{Subcommand, arguments};
 use clap::Error;
@@ -9,7 +12,9 @@ use clap::error::ErrorKind;
 use std::alloc::Global;
 use std::convert::AsStr;
 use std::fmt::Display;
+use std::fs::File;
 use std::io::{self, Read, Write};
+use std::rt::Files;
 
 /// The status of a run that did what it was asked for.
 const DONE: u8 = 0;
@@ -23,31 +28,43 @@ const WRONG_ARGUMENTS: u8 = 2;
 /// Runs the subcommand that the words name, the program's own name first, and answers the status
 /// for the system: 0 done, 1 a fault, with one line on `errors`, 2 wrong arguments, with the
 /// argument reader's text on `errors`. `--help` writes that reader's text on `writer`, and is done.
-pub fn command<S: AsStr, R: Read, W: Write, E: Write>(
+pub fn command<S: AsStr, F: Files<File = File>, R: Read, W: Write, E: Write>(
     alloc: Global,
+    files: &F,
     words: &[S],
     reader: &mut R,
     writer: &mut W,
     errors: &mut E,
 ) -> u8
-    ensures served { faults_in (map S.text words.now) ≡ [] → result ≡ 0
-        → HasServed (R.remaining reader.old) (R.remaining reader.new) (W.contents writer.old)
+    ensures served { AskForSession (map S.text words.now) → result ≡ 0
+        → IsServed (R.remaining reader.old) (R.remaining reader.new) (W.contents writer.old)
         (W.contents writer.new) }
-    ensures fault { faults_in (map S.text words.now) ≡ [] → result ≢ 0
-        → HasFault result (R.remaining reader.old) (R.remaining reader.new) (W.contents writer.old)
+    ensures fault { AskForSession (map S.text words.now) → result ≢ 0
+        → (result ≡ 1) × IsBegun (R.remaining reader.old) (R.remaining reader.new) (W.contents writer.old)
         (W.contents writer.new) }
+    ensures status { faults_in (map S.text words.now) ≡ [] → (result ≡ 0) ⊎ (result ≡ 1) }
     ensures wrong { AreWrong (faults_in (map S.text words.now))
         → ((result ≡ 1) ⊎ (result ≡ 2)) × (W.contents writer.new ≡ W.contents writer.old) }
     ensures help { faults_in (map S.text words.now) ≡ ErrorKind.DisplayHelp ∷ [] → (result ≡ 0)
         ⊎ (result ≡ 1) }
-    ensures unread { faults_in (map S.text words.now) ≢ [] → R.remaining reader.new ≡ R.remaining reader.old }
+    ensures unread { ¬ AskForSession (map S.text words.now)
+        → R.remaining reader.new ≡ R.remaining reader.old }
 {
     match arguments(alloc, words) {
-        Ok(Subcommand::Session) => match session(alloc, reader, writer) {
-            Ok(_) => DONE,
-            Err(fault) => fail(errors, fault),
-        },
+        Ok(Subcommand::Session) => ended(session(alloc, reader, writer), errors),
+        Ok(Subcommand::Init(file)) => ended(init(alloc, files, file), errors),
+        Ok(Subcommand::List(file)) => ended(list(alloc, files, file, writer), errors),
         Err(error) => explain(&error, writer, errors),
+    }
+}
+
+/// The status of a subcommand's end; a fault has its line on `errors`.
+fn ended<E: Write>(end: Result<(), Fault>, errors: &mut E) -> u8
+    ensures { MatchResult end (λ _. result ≡ 0) (λ _. result ≡ 1) }
+{
+    match end {
+        Ok(()) => DONE,
+        Err(fault) => fail(errors, fault),
     }
 }
 

@@ -2,6 +2,8 @@
 #![tactic(auto)]
 
 mod dispatch;
+mod fault;
+mod listing;
 mod setup;
 mod streams;
 #[cfg(test)]
@@ -16,6 +18,7 @@ fn main(rt: HostRuntime) -> ExitCode {
     let status = match given_words(&rt) {
         Ok(words) => command(
             rt.alloc(),
+            &rt,
             words.as_slice(),
             &mut rt.stdin(),
             &mut rt.stdout(),

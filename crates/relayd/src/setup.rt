@@ -1,16 +1,15 @@
 ghost use Rattle.std.specs.Prelude.{◌≡◌, [], ◌∷◌, IfOk};
 ghost use Rattle.relay_routes.specs.Value.{IsHostName};
-ghost use Rattle.relay_server.specs.Setup.{setup_of_config};
-ghost use Rattle.relayd.specs.Setup.{loopback_at, only_route, session_peer, session_setup};
+ghost use Rattle.relayd.specs.Setup.{IsProfile, loopback_at, only_route, session_moment};
 
 use relay_routes::{Config, Hop, HostName, SpoolPath, Table};
-use relay_session::{Moment, Peer};
+use relay_trace::Moment;
 use std::alloc::{AllocError, Global};
 use std::net::{Ipv4Addr, SocketAddrV4};
 
 /// The address in the time stamp lines of a session from standard input, which has no peer: this
 /// host's own, 127.0.0.1.
-const ADDRESS: [u8; 4] = [127, 0, 0, 1];
+pub const ADDRESS: [u8; 4] = [127, 0, 0, 1];
 
 /// The seconds from 1970 in the time stamp lines of a session from standard input, which has no clock.
 const SECONDS: u64 = 0;
@@ -18,14 +17,14 @@ const SECONDS: u64 = 0;
 /// The most octets of a content.
 const MAX_CONTENT: usize = 1_048_576;
 
-/// The most octets of a spool. A session from standard input has none yet.
+/// The most octets of a spool.
 const SPOOL_LIMIT: u64 = 67_108_864;
 
 /// The configuration of a session from standard input: the host `relay.example`, contents of up to
 /// 1,048,576 octets, and `example.org` as the only domain that mail is taken for. It fails where
 /// memory runs out.
 pub fn configuration(alloc: Global) -> Result<Config, AllocError>
-    ensures { IfOk result (λ config. setup_of_config config ≡ session_setup) }
+    ensures { IfOk result IsProfile }
 {
     let host = host_name(alloc, b"relay.example")?;
     let mut routes = Table::new(alloc, host.copy(alloc)?);
@@ -75,15 +74,12 @@ fn at_port(port: u16) -> SocketAddrV4
     SocketAddrV4::new(Ipv4Addr::new(127, 0, 0, 1), port)
 }
 
-/// The peer of a session from standard input, as its time stamp lines give it. It takes no memory.
-pub fn peer() -> Peer
-    ensures { result ≡ session_peer }
+/// The moment at which the mail of a session from standard input counts as accepted. It takes no memory.
+pub fn moment() -> Moment
+    ensures { result ≡ session_moment }
 {
     let Ok(moment) = Moment::new(SECONDS) else {
         unreachable!()
     };
-    Peer {
-        address: ADDRESS,
-        moment,
-    }
+    moment
 }

@@ -1,27 +1,57 @@
-ghost use Rattle.std.specs.Prelude.{IfOk, OnErr};
-ghost use Rattle.relay_session.specs.Served.{IsBegun, IsServed};
-ghost use Rattle.relayd.specs.Setup.{session_peer, session_setup};
+ghost use Rattle.std.specs.Prelude.{◌≡◌, [], IfOk, OnErr, OnOk};
+ghost use Rattle.relay_disk.specs.Memory.{memory_words};
+ghost use Rattle.relay_records.specs.Records.{Keeps};
+ghost use Rattle.relayd.specs.Session.{IsBegun, IsOpened, IsServed};
+ghost use Rattle.relayd.specs.Setup.{IsProfile};
 
-use crate::setup::{configuration, peer};
-use relay_session::{Messages, SessionFault};
+use crate::fault::Fault;
+use crate::setup::{ADDRESS, configuration, moment};
+use relay_disk::MemoryDisk;
+use relay_links::serve_link;
+use relay_node::{Connected, Node};
 use std::alloc::Global;
 use std::io::{Read, Write};
 
-/// Holds one session with the profile's configuration: reads commands and mail from `reader`,
-/// writes the replies to `writer`, and keeps the mail. It ends at a close, and at the end of the
-/// input. After a fault a beginning of the replies was written.
+/// Holds one session with the profile's configuration, over a node whose spool stands in memory and goes with
+/// the program: reads commands and mail from `reader`, and writes the replies to `writer`. It ends at a
+/// close, and at the end of the input. After a fault a beginning of the replies was written.
 pub fn session<R: Read, W: Write>(
     alloc: Global,
     reader: &mut R,
     writer: &mut W,
-) -> Result<Messages, SessionFault>
-    ensures served { IfOk result (λ messages. IsServed session_setup session_peer
-        (R.remaining reader.old) (R.remaining reader.new)
-        (W.contents writer.old) (W.contents writer.new) messages) }
-    ensures begun { OnErr result (IsBegun session_setup (R.remaining reader.old) (R.remaining reader.new)
+) -> Result<(), Fault>
+    ensures served { OnOk result (IsServed (R.remaining reader.old) (R.remaining reader.new)
+        (W.contents writer.old) (W.contents writer.new)) }
+    ensures begun { OnErr result (IsBegun (R.remaining reader.old) (R.remaining reader.new)
         (W.contents writer.old) (W.contents writer.new)) }
 {
+    let (node, connected) = open_session(alloc)?;
+    let mut node = node;
+    match serve_link(alloc, &mut node, connected, reader, writer, moment()) {
+        Ok(()) => Ok(()),
+        Err(fault) => Err(Fault::from(fault)),
+    }
+}
+
+/// A new node over memory, with the session of one client.
+fn open_session(alloc: Global) -> Result<(Node<MemoryDisk>, Connected), Fault>
+    ensures { IfOk result (λ opened. IsOpened opened.0 opened.1) }
+{
     let config = configuration(alloc)?;
-    let messages = relay_session::session(alloc, &config, &peer(), reader, writer)?;
-    Ok(messages)
+    match Node::create(alloc, config, MemoryDisk::new(alloc)) {
+        Ok(node) => connect(node),
+        Err(refused) => Err(Fault::from(refused.cause)),
+    }
+}
+
+/// The node with the session of one client.
+fn connect(node: Node<MemoryDisk>) -> Result<(Node<MemoryDisk>, Connected), Fault>
+    requires keeps { Keeps (Unit {0}) memory_words node.records [] }
+    requires size { node.records.spool.size ≡ 18 }
+    requires profile { IsProfile node.config }
+    ensures { IfOk result (λ opened. IsOpened opened.0 opened.1) }
+{
+    let mut node = node;
+    let connected = node.connect(ADDRESS)?;
+    Ok((node, connected))
 }

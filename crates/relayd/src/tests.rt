@@ -1,7 +1,12 @@
 // Runs of the program on readers and writers that give and take little, and fail in mid-stream.
 use crate::dispatch::command;
-use crate::streams::session;
+use relay_disk::FileDisk;
+use relay_links::serve_link;
+use relay_node::Node;
+use relay_routes::Config;
+use relay_trace::Moment;
 use std::alloc::Global;
+use std::fs;
 use std::io::{self, ErrorKind, Read, Write};
 use std::test::Fail;
 
@@ -24,13 +29,6 @@ const REPLIES: [&str; 7] = [
     "354 end with a line of one period",
     "250 queued as 1",
     "221 relay.example closing",
-];
-
-/// The lines of its message's stored text, whose content is empty.
-const STORED: [&str; 3] = [
-    "Received: from x ([127.0.0.1])",
-    " by relay.example with SMTP id 1;",
-    " Thu, 01 Jan 1970 00:00:00 +0000",
 ];
 
 /// Gives its octets one at a time. Where `cut` of them are gone it fails once, by `kind`.
@@ -134,28 +132,18 @@ fn the_first_dialogue_octet_by_octet(rt: HostRuntime) -> Result<(), Fail> {
     let mut reader = reader_of(input.as_slice(), None, ErrorKind::Other);
     let mut writer = writer_of(rt.alloc(), None, ErrorKind::Other, 0);
     let mut errors: Vec<u8> = Vec::new(rt.alloc());
-    let status = command(rt.alloc(), &SESSION, &mut reader, &mut writer, &mut errors);
+    let status = command(
+        rt.alloc(),
+        &rt,
+        &SESSION,
+        &mut reader,
+        &mut writer,
+        &mut errors,
+    );
     assert_eq!(rt; status, 0);
     assert_eq!(rt; writer.held.as_slice(), wanted.as_slice());
     assert_eq!(rt; reader.given, end, "nothing is read behind the close");
     assert!(rt; errors.is_empty());
-    Ok(())
-}
-
-#[test]
-fn the_first_message_is_stored_behind_its_time_stamp_line(rt: HostRuntime) -> Result<(), Fail> {
-    let input = text_of(rt.alloc(), &COMMANDS)?;
-    let wanted = text_of(rt.alloc(), &STORED)?;
-    let mut reader = reader_of(input.as_slice(), None, ErrorKind::Other);
-    let mut writer = writer_of(rt.alloc(), None, ErrorKind::Other, 0);
-    let Ok(messages) = session(rt.alloc(), &mut reader, &mut writer) else {
-        return Err(Fail::new("the session ended by a fault"));
-    };
-    let [message] = messages.as_slice() else {
-        return Err(Fail::new("there is not one message"));
-    };
-    assert_eq!(rt; wanted.len(), 101);
-    assert_eq!(rt; message.stored_text.as_slice(), wanted.as_slice());
     Ok(())
 }
 
@@ -166,7 +154,14 @@ fn interrupted_calls_are_done_again(rt: HostRuntime) -> Result<(), Fail> {
     let mut reader = reader_of(input.as_slice(), Some(9), ErrorKind::Interrupted);
     let mut writer = writer_of(rt.alloc(), Some(40), ErrorKind::Interrupted, 0);
     let mut errors: Vec<u8> = Vec::new(rt.alloc());
-    let status = command(rt.alloc(), &SESSION, &mut reader, &mut writer, &mut errors);
+    let status = command(
+        rt.alloc(),
+        &rt,
+        &SESSION,
+        &mut reader,
+        &mut writer,
+        &mut errors,
+    );
     assert_eq!(rt; status, 0);
     assert_eq!(rt; writer.held.as_slice(), wanted.as_slice());
     Ok(())
@@ -180,7 +175,14 @@ fn a_reader_that_fails_ends_the_session(rt: HostRuntime) -> Result<(), Fail> {
         let mut reader = reader_of(input.as_slice(), Some(cut), ErrorKind::BrokenPipe);
         let mut writer = writer_of(rt.alloc(), None, ErrorKind::Other, 0);
         let mut errors: Vec<u8> = Vec::new(rt.alloc());
-        let status = command(rt.alloc(), &SESSION, &mut reader, &mut writer, &mut errors);
+        let status = command(
+            rt.alloc(),
+            &rt,
+            &SESSION,
+            &mut reader,
+            &mut writer,
+            &mut errors,
+        );
         assert_eq!(rt; status, 1, "cut behind {cut}");
         assert_eq!(rt; reader.given, cut, "nothing is read behind the fault");
         assert!(rt;
@@ -200,7 +202,14 @@ fn a_writer_that_fails_ends_the_session(rt: HostRuntime) -> Result<(), Fail> {
         let mut reader = reader_of(input.as_slice(), None, ErrorKind::Other);
         let mut writer = writer_of(rt.alloc(), Some(cut), ErrorKind::BrokenPipe, 0);
         let mut errors: Vec<u8> = Vec::new(rt.alloc());
-        let status = command(rt.alloc(), &SESSION, &mut reader, &mut writer, &mut errors);
+        let status = command(
+            rt.alloc(),
+            &rt,
+            &SESSION,
+            &mut reader,
+            &mut writer,
+            &mut errors,
+        );
         assert_eq!(rt; status, 1, "cut behind {cut}");
         assert_eq!(rt;
             writer.held.len(),
@@ -224,7 +233,14 @@ fn a_flush_that_fails_ends_the_session(rt: HostRuntime) -> Result<(), Fail> {
         let mut reader = reader_of(input.as_slice(), None, ErrorKind::Other);
         let mut writer = writer_of(rt.alloc(), None, ErrorKind::BrokenPipe, bad_flush);
         let mut errors: Vec<u8> = Vec::new(rt.alloc());
-        let status = command(rt.alloc(), &SESSION, &mut reader, &mut writer, &mut errors);
+        let status = command(
+            rt.alloc(),
+            &rt,
+            &SESSION,
+            &mut reader,
+            &mut writer,
+            &mut errors,
+        );
         assert_eq!(rt; status, 1, "flush {bad_flush}");
         assert_eq!(rt;
             writer.flushes,
@@ -242,9 +258,10 @@ fn a_flush_that_fails_ends_the_session(rt: HostRuntime) -> Result<(), Fail> {
 
 #[test]
 fn wrong_words_have_status_2(rt: HostRuntime) -> Result<(), Fail> {
-    let wrong: [&[&str]; 5] = [
+    let wrong: [&[&str]; 6] = [
         &["relayd"],
-        &["relayd", "serve"],
+        &["relayd", "list"],
+        &["relayd", "init", "--config"],
         &["relayd", "help"],
         &["relayd", "session", "more"],
         &["relayd", "--verbose", "session"],
@@ -253,7 +270,14 @@ fn wrong_words_have_status_2(rt: HostRuntime) -> Result<(), Fail> {
         let mut reader = reader_of(b"NOOP\r\n", None, ErrorKind::Other);
         let mut writer = writer_of(rt.alloc(), None, ErrorKind::Other, 0);
         let mut errors: Vec<u8> = Vec::new(rt.alloc());
-        let status = command(rt.alloc(), words, &mut reader, &mut writer, &mut errors);
+        let status = command(
+            rt.alloc(),
+            &rt,
+            words,
+            &mut reader,
+            &mut writer,
+            &mut errors,
+        );
         assert_eq!(rt; status, 2);
         assert_eq!(rt; reader.given, 0);
         assert!(rt; writer.held.is_empty());
@@ -268,7 +292,14 @@ fn help_is_written_and_done(rt: HostRuntime) -> Result<(), Fail> {
     let mut writer = writer_of(rt.alloc(), None, ErrorKind::Other, 0);
     let mut errors: Vec<u8> = Vec::new(rt.alloc());
     let words = ["relayd", "--help"];
-    let status = command(rt.alloc(), &words, &mut reader, &mut writer, &mut errors);
+    let status = command(
+        rt.alloc(),
+        &rt,
+        &words,
+        &mut reader,
+        &mut writer,
+        &mut errors,
+    );
     assert_eq!(rt; status, 0);
     assert!(rt;
         writer
@@ -278,8 +309,93 @@ fn help_is_written_and_done(rt: HostRuntime) -> Result<(), Fail> {
     );
     assert!(rt; errors.is_empty());
     let mut full = writer_of(rt.alloc(), Some(0), ErrorKind::StorageFull, 0);
-    let status = command(rt.alloc(), &words, &mut reader, &mut full, &mut errors);
+    let status = command(rt.alloc(), &rt, &words, &mut reader, &mut full, &mut errors);
     assert_eq!(rt; status, 1);
     assert_eq!(rt; errors.as_slice(), b"relayd: output\n".as_slice());
+    Ok(())
+}
+
+/// A configuration whose spool stands beside it.
+const CONFIGURATION: &str = "host = \"relay.example\"
+listen = \"127.0.0.1:2525\"
+spool = \"relay.spool\"
+[routes]
+\"example.org\" = { name = \"next.example\", at = \"127.0.0.1:2526\" }
+";
+
+const INIT: [&str; 4] = ["relayd", "init", "--config", "relayd.toml"];
+
+const LIST: [&str; 4] = ["relayd", "list", "--config", "relayd.toml"];
+
+/// Runs a subcommand that reads nothing: the status, what is written, and the line of the fault.
+fn run_of(rt: &HostRuntime, words: &[&str]) -> (u8, Vec<u8>, Vec<u8>) {
+    let mut reader = reader_of(b"", None, ErrorKind::Other);
+    let mut writer: Vec<u8> = Vec::new(rt.alloc());
+    let mut errors: Vec<u8> = Vec::new(rt.alloc());
+    let status = command(rt.alloc(), rt, words, &mut reader, &mut writer, &mut errors);
+    (status, writer, errors)
+}
+
+/// Puts the first message into the spool of the configuration.
+fn take_mail(rt: &HostRuntime) -> Result<(), Fail> {
+    let alloc = rt.alloc();
+    let config = Config::read(alloc, CONFIGURATION)?;
+    let disk = FileDisk::open(rt, "relay.spool")?;
+    let Ok(node) = Node::open(alloc, config, disk) else {
+        return Err(Fail::new("the spool isn't opened"));
+    };
+    let mut node = node;
+    let connected = node.connect([127, 0, 0, 1])?;
+    let input = text_of(alloc, &COMMANDS)?;
+    let mut reader = reader_of(input.as_slice(), None, ErrorKind::Other);
+    let mut writer: Vec<u8> = Vec::new(alloc);
+    serve_link(
+        alloc,
+        &mut node,
+        connected,
+        &mut reader,
+        &mut writer,
+        Moment::new(0)?,
+    )?;
+    Ok(())
+}
+
+#[test]
+fn a_spool_is_made_once_and_lists_the_mail_in_it(rt: HostRuntime) -> Result<(), Fail> {
+    fs::write(&rt, "relayd.toml", CONFIGURATION)?;
+    let (status, written, _) = run_of(&rt, &INIT);
+    assert_eq!(rt; status, 0);
+    assert!(rt; written.is_empty());
+    let (status, _, errors) = run_of(&rt, &INIT);
+    assert_eq!(rt; status, 1);
+    assert_eq!(rt; errors.as_slice(), b"relayd: spool NotEmpty\n".as_slice());
+    let (status, written, _) = run_of(&rt, &LIST);
+    assert_eq!(rt; status, 0);
+    assert!(rt; written.is_empty());
+    take_mail(&rt)?;
+    let (status, written, errors) = run_of(&rt, &LIST);
+    assert_eq!(rt; status, 0);
+    assert_eq!(rt; written.as_slice(), b"1 0 <b@example.org> 0\n".as_slice());
+    assert!(rt; errors.is_empty());
+    Ok(())
+}
+
+#[test]
+fn a_spool_that_cannot_be_listed_has_its_line(rt: HostRuntime) -> Result<(), Fail> {
+    let (status, _, errors) = run_of(&rt, &LIST);
+    assert_eq!(rt; status, 1);
+    assert_eq!(rt; errors.as_slice(), b"relayd: input\n".as_slice());
+    fs::write(&rt, "relayd.toml", "host = ")?;
+    let (_, _, errors) = run_of(&rt, &LIST);
+    assert_eq!(rt; errors.as_slice(), b"relayd: config NotToml\n".as_slice());
+    fs::write(&rt, "relayd.toml", "listen = 1")?;
+    let (_, _, errors) = run_of(&rt, &LIST);
+    assert_eq!(rt;
+        errors.as_slice(),
+        b"relayd: config Missing host\n".as_slice()
+    );
+    fs::write(&rt, "relayd.toml", CONFIGURATION)?;
+    let (_, _, errors) = run_of(&rt, &LIST);
+    assert_eq!(rt; errors.as_slice(), b"relayd: spool NotASpool\n".as_slice());
     Ok(())
 }

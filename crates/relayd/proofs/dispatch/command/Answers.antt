@@ -3,9 +3,8 @@ use Rattle.std.proofs.Common.{rules, ◌≡◌, inl, inr, [], subst, sym}
 use Rattle.clap.specs.Words.{HasKind, Kinds, kind_of}
 use Rattle.clap.specs.declared.error.Error.{Error}
 use Rattle.clap.specs.declared.error.kind.ErrorKind.TheVariants as kind
-use Rattle.relay_session.specs.Served.{IsBegun}
-use Rattle.relay_session.proofs.Theorems.{begun_nothing}
-use Rattle.relayd.specs.Setup.{session_setup}
+use Rattle.relayd.specs.Session.{IsBegun}
+use Rattle.relayd.proofs.SessionLemmas.{begun_nothing}
 use Rattle.relayd.proofs.dispatch.command.Goals as goal
 
 -- an error of words without a fault is want of memory
@@ -17,10 +16,10 @@ only_memory error kinds has none = by_kind (subst (λ (l : Kinds). HasKind l err
     by_kind (inr e) = absurd e
 
 pub returns-in-Err-clause-fault : goal.returns-in-Err-clause-fault
-returns-in-Err-clause-fault g c = λ none _.
+returns-in-Err-clause-fault g c = λ ask _.
     let has : HasKind _ c.in-Err.error = search rules in
-    let out = only_memory c.in-Err.error _ has none in
+    let out = only_memory c.in-Err.error _ has ask.0 in
     let same = c.explain.ensures.writer (λ e. absurd (cc)) in (
       c.explain.ensures.memory out,
-      subst (λ w. IsBegun session_setup (g.R.Read.remaining c.args.reader.now) (g.R.Read.remaining c.args.reader.now) (g.W.Write.contents c.args.writer.now) (g.W.Write.contents w)) (sym same) (begun_nothing session_setup _ _),
+      subst (λ w. IsBegun (g.R.Read.remaining c.args.reader.now) (g.R.Read.remaining c.args.reader.now) (g.W.Write.contents c.args.writer.now) (g.W.Write.contents w)) (sym same) (begun_nothing _ _),
     )

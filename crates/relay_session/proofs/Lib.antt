@@ -1,5 +1,0 @@
-mod KeptLemmas
-mod ServedLemmas
-mod StoredLemmas
-mod WholeLemmas
-pub mod Theorems

@@ -1,2 +1,0 @@
--- What a crate above may cite of this one: each lemma proves a law that the crate exports, or restates a public clause.
-pub use Rattle.relay_session.proofs.ServedLemmas.{begun_nothing}

@@ -1,0 +1,128 @@
+use relay_links::LinkFault;
+use relay_node::{Cause, NodeFault};
+use relay_routes::ConfigFault;
+use relay_spool::SpoolFault;
+use std::alloc::AllocError;
+use std::io;
+use thiserror::Error;
+
+/// Why a run ends with status 1. Its text stands behind `relayd: `.
+#[derive(Clone, Copy, Debug, PartialEq, Eq, Error)]
+pub enum Fault {
+    /// The configuration file says nothing that can be run by.
+    #[error("config {0}")]
+    Config(ConfigFault),
+    /// The spool's file holds something else.
+    #[error("spool NotASpool")]
+    NotASpool,
+    /// The gate at this place of the spool's file, in octets from 0, is open, and what follows it passes the end.
+    #[error("spool Damaged {0}")]
+    Damaged(usize),
+    /// A spool is to be made where octets stand.
+    #[error("spool NotEmpty")]
+    NotEmpty,
+    /// The spool would pass 2^40 octets, or changes have no numbers any more.
+    #[error("spool Full")]
+    Full,
+    /// The body of this number, from 1, records no change that fits those before it.
+    #[error("spool BadRecord {0}")]
+    BadRecord(usize),
+    /// The spool's file can't be opened, or its device failed.
+    #[error("device")]
+    Device,
+    /// Memory ran out.
+    #[error("no memory")]
+    NoMemory,
+    /// Standard input or the configuration file can't be read.
+    #[error("input")]
+    Input,
+    /// Standard output can't be written.
+    #[error("output")]
+    Output,
+}
+
+impl Fault {
+    /// The fault of a file that can't be read.
+    pub fn of_input(error: &io::Error) -> Self {
+        Fault::unless_memory(error, Fault::Input)
+    }
+
+    /// The fault of a spool's file that can't be opened.
+    pub fn of_device(error: &io::Error) -> Self {
+        Fault::unless_memory(error, Fault::Device)
+    }
+
+    /// The fault of a writer.
+    pub fn of_output(error: &io::Error) -> Self {
+        Fault::unless_memory(error, Fault::Output)
+    }
+
+    fn unless_memory(error: &io::Error, other: Fault) -> Self {
+        if error.kind() == io::ErrorKind::OutOfMemory {
+            Fault::NoMemory
+        } else {
+            other
+        }
+    }
+}
+
+impl From<AllocError> for Fault {
+    fn from(_fault: AllocError) -> Fault {
+        Fault::NoMemory
+    }
+}
+
+impl From<ConfigFault> for Fault {
+    fn from(fault: ConfigFault) -> Fault {
+        match fault {
+            ConfigFault::NoMemory => Fault::NoMemory,
+            other => Fault::Config(other),
+        }
+    }
+}
+
+impl From<Cause> for Fault {
+    fn from(cause: Cause) -> Fault {
+        match cause {
+            Cause::Spool(fault) => Fault::from(fault),
+            Cause::BadRecord(number) => Fault::BadRecord(number),
+        }
+    }
+}
+
+impl From<SpoolFault> for Fault {
+    fn from(fault: SpoolFault) -> Fault {
+        match fault {
+            SpoolFault::Device => Fault::Device,
+            SpoolFault::NotASpool => Fault::NotASpool,
+            SpoolFault::Damaged(place) => Fault::Damaged(place),
+            SpoolFault::NoMemory => Fault::NoMemory,
+            SpoolFault::NotEmpty => Fault::NotEmpty,
+            SpoolFault::Full => Fault::Full,
+        }
+    }
+}
+
+impl From<NodeFault> for Fault {
+    fn from(fault: NodeFault) -> Fault {
+        match fault {
+            NodeFault::NoMemory => Fault::NoMemory,
+            NodeFault::Full => Fault::Full,
+            NodeFault::Open(cause) => Fault::from(cause),
+            // A node that was just opened is live, and what is asked of it is there.
+            _ => Fault::Device,
+        }
+    }
+}
+
+impl From<LinkFault> for Fault {
+    fn from(fault: LinkFault) -> Fault {
+        match fault {
+            LinkFault::Input => Fault::Input,
+            LinkFault::Output => Fault::Output,
+            LinkFault::NoMemory => Fault::NoMemory,
+            LinkFault::Full => Fault::Full,
+            LinkFault::Device => Fault::Device,
+        }
+    }
+}
