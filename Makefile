@@ -15,6 +15,7 @@ test:
 	tests/one_line_at_a_time.sh build/relayd
 	tests/each_allocation_refused.sh build/relayd
 	tests/book_without_memory.sh crates/relay_book_tests/out/relay_book_tests
+	tests/node_without_memory.sh crates/relay_node_tests/out/relay_node_tests
 	tests/spool_on_a_file.sh crates/relay_spool_tests/out/relay_spool_tests
 	tail -n 1 build/gate.log
 

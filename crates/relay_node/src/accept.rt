@@ -55,7 +55,7 @@ fn stored_text(alloc: Global, stamp: &TimeStamp<'_>, content: &[u8]) -> Result<O
     Ok(Octets::new(text))
 }
 
-/// An address is four octets.
+/// Tells what the type of an address says: it is four octets.
 fn is_address(_peer: [u8; 4])
     ensures four { length _peer ≡ 4 }
     ensures octets { All (λ octet. octet < 256) _peer }

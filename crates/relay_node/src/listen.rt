@@ -9,7 +9,7 @@ use relay_records::NodeFault;
 use relay_server::{Answer, Next, Session};
 use std::alloc::Global;
 
-/// What a client's octets have come to.
+/// Where a node has stopped listening.
 #[derive(Drop)]
 pub(crate) enum End {
     /// All are used, and more may come.

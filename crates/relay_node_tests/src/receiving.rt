@@ -1,5 +1,6 @@
 // Mail that a node takes in, and mail that it has no room for.
-use crate::setup::{ANSWERS, IMAGE, MAIL, cause_of, connected, node, opened, start, talk};
+use crate::expected::{ANSWERS, IMAGE, cause_of, opened, talk};
+use crate::setup::{MAIL, connected, node, start};
 use relay_disk::MemoryDisk;
 use relay_node::{Cause, NodeFault};
 use relay_spool::SpoolFault;

@@ -1,5 +1,6 @@
 // Sessions beside each other.
-use crate::setup::{ANSWERS, MAIL, connected, node, start};
+use crate::expected::ANSWERS;
+use crate::setup::{MAIL, connected, node, start};
 use relay_node::NodeFault;
 use std::test::Fail;
 

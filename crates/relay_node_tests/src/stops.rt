@@ -1,5 +1,6 @@
 // A device that fails while mail is added, and what is opened behind a stop.
-use crate::setup::{IMAGE, MAIL, connected, node, opened, start};
+use crate::expected::{IMAGE, opened};
+use crate::setup::{MAIL, connected, node, start};
 use relay_disk::{MemoryDisk, Reboot};
 use relay_node::{Node, NodeFault};
 use std::alloc::Global;
