@@ -105,8 +105,8 @@ held() {
 }
 
 message_of 2631579 > "$room/refused"
-large_messages 200 > "$room/kept"
-chunked_messages 200 > "$room/chunks"
+large_messages 60 > "$room/kept"
+chunked_messages 60 > "$room/chunks"
 chunked_message_of 3052 > "$room/refused_chunks"
 small_messages 100000 > "$room/small"
 noops 1000000 > "$room/noops"
@@ -128,8 +128,8 @@ for ((time = 0; time < 20; time++)); do
 done > "$room/contents"
 
 measure "session: mail data that is refused" octets "$(stat -c %s "$room/refused")" "$room/refused" -l 7 "$relayd" session
-measure "session: 200 messages of 1 MiB that are kept" octets "$(stat -c %s "$room/kept")" "$room/kept" -l 803 "$relayd" session
-measure "session: 200 messages of 16 chunks that are kept" octets "$(stat -c %s "$room/chunks")" "$room/chunks" -c 3806 "$relayd" session
+measure "session: 60 messages of 1 MiB that are kept" octets "$(stat -c %s "$room/kept")" "$room/kept" -l 243 "$relayd" session
+measure "session: 60 messages of 16 chunks that are kept" octets "$(stat -c %s "$room/chunks")" "$room/chunks" -c 1146 "$relayd" session
 measure "session: 3,052 chunks, refused behind 16" octets "$(stat -c %s "$room/refused_chunks")" "$room/refused_chunks" -c 3060 "$relayd" session
 measure "session: 100,000 small messages" messages 100000 "$room/small" -l 400003 "$relayd" session
 measure "session: 1,000,000 pipelined NOOPs" commands 1000000 "$room/noops" -l 1000002 "$relayd" session
