@@ -379,23 +379,3 @@ fn a_spool_is_made_once_and_lists_the_mail_in_it(rt: HostRuntime) -> Result<(), 
     assert!(rt; errors.is_empty());
     Ok(())
 }
-
-#[test]
-fn a_spool_that_cannot_be_listed_has_its_line(rt: HostRuntime) -> Result<(), Fail> {
-    let (status, _, errors) = run_of(&rt, &LIST);
-    assert_eq!(rt; status, 1);
-    assert_eq!(rt; errors.as_slice(), b"relayd: input\n".as_slice());
-    fs::write(&rt, "relayd.toml", "host = ")?;
-    let (_, _, errors) = run_of(&rt, &LIST);
-    assert_eq!(rt; errors.as_slice(), b"relayd: config NotToml\n".as_slice());
-    fs::write(&rt, "relayd.toml", "listen = 1")?;
-    let (_, _, errors) = run_of(&rt, &LIST);
-    assert_eq!(rt;
-        errors.as_slice(),
-        b"relayd: config Missing host\n".as_slice()
-    );
-    fs::write(&rt, "relayd.toml", CONFIGURATION)?;
-    let (_, _, errors) = run_of(&rt, &LIST);
-    assert_eq!(rt; errors.as_slice(), b"relayd: spool NotASpool\n".as_slice());
-    Ok(())
-}
