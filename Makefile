@@ -13,6 +13,7 @@ test:
 	rt ci | tee build/gate.log
 	cp crates/relayd/out/relayd build/relayd
 	tests/one_line_at_a_time.sh build/relayd
+	tests/fault_lines.sh build/relayd
 	tests/each_allocation_refused.sh build/relayd
 	tests/book_without_memory.sh crates/relay_book_tests/out/relay_book_tests
 	tests/node_without_memory.sh crates/relay_node_tests/out/relay_node_tests

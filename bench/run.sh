@@ -159,7 +159,7 @@ compare "library: a spool of 256 MB that is opened" octets "$(stat -c %s "$room/
     "$bench open $room/spool" "cat $room/spool | wc -c" "cat | wc -c"
 # A device's syncs take from one to ten times their least: many short runs.
 runs=31 compare "library: appends to a spool on a file" appends 500 \
-    "rm -f $disk/a; $bench append $disk/a 500" "rm -f $disk/b; $bench syncs $disk/b 500" "two bare syncs"
+    "rm -f $disk/a; $bench append $disk/a 500" "rm -f $disk/b; $bench syncs $disk/b 500 4101" "two bare syncs"
 among "library: look-ups in a table of 100,000 routes" look-ups 1000000 routes 100000 100 "a table of 100"
 compare "library: 100,000 messages into a book, and out" messages 100000 "$bench drain 100000" "$bench fill 100000" "filling alone"
 among "library: what is due, 10 of 100,000 held messages" answers 200000 due 100000 100 "10 of 100 held"
@@ -172,3 +172,17 @@ for ((time = 0; time < 200; time++)); do
 done > "$room/records"
 compare "library: a record of 1 MiB that is decoded" octets "$(stat -c %s "$room/records")" \
     "$bench decode < $room/record" "cat $room/records | wc -c" "cat | wc -c"
+
+# A message of 1,024 octets adds 1,196 to the file: the time stamp line, envelope, length and gate.
+runs=31 compare "node: messages of 1 KiB on one session, on a file" messages 500 \
+    "rm -f $disk/a; $bench accepts $disk/a 500 1024" "rm -f $disk/b; $bench syncs $disk/b 500 1196" "two bare syncs"
+runs=11 compare "node: messages of 1 MiB on one session, on a file" octets 62914560 \
+    "rm -f $disk/a; $bench accepts $disk/a 60 1048576" \
+    "rm -f $disk/b; dd if=/dev/zero of=$disk/b bs=1048576 count=60 oflag=dsync status=none" "dd with a sync for each"
+
+# A node on a file of 10,000 messages of 1 KiB: opening it, beside opening its spool, and its memory at its peak.
+"$bench" accepts "$room/node" 10000 1024 > "$room/out"
+compare "node: 10,000 messages of 1 KiB that are opened" octets "$(stat -c %s "$room/node")" \
+    "$bench node $room/node" "$bench open $room/node" "opening the spool alone"
+awk -v octets="$("$bench" peak "$room/node" | awk '{ print $(NF - 1) * 1024 }')" -v file="$(stat -c %s "$room/node")" 'BEGIN {
+    printf "%-52s %12.0f octets at its peak, %.2f of the file\n", "node: the memory of that", octets, octets / file }'

@@ -1,4 +1,5 @@
 use crate::blocks::read_all;
+use crate::memory::memory_line;
 use relay_book::{
     Accept, Book, BookFault, Change, Outcome, Ruling, Rulings, Verdict, decode_change,
 };
@@ -6,7 +7,6 @@ use relay_envelope::{Envelope, Path, PathBuf, Recipient, Recipients};
 use relay_octets::Octets;
 use relay_trace::Moment;
 use std::alloc::Global;
-use std::fs;
 use std::io::Read;
 use std::test::Fail;
 
@@ -56,20 +56,9 @@ pub fn hold_book(rt: &HostRuntime, count: u64) -> Result<String, Fail> {
     let alloc = rt.alloc();
     let text: Vec<u8> = vec![in alloc; b'x'; TEXT]?;
     let book = filled(alloc, count, text.as_slice())?;
-    let status = fs::read_to_string(rt, "/proc/self/status")?;
-    let resident = resident_in(status.as_str());
+    let resident = memory_line(rt, "VmRSS:")?;
     let next = book.next_number();
     Ok(format!(in alloc; "hold: next number {next}, {resident}")?)
-}
-
-/// The line of a process's status that says how much memory it has.
-fn resident_in(status: &str) -> &str {
-    for line in status.lines() {
-        if line.starts_with("VmRSS:") {
-            return line;
-        }
-    }
-    "VmRSS: unknown"
 }
 
 /// Reads the whole input as one record, and decodes it many times.

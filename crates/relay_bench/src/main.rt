@@ -7,6 +7,8 @@ mod blocks;
 mod books;
 mod commands;
 mod header;
+mod memory;
+mod nodes;
 mod replies;
 mod routes;
 mod spools;
@@ -15,6 +17,7 @@ mod texts;
 use books::{ask_what_is_due, decode_record, drain_book, fill_book, hold_book};
 use commands::count_commands;
 use header::look_through_header;
+use nodes::{accept_messages, open_node, open_node_and_measure};
 use replies::count_replies;
 use routes::look_up;
 use spools::{append_bodies, open_spool, sync_twice};
@@ -58,7 +61,13 @@ fn main(rt: HostRuntime) -> Result<(), Fail> {
                     count_of(words.get(3)),
                 )?
             }
-            Some(path) => measure_file(&rt, word.as_str(), path.as_str(), count_of(words.get(3)))?,
+            Some(path) => measure_file(
+                &rt,
+                word.as_str(),
+                path.as_str(),
+                count_of(words.get(3)),
+                count_of(words.get(4)),
+            )?,
             None => measure(alloc, word.as_str(), &mut rt.stdin())?,
         };
         println!(rt; "{}", line.as_str())?;
@@ -81,14 +90,18 @@ fn main(rt: HostRuntime) -> Result<(), Fail> {
         let line = measure_in_memory(&rt, name, count, 3)?;
         println!(rt; "{}", line.as_str())?;
     }
-    let path = "relay_bench_spool";
-    // A run that was cut off may have left it.
-    let _ = fs::remove_file(&rt, path);
-    for name in ["append", "open"] {
-        let line = measure_file(&rt, name, path, 3)?;
-        println!(rt; "{}", line.as_str())?;
+    for (path, names) in [
+        ("relay_bench_spool", ["append", "open"]),
+        ("relay_bench_node", ["accepts", "node"]),
+    ] {
+        // A run that was cut off may have left it.
+        let _ = fs::remove_file(&rt, path);
+        for name in names {
+            let line = measure_file(&rt, name, path, 3, 128)?;
+            println!(rt; "{}", line.as_str())?;
+        }
+        fs::remove_file(&rt, path)?;
     }
-    fs::remove_file(&rt, path)?;
     Ok(())
 }
 
@@ -116,16 +129,30 @@ fn measure_in_memory(rt: &HostRuntime, name: &str, count: u64, times: u64) -> Re
     }
 }
 
-/// Runs the measurement of this name on a file, and gives the line of what it counted.
-fn measure_file(rt: &HostRuntime, name: &str, path: &str, count: u64) -> Result<String, Fail> {
+/// Runs the measurement of this name on a file, so many times on so many octets, and gives the line of what it counted.
+fn measure_file(
+    rt: &HostRuntime,
+    name: &str,
+    path: &str,
+    count: u64,
+    octets: u64,
+) -> Result<String, Fail> {
     if name == "open" {
         open_spool(rt, path)
     } else if name == "append" {
         append_bodies(rt, path, count)
     } else if name == "syncs" {
-        sync_twice(rt, path, count)
+        sync_twice(rt, path, count, octets)
+    } else if name == "accepts" {
+        accept_messages(rt, path, count, octets)
+    } else if name == "node" {
+        open_node(rt, path)
+    } else if name == "peak" {
+        open_node_and_measure(rt, path)
     } else {
-        Err(Fail::new("the measurements of a file are: open, append, syncs"))
+        Err(Fail::new(
+            "the measurements of a file are: open, append, syncs, accepts, node, peak",
+        ))
     }
 }
 

@@ -7,9 +7,6 @@ use std::test::Fail;
 /// The octets of each body that is appended.
 const BODY: usize = 4_096;
 
-/// How many octets an append adds to the file: the length, the body and a gate.
-const LINK: usize = BODY + 5;
-
 /// Opens the spool in this file, and counts its bodies and their octets.
 pub fn open_spool(rt: &HostRuntime, path: &str) -> Result<String, Fail> {
     let disk = FileDisk::open(rt, path)?;
@@ -36,13 +33,16 @@ pub fn append_bodies(rt: &HostRuntime, path: &str, count: u64) -> Result<String,
     Ok(format!(in rt.alloc(); "append: {count} bodies, {size} octets")?)
 }
 
-/// Does on a bare file what the device does for so many appends, and no more: as many octets, a sync, an octet before
-/// them, a sync.
-pub fn sync_twice(rt: &HostRuntime, path: &str, count: u64) -> Result<String, Fail> {
-    let octets: Vec<u8> = vec![in rt.alloc(); 7; LINK]?;
+/// Does on a bare file what the device does for so many appends that add so many octets each, and no more: the octets, a
+/// sync, an octet before them, a sync.
+pub fn sync_twice(rt: &HostRuntime, path: &str, count: u64, link: u64) -> Result<String, Fail> {
+    let Ok(width) = usize::try_from(link) else {
+        return Err(Fail::new("too many octets"));
+    };
+    let octets: Vec<u8> = vec![in rt.alloc(); 7; width]?;
     let file = OpenOptions::new().write(true).create(true).open(rt, path)?;
     for turn in 0..count {
-        let Some(place) = turn.checked_mul(LINK as u64) else {
+        let Some(place) = turn.checked_mul(link) else {
             return Err(Fail::new("too many octets"));
         };
         let place = place.saturating_add(1);

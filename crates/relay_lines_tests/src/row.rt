@@ -1,0 +1,126 @@
+ghost use Rattle.std.specs.Prelude.{◌≡◌, ◌<◌, [], ◌∷◌, length, IfOk, IfSome, MatchOption};
+ghost use Rattle.relay_lines_tests.specs.Row.{escaped, octets_of};
+
+use crate::play::{Play, Question};
+use relay_octets::Octets;
+use std::alloc::{AllocError, Global};
+
+/// A row of the data: what is done, and what it is to come to.
+#[derive(Drop)]
+pub struct Row<'a> {
+    pub name: &'a str,
+    pub play: Play,
+    pub wanted: Octets,
+}
+
+impl<'a> Row<'a> {
+    /// Reads a row: `name|KIND|number|octets|wanted`. Texts of a reply stand between slashes.
+    /// Octets that a row can't hold are written with a backslash and a letter.
+    pub fn read(alloc: Global, line: &'a str) -> Result<Option<Row<'a>>, AllocError> {
+        let mut fields = line.split('|');
+        let (Some(name), Some(kind), Some(number), Some(octets), Some(wanted)) = (
+            fields.next(),
+            fields.next(),
+            fields.next(),
+            fields.next(),
+            fields.next(),
+        ) else {
+            return Ok(None);
+        };
+        let Some(play) = play_of(alloc, kind, number, octets)? else {
+            return Ok(None);
+        };
+        let wanted = unescaped(alloc, wanted.as_bytes())?;
+        Ok(Some(Row { name, play, wanted }))
+    }
+}
+
+/// What the fields of a row say is done.
+fn play_of(
+    alloc: Global,
+    kind: &str,
+    number: &str,
+    octets: &str,
+) -> Result<Option<Play>, AllocError> {
+    if kind == "REPLY" {
+        let code = number.parse::<u16>().unwrap_or(0);
+        return Ok(Some(Play::Reply(code, texts_of(alloc, octets)?)));
+    }
+    if kind == "LASTLINE" {
+        let code = number.parse::<u16>().unwrap_or(0);
+        let (front, back) = octets.split_once('/').unwrap_or((octets, ""));
+        return Ok(Some(Play::LastLine(
+            code,
+            unescaped(alloc, front.as_bytes())?,
+            unescaped(alloc, back.as_bytes())?,
+        )));
+    }
+    let octets = unescaped(alloc, octets.as_bytes())?;
+    let play = match kind {
+        "CUT" => Play::Cut(number.parse::<usize>().unwrap_or(0), octets),
+        "LINE" => Play::Line(octets),
+        "COMMAND" => Play::Command(octets),
+        "BDAT" => Play::Word(Question::BeginsWithBdat, octets),
+        "HOST" => Play::Word(Question::IsHostWord, octets),
+        "DOMAIN" => Play::Word(Question::AreDomainOctets, octets),
+        "LITERAL" => Play::Word(Question::IsAddressLiteral, octets),
+        "REPLIES" => Play::Replies(octets),
+        _ => return Ok(None),
+    };
+    Ok(Some(play))
+}
+
+/// The texts between slashes, and none where the word `none` stands there.
+fn texts_of(alloc: Global, text: &str) -> Result<Vec<Octets>, AllocError> {
+    let mut texts = Vec::new(alloc);
+    if text == "none" {
+        return Ok(texts);
+    }
+    for part in text.split('/') {
+        texts.push(unescaped(alloc, part.as_bytes())?)?;
+    }
+    Ok(texts)
+}
+
+/// The octets that a text of a row stands for.
+fn unescaped(alloc: Global, text: &[u8]) -> Result<Octets, AllocError>
+    ensures { IfOk result (λ octets. octets ≡ octets_of text.now) }
+{
+    let mut octets = Vec::with_capacity(alloc, text.len())?;
+    let mut rest = text;
+    while let Some((octet, behind)) = first_octet(rest) {
+        octets.push(octet)?;
+        rest = behind;
+    }
+    Ok(Octets::new(octets))
+}
+
+/// The first octet that a text of a row stands for, and the text behind it.
+fn first_octet(text: &[u8]) -> Option<(u8, &[u8])>
+    ensures first { MatchOption result (text.now ≡ [])
+        (λ first. octets_of text.now ≡ first.0 ∷ octets_of first.1.now) }
+    ensures shorter { IfSome result (λ first. length first.1.now < length text.now) }
+{
+    match text {
+        [b'\\', letter, behind @ ..] => Some((escaped(*letter), behind)),
+        [octet, behind @ ..] => Some((*octet, behind)),
+        [] => None,
+    }
+}
+
+fn escaped(letter: u8) -> u8
+    ensures { result ≡ escaped letter }
+{
+    match letter {
+        b'r' => b'\r',
+        b'n' => b'\n',
+        b't' => b'\t',
+        b'v' => 11,
+        b'0' => 0,
+        b'u' => 31,
+        b'd' => 127,
+        b'h' => 128,
+        b'f' => 255,
+        other => other,
+    }
+}

@@ -1,0 +1,95 @@
+#!/usr/bin/env bash
+# The faults of `init` and `list` over files, in the order in which they are looked for: what comes of each on standard error,
+# and its status. Nothing is written to standard output then.
+#
+#   tests/fault_lines.sh build/relayd
+set -euo pipefail
+export LC_ALL=C
+
+relayd=$(realpath "$1")
+room=$(mktemp -d)
+trap 'chmod -R u+w "$room"; rm -rf "$room"' EXIT
+# Files are opened by their permissions, which the administrator passes: the program runs as nobody then.
+as=()
+if [ "$(id -u)" -eq 0 ]; then
+    as=(setpriv --reuid=65534 --regid=65534 --clear-groups)
+    cp "$relayd" "$room/relayd"
+    relayd=$room/relayd
+    chmod 755 "$relayd"
+fi
+chmod 777 "$room"
+cd "$room"
+
+# refused STATUS LINE WORD..: the program is run by these words.
+refused() {
+    local wanted=$1 line=$2 status=0
+    shift 2
+    "${as[@]}" "$relayd" "$@" > out 2> err || status=$?
+    if [ "$status" -ne "$wanted" ] || [ "$(cat err)" != "$line" ] || [ -s out ]; then
+        echo "relayd $*: status $status and $(cat out err), and not $wanted and $line" >&2
+        exit 1
+    fi
+}
+
+# configuration SPOOL: one that is good.
+configuration() {
+    cat > relayd.toml << END
+host = "relay.example"
+listen = "127.0.0.1:2525"
+spool = "$1"
+[routes]
+"example.org" = { name = "next.example", at = "127.0.0.1:2526" }
+END
+}
+
+head='RELAYQ01\x01\x00\x00\x00\x00\x00\x00\x00\x01'
+
+refused 1 'relayd: input' list --config missing.toml
+refused 1 'relayd: input' init --config "$room"
+printf '# \xff\n' > relayd.toml
+refused 1 'relayd: input' list --config relayd.toml
+printf 'host = \n' > relayd.toml
+refused 1 'relayd: config NotToml' list --config relayd.toml
+printf 'listen = 1\n' > relayd.toml
+refused 1 'relayd: config Missing host' list --config relayd.toml
+printf 'host = "a b"\n' > relayd.toml
+refused 1 'relayd: config BadValue host' init --config relayd.toml
+
+# The content of a configuration comes before the spool that it names.
+mkdir folder
+configuration folder
+refused 1 'relayd: device' list --config relayd.toml
+refused 1 'relayd: device' init --config relayd.toml
+configuration folder/missing/relay.spool
+refused 1 'relayd: device' init --config relayd.toml
+configuration locked.spool
+printf "$head"'\x00' > locked.spool
+chmod 000 locked.spool
+refused 1 'relayd: device' list --config relayd.toml
+
+configuration relay.spool
+: > relay.spool
+chmod 666 relay.spool
+refused 1 'relayd: spool NotASpool' list --config relayd.toml
+printf 'a text that is no spool' > relay.spool
+refused 1 'relayd: spool NotASpool' list --config relayd.toml
+refused 1 'relayd: spool NotEmpty' init --config relayd.toml
+if [ "$(cat relay.spool)" != 'a text that is no spool' ]; then
+    echo "a file that is no spool was written" >&2
+    exit 1
+fi
+printf "$head"'\x01\x00\x00\x00\x02x' > relay.spool
+refused 1 'relayd: spool Damaged 17' list --config relayd.toml
+printf "$head"'\x01\x00\x00\x00\x01\x04\x00' > relay.spool
+refused 1 'relayd: spool BadRecord 1' list --config relayd.toml
+
+# A spool is made once, for its owner alone.
+rm relay.spool
+refused 0 '' init --config relayd.toml
+refused 0 '' list --config relayd.toml
+refused 1 'relayd: spool NotEmpty' init --config relayd.toml
+if [ "$(stat -c '%a %s' relay.spool)" != '600 18' ]; then
+    echo "the spool has the mode and size $(stat -c '%a %s' relay.spool)" >&2
+    exit 1
+fi
+echo "faults of init and list: 17 refused, each by its line"
