@@ -99,12 +99,15 @@ fn give(node: &mut Node<FileDisk>, session: usize, octets: &[u8]) -> Result<u64,
     };
     let mut queued: u64 = 0;
     let mut rest = octets;
-    while !rest.is_empty() {
+    for _ in 0..octets.len() {
+        if rest.is_empty() {
+            break;
+        }
         let block = &rest[..rest.len().min(BLOCK)];
         let Ok(received) = node.receive(session, block, now) else {
             return Err(Fail::new("a message was refused"));
         };
-        if received.close || received.used == 0 {
+        if received.close {
             return Err(Fail::new("the session ended"));
         }
         if received.change.is_some() {

@@ -1,8 +1,8 @@
 // Mail that a node takes in, and mail that it has no room for.
 use crate::expected::{ANSWERS, IMAGE, cause_of, opened, talk};
-use crate::setup::{MAIL, connected, node, start};
+use crate::setup::{MAIL, config_for, connected, node, start};
 use relay_disk::MemoryDisk;
-use relay_node::{Cause, NodeFault};
+use relay_node::{Cause, Node, NodeFault};
 use relay_spool::SpoolFault;
 use std::test::Fail;
 
@@ -85,6 +85,20 @@ fn a_held_place_is_marked_and_shown(rt: HostRuntime) -> Result<(), Fail> {
         };
         assert!(rt; found.is_none());
     }
+    Ok(())
+}
+
+#[test]
+fn a_place_stays_held_where_its_route_is_gone(rt: HostRuntime) -> Result<(), Fail> {
+    let alloc = rt.alloc();
+    let disk = MemoryDisk::with_image(alloc, IMAGE)?;
+    let Ok(node) = Node::open(alloc, config_for(alloc, "example.net", 178)?, disk) else {
+        return Err(Fail::new("not opened"));
+    };
+    let Ok(marks) = node.marks(alloc) else {
+        return Err(Fail::new("no marks"));
+    };
+    assert_eq!(rt; marks.as_slice(), [(1, 0)].as_slice());
     Ok(())
 }
 

@@ -10,15 +10,20 @@ use std::test::Fail;
 pub(crate) const MAIL: &[u8] =
     b"HELO x\r\nMAIL FROM:<a@example.org>\r\nRCPT TO:<b@example.org>\r\nDATA\r\n.\r\n";
 
-/// A configuration with this limit of the spool, in octets.
+/// A configuration with this limit of the spool, in octets, and a route for `example.org`.
 pub(crate) fn config(alloc: Global, spool_limit: u64) -> Result<Config, Fail> {
+    config_for(alloc, "example.org", spool_limit)
+}
+
+/// A configuration with a route for this domain alone.
+pub(crate) fn config_for(alloc: Global, domain: &str, spool_limit: u64) -> Result<Config, Fail> {
     let text = format!(in alloc;
         "host = \"relay.example\"
 listen = \"127.0.0.1:2525\"
 spool = \"relay.spool\"
 spool_limit = {spool_limit}
 [routes]
-\"example.org\" = {{ name = \"next.example\", at = \"127.0.0.1:2526\" }}
+\"{domain}\" = {{ name = \"next.example\", at = \"127.0.0.1:2526\" }}
 "
     )?;
     match Config::read(alloc, text.as_str()) {

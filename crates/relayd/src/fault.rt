@@ -109,8 +109,11 @@ impl From<NodeFault> for Fault {
             NodeFault::NoMemory => Fault::NoMemory,
             NodeFault::Full => Fault::Full,
             NodeFault::Open(cause) => Fault::from(cause),
-            // A node that was just opened is live, and what is asked of it is there.
-            _ => Fault::Device,
+            NodeFault::Stopped => Fault::Device,
+            // What is asked of a node here is there, and it has room.
+            NodeFault::Unknown | NodeFault::TooMany | NodeFault::NotDue | NodeFault::Busy => {
+                Fault::Device
+            }
         }
     }
 }

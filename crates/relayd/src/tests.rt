@@ -123,6 +123,18 @@ fn text_of(alloc: Global, lines: &[&str]) -> Result<Vec<u8>, Fail> {
 
 const SESSION: [&str; 2] = ["relayd", "session"];
 
+/// Runs the program by these words: its status, and what it wrote to standard error.
+fn run<R: Read, W: Write>(
+    rt: &HostRuntime,
+    words: &[&str],
+    reader: &mut R,
+    writer: &mut W,
+) -> (u8, Vec<u8>) {
+    let mut errors: Vec<u8> = Vec::new(rt.alloc());
+    let status = command(rt.alloc(), rt, words, reader, writer, &mut errors);
+    (status, errors)
+}
+
 #[test]
 fn the_first_dialogue_octet_by_octet(rt: HostRuntime) -> Result<(), Fail> {
     let mut input = text_of(rt.alloc(), &COMMANDS)?;
@@ -131,15 +143,7 @@ fn the_first_dialogue_octet_by_octet(rt: HostRuntime) -> Result<(), Fail> {
     let wanted = text_of(rt.alloc(), &REPLIES)?;
     let mut reader = reader_of(input.as_slice(), None, ErrorKind::Other);
     let mut writer = writer_of(rt.alloc(), None, ErrorKind::Other, 0);
-    let mut errors: Vec<u8> = Vec::new(rt.alloc());
-    let status = command(
-        rt.alloc(),
-        &rt,
-        &SESSION,
-        &mut reader,
-        &mut writer,
-        &mut errors,
-    );
+    let (status, errors) = run(&rt, &SESSION, &mut reader, &mut writer);
     assert_eq!(rt; status, 0);
     assert_eq!(rt; writer.held.as_slice(), wanted.as_slice());
     assert_eq!(rt; reader.given, end, "nothing is read behind the close");
@@ -153,15 +157,7 @@ fn interrupted_calls_are_done_again(rt: HostRuntime) -> Result<(), Fail> {
     let wanted = text_of(rt.alloc(), &REPLIES)?;
     let mut reader = reader_of(input.as_slice(), Some(9), ErrorKind::Interrupted);
     let mut writer = writer_of(rt.alloc(), Some(40), ErrorKind::Interrupted, 0);
-    let mut errors: Vec<u8> = Vec::new(rt.alloc());
-    let status = command(
-        rt.alloc(),
-        &rt,
-        &SESSION,
-        &mut reader,
-        &mut writer,
-        &mut errors,
-    );
+    let (status, errors) = run(&rt, &SESSION, &mut reader, &mut writer);
     assert_eq!(rt; status, 0);
     assert_eq!(rt; writer.held.as_slice(), wanted.as_slice());
     Ok(())
@@ -174,15 +170,7 @@ fn a_reader_that_fails_ends_the_session(rt: HostRuntime) -> Result<(), Fail> {
     for cut in 0..input.len() {
         let mut reader = reader_of(input.as_slice(), Some(cut), ErrorKind::BrokenPipe);
         let mut writer = writer_of(rt.alloc(), None, ErrorKind::Other, 0);
-        let mut errors: Vec<u8> = Vec::new(rt.alloc());
-        let status = command(
-            rt.alloc(),
-            &rt,
-            &SESSION,
-            &mut reader,
-            &mut writer,
-            &mut errors,
-        );
+        let (status, errors) = run(&rt, &SESSION, &mut reader, &mut writer);
         assert_eq!(rt; status, 1, "cut behind {cut}");
         assert_eq!(rt; reader.given, cut, "nothing is read behind the fault");
         assert!(rt;
@@ -201,15 +189,7 @@ fn a_writer_that_fails_ends_the_session(rt: HostRuntime) -> Result<(), Fail> {
     for cut in 0..wanted.len() {
         let mut reader = reader_of(input.as_slice(), None, ErrorKind::Other);
         let mut writer = writer_of(rt.alloc(), Some(cut), ErrorKind::BrokenPipe, 0);
-        let mut errors: Vec<u8> = Vec::new(rt.alloc());
-        let status = command(
-            rt.alloc(),
-            &rt,
-            &SESSION,
-            &mut reader,
-            &mut writer,
-            &mut errors,
-        );
+        let (status, errors) = run(&rt, &SESSION, &mut reader, &mut writer);
         assert_eq!(rt; status, 1, "cut behind {cut}");
         assert_eq!(rt;
             writer.held.len(),
@@ -232,15 +212,7 @@ fn a_flush_that_fails_ends_the_session(rt: HostRuntime) -> Result<(), Fail> {
     for bad_flush in 1..=REPLIES.len() {
         let mut reader = reader_of(input.as_slice(), None, ErrorKind::Other);
         let mut writer = writer_of(rt.alloc(), None, ErrorKind::BrokenPipe, bad_flush);
-        let mut errors: Vec<u8> = Vec::new(rt.alloc());
-        let status = command(
-            rt.alloc(),
-            &rt,
-            &SESSION,
-            &mut reader,
-            &mut writer,
-            &mut errors,
-        );
+        let (status, errors) = run(&rt, &SESSION, &mut reader, &mut writer);
         assert_eq!(rt; status, 1, "flush {bad_flush}");
         assert_eq!(rt;
             writer.flushes,
@@ -269,15 +241,7 @@ fn wrong_words_have_status_2(rt: HostRuntime) -> Result<(), Fail> {
     for words in wrong {
         let mut reader = reader_of(b"NOOP\r\n", None, ErrorKind::Other);
         let mut writer = writer_of(rt.alloc(), None, ErrorKind::Other, 0);
-        let mut errors: Vec<u8> = Vec::new(rt.alloc());
-        let status = command(
-            rt.alloc(),
-            &rt,
-            words,
-            &mut reader,
-            &mut writer,
-            &mut errors,
-        );
+        let (status, errors) = run(&rt, words, &mut reader, &mut writer);
         assert_eq!(rt; status, 2);
         assert_eq!(rt; reader.given, 0);
         assert!(rt; writer.held.is_empty());
@@ -290,16 +254,8 @@ fn wrong_words_have_status_2(rt: HostRuntime) -> Result<(), Fail> {
 fn help_is_written_and_done(rt: HostRuntime) -> Result<(), Fail> {
     let mut reader = reader_of(b"NOOP\r\n", None, ErrorKind::Other);
     let mut writer = writer_of(rt.alloc(), None, ErrorKind::Other, 0);
-    let mut errors: Vec<u8> = Vec::new(rt.alloc());
     let words = ["relayd", "--help"];
-    let status = command(
-        rt.alloc(),
-        &rt,
-        &words,
-        &mut reader,
-        &mut writer,
-        &mut errors,
-    );
+    let (status, errors) = run(&rt, &words, &mut reader, &mut writer);
     assert_eq!(rt; status, 0);
     assert!(rt;
         writer
@@ -309,7 +265,7 @@ fn help_is_written_and_done(rt: HostRuntime) -> Result<(), Fail> {
     );
     assert!(rt; errors.is_empty());
     let mut full = writer_of(rt.alloc(), Some(0), ErrorKind::StorageFull, 0);
-    let status = command(rt.alloc(), &rt, &words, &mut reader, &mut full, &mut errors);
+    let (status, errors) = run(&rt, &words, &mut reader, &mut full);
     assert_eq!(rt; status, 1);
     assert_eq!(rt; errors.as_slice(), b"relayd: output\n".as_slice());
     Ok(())
@@ -331,8 +287,7 @@ const LIST: [&str; 4] = ["relayd", "list", "--config", "relayd.toml"];
 fn run_of(rt: &HostRuntime, words: &[&str]) -> (u8, Vec<u8>, Vec<u8>) {
     let mut reader = reader_of(b"", None, ErrorKind::Other);
     let mut writer: Vec<u8> = Vec::new(rt.alloc());
-    let mut errors: Vec<u8> = Vec::new(rt.alloc());
-    let status = command(rt.alloc(), rt, words, &mut reader, &mut writer, &mut errors);
+    let (status, errors) = run(rt, words, &mut reader, &mut writer);
     (status, writer, errors)
 }
 
