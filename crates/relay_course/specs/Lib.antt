@@ -1,0 +1,5 @@
+pub mod Extensions
+pub mod WrittenLine
+pub mod VerdictTable
+pub mod Progress
+pub mod Course
