@@ -128,7 +128,7 @@ hello-goes errand now =
     (mail-goes errand now)
     (chosen now now.extensions.chunking (with_mail errand now) cant (mail-goes errand now) (ended errand CantSend now))
 
-answer-goes : (errand : Errand) (waited : Awaited) (kind : ReplyKind) (reply : Reply) (now : Progress)
+pub answer-goes : (errand : Errand) (waited : Awaited) (kind : ReplyKind) (reply : Reply) (now : Progress)
   → GoesOn now (behind_answer errand waited kind reply now)
 answer-goes errand Greeting Completion reply now = asked (ehlo_line errand.host) Ehlo now
 answer-goes errand Greeting Permanent reply now = ended errand (refusal reply) now
@@ -228,7 +228,7 @@ each_command_waits errand replies none =
     let all = along errand (at_greeting errand) replies (greeting-lives errand) in
     (all.lives none, (let c = all.count none in omega arith))
 
-stays : (errand : Errand) (now : Progress) (replies : List Reply) → now.waits ≡ [] → behind_replies errand now replies ≡ now
+pub stays : (errand : Errand) (now : Progress) (replies : List Reply) → now.waits ≡ [] → behind_replies errand now replies ≡ now
 stays errand now [] e = refl
 stays errand now (reply ∷ replies) e =
     let same : behind_reply errand now reply ≡ now =

@@ -1,1 +1,3 @@
 mod GoingLemmas
+mod OrderLemmas
+mod TakenLemmas
