@@ -1,3 +1,4 @@
 mod GoingLemmas
 mod OrderLemmas
 mod TakenLemmas
+mod EndLemmas
