@@ -2,3 +2,4 @@ mod GoingLemmas
 mod OrderLemmas
 mod TakenLemmas
 mod EndLemmas
+mod WrittenLemmas
