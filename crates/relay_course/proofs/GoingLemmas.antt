@@ -1,5 +1,5 @@
 -- What is done of a progress adds commands, each of which waits for a reply until it ends.
-use Rattle.std.proofs.Common.{◌≡◌, ◌<◌, ◌≤◌, ◌⊎◌, inl, inr, ℕ, ◌+◌, Bool, true, false, List, [], ◌∷◌, ◌++◌, length, map, Option, Some, None, refl, sym, ap, ◌∙◌, subst, cond, arith}
+use Rattle.std.proofs.Common.{◌≡◌, ◌<◌, ℕ, ◌+◌, Bool, true, false, List, [], ◌∷◌, ◌++◌, length, Some, None, refl, sym, ap, ◌∙◌, subst, cond, arith}
 use Rattle.std.proofs.lemmas.List.{append_assoc, append-nil, length-append}
 use Rattle.relay_octets.specs.Beginning.{Begins}
 use Rattle.relay_lines.specs.Reply.{Reply}
@@ -9,12 +9,12 @@ use Rattle.relay_book.specs.declared.change.Verdict.TheVariants.{Later, CantSend
 use Rattle.relay_course.specs.declared.awaited.Awaited.{Awaited}
 use Rattle.relay_course.specs.declared.awaited.Awaited.TheVariants.{Greeting, Ehlo, Helo, Mail, Rcpt, Data, Content}
 use Rattle.relay_course.specs.declared.reply_kind.ReplyKind.{ReplyKind}
-use Rattle.relay_course.specs.declared.reply_kind.ReplyKind.TheVariants.{Completion, Intermediate, Transient, Permanent}
+use Rattle.relay_course.specs.declared.reply_kind.ReplyKind.TheVariants.{Completion, Intermediate, Permanent}
 use Rattle.relay_course.specs.Extensions.{extensions_of}
 use Rattle.relay_course.specs.WrittenLine.{ehlo_line, helo_line, mail_line, rcpt_line_at, data_line, last_chunk, quit_line}
 use Rattle.relay_course.specs.VerdictTable.{content_verdict_by, kind_of, refusal, some_accepted}
-use Rattle.relay_course.specs.Progress.{Errand, Answered, Progress, answer_of, rcpt_replies, with_command, ended_by, with_rcpt, with_rcpts, with_content, behind_rcpts, with_next, with_mail, behind_hello, behind_answer, at_greeting, with_answer, behind_reply, behind_replies, progress}
-use Rattle.relay_course.specs.Laws.{AnsweredAreFirst, CommandsStay, EachCommandWaits, EndIsEnd, replies_in}
+use Rattle.relay_course.specs.Progress.{Errand, Progress, answer_of, rcpt_replies, with_command, ended_by, with_rcpt, with_rcpts, with_content, behind_rcpts, with_next, with_mail, behind_hello, behind_answer, at_greeting, with_answer, behind_reply, behind_replies, progress}
+use Rattle.relay_course.specs.Laws.{CommandsStay, EachCommandWaits, EndIsEnd}
 
 -- the commands of the old begin those of the new; the old runs where the new does; while it runs each further command
 -- waits; nothing more is answered
@@ -87,7 +87,7 @@ rcpts-live errand (place ∷ places) now h =
 
 -- of two the one that a test chooses
 chosen : (old : Progress) (test : Bool) (one other : Progress) → GoesOn old one → GoesOn old other
-  → GoesOn old (cond test one other)
+    → GoesOn old (cond test one other)
 chosen old true one other a b = a
 chosen old false one other a b = b
 
@@ -103,7 +103,7 @@ rcpts-go errand now =
     (content-goes errand now) (ended errand Later now)
 
 next-goes : (errand : Errand) (waits : List Awaited) (unasked : List ℕ) (now : Progress) → waits ≡ now.waits
-  → GoesOn now (with_next errand waits unasked now)
+    → GoesOn now (with_next errand waits unasked now)
 next-goes errand (waited ∷ waits) unasked now e = (adds-none now, λ h. omega (arith, ap length e))
 next-goes errand [] (place ∷ more) now e =
     let line : List ℕ = rcpt_line_at now.extensions.dsn errand.envelope.recipients place in
@@ -115,9 +115,10 @@ mail-goes errand now =
     let line : List ℕ = mail_line now.extensions.dsn errand.envelope in
     let mail : Progress = with_command line Mail now in
     let group : Progress = with_rcpts errand now.unasked mail in
-    chosen now now.extensions.pipelining group mail
-    (adds-trans now mail group (command-adds line Mail now) (rcpts-add errand now.unasked mail),
-    rcpts-live errand now.unasked mail (command-lives line Mail now))
+    chosen now now.extensions.pipelining group mail (
+      adds-trans now mail group (command-adds line Mail now) (rcpts-add errand now.unasked mail),
+      rcpts-live errand now.unasked mail (command-lives line Mail now),
+    )
     (asked line Mail now)
 
 hello-goes : (errand : Errand) (now : Progress) → GoesOn now (behind_hello errand now)
@@ -129,7 +130,7 @@ hello-goes errand now =
     (chosen now now.extensions.chunking (with_mail errand now) cant (mail-goes errand now) (ended errand CantSend now))
 
 pub answer-goes : (errand : Errand) (waited : Awaited) (kind : ReplyKind) (reply : Reply) (now : Progress)
-  → GoesOn now (behind_answer errand waited kind reply now)
+    → GoesOn now (behind_answer errand waited kind reply now)
 answer-goes errand Greeting Completion reply now = asked (ehlo_line errand.host) Ehlo now
 answer-goes errand Greeting Permanent reply now = ended errand (refusal reply) now
 answer-goes errand Greeting _ reply now = ended errand Later now
@@ -159,31 +160,35 @@ pub record Answers (old new : Progress) (reply : Reply) : Type 0 where
   pub lives : Lives new
   pub ran : new.verdicts ≡ None → old.verdicts ≡ None
   pub count : new.verdicts ≡ None
-    → length new.waits + length old.commands + 1 ≡ length old.waits + length new.commands
+      → length new.waits + length old.commands + 1 ≡ length old.waits + length new.commands
 
 with_answer-is : (errand : Errand) (waits : List Awaited) (reply : Reply) (now : Progress) → waits ≡ now.waits
-  → Lives now → Answers now (with_answer errand waits reply now) reply
+    → Lives now → Answers now (with_answer errand waits reply now) reply
 with_answer-is errand [] reply now e lives = record {
-  begins = ([], sym (append-nil now.commands)); lives = lives; ran = λ n. n;
+  begins = ([], sym (append-nil now.commands));
+  lives = lives;
+  ran = λ n. n;
   count = λ n. (let l = lives n in absurd (omega (arith, ap length e)));
 }
 with_answer-is errand (waited ∷ waits) reply now e lives =
     let done = answer-goes errand waited (kind_of reply.code) reply (answered_by waited waits reply now) in
     record {
-      begins = done.0.0; lives = done.1; ran = λ n. done.0.1 n;
+      begins = done.0.0;
+      lives = done.1;
+      ran = λ n. done.0.1 n;
       count = λ n. (let b = done.0.2 n in omega (arith, ap length e));
     }
 
 -- where something waits, one reply more is answered
 pub answered_more : (errand : Errand) (now : Progress) (reply : Reply) (waits : List Awaited) → 0 < length waits
-  → length (with_answer errand waits reply now).answered ≡ length now.answered + 1
+    → length (with_answer errand waits reply now).answered ≡ length now.answered + 1
 answered_more errand now reply [] h = absurd (omega arith)
 answered_more errand now reply (waited ∷ waits) h =
     ap length (answer-goes errand waited (kind_of reply.code) reply (answered_by waited waits reply now)).0.3
     ∙ length-append now.answered (answer_of waited reply ∷ [])
 
 pub behind_replies-append : (errand : Errand) (now : Progress) (replies more : List Reply)
-  → behind_replies errand now (replies ++ more) ≡ behind_replies errand (behind_replies errand now replies) more
+    → behind_replies errand now (replies ++ more) ≡ behind_replies errand (behind_replies errand now replies) more
 behind_replies-append errand now [] more = refl
 behind_replies-append errand now (reply ∷ replies) more =
     behind_replies-append errand (behind_reply errand now reply) replies more
@@ -194,12 +199,15 @@ pub record GoesAlong (old new : Progress) (replies : List Reply) : Type 0 where
   pub lives : Lives new
   pub ran : new.verdicts ≡ None → old.verdicts ≡ None
   pub count : new.verdicts ≡ None
-    → length new.waits + length old.commands + length replies ≡ length old.waits + length new.commands
+      → length new.waits + length old.commands + length replies ≡ length old.waits + length new.commands
 
 along : (errand : Errand) (now : Progress) (replies : List Reply) → Lives now
-  → GoesAlong now (behind_replies errand now replies) replies
+    → GoesAlong now (behind_replies errand now replies) replies
 along errand now [] lives = record {
-  begins = ([], sym (append-nil now.commands)); lives = lives; ran = λ n. n; count = λ n. omega arith;
+  begins = ([], sym (append-nil now.commands));
+  lives = lives;
+  ran = λ n. n;
+  count = λ n. omega arith;
 }
 along errand now (reply ∷ replies) lives =
     let mid : Progress = behind_reply errand now reply in
@@ -232,10 +240,9 @@ pub stays : (errand : Errand) (now : Progress) (replies : List Reply) → now.wa
 stays errand now [] e = refl
 stays errand now (reply ∷ replies) e =
     let same : behind_reply errand now reply ≡ now =
-      ap (λ (waits : List Awaited). with_answer errand waits reply now) e in
+    ap (λ (waits : List Awaited). with_answer errand waits reply now) e in
     ap (λ (end : Progress). behind_replies errand end replies) same ∙ stays errand now replies e
 
 pub end_is_end : EndIsEnd
 end_is_end errand replies more e =
     behind_replies-append errand (at_greeting errand) replies more ∙ stays errand (progress errand replies) more e
-

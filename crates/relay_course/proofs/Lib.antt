@@ -3,3 +3,5 @@ mod OrderLemmas
 mod TakenLemmas
 mod EndLemmas
 mod WrittenLemmas
+mod RelayLemmas
+pub mod Theorems

@@ -1,5 +1,5 @@
 -- What waits, and how an attempt has ended: RCPTs in the order of the places, DATA and the content alone.
-use Rattle.std.proofs.Common.{◌≡◌, ◌⊎◌, inl, inr, ℕ, Bool, true, false, List, [], ◌∷◌, ◌++◌, map, Option, Some, None, refl, sym, ap, ◌∙◌, subst, cond, lit<}
+use Rattle.std.proofs.Common.{◌≡◌, ◌⊎◌, inl, inr, ℕ, Bool, true, false, List, [], ◌∷◌, ◌++◌, Option, Some, None, refl, sym, ap, ◌∙◌, subst, cond, lit<}
 use Rattle.std.proofs.lemmas.List.{append_assoc, append-nil, map-append}
 use Rattle.std.proofs.lemmas.List.Concat.{flat_map-append}
 use Rattle.std.proofs.lemmas.List.Elements.{Contains-append_right}
@@ -12,9 +12,9 @@ use Rattle.relay_book.specs.declared.change.Verdict.TheVariants.{Later, CantSend
 use Rattle.relay_course.specs.declared.awaited.Awaited.{Awaited}
 use Rattle.relay_course.specs.declared.awaited.Awaited.TheVariants.{Greeting, Ehlo, Helo, Mail, Rcpt, Data, Content}
 use Rattle.relay_course.specs.declared.reply_kind.ReplyKind.{ReplyKind}
-use Rattle.relay_course.specs.declared.reply_kind.ReplyKind.TheVariants.{Completion, Intermediate, Transient, Permanent}
+use Rattle.relay_course.specs.declared.reply_kind.ReplyKind.TheVariants.{Completion, Intermediate, Permanent}
 use Rattle.relay_course.specs.Extensions.{extensions_of}
-use Rattle.relay_course.specs.WrittenLine.{ehlo_line, helo_line, mail_line, rcpt_line_at, data_line, last_chunk}
+use Rattle.relay_course.specs.WrittenLine.{ehlo_line, helo_line, mail_line, data_line, last_chunk}
 use Rattle.relay_course.specs.VerdictTable.{content_verdict_by, kind_of, refusal, some_accepted, verdicts_of}
 use Rattle.relay_course.specs.Progress.{Errand, Answered, Progress, answer_of, rcpt_replies, with_command, ended_by, with_rcpt, with_rcpts, with_content, behind_rcpts, with_next, with_mail, behind_hello, behind_answer, at_greeting, with_answer, behind_reply, behind_replies, progress}
 use Rattle.relay_course.specs.Laws.{EndWaitsForNothing, if_rcpt_place, rcpt_places, replies_in}
@@ -109,15 +109,15 @@ orderly-stands errand now e is =
 
 -- of two the one that a test chooses
 chosen : (errand : Errand) (test : Bool) (one other : Progress) → Stands errand one → Stands errand other
-  → Stands errand (cond test one other)
+    → Stands errand (cond test one other)
 chosen errand true one other a b = a
 chosen errand false one other a b = b
 
 -- the ends before the content
 before : (errand : Errand) (last : Verdict) (now : Progress) → IsOpen errand now
-  → (last ≡ Later) ⊎ ((last ≡ CantSend)
+    → (last ≡ Later) ⊎ ((last ≡ CantSend)
     ⊎ ((reply : Reply) × Contains (replies_in now.answered) reply × (last ≡ refusal reply)))
-  → Stands errand (ended_by errand last now)
+    → Stands errand (ended_by errand last now)
 before errand last now is why =
     (refl, (waiting_places now.waits ++ now.unasked, sym is.1), (last, refl, inr (is.2, why)))
 
@@ -125,29 +125,32 @@ later : (errand : Errand) (now : Progress) → IsOpen errand now → Stands erra
 later errand now is = before errand Later now is (inl refl)
 
 refused : (errand : Errand) (waited : Awaited) (reply : Reply) (answered : List Answered) (now : Progress)
-  → now.answered ≡ answered ++ answer_of waited reply ∷ []
-  → IsOpen errand now → Stands errand (ended_by errand (refusal reply) now)
+    → now.answered ≡ answered ++ answer_of waited reply ∷ []
+    → IsOpen errand now → Stands errand (ended_by errand (refusal reply) now)
 refused errand waited reply answered now e is =
     let one : List Answered = answer_of waited reply ∷ [] in
     let line : replies_in now.answered ≡ replies_in answered ++ reply ∷ [] =
-      ap (λ l. replies_in l) e ∙ map-append (λ (a : Answered). a.reply) answered one in
-    before errand (refusal reply) now is (inr (inr (reply,
-    subst (λ (l : List Reply). Contains l reply) (sym line)
-    (Contains-append_right (replies_in answered) (reply ∷ []) reply (0, lit< tt, refl)), refl)))
+    ap (λ l. replies_in l) e ∙ map-append (λ (a : Answered). a.reply) answered one in
+    before errand (refusal reply) now is (inr (inr (
+      reply,
+      subst (λ (l : List Reply). Contains l reply) (sym line)
+          (Contains-append_right (replies_in answered) (reply ∷ []) reply (0, lit< tt, refl)),
+      refl,
+    )))
 
 -- where nothing waited, a command that is no RCPT waits alone
 alone-places : (errand : Errand) (command : List ℕ) (waited : Awaited) (now : Progress) → now.waits ≡ []
-  → if_rcpt_place waited ≡ [] → Places errand now → Places errand (with_command command waited now)
+    → if_rcpt_place waited ≡ [] → Places errand now → Places errand (with_command command waited now)
 alone-places errand command waited now none free places =
     let front : List ℕ = rcpt_places now.answered in
     let here : waiting_places (now.waits ++ waited ∷ []) ≡ waiting_places now.waits =
-      ap (λ (w : List Awaited). waiting_places (w ++ waited ∷ [])) none ∙ ap (λ l. l ++ []) free
-      ∙ sym (ap (λ (w : List Awaited). waiting_places w) none) in
+    ap (λ (w : List Awaited). waiting_places (w ++ waited ∷ [])) none ∙ ap (λ l. l ++ []) free
+    ∙ sym (ap (λ (w : List Awaited). waiting_places w) none) in
     ap (λ l. front ++ (l ++ now.unasked)) here ∙ places
 
 alone : (errand : Errand) (command : List ℕ) (waited : Awaited) (now : Progress) → now.waits ≡ []
-  → if_rcpt_place waited ≡ [] → MayWait (waited ∷ []) now.unasked → IsOpen errand now
-  → Stands errand (with_command command waited now)
+    → if_rcpt_place waited ≡ [] → MayWait (waited ∷ []) now.unasked → IsOpen errand now
+    → Stands errand (with_command command waited now)
 alone errand command waited now none free may is =
     orderly-stands errand (with_command command waited now) is.0 (
       alone-places errand command waited now none free is.1,
@@ -197,7 +200,7 @@ rcpts-group (Content ∷ waits) h = absurd h
 
 -- the RCPT of the next place waits behind the others
 rcpt-places : (errand : Errand) (place : ℕ) (more : List ℕ) (now : Progress) → now.unasked ≡ place ∷ more
-  → Places errand now → Places errand (with_rcpt errand place more now)
+    → Places errand now → Places errand (with_rcpt errand place more now)
 rcpt-places errand place more now next places =
     let front : List ℕ = rcpt_places now.answered in
     let waiting : List ℕ = waiting_places now.waits in
@@ -207,7 +210,7 @@ rcpt-places errand place more now next places =
 
 -- a group of RCPTs
 group : (errand : Errand) (places : List ℕ) (now : Progress) → now.unasked ≡ places → IsGroup now.waits
-  → IsOpen errand now → Stands errand (with_rcpts errand places now)
+    → IsOpen errand now → Stands errand (with_rcpts errand places now)
 group errand [] now next may is =
     orderly-stands errand now is.0 (is.1, group-may now.waits now.unasked may, is.2)
 group errand (place ∷ places) now next may is =
@@ -215,7 +218,7 @@ group errand (place ∷ places) now next may is =
     (is.0, rcpt-places errand place places now next is.1, is.2)
 
 mail-stands : (errand : Errand) (now : Progress) → now.waits ≡ [] → IsOpen errand now
-  → Stands errand (with_mail errand now)
+    → Stands errand (with_mail errand now)
 mail-stands errand now none is =
     let line : List ℕ = mail_line now.extensions.dsn errand.envelope in
     let mail : Progress = with_command line Mail now in
@@ -226,7 +229,7 @@ mail-stands errand now none is =
     (alone errand line Mail now none refl tt is)
 
 hello-stands : (errand : Errand) (now : Progress) → now.waits ≡ [] → IsOpen errand now
-  → Stands errand (behind_hello errand now)
+    → Stands errand (behind_hello errand now)
 hello-stands errand now none is =
     let cant : Progress = ended_by errand CantSend now in
     chosen errand (ends_in_line_end errand.text) (with_mail errand now)
@@ -236,7 +239,7 @@ hello-stands errand now none is =
     (before errand CantSend now is (inr (inl refl))))
 
 content-stands : (errand : Errand) (now : Progress) → now.waits ≡ [] → now.unasked ≡ [] → IsOpen errand now
-  → Stands errand (with_content errand now)
+    → Stands errand (with_content errand now)
 content-stands errand now none all is =
     let may : IsNone now.unasked = subst (λ (l : List ℕ). IsNone l) (sym all) tt in
     chosen errand (ends_in_line_end errand.text) (with_command data_line Data now)
@@ -245,33 +248,33 @@ content-stands errand now none all is =
     (alone errand (last_chunk errand.text) Content now none refl (tt, may) is)
 
 rcpts-stand : (errand : Errand) (now : Progress) → now.waits ≡ [] → now.unasked ≡ [] → IsOpen errand now
-  → Stands errand (behind_rcpts errand now)
+    → Stands errand (behind_rcpts errand now)
 rcpts-stand errand now none all is =
     chosen errand (some_accepted (rcpt_replies now.answered)) (with_content errand now) (ended_by errand Later now)
     (content-stands errand now none all is) (later errand now is)
 
 next-stands : (errand : Errand) (waits : List Awaited) (unasked : List ℕ) (now : Progress) → waits ≡ now.waits
-  → unasked ≡ now.unasked → AreRcpts waits → IsOpen errand now → Stands errand (with_next errand waits unasked now)
+    → unasked ≡ now.unasked → AreRcpts waits → IsOpen errand now → Stands errand (with_next errand waits unasked now)
 next-stands errand (waited ∷ waits) unasked now w u may is =
     orderly-stands errand now is.0 (
       is.1,
       group-may now.waits now.unasked
-      (subst (λ (l : List Awaited). IsGroup l) w (rcpts-group (waited ∷ waits) may)),
+          (subst (λ (l : List Awaited). IsGroup l) w (rcpts-group (waited ∷ waits) may)),
       is.2,
     )
 next-stands errand [] (place ∷ more) now w u may is =
     orderly-stands errand (with_rcpt errand place more now) is.0 (
       rcpt-places errand place more now (sym u) is.1,
       group-may (now.waits ++ Rcpt place ∷ []) more
-      (group-more now.waits place (subst (λ (l : List Awaited). IsGroup l) w tt)),
+          (group-more now.waits place (subst (λ (l : List Awaited). IsGroup l) w tt)),
       is.2,
     )
 next-stands errand [] [] now w u may is = rcpts-stand errand now (sym w) (sym u) is
 
 -- the RCPT that was answered moves from those that wait to those that were answered
 answered-places : (errand : Errand) (waited : Awaited) (waits : List Awaited) (reply : Reply) (old : Progress)
-  → rcpt_places old.answered ++ (waiting_places (waited ∷ waits) ++ old.unasked) ≡ errand.places
-  → Places errand (answered_by waited waits reply old)
+    → rcpt_places old.answered ++ (waiting_places (waited ∷ waits) ++ old.unasked) ≡ errand.places
+    → Places errand (answered_by waited waits reply old)
 answered-places errand waited waits reply old places =
     let front : List ℕ = rcpt_places old.answered in
     let place : List ℕ = if_rcpt_place waited in
@@ -283,7 +286,7 @@ answered-places errand waited waits reply old places =
     ∙ ap (λ l. front ++ l) (sym (append_assoc place (waiting_places waits) old.unasked)) ∙ places
 
 answered-content : (waited : Awaited) (reply : Reply) (answered : List Answered) → content_replies_in answered ≡ []
-  → content_replies_in (answered ++ answer_of waited reply ∷ []) ≡ if_content waited reply
+    → content_replies_in (answered ++ answer_of waited reply ∷ []) ≡ if_content waited reply
 answered-content waited reply answered none =
     let content_of : Answered → List Reply = λ one. if_content one.waited one.reply in
     flat_map-append content_of answered (answer_of waited reply ∷ [])
@@ -291,37 +294,44 @@ answered-content waited reply answered none =
 
 -- the content's reply ends the attempt
 content-ends : (errand : Errand) (waits : List Awaited) (kind : ReplyKind) (reply : Reply) (old : Progress)
-  → kind ≡ kind_of reply.code → MayWait (Content ∷ waits) old.unasked
-  → Places errand (answered_by Content waits reply old) → content_replies_in old.answered ≡ []
-  → Stands errand (behind_answer errand Content kind reply (answered_by Content waits reply old))
+    → kind ≡ kind_of reply.code → MayWait (Content ∷ waits) old.unasked
+    → Places errand (answered_by Content waits reply old) → content_replies_in old.answered ≡ []
+    → Stands errand (behind_answer errand Content kind reply (answered_by Content waits reply old))
 content-ends errand waits kind reply old same may places none =
     let now : Progress = answered_by Content waits reply old in
     let last : Verdict = content_verdict_by old.extensions.dsn kind reply in
     let front : List ℕ = rcpt_places now.answered in
     let all : front ≡ errand.places =
-      sym (append-nil front)
-      ∙ ap (λ l. front ++ (l ++ [])) (sym (ap waiting_places (none-is waits may.0)))
-      ∙ ap (λ l. front ++ (waiting_places waits ++ l)) (sym (none-is old.unasked may.1)) ∙ places in
-    (refl, (waiting_places waits ++ old.unasked, sym places), (last, refl, inl (
-      reply,
-      answered-content Content reply old.answered none,
-      ap (λ (k : ReplyKind). content_verdict_by old.extensions.dsn k reply) same,
-      all,
-    )))
+    sym (append-nil front)
+    ∙ ap (λ l. front ++ (l ++ [])) (sym (ap waiting_places (none-is waits may.0)))
+    ∙ ap (λ l. front ++ (waiting_places waits ++ l)) (sym (none-is old.unasked may.1)) ∙ places in (
+      refl,
+      (waiting_places waits ++ old.unasked, sym places),
+      (
+        last,
+        refl,
+        inl (
+          reply,
+          answered-content Content reply old.answered none,
+          ap (λ (k : ReplyKind). content_verdict_by old.extensions.dsn k reply) same,
+          all,
+        ),
+      ),
+    )
 
 -- what is known behind an answer that isn't the content's
 open-behind : (errand : Errand) (waited : Awaited) (waits : List Awaited) (reply : Reply) (old : Progress)
-  → if_content waited reply ≡ [] → old.verdicts ≡ None → Places errand (answered_by waited waits reply old)
-  → content_replies_in old.answered ≡ [] → IsOpen errand (answered_by waited waits reply old)
+    → if_content waited reply ≡ [] → old.verdicts ≡ None → Places errand (answered_by waited waits reply old)
+    → content_replies_in old.answered ≡ [] → IsOpen errand (answered_by waited waits reply old)
 open-behind errand waited waits reply old other runs places none =
     (runs, places, answered-content waited reply old.answered none ∙ other)
 
 -- each row of the table keeps the order
 answer-stands : (errand : Errand) (waited : Awaited) (waits : List Awaited) (kind : ReplyKind) (reply : Reply)
-  (old : Progress)
-  → kind ≡ kind_of reply.code → old.verdicts ≡ None → MayWait (waited ∷ waits) old.unasked
-  → Places errand (answered_by waited waits reply old) → content_replies_in old.answered ≡ []
-  → Stands errand (behind_answer errand waited kind reply (answered_by waited waits reply old))
+    (old : Progress)
+    → kind ≡ kind_of reply.code → old.verdicts ≡ None → MayWait (waited ∷ waits) old.unasked
+    → Places errand (answered_by waited waits reply old) → content_replies_in old.answered ≡ []
+    → Stands errand (behind_answer errand waited kind reply (answered_by waited waits reply old))
 answer-stands errand Greeting waits Completion reply old same runs may places none =
     alone errand (ehlo_line errand.host) Ehlo (answered_by Greeting waits reply old) (none-is waits may) refl tt
     (open-behind errand Greeting waits reply old refl runs places none)
@@ -370,13 +380,13 @@ answer-stands errand Content waits kind reply old same runs may places none =
 
 -- where something waits, it hasn't ended
 runs-still : (errand : Errand) (now : Progress) (verdicts : Option (List Verdict)) (waited : Awaited)
-  (waits : List Awaited)
-  → waited ∷ waits ≡ now.waits → StandsBy errand now verdicts → (verdicts ≡ None) × IsOrderly errand now
+    (waits : List Awaited)
+    → waited ∷ waits ≡ now.waits → StandsBy errand now verdicts → (verdicts ≡ None) × IsOrderly errand now
 runs-still errand now None waited waits w stands = (refl, stands)
 runs-still errand now (Some all) waited waits w stands = let none = stands.0 in absurd (cc)
 
 with_answer-stands : (errand : Errand) (waits : List Awaited) (reply : Reply) (now : Progress) → waits ≡ now.waits
-  → Stands errand now → Stands errand (with_answer errand waits reply now)
+    → Stands errand now → Stands errand (with_answer errand waits reply now)
 with_answer-stands errand [] reply now w stands = stands
 with_answer-stands errand (waited ∷ waits) reply now w stands =
     let ran = runs-still errand now now.verdicts waited waits w stands in
@@ -388,7 +398,7 @@ with_answer-stands errand (waited ∷ waits) reply now w stands =
     ran.1.2
 
 along-stands : (errand : Errand) (now : Progress) (replies : List Reply) → Stands errand now
-  → Stands errand (behind_replies errand now replies)
+    → Stands errand (behind_replies errand now replies)
 along-stands errand now [] stands = stands
 along-stands errand now (reply ∷ replies) stands =
     along-stands errand (behind_reply errand now reply) replies
@@ -400,7 +410,7 @@ progress-stands errand replies = along-stands errand (at_greeting errand) replie
 
 -- and has ended so
 pub ended-over : (errand : Errand) (replies : List Reply) (verdicts : List Verdict)
-  → (progress errand replies).verdicts ≡ Some verdicts → IsOver errand (progress errand replies) verdicts
+    → (progress errand replies).verdicts ≡ Some verdicts → IsOver errand (progress errand replies) verdicts
 ended-over errand replies verdicts e =
     subst (λ (v : Option (List Verdict)). StandsBy errand (progress errand replies) v) e
     (progress-stands errand replies)
