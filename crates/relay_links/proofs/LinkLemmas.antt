@@ -21,7 +21,7 @@ use Rattle.relay_node.specs.declared.receive.Received.{Received}
 use Rattle.relay_node.specs.Acceptance.{Acceptance, acceptance_by}
 use Rattle.relay_node.specs.Node.{CutsTalk, Makes, Receives, RefusesToReceive, SaysAt, Standing, greeted_by, GoesOn as GoesOnNode}
 use Rattle.relay_node.specs.Room.{AnswersMore, HasRoom, Overfills, refusals, size_with}
-use Rattle.relay_node.specs.Seats.{OthersStay}
+use Rattle.relay_slots.specs.Slots.{OthersStay}
 use Rattle.relay_links.specs.declared.fault.LinkFault.{LinkFault}
 use Rattle.relay_links.specs.declared.fault.LinkFault.TheVariants.{Input, Output, NoMemory, Full, Device}
 use Rattle.relay_links.specs.Accepted.{Accepts}

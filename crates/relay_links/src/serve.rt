@@ -1,7 +1,7 @@
 ghost use Rattle.std.specs.Prelude.{◌≡◌, ◌≤◌, ◌<◌, ◌↔◌, [], ℕ, List, Option, None, drop, length, true, false, IfOk};
 ghost use Rattle.relay_book.specs.declared.change.Change.{Change};
 ghost use Rattle.relay_node.specs.Node.{SaysAt, greeted_by};
-ghost use Rattle.relay_node.specs.Seats.{OthersStay, seat_at};
+ghost use Rattle.relay_slots.specs.Slots.{OthersStay, slot_at};
 ghost use Rattle.relay_records.specs.Records.{Keeps};
 ghost use Rattle.relay_links.specs.Link.{HasEnded, HasGone, HasSaid, Start, link_fault_of, start_at};
 
@@ -36,7 +36,7 @@ pub fn serve_link<D: Disk, R: Read, W: Write>(
         → HasEnded D.honest D.words
         (start_at (R.remaining reader.old) (W.contents writer.old) peer node.old changes) now
         (R.remaining reader.new) (W.contents writer.new) node.new.records result }
-    ensures gone { node.new.records.spool.live ≡ true → seat_at node.new.seats connected.session ≡ None }
+    ensures gone { node.new.records.spool.live ≡ true → slot_at node.new.seats connected.session ≡ None }
     ensures rest { OthersStay node.old.seats node.new.seats connected.session
         × (node.new.config ≡ node.old.config) }
 {
@@ -203,7 +203,7 @@ fn link_fault(fault: NodeFault) -> LinkFault
 
 /// Tells the node that the connection has ended.
 fn hang_up<D: Disk>(node: &mut Node<D>, session: usize)
-    ensures gone { node.new.records.spool.live ≡ true → seat_at node.new.seats session ≡ None }
+    ensures gone { node.new.records.spool.live ≡ true → slot_at node.new.seats session ≡ None }
     ensures records { node.new.records ≡ node.old.records }
     ensures rest { OthersStay node.old.seats node.new.seats session × (node.new.config ≡ node.old.config) }
 {

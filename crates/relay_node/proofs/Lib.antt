@@ -1,4 +1,3 @@
-mod SeatLemmas
 mod AcceptLemmas
 mod ListenLemmas
 mod ReceiveLemmas

@@ -13,13 +13,13 @@ use Rattle.relay_server.proofs.Theorems.{close_is_closed, closed_is_a_dialogue, 
 use Rattle.relay_book.specs.declared.change.Change.{Change}
 use Rattle.relay_records.specs.Records.{Kept}
 use Rattle.relay_node.specs.declared.receive.Received.{Received}
-use Rattle.relay_node.specs.declared.seats.Seat.{Seat}
+use Rattle.relay_node.specs.declared.seat.Seat.{Seat}
 use Rattle.relay_node.specs.Node.{GoesOn, HasClosed, HasHistory, HaveHistories, Hears, Receives, Says, SaysAt, Standing}
-use Rattle.relay_node.specs.Seats.{AreFree, seat_at}
-use Rattle.relay_node.proofs.SeatLemmas.{taken_is_none}
+use Rattle.relay_slots.specs.Slots.{AreFree, slot_at}
+use Rattle.relay_slots.proofs.Theorems.{taken_is_none}
 
 module _ (config : Config) where
-  pub history_at : (seats : List (Option Seat)) (number : ℕ) (seat : Seat) → HaveHistories config seats → seat_at seats number ≡ Some seat → HasHistory config seat.session
+  pub history_at : (seats : List (Option Seat)) (number : ℕ) (seat : Seat) → HaveHistories config seats → slot_at seats number ≡ Some seat → HasHistory config seat.session
   history_at [] number seat all e = absurd (cc)
   history_at (None ∷ seats) zero seat all e = absurd (cc)
   history_at (None ∷ seats) (suc number) seat all e = history_at seats number seat all e
@@ -60,7 +60,7 @@ module _ (config : Config) where
   pub says_at : (seats all : List (Option Seat)) (number : ℕ) (seat : Seat) (peer : List ℕ) (said : Said) → number < length seats → all ≡ slice_set seats number (Some seat) → seat.peer ≡ peer → Says (setup_of_config config) seat.session said → SaysAt config all number peer said
   says_at seats all number seat peer said within is peer_is says = record {
     seat = seat;
-    at = ap (λ (l : List (Option Seat)). seat_at l number) is ∙ get_or-set_same seats number (Some seat) None within;
+    at = ap (λ (l : List (Option Seat)). slot_at l number) is ∙ get_or-set_same seats number (Some seat) None within;
     peer_is = peer_is;
     says = says;
   }
@@ -81,7 +81,7 @@ one_some : (seat other : Seat) → Some seat ≡ Some other → seat ≡ other
 one_some seat other e = cc
 
 module _ {D : Type 0} (honest : Type 0) (words : DiskWords D) (config : Config) (changes : List Change) (peer : List ℕ) (at number : ℕ) (said : Said) (piece : List ℕ)
-    (old : List (Option Seat)) (taken : Seat) (is : SaysAt config old number peer said) (was : Some taken ≡ seat_at old number) where
+    (old : List (Option Seat)) (taken : Seat) (is : SaysAt config old number peer said) (was : Some taken ≡ slot_at old number) where
   pub peer_of_taken : taken.peer ≡ peer
   peer_of_taken = ap (λ (s : Seat). s.peer) (one_some taken is.seat (was ∙ is.at)) ∙ is.peer_is
 
@@ -109,6 +109,6 @@ module _ {D : Type 0} (honest : Type 0) (words : DiskWords D) (config : Config) 
       later = heard.later;
       goes_on =
           subst (GoesOn config rest number peer heard.later) (sym is_last)
-          (ap (λ (l : List (Option Seat)). seat_at l number) set ∙ taken_is_none old number, has_closed (setup_of_config config) new.session heard.later heard.says.stands (heard.closed is_last));
+          (ap (λ (l : List (Option Seat)). slot_at l number) set ∙ taken_is_none old number, has_closed (setup_of_config config) new.session heard.later heard.says.stands (heard.closed is_last));
       talks = heard.talks;
     }

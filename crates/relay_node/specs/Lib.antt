@@ -1,4 +1,3 @@
-pub mod Seats
 pub mod Acceptance
 pub mod Room
 pub mod Queued

@@ -22,10 +22,10 @@ use Rattle.relay_records.specs.Open.{RefusesDisk}
 use Rattle.relay_records.specs.Records.{Adds, Cuts, IsStopped, Kept}
 use Rattle.relay_node.specs.declared.node.Connected.{Connected}
 use Rattle.relay_node.specs.declared.receive.Received.{Received}
-use Rattle.relay_node.specs.declared.seats.Seat.{Seat}
+use Rattle.relay_node.specs.declared.seat.Seat.{Seat}
 use Rattle.relay_node.specs.Acceptance.{Acceptance, acceptance_by}
 use Rattle.relay_node.specs.Room.{AnswersMore, HasRoom, Overfills, size_with}
-use Rattle.relay_node.specs.Seats.{AreFree, IsLeastFree, OthersStay, seat_at}
+use Rattle.relay_slots.specs.Slots.{AreFree, IsLeastFree, OthersStay, slot_at}
 
 -- what callers see of a node: its configuration, its sessions by number, and its records
 pub record Standing (D : Type 0) : Type 0 where
@@ -42,7 +42,7 @@ pub record Says (setup : Setup) (session : Session) (said : Said) : Type 0 where
 pub record SaysAt (config : Config) (seats : List (Option Seat)) (number : ℕ) (peer : List ℕ)
     (said : Said) : Type 0 where
   pub seat : Seat
-  pub at : seat_at seats number ≡ Some seat
+  pub at : slot_at seats number ≡ Some seat
   pub peer_is : seat.peer ≡ peer
   pub says : Says (setup_of_config config) seat.session said
 
@@ -65,7 +65,7 @@ pub record HasClosed (setup : Setup) (said : Said) : Type 0 where
 -- the session of this number goes on behind what was said, or it has closed, and is gone
 abbrev pub GoesOn : Config → List (Option Seat) → ℕ → List ℕ → Said → Bool → Type 0
 GoesOn config seats number peer said true =
-    (seat_at seats number ≡ None) × HasClosed (setup_of_config config) said
+    (slot_at seats number ≡ None) × HasClosed (setup_of_config config) said
 GoesOn config seats number peer said false = SaysAt config seats number peer said
 
 -- nothing was said but this greeting
@@ -202,7 +202,7 @@ RefusesToEnd old new Full = ⊥
 
 -- the session is gone, and the records are unchanged
 pub record IsGone {D : Type 0} (number : ℕ) (old new : Standing D) : Type 0 where
-  pub session : seat_at new.seats number ≡ None
+  pub session : slot_at new.seats number ≡ None
   pub records : new.records ≡ old.records
 
 -- what a `receive` leaves that is refused by a live node

@@ -8,7 +8,7 @@ pub mod laws;
 mod listen;
 mod node;
 mod receive;
-mod seats;
+mod seat;
 
 pub use node::{Connected, Node};
 pub use receive::Received;

@@ -7,7 +7,7 @@ ghost use Rattle.relay_book.specs.Queue.{held_of};
 ghost use Rattle.relay_disk.specs.Device.{AddsNoImage, FailsNot, Only};
 ghost use Rattle.relay_node.specs.Node.{Connects, CutsTalk, IsFused, IsIdle, Receives, SaysAt, UsesOctets};
 ghost use Rattle.relay_node.specs.Node.{RefusesToConnect, RefusesToEnd, RefusesToMake, RefusesToReceive};
-ghost use Rattle.relay_node.specs.Seats.{IsFull, OthersStay, seat_at};
+ghost use Rattle.relay_slots.specs.Slots.{IsFull, OthersStay, slot_at};
 ghost use Rattle.relay_records.specs.HeldPlace.{IsWaiting, waiting_at};
 ghost use Rattle.relay_records.specs.Open.{FailsFor, Opens, RefusesImage};
 ghost use Rattle.relay_records.specs.Records.{Halted, Keeps, Stays};
@@ -16,11 +16,12 @@ ghost use Rattle.relay_spool.specs.Image.{HasNoBody};
 ghost use Rattle.relay_spool.specs.Spool.{AtEachMoment, OnlyReads};
 
 use crate::receive::{Received, hear};
-use crate::seats::{Seat, Seats};
+use crate::seat::Seat;
 use relay_disk::{Disk, Reboot};
 use relay_records::{Cause, HeldPlace, NodeFault, NotOpened, Noted, Records};
 use relay_routes::Config;
 use relay_server::Session;
+use relay_slots::Slots;
 use relay_spool::SpoolFault;
 use relay_trace::Moment;
 use std::alloc::Global;
@@ -41,7 +42,7 @@ pub struct Connected {
 pub struct Node<D: Disk> {
     alloc: Global,
     config: Config,
-    seats: Seats,
+    seats: Slots<Seat>,
     records: Records<D>,
 }
 
@@ -84,7 +85,7 @@ impl<D: Disk> Node<D> {
             (λ node. AtEachMoment D.words disk node.records.spool.disk HasNoBody)
             (λ refused. AtEachMoment D.words disk refused.disk HasNoBody) }
     {
-        let Ok(seats) = Seats::new(alloc) else {
+        let Ok(seats) = Slots::new(alloc) else {
             return Err(NotOpened {
                 cause: Cause::Spool(SpoolFault::NoMemory),
                 disk,
@@ -113,7 +114,7 @@ impl<D: Disk> Node<D> {
         ensures failures { MatchResult result (λ node. FailsNot D.words disk node.records.spool.disk)
             (λ refused. FailsFor D.words disk refused.disk refused.cause) }
     {
-        let Ok(seats) = Seats::new(alloc) else {
+        let Ok(seats) = Slots::new(alloc) else {
             return Err(NotOpened {
                 cause: Cause::Spool(SpoolFault::NoMemory),
                 disk,
@@ -190,13 +191,13 @@ impl<D: Disk> Node<D> {
 
     /// Frees the number of a session whose connection has ended. It takes no memory.
     pub fn ended(&mut self, session: usize) -> Result<(), NodeFault>
-        ensures gone { OnOk result (seat_at self.new.seats session ≡ None) }
+        ensures gone { OnOk result (slot_at self.new.seats session ≡ None) }
         ensures others { OthersStay self.old.seats self.new.seats session }
         ensures rest { (self.new.records ≡ self.old.records) × (self.new.config ≡ self.old.config) }
         ensures refused { IfErr result (RefusesToEnd self.old self.new) }
         ensures stopped { (result ≡ Err NodeFault.Stopped) ↔ (self.old.records.spool.live ≡ false) }
         ensures unknown { (result ≡ Err NodeFault.Unknown)
-            ↔ ((self.old.records.spool.live ≡ true) × (seat_at self.old.seats session ≡ None)) }
+            ↔ ((self.old.records.spool.live ≡ true) × (slot_at self.old.seats session ≡ None)) }
     {
         if !self.records.is_live() {
             return Err(NodeFault::Stopped);
@@ -237,7 +238,7 @@ impl<D: Disk> Node<D> {
         ensures stopped { self.old.records.spool.live ≡ false
             → (result ≡ Err NodeFault.Stopped) × (self.new ≡ self.old) }
         ensures unknown { (result ≡ Err NodeFault.Unknown)
-            ↔ ((self.old.records.spool.live ≡ true) × (seat_at self.old.seats session ≡ None)) }
+            ↔ ((self.old.records.spool.live ≡ true) × (slot_at self.old.seats session ≡ None)) }
     {
         if !self.records.is_live() {
             return Err(NodeFault::Stopped);

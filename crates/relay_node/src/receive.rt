@@ -7,7 +7,7 @@ ghost use Rattle.relay_server.specs.Setup.{setup_of_config};
 
 use crate::intake::Intake;
 use crate::listen::{End, Listened};
-use crate::seats::Seat;
+use crate::seat::Seat;
 use relay_disk::Disk;
 use relay_records::{NodeFault, Records};
 use relay_routes::Config;

@@ -1,6 +1,6 @@
 -- what was read so far is answered, but for the octets that wait
 use Rattle.std.proofs.Common.{◌≡◌, ◌≤◌, ◌-◌, ℕ, List, Option, drop, length}
-use Rattle.relay_node.specs.Seats.{OthersStay}
+use Rattle.relay_slots.specs.Slots.{OthersStay}
 use Rattle.relay_links.specs.Link.{HasSaid, Start}
 use Rattle.relay_links.proofs.serve.answer_block.Given as goal
 

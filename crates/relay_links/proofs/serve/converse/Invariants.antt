@@ -1,6 +1,6 @@
 -- so far the link has gone on with what was read and written
 use Rattle.std.proofs.Common.{◌≡◌, ◌<◌, [], length}
-use Rattle.relay_node.specs.Seats.{OthersStay}
+use Rattle.relay_slots.specs.Slots.{OthersStay}
 use Rattle.relay_links.specs.Link.{HasSaid, Start}
 use Rattle.relay_links.proofs.serve.converse.Given as goal
 

@@ -3,7 +3,7 @@ use Rattle.std.proofs.Common.{refl}
 use Rattle.relay_server.specs.Setup.{setup_of_config}
 use Rattle.relay_node.specs.Node.{Says, greeted_by}
 use Rattle.relay_node.proofs.NodeLemmas.{all_have_histories, says_at}
-use Rattle.relay_node.proofs.SeatLemmas.{others_of_put}
+use Rattle.relay_slots.proofs.Theorems.{others_of_set}
 use Rattle.relay_node.proofs.node.Node.connect.Goals as goal
 
 pub invariant_of-self : goal.invariant_of-self
@@ -21,5 +21,5 @@ returns-clause-connects g c = rw (← c.self.view_is) (
     record {
       free = c.in-Some.ensures.least;
       says = says_at config c.self.inside.seats _ c.in-Some.number _ c.args.peer (greeted_by c.in-Ok.out.items) c.in-Some.ensures.within c.put.ensures refl says;
-      others = others_of_put c.self.inside.seats _ c.in-Some.number _ c.put.ensures;
+      others = others_of_set c.self.inside.seats _ c.in-Some.number _ c.put.ensures;
     })

@@ -2,7 +2,7 @@
 use Rattle.std.proofs.Common.{None, length, sym, ap, ◌∙◌, arith}
 use Rattle.std.proofs.lemmas.List.{length-set}
 use Rattle.relay_node.proofs.NodeLemmas.{all_have_histories, history_at, receives_last, receives_on, rest_has_histories}
-use Rattle.relay_node.proofs.SeatLemmas.{has_seat}
+use Rattle.relay_slots.proofs.Theorems.{has_slot}
 use Rattle.relay_node.proofs.node.Node.receive.Goals as goal
 
 pub hear-requires-clause-history : goal.hear-requires-clause-history
@@ -28,7 +28,7 @@ returns-then-received-clause-receives g c = rw (← c.self.view_is) (λ changes 
 pub returns-clause-receives : goal.returns-clause-receives
 returns-clause-receives g c = rw (← c.self.view_is) (λ changes peer said keeps at.
     let long = ap length c.take.ensures.rest ∙ length-set c.self.inside.seats c.args.session None in
-    let there = has_seat c.self.inside.seats c.args.session at.seat at.at in
+    let there = has_slot c.self.inside.seats c.args.session at.seat at.at in
     receives_on g.D.Disk.honest g.D.Disk.words c.self.inside.config changes peer c.args.now c.args.session said c.args.piece.now c.self.inside.seats c.in-Some.seat at c.in-Some.ensures.taken
     c.hear.new.seat c.in_ok-received.ensures.peer c.self.inside.records c.hear.new.records c.in_ok-received.received (λ says. c.in_ok-received.ensures.hears changes said keeps says)
     c.take.new.self _ c.if-received.false (omega (arith, long, there)) c.put.ensures)
