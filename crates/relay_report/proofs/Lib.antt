@@ -1,0 +1,7 @@
+mod FieldLemmas
+mod JoinLemmas
+mod NumberLemmas
+mod CollectLemmas
+mod LeastLemmas
+mod CutLemmas
+mod ReportLemmas

@@ -1,0 +1,6 @@
+pub mod StatusFields
+pub mod Multipart
+pub mod Boundary
+pub mod Report
+pub mod Numbers
+pub mod Parts
