@@ -5,3 +5,5 @@ mod CollectLemmas
 mod LeastLemmas
 mod CutLemmas
 mod ReportLemmas
+mod ShortLemmas
+mod FitLemmas

@@ -4,6 +4,7 @@
 mod boundary;
 mod due;
 mod field;
+pub mod laws;
 mod part_text;
 mod parts;
 mod report;
