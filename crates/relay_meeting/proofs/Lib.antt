@@ -1,1 +1,3 @@
 mod MeetLemmas
+mod ScriptLemmas
+mod TriedLemmas
