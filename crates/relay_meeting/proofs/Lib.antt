@@ -1,3 +1,4 @@
 mod MeetLemmas
 mod ScriptLemmas
 mod TriedLemmas
+mod WritesLemmas
