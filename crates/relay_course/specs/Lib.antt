@@ -1,0 +1,7 @@
+pub mod Extensions
+pub mod WrittenLine
+pub mod VerdictTable
+pub mod Progress
+pub mod Course
+pub mod Laws
+pub mod RelayLaws

@@ -1,0 +1,18 @@
+/// What waits for a reply (RFC 5321, section 3.1; RFC 2920, section 3.1): each reply answers the earliest of these.
+#[derive(Clone, Copy, Debug, PartialEq, Eq)]
+pub enum Awaited {
+    /// A connection is there, and the server greets first.
+    Greeting,
+    /// EHLO was written.
+    Ehlo,
+    /// HELO was written, since EHLO was refused.
+    Helo,
+    /// MAIL was written.
+    Mail,
+    /// The RCPT of this place was written, from 0.
+    Rcpt(u8),
+    /// DATA was written, without mail data behind it.
+    Data,
+    /// The content was written: mail data behind DATA, or the last chunk with its BDAT.
+    Content,
+}
