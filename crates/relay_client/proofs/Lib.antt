@@ -1,0 +1,7 @@
+mod GoingLemmas
+mod SettledLemmas
+mod WrittenLemmas
+mod DoesLemmas
+mod KeepLemmas
+pub mod Theorems
+mod FollowLemmas
