@@ -3,3 +3,5 @@ pub mod WrittenLine
 pub mod VerdictTable
 pub mod Progress
 pub mod Course
+pub mod Laws
+pub mod RelayLaws

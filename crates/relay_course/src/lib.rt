@@ -4,6 +4,7 @@
 
 mod awaited;
 mod extensions;
+pub mod laws;
 mod reply_kind;
 
 pub use awaited::Awaited;

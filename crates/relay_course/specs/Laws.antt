@@ -1,0 +1,188 @@
+-- What is true of every attempt, whatever the replies.
+use Rattle.std.specs.Prelude.{◌≡◌, ◌⊎◌, ◌↔◌, ◌<◌, ◌≤◌, ◌^◌, ℕ, ◌+◌, Bool, true, false, List, [], ◌∷◌, ◌++◌, length, map, slice_get, None, Some}
+use Rattle.std.specs.List.{AllByRecursion, Contains, flat_map}
+use Rattle.relay_octets.specs.Beginning.{Begins}
+use Rattle.relay_octets.specs.Line.{line_text}
+use Rattle.relay_lines.specs.Command.{Command, Helo, Ehlo, Mail, Rcpt, Data, Bdat, Rset, Noop, Vrfy, Help, Quit}
+use Rattle.relay_lines.specs.Reply.{Reply}
+use Rattle.relay_lines.specs.Word.{IsHostWord}
+use Rattle.relay_lines.specs.WrittenCommand.{IsCommandLine}
+use Rattle.relay_body.specs.DotText.{WritesDotText}
+use Rattle.relay_envelope.specs.declared.envelope.Envelope.{Envelope}
+use Rattle.relay_envelope.specs.declared.envelope.Recipient.{Recipient}
+use Rattle.relay_envelope.specs.Envelope.{IsEnvelope, mail_text, rcpt_text}
+use Rattle.relay_book.specs.declared.change.Verdict.{Verdict}
+use Rattle.relay_book.specs.declared.change.Verdict.TheVariants.{Taken}
+use Rattle.relay_book.specs.Record.{IsVerdict}
+use Rattle.relay_course.specs.declared.awaited.Awaited.{Awaited}
+use Rattle.relay_course.specs.declared.awaited.Awaited.TheVariants as awaited
+use Rattle.relay_course.specs.declared.reply_kind.ReplyKind.TheVariants.{Completion}
+use Rattle.relay_course.specs.VerdictTable.{all_later, kind_of}
+use Rattle.relay_course.specs.Progress.{Errand, Answered, Progress, answer_of, behind_reply, progress}
+use Rattle.relay_course.specs.Course.{IsCourse, IsSentAs}
+
+-- A further reply leads on from where the others led.
+abbrev pub ReplyLeadsOn : Type 0
+ReplyLeadsOn =
+    (errand : Errand) (replies : List Reply) (reply : Reply)
+    → progress errand (replies ++ reply ∷ []) ≡ behind_reply errand (progress errand replies) reply
+
+-- Until an attempt ends, each further reply answers something.
+abbrev pub EachReplyAnswers : Type 0
+EachReplyAnswers =
+    (errand : Errand) (replies : List Reply) (reply : Reply) → (progress errand replies).verdicts ≡ None
+    → length (progress errand (replies ++ reply ∷ [])).answered ≡ length (progress errand replies).answered + 1
+
+-- What was written stays written, whatever replies come behind.
+abbrev pub CommandsStay : Type 0
+CommandsStay =
+    (errand : Errand) (replies more : List Reply)
+    → Begins (progress errand replies).commands (progress errand (replies ++ more)).commands
+
+-- Until it ends an attempt waits for something, and of the greeting and the commands each was answered or waits.
+abbrev pub EachCommandWaits : Type 0
+EachCommandWaits =
+    (errand : Errand) (replies : List Reply) → (progress errand replies).verdicts ≡ None
+    → (0 < length (progress errand replies).waits)
+    × (length replies + length (progress errand replies).waits ≡ length (progress errand replies).commands + 1)
+
+-- An attempt that has ended waits for nothing.
+abbrev pub EndWaitsForNothing : Type 0
+EndWaitsForNothing =
+    (errand : Errand) (replies : List Reply) (verdicts : List Verdict)
+    → (progress errand replies).verdicts ≡ Some verdicts → (progress errand replies).waits ≡ []
+
+-- Where nothing waits, replies behind change nothing.
+abbrev pub EndIsEnd : Type 0
+EndIsEnd =
+    (errand : Errand) (replies more : List Reply) → (progress errand replies).waits ≡ []
+    → progress errand (replies ++ more) ≡ progress errand replies
+
+-- Behind so many replies as many commands are written, or nothing more is.
+abbrev pub CommandsKeepUp : Type 0
+CommandsKeepUp =
+    (errand : Errand) (replies more : List Reply)
+    → (length replies ≤ length (progress errand replies).commands)
+    ⊎ ((progress errand (replies ++ more)).commands ≡ (progress errand replies).commands)
+
+-- the replies that answered something
+abbrev pub replies_in : List Answered → List Reply
+replies_in answered = map (λ one. one.reply) answered
+
+-- The replies that answered something are the first ones, in order.
+abbrev pub AnsweredAreFirst : Type 0
+AnsweredAreFirst =
+    (errand : Errand) (replies : List Reply) → Begins (replies_in (progress errand replies).answered) replies
+
+-- the RCPTs that were answered
+abbrev pub if_rcpt_one : Awaited → Answered → List Answered
+if_rcpt_one (awaited.Rcpt place) one = one ∷ []
+if_rcpt_one _ one = []
+
+abbrev pub rcpts_in : List Answered → List Answered
+rcpts_in answered = flat_map (λ one. if_rcpt_one one.waited one) answered
+
+-- their places
+abbrev pub if_rcpt_place : Awaited → List ℕ
+if_rcpt_place (awaited.Rcpt place) = place ∷ []
+if_rcpt_place _ = []
+
+abbrev pub rcpt_places : List Answered → List ℕ
+rcpt_places answered = flat_map (λ one. if_rcpt_place one.waited) answered
+
+-- The RCPTs that were answered are those of the first places, in order.
+abbrev pub RcptsAreInOrder : Type 0
+RcptsAreInOrder =
+    (errand : Errand) (replies : List Reply)
+    → Begins (rcpt_places (progress errand replies).answered) errand.places
+
+-- the RCPT of this place, which stands there in the row of places, and the content were answered 2yz, by a server that
+-- offers DSN or doesn't
+pub record WasTaken (end : Progress) (index place : ℕ) (dsn : Bool) : Type 0 where
+  pub rcpt : Reply
+  pub content : Reply
+  pub asked : slice_get (rcpts_in end.answered) index ≡ Some (answer_of (awaited.Rcpt place) rcpt)
+  pub accepted : kind_of rcpt.code ≡ Completion
+  pub sent : Contains end.answered (answer_of awaited.Content content)
+  pub taken : kind_of content.code ≡ Completion
+  pub offered : dsn ≡ end.extensions.dsn
+
+-- A place is Taken exactly where its RCPT and the content were answered 2yz.
+abbrev pub TakenWhereAnswered : Type 0
+TakenWhereAnswered =
+    (errand : Errand) (replies : List Reply) (verdicts : List Verdict)
+    → (progress errand replies).verdicts ≡ Some verdicts
+    → (index place : ℕ) (dsn : Bool) → slice_get errand.places index ≡ Some place
+    → (slice_get verdicts index ≡ Some (Taken dsn)) ↔ WasTaken (progress errand replies) index place dsn
+
+-- the places are some of these recipients'
+abbrev pub AreWithin : List ℕ → List Recipient → Type 0
+AreWithin places recipients = AllByRecursion (λ place. place < length recipients) places
+
+-- an errand as a stored message has it: our host's name is a word of EHLO, and 1 to 100 places are tried
+pub record IsErrand (errand : Errand) : Type 0 where
+  pub host : IsHostWord errand.host
+  pub envelope : IsEnvelope errand.envelope
+  pub short : length errand.text < 2 ^ 32
+  pub dot_text : IsSentAs errand.text errand.dot_text
+  pub some : 1 ≤ length errand.places
+  pub few : length errand.places ≤ 100
+  pub within : AreWithin errand.places errand.envelope.recipients
+
+-- the text is what stands behind the colon of this recipient's RCPT, with its parameters or with none
+abbrev pub IsRcptOf : Recipient → List ℕ → Type 0
+IsRcptOf recipient text = (text ≡ rcpt_text recipient) ⊎ (text ≡ recipient.path)
+
+-- the commands that are written as a line alone, with nothing behind it
+abbrev pub MayAsk : Errand → Command → Type 0
+MayAsk errand (Helo host) = host ≡ errand.host
+MayAsk errand (Ehlo host) = host ≡ errand.host
+MayAsk errand (Mail text) = (text ≡ mail_text errand.envelope) ⊎ (text ≡ errand.envelope.reverse_path)
+MayAsk errand (Rcpt text) = (place : ℕ) × (recipient : Recipient) × Contains errand.places place
+    × (slice_get errand.envelope.recipients place ≡ Some recipient) × IsRcptOf recipient text
+MayAsk errand Data = Unit {0}
+MayAsk errand (Bdat chunk) = ⊥
+MayAsk errand Rset = ⊥
+MayAsk errand Noop = ⊥
+MayAsk errand Vrfy = ⊥
+MayAsk errand Help = ⊥
+MayAsk errand Quit = Unit {0}
+
+-- what is written is a line that every server reads as this command; or the text as mail data; or a line that is read as
+-- that of a last chunk of the text's size, and the text
+pub data IsWritten (errand : Errand) (octets : List ℕ) : Type 0 where
+  AsLine : (command : Command) (line : List ℕ) → MayAsk errand command → IsCommandLine line command
+      → octets ≡ line_text line → IsWritten errand octets
+  AsMailData : WritesDotText errand.text octets → IsWritten errand octets
+  AsLastChunk : (line : List ℕ)
+      → IsCommandLine line (Bdat (record { size = length errand.text; last = true }))
+      → octets ≡ line_text line ++ errand.text → IsWritten errand octets
+
+-- Each command is read by a server as what was asked, and of contents nothing but the stored text is sent.
+abbrev pub EachCommandIsRead : Type 0
+EachCommandIsRead =
+    (errand : Errand) (replies : List Reply) → IsErrand errand
+    → AllByRecursion (IsWritten errand) (progress errand replies).commands
+
+-- A course has as many verdicts as places.
+abbrev pub VerdictForEachPlace : Type 0
+VerdictForEachPlace =
+    (host : List ℕ) (envelope : Envelope) (text places input : List ℕ) (told : Bool) (output : List ℕ)
+    (verdicts : List Verdict)
+    → IsCourse host envelope text places input told output (Some verdicts)
+    → length verdicts ≡ length places
+
+-- The verdicts of a course may be stored: the text of a refusal is short, and printable.
+abbrev pub VerdictsMayBeStored : Type 0
+VerdictsMayBeStored =
+    (host : List ℕ) (envelope : Envelope) (text places input : List ℕ) (told : Bool) (output : List ℕ)
+    (verdicts : List Verdict)
+    → IsCourse host envelope text places input told output (Some verdicts)
+    → AllByRecursion IsVerdict verdicts
+
+-- A course that goes on may be lost: then each place may be tried again, and nothing more is written.
+abbrev pub CourseMayBeLost : Type 0
+CourseMayBeLost =
+    (host : List ℕ) (envelope : Envelope) (text places input output : List ℕ)
+    → IsCourse host envelope text places input false output None
+    → IsCourse host envelope text places input true output (Some (all_later places))

@@ -1,0 +1,121 @@
+-- What an attempt does at a server as ours is: one that offers PIPELINING, CHUNKING and DSN, and takes MAIL and DATA.
+use Rattle.std.specs.Prelude.{◌≡◌, ◌<◌, ℕ, true, List, [], ◌∷◌, ◌++◌, drop, length, map, None, Some, if◌then◌else◌}
+use Rattle.relay_lines.specs.Reply.{Reply}
+use Rattle.relay_body.specs.DotText.{ends_in_line_end}
+use Rattle.relay_book.specs.declared.change.Verdict.{Verdict}
+use Rattle.relay_book.specs.declared.change.Verdict.TheVariants.{Later}
+use Rattle.relay_course.specs.declared.awaited.Awaited.TheVariants as awaited
+use Rattle.relay_course.specs.declared.extensions.Extensions.{Extensions}
+use Rattle.relay_course.specs.declared.reply_kind.ReplyKind.TheVariants.{Completion, Intermediate}
+use Rattle.relay_course.specs.Extensions.{extensions_of}
+use Rattle.relay_course.specs.WrittenLine.{data_line, ehlo_line, last_chunk, mail_line, quit_line, rcpt_line_at}
+use Rattle.relay_course.specs.VerdictTable.{content_verdict_by, kind_of, some_accepted, verdicts_of}
+use Rattle.relay_course.specs.Progress.{Errand, Answered, Progress, answer_of, progress}
+
+abbrev pub all_extensions : Extensions
+all_extensions = record { pipelining = true; chunking = true; dsn = true }
+
+-- the greeting and the replies to EHLO and MAIL, and that to DATA if it is written, are as a relay of ours has them
+pub record AreWilling (greeting hello mail input : Reply) : Type 0 where
+  pub greets : kind_of greeting.code ≡ Completion
+  pub says_hello : kind_of hello.code ≡ Completion
+  pub offers : extensions_of hello ≡ all_extensions
+  pub takes_mail : kind_of mail.code ≡ Completion
+  pub takes_input : kind_of input.code ≡ Intermediate
+
+-- EHLO, and MAIL and the RCPTs in one group
+abbrev pub opening_commands : Errand → List (List ℕ)
+opening_commands errand =
+    ehlo_line errand.host ∷ mail_line true errand.envelope
+    ∷ map (rcpt_line_at true errand.envelope.recipients) errand.places
+
+-- DATA and the mail data, or one last chunk
+abbrev pub content_commands : Errand → List (List ℕ)
+content_commands errand =
+    if ends_in_line_end errand.text then data_line ∷ errand.dot_text ∷ [] else last_chunk errand.text ∷ []
+
+-- all of it: the content where a RCPT was accepted, and QUIT
+abbrev pub relay_commands : Errand → List Reply → List (List ℕ)
+relay_commands errand rcpts =
+    opening_commands errand ++ (if some_accepted rcpts then content_commands errand else []) ++ quit_line ∷ []
+
+-- the replies to the content's commands
+abbrev pub content_replies : Errand → List Reply → Reply → Reply → List Reply
+content_replies errand rcpts input content =
+    if some_accepted rcpts then (if ends_in_line_end errand.text then input ∷ content ∷ [] else content ∷ []) else []
+
+-- the replies up to those to the RCPTs
+abbrev pub opening_replies : Reply → Reply → Reply → List Reply → List Reply
+opening_replies greeting hello mail rcpts = greeting ∷ hello ∷ mail ∷ rcpts
+
+-- all replies that are awaited
+abbrev pub relay_replies : Errand → Reply → Reply → Reply → List Reply → Reply → Reply → List Reply
+relay_replies errand greeting hello mail rcpts input content =
+    opening_replies greeting hello mail rcpts ++ content_replies errand rcpts input content
+
+-- RCPTs, each with its reply
+abbrev pub answered_rcpts : List ℕ → List Reply → List Answered
+answered_rcpts [] replies = []
+answered_rcpts (place ∷ places) [] = []
+answered_rcpts (place ∷ places) (reply ∷ replies) =
+    answer_of (awaited.Rcpt place) reply ∷ answered_rcpts places replies
+
+-- what the replies up to those to the RCPTs answered
+abbrev pub opening_answers : List ℕ → Reply → Reply → Reply → List Reply → List Answered
+opening_answers places greeting hello mail rcpts =
+    answer_of awaited.Greeting greeting ∷ answer_of awaited.Ehlo hello ∷ answer_of awaited.Mail mail
+    ∷ answered_rcpts places rcpts
+
+-- what the replies to the content's commands answered
+abbrev pub content_answers : Errand → List Reply → Reply → Reply → List Answered
+content_answers errand rcpts input content =
+    if some_accepted rcpts
+    then (if ends_in_line_end errand.text
+    then answer_of awaited.Data input ∷ answer_of awaited.Content content ∷ []
+    else answer_of awaited.Content content ∷ [])
+    else []
+
+-- the verdict of the places whose RCPT was accepted; where none was, nobody has it
+abbrev pub last_verdict : List Reply → Reply → Verdict
+last_verdict rcpts content =
+    if some_accepted rcpts then content_verdict_by true (kind_of content.code) content else Later
+
+-- how far an attempt has come behind all replies: to the end
+abbrev pub relay_progress : Errand → Reply → Reply → Reply → List Reply → Reply → Reply → Progress
+relay_progress errand greeting hello mail rcpts input content = record {
+  commands = relay_commands errand rcpts;
+  waits = [];
+  unasked = [];
+  extensions = all_extensions;
+  answered =
+      opening_answers errand.places greeting hello mail rcpts ++ content_answers errand rcpts input content;
+  verdicts = Some (verdicts_of errand.places rcpts (last_verdict rcpts content));
+}
+
+-- To a relay an attempt writes EHLO, MAIL, the RCPTs, the content where one of those is accepted, and QUIT, and then has
+-- ended, whatever the RCPTs and the content are answered.
+abbrev pub CommandsToARelay : Type 0
+CommandsToARelay =
+    (errand : Errand) (greeting hello mail input content : Reply) (rcpts : List Reply)
+    → AreWilling greeting hello mail input → length rcpts ≡ length errand.places
+    → progress errand (relay_replies errand greeting hello mail rcpts input content)
+    ≡ relay_progress errand greeting hello mail rcpts input content
+
+-- how far it has come while RCPTs are to be answered
+abbrev pub opening_progress : Errand → Reply → Reply → Reply → List Reply → Progress
+opening_progress errand greeting hello mail rcpts = record {
+  commands = opening_commands errand;
+  waits = map (λ place. awaited.Rcpt place) (drop (length rcpts) errand.places);
+  unasked = [];
+  extensions = all_extensions;
+  answered = opening_answers errand.places greeting hello mail rcpts;
+  verdicts = None;
+}
+
+-- Before all RCPTs are answered, nothing is written behind them, and the others wait.
+abbrev pub NothingBeforeAllRcpts : Type 0
+NothingBeforeAllRcpts =
+    (errand : Errand) (greeting hello mail input : Reply) (rcpts : List Reply)
+    → AreWilling greeting hello mail input → length rcpts < length errand.places
+    → progress errand (opening_replies greeting hello mail rcpts)
+    ≡ opening_progress errand greeting hello mail rcpts

@@ -1,0 +1,84 @@
+//! What is true of every attempt, whatever the replies.
+ghost use Rattle.relay_course.specs.Laws.{AnsweredAreFirst, CommandsKeepUp, CommandsStay, CourseMayBeLost, EachCommandIsRead, EachCommandWaits, EachReplyAnswers, EndIsEnd, EndWaitsForNothing, RcptsAreInOrder, ReplyLeadsOn, TakenWhereAnswered, VerdictForEachPlace, VerdictsMayBeStored};
+ghost use Rattle.relay_course.specs.RelayLaws.{CommandsToARelay, NothingBeforeAllRcpts};
+
+/// A further reply leads on from where the others led.
+pub fn reply_leads_on()
+    ensures { ReplyLeadsOn }
+{}
+
+/// Until an attempt ends, each further reply answers something.
+pub fn each_reply_answers()
+    ensures { EachReplyAnswers }
+{}
+
+/// What was written stays written, whatever replies come behind.
+pub fn commands_stay()
+    ensures { CommandsStay }
+{}
+
+/// Until it ends an attempt waits for something, and of the greeting and the commands each was answered or waits.
+pub fn each_command_waits()
+    ensures { EachCommandWaits }
+{}
+
+/// An attempt that has ended waits for nothing.
+pub fn end_waits_for_nothing()
+    ensures { EndWaitsForNothing }
+{}
+
+/// Where nothing waits, replies behind change nothing.
+pub fn end_is_end()
+    ensures { EndIsEnd }
+{}
+
+/// Behind so many replies as many commands are written, or nothing more is.
+pub fn commands_keep_up()
+    ensures { CommandsKeepUp }
+{}
+
+/// The replies that answered something are the first ones, in order.
+pub fn answered_are_first()
+    ensures { AnsweredAreFirst }
+{}
+
+/// The RCPTs that were answered are those of the first places, in order.
+pub fn rcpts_are_in_order()
+    ensures { RcptsAreInOrder }
+{}
+
+/// A place is Taken exactly where its RCPT and the content were answered 2yz.
+pub fn taken_where_answered()
+    ensures { TakenWhereAnswered }
+{}
+
+/// Each command is read by a server as it is meant, and of contents nothing but the stored text is sent.
+pub fn each_command_is_read()
+    ensures { EachCommandIsRead }
+{}
+
+/// A course has as many verdicts as places.
+pub fn verdict_for_each_place()
+    ensures { VerdictForEachPlace }
+{}
+
+/// The verdicts of a course may be stored: the text of a refusal is short, and printable.
+pub fn verdicts_may_be_stored()
+    ensures { VerdictsMayBeStored }
+{}
+
+/// A course that goes on may be lost: then each place may be tried again, and nothing more is written.
+pub fn course_may_be_lost()
+    ensures { CourseMayBeLost }
+{}
+
+/// At a relay an attempt writes EHLO, MAIL, the RCPTs, the content where one of those is accepted, and QUIT, and has
+/// ended.
+pub fn commands_to_a_relay()
+    ensures { CommandsToARelay }
+{}
+
+/// Before all RCPTs are answered, nothing is written behind them, and the others wait.
+pub fn nothing_before_all_rcpts()
+    ensures { NothingBeforeAllRcpts }
+{}
