@@ -18,7 +18,7 @@ use Rattle.relay_client.proofs.SettledLemmas.{open_is, verdicts_are}
 
 -- one step after another
 pub does_trans : (errand : Errand) (a b c : Progress) (talk next : Conversation) (ended : Option (List Verdict)) (out middle more : List ℕ)
-  → Does errand a b talk None out middle → Does errand b c next ended middle more → Does errand a c next ended out more
+    → Does errand a b talk None out middle → Does errand b c next ended middle more → Does errand a c next ended out more
 does_trans errand a b c talk next ended out middle more one two = record {
   commands = one.commands ++ two.commands;
   commands_are = two.commands_are ∙ ap (λ (k : List (List ℕ)). k ++ two.commands) one.commands_are ∙ append_assoc a.commands one.commands two.commands;
@@ -29,18 +29,18 @@ does_trans errand a b c talk next ended out middle more one two = record {
 
 -- what a test chooses is done
 pub does_then : (errand : Errand) (a b c : Progress) (test : Bool) (talk : Conversation) (ended : Option (List Verdict)) (out more : List ℕ)
-  → test ≡ true → Does errand a b talk ended out more → Does errand a (cond test b c) talk ended out more
+    → test ≡ true → Does errand a b talk ended out more → Does errand a (cond test b c) talk ended out more
 does_then errand a b c true talk ended out more e d = d
 does_then errand a b c false talk ended out more e d = absurd cc
 
 pub does_else : (errand : Errand) (a b c : Progress) (test : Bool) (talk : Conversation) (ended : Option (List Verdict)) (out more : List ℕ)
-  → test ≡ false → Does errand a c talk ended out more → Does errand a (cond test b c) talk ended out more
+    → test ≡ false → Does errand a c talk ended out more → Does errand a (cond test b c) talk ended out more
 does_else errand a b c true talk ended out more e d = absurd cc
 does_else errand a b c false talk ended out more e d = d
 
 -- the old progress counts by its commands alone
 pub does_from : (errand : Errand) (a b c : Progress) (talk : Conversation) (ended : Option (List Verdict)) (out more : List ℕ)
-  → a.commands ≡ b.commands → Does errand a c talk ended out more → Does errand b c talk ended out more
+    → a.commands ≡ b.commands → Does errand a c talk ended out more → Does errand b c talk ended out more
 does_from errand a b c talk ended out more e d = record {
   commands = d.commands;
   commands_are = d.commands_are ∙ ap (λ (k : List (List ℕ)). k ++ d.commands) e;
@@ -58,9 +58,9 @@ asks_on_start errand c talk out h = record {
 
 -- one RCPT more
 pub asks_on_step : (errand : Errand) (c : Progress) (old new : Conversation) (out middle more : List ℕ) (place : ℕ) (places : List ℕ)
-  → drop old.asked old.places.items ≡ place ∷ places
-  → ((k : Progress) → Holds old errand k → Does errand k (with_rcpt errand place places k) new None middle more)
-  → AsksOn errand c old out middle → AsksOn errand c new out more
+    → drop old.asked old.places.items ≡ place ∷ places
+    → ((k : Progress) → Holds old errand k → Does errand k (with_rcpt errand place places k) new None middle more)
+    → AsksOn errand c old out middle → AsksOn errand c new out more
 asks_on_step errand c old new out middle more place places e does on =
     let k : Progress = on.so_far in
     record {
@@ -71,14 +71,14 @@ asks_on_step errand c old new out middle more place places e does on =
 
 -- and all of them
 pub asks_on_end : (errand : Errand) (c : Progress) (talk : Conversation) (out more : List ℕ) → drop talk.asked talk.places.items ≡ []
-  → AsksOn errand c talk out more → Does errand c (with_rcpts errand c.unasked c) talk None out more
+    → AsksOn errand c talk out more → Does errand c (with_rcpts errand c.unasked c) talk None out more
 asks_on_end errand c talk out more e on =
     subst (λ (k : Progress). Does errand c k talk None out more)
-      (ap (λ (p : List ℕ). with_rcpts errand p on.so_far) (sym e ∙ on.does.stands.unasked_are) ∙ on.rest) on.does
+    (ap (λ (p : List ℕ). with_rcpts errand p on.so_far) (sym e ∙ on.does.stands.unasked_are) ∙ on.rest) on.does
 
 -- one command
 does_one : (errand : Errand) (c new : Progress) (talk : Conversation) (command out more : List ℕ) → new.commands ≡ c.commands ++ command ∷ [] → more ≡ out ++ command → Holds talk errand new
-  → Does errand c new talk None out more
+    → Does errand c new talk None out more
 does_one errand c new talk command out more e w h = record {
   commands = command ∷ [];
   commands_are = e;
@@ -94,10 +94,10 @@ drop_suc (x ∷ xs) (suc n) place more e = drop_suc xs n place more e
 
 -- the RCPT of the next place
 pub does_place : (errand : Errand) (k : Progress) (old new : Conversation) (recipients : List Recipient) (place : ℕ) (more out after : List ℕ)
-  → Holds old errand k → recipients ≡ errand.envelope.recipients → after ≡ out ++ rcpt_line_at old.extensions.dsn recipients place
-  → new.host ≡ old.host → new.places.items ≡ old.places.items → new.waits ≡ old.waits ++ awaited.Rcpt place ∷ [] → new.asked ≡ old.asked + 1
-  → new.extensions ≡ old.extensions → new.settled ≡ old.settled → drop old.asked old.places.items ≡ place ∷ more
-  → Does errand k (with_rcpt errand place more k) new None out after
+    → Holds old errand k → recipients ≡ errand.envelope.recipients → after ≡ out ++ rcpt_line_at old.extensions.dsn recipients place
+    → new.host ≡ old.host → new.places.items ≡ old.places.items → new.waits ≡ old.waits ++ awaited.Rcpt place ∷ [] → new.asked ≡ old.asked + 1
+    → new.extensions ≡ old.extensions → new.settled ≡ old.settled → drop old.asked old.places.items ≡ place ∷ more
+    → Does errand k (with_rcpt errand place more k) new None out after
 does_place errand k old new recipients place more out after h r w host places waits asked extensions settled e =
     let on : old.asked + 1 ≡ suc old.asked = omega arith in
     does_one errand k (with_rcpt errand place more k) new (rcpt_line_at k.extensions.dsn errand.envelope.recipients place) out after refl
@@ -114,8 +114,8 @@ does_place errand k old new recipients place more out after h r w host places wa
 
 -- QUIT, and the verdicts
 pub does_end : (errand : Errand) (k : Progress) (old new : Conversation) (last : Verdict) (verdicts : List Verdict) (out after : List ℕ)
-  → Holds old errand k → after ≡ out ++ quit_line → verdicts ≡ verdicts_from old.places.items old.settled last
-  → Does errand k (ended_by errand last k) new (Some verdicts) out after
+    → Holds old errand k → after ≡ out ++ quit_line → verdicts ≡ verdicts_from old.places.items old.settled last
+    → Does errand k (ended_by errand last k) new (Some verdicts) out after
 does_end errand k old new last verdicts out after h w v = record {
   commands = quit_line ∷ [];
   commands_are = refl;
@@ -126,9 +126,9 @@ does_end errand k old new last verdicts out after h w v = record {
 
 -- MAIL and the RCPTs in one group
 pub does_group : (errand : Errand) (k : Progress) (first second : Conversation) (out middle more : List ℕ) → first.extensions.pipelining ≡ true
-  → Does errand k (with_command (mail_line k.extensions.dsn errand.envelope) awaited.Mail k) first None out middle
-  → ((c : Progress) → Holds first errand c → Does errand c (with_rcpts errand c.unasked c) second None middle more)
-  → Does errand k (with_mail errand k) second None out more
+    → Does errand k (with_command (mail_line k.extensions.dsn errand.envelope) awaited.Mail k) first None out middle
+    → ((c : Progress) → Holds first errand c → Does errand c (with_rcpts errand c.unasked c) second None middle more)
+    → Does errand k (with_mail errand k) second None out more
 does_group errand k first second out middle more e d f =
     let mail : Progress = with_command (mail_line k.extensions.dsn errand.envelope) awaited.Mail k in
     does_then errand k (with_rcpts errand k.unasked mail) mail k.extensions.pipelining second None out more
@@ -141,9 +141,9 @@ left_is errand k talk test h e = sym (open_is (rcpt_replies k.answered)) ∙ sym
 
 -- a reply answers what waits first
 pub does_answer : (errand : Errand) (k : Progress) (old middle new : Conversation) (waited : Awaited) (waits : List Awaited) (reply : Reply) (ended : Option (List Verdict)) (out after : List ℕ)
-  → Holds old errand k → old.waits ≡ waited ∷ waits → SettlesOne old middle waited waits reply
-  → ((c : Progress) → Holds middle errand c → Does errand c (behind_answer errand waited (kind_of reply.code) reply c) new ended out after)
-  → Does errand k (behind_reply errand k reply) new ended out after
+    → Holds old errand k → old.waits ≡ waited ∷ waits → SettlesOne old middle waited waits reply
+    → ((c : Progress) → Holds middle errand c → Does errand c (behind_answer errand waited (kind_of reply.code) reply c) new ended out after)
+    → Does errand k (behind_reply errand k reply) new ended out after
 does_answer errand k old middle new waited waits reply ended out after h e s f =
     let one : Progress = record k { waits = waits; answered = k.answered ++ answer_of waited reply ∷ [] } in
     let holds : Holds middle errand one = record {
@@ -159,7 +159,7 @@ does_answer errand k old middle new waited waits reply ended out after h e s f =
     } in
     let first : waited ∷ waits ≡ k.waits = sym e ∙ h.waits_are in
     subst (λ (w : List Awaited). Does errand k (with_answer errand w reply k) new ended out after) first
-      (does_from errand one k (behind_answer errand waited (kind_of reply.code) reply one) new ended out after refl (f one holds))
+    (does_from errand one k (behind_answer errand waited (kind_of reply.code) reply one) new ended out after refl (f one holds))
 
 pub drop_past : (xs : List ℕ) (n : ℕ) → length xs ≤ n → drop n xs ≡ []
 drop_past xs n le = drop_all n xs le

@@ -15,7 +15,7 @@ use Rattle.relay_client.specs.Attempt.{Follows, FollowsOn, KeepsOn, KeepsTo, sta
 use Rattle.relay_client.proofs.Theorems.{followed_may_be_lost}
 
 sent_by : (text : List ℕ) (test : Bool) → (test ≡ true → (dot_text : List ℕ) × WritesDotText text dot_text)
-  → (dot_text : List ℕ) × MatchBool test (WritesDotText text dot_text) (dot_text ≡ [])
+    → (dot_text : List ℕ) × MatchBool test (WritesDotText text dot_text) (dot_text ≡ [])
 sent_by text true writes = writes refl
 sent_by text false writes = ([], refl)
 
@@ -25,8 +25,8 @@ is_sent text = sent_by text (ends_in_line_end text) (each_content_is_written tex
 
 -- an attempt that begins follows whatever message it is fed
 pub begins_to_follow : (attempt : Attempt) (host : List ℕ) (envelope : Envelope) (text places : List ℕ)
-  → HasRead attempt.reader [] [] [] → IsAtGreeting host places attempt.talk → attempt.stage ≡ Running
-  → Follows attempt host envelope text places [] []
+    → HasRead attempt.reader [] [] [] → IsAtGreeting host places attempt.talk → attempt.stage ≡ Running
+    → Follows attempt host envelope text places [] []
 begins_to_follow attempt host envelope text places reads g runs =
     let sent = is_sent text in
     record {
@@ -54,18 +54,18 @@ begins_to_follow attempt host envelope text places reads g runs =
 
 -- what a feed of an attempt that runs leads to
 pub feed_follows : (attempt : Attempt) (host : List ℕ) (envelope : Envelope) (text places dot_text input output : List ℕ)
-  (ended : Option (List Verdict)) → IsSentAs text dot_text → attempt.stage ≡ stage_by ended
-  → KeepsOn attempt.reader attempt.talk (errand_of host envelope text dot_text places) input output ended
-  → FollowsOn attempt host envelope text places input output ended
+    (ended : Option (List Verdict)) → IsSentAs text dot_text → attempt.stage ≡ stage_by ended
+    → KeepsOn attempt.reader attempt.talk (errand_of host envelope text dot_text places) input output ended
+    → FollowsOn attempt host envelope text places input output ended
 feed_follows attempt host envelope text places dot_text input output None sent stage keeps =
     record { dot_text = dot_text; sent = sent; keeps = keeps; runs = stage }
 feed_follows attempt host envelope text places dot_text input output (Some verdicts) sent stage runs =
     record { dot_text = dot_text; sent = sent; runs = runs }
 
 pub broken_is_lost : (attempt : Attempt) (host : List ℕ) (envelope : Envelope) (text places input output : List ℕ)
-  (verdicts : List Verdict) → verdicts ≡ all_later attempt.talk.places.items
-  → Follows attempt host envelope text places input output
-  → IsCourse host envelope text places input true output (Some verdicts)
+    (verdicts : List Verdict) → verdicts ≡ all_later attempt.talk.places.items
+    → Follows attempt host envelope text places input output
+    → IsCourse host envelope text places input true output (Some verdicts)
 broken_is_lost attempt host envelope text places input output verdicts e f =
     subst (λ (v : List Verdict). IsCourse host envelope text places input true output (Some v))
     (ap all_later (sym (f.keeps.holds.places_are)) ∙ sym e)

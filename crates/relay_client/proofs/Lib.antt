@@ -1,4 +1,3 @@
-mod GoingLemmas
 mod SettledLemmas
 mod WrittenLemmas
 mod DoesLemmas

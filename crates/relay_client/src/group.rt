@@ -15,7 +15,11 @@ use std::alloc::AllocError;
 
 impl Conversation {
     /// MAIL, and the RCPTs in one group with it where PIPELINING is offered.
-    pub(crate) fn ask_mail(&mut self, mail: &MailObject<'_>, out: &mut Vec<u8>) -> Result<(), AllocError>
+    pub(crate) fn ask_mail(
+        &mut self,
+        mail: &MailObject<'_>,
+        out: &mut Vec<u8>,
+    ) -> Result<(), AllocError>
         ensures { OnOk result ((errand : Errand) (old : Progress)
             → Holds self.old errand old → IsErrandOf errand mail.now
             → Does errand old (with_mail errand old) self.new None out.old.items out.new.items) }
@@ -54,7 +58,12 @@ impl Conversation {
     }
 
     /// The RCPT of the next place.
-    fn ask_rcpt(&mut self, mail: &MailObject<'_>, place: u8, out: &mut Vec<u8>) -> Result<(), AllocError>
+    fn ask_rcpt(
+        &mut self,
+        mail: &MailObject<'_>,
+        place: u8,
+        out: &mut Vec<u8>,
+    ) -> Result<(), AllocError>
         requires { self.old.asked < length self.old.places.items }
         ensures does { OnOk result ((errand : Errand) (old : Progress) (more : List ℕ)
             → Holds self.old errand old → IsErrandOf errand mail.now
@@ -64,7 +73,13 @@ impl Conversation {
         ensures places { self.new.places ≡ self.old.places }
     {
         let recipients = mail.envelope.recipients.as_slice();
-        write_rcpt_at(self.alloc, out, self.extensions.dsn, recipients, place as usize)?;
+        write_rcpt_at(
+            self.alloc,
+            out,
+            self.extensions.dsn,
+            recipients,
+            place as usize,
+        )?;
         self.asked += 1;
         self.waits.push(Awaited::Rcpt(place))?;
         Ok(())

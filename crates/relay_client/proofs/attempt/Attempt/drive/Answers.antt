@@ -12,8 +12,8 @@ returns-in-Some-clause-keeps c = λ errand input output is k.
     on_ended next.reader next.talk errand (input ++ take (used + step.used) piece) (output ++ c.step.new.out.items)
     step.verdicts c.in-Some.verdicts _ c.in-Some.is c.in-Some.verdicts-is
     (on_in_piece next.reader next.talk errand input (output ++ c.step.new.out.items) piece used step.used step.verdicts
-      (c.in_ok-step.ensures.keeps errand (input ++ take used piece) output is
-        (c.loop-used.invariant.keeps errand input output is k)))
+    (c.in_ok-step.ensures.keeps errand (input ++ take used piece) output is
+    (c.loop-used.invariant.keeps errand input output is k)))
 
 pub loop-used-preserved : goal.loop-used-preserved
 loop-used-preserved c =
@@ -29,6 +29,6 @@ loop-used-preserved c =
           on_running next.reader next.talk errand (input ++ take (used + step.used) piece)
           (output ++ c.step.new.out.items) step.verdicts c.in_default.is
           (on_in_piece next.reader next.talk errand input (output ++ c.step.new.out.items) piece used step.used
-            step.verdicts (c.in_ok-step.ensures.keeps errand (input ++ take used piece) output is
-              (c.loop-used.invariant.keeps errand input output is k)));
+          step.verdicts (c.in_ok-step.ensures.keeps errand (input ++ take used piece) output is
+          (c.loop-used.invariant.keeps errand input output is k)));
     }

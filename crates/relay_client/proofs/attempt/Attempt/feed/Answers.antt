@@ -11,4 +11,4 @@ returns-in_ok-driven-in-Running-clause-follows c = λ host places input output f
     feed_follows _ host envelope text places f.dot_text (input ++ take driven.used c.args.piece.now)
     (output ++ driven.out.items) driven.verdicts f.sent c.stage_behind-self.ensures
     (c.in_ok-driven-in-Running.ensures.keeps (errand_of host envelope text f.dot_text places) input output
-      (record { envelope_is = refl; text_is = refl; sent = f.sent }) f.keeps)
+    (record { envelope_is = refl; text_is = refl; sent = f.sent }) f.keeps)

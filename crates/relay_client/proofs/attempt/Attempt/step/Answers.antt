@@ -9,7 +9,7 @@ returns-in-Some-clause-keeps c = λ errand input output is k.
     keeps_reply old.reader c.feed.new.self old.talk c.answer.new.self errand input output front c.args.out.now.items
     c.answer.new.out.items c.in-Some.reply _ c.in_ok-verdicts-in-Ok.verdicts k
     (reads_one old.reader c.feed.new.self c.in-Ok.cut.reply c.in-Some.reply c.args.rest.now front c.in-Some.is
-      c.in-Ok.ensures.reads)
+    c.in-Ok.ensures.reads)
     c.in-Some.reply-is
     (λ now holds. c.in_ok-verdicts-in-Ok.ensures errand now holds is)
 

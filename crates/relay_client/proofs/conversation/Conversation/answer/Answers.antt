@@ -8,6 +8,10 @@ returns c = λ errand old h is.
     c.take_first.new.self c.args.reply c.in_ok-ended.ended c.args.out.now.items c.behind_answer.new.out.items
     h c.in-Some.ensures
     (record {
-      host_stays = s.host_stays; places_stay = s.places_stay; waits_are = s.waits_are; asked_stays = s.asked_stays;
-      extensions_stay = s.extensions_stay; settles = s.settles;
+      host_stays = s.host_stays;
+      places_stay = s.places_stay;
+      waits_are = s.waits_are;
+      asked_stays = s.asked_stays;
+      extensions_stay = s.extensions_stay;
+      settles = s.settles;
     }) (λ m hm. c.in_ok-ended.ensures errand m hm is)

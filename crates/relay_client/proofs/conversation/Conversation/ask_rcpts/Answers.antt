@@ -16,8 +16,8 @@ loop-self-preserved c = λ errand old h is.
     let place = c.index-place.result.now in
     let behind = drop (now.asked + 1) now.places.items in
     let e : drop now.asked now.places.items ≡ place ∷ behind =
-        drop_more now.places.items now.asked place (omega (arith, c.loop-self-test.true, c.len.ensures))
-        ∙ ap (λ (p : ℕ). p ∷ behind) (sym c.index-place.ensures) in
+    drop_more now.places.items now.asked place (omega (arith, c.loop-self-test.true, c.len.ensures))
+    ∙ ap (λ (p : ℕ). p ∷ behind) (sym c.index-place.ensures) in
     asks_on_step errand old now c.ask_rcpt.new.self c.args.out.now.items c.loop-self.out.items
     c.ask_rcpt.new.out.items _ behind e
     (λ m hm. c.in_ok-ask_rcpt.ensures.does errand m behind hm is e) (c.loop-self.invariant errand old h is)

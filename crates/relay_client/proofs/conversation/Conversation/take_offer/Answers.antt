@@ -10,6 +10,11 @@ returns c = λ errand old h is.
     does_from errand offered old (behind_hello errand offered) c.behind_hello.new.self c.in_ok-ended.ended
     c.args.out.now.items c.behind_hello.new.out.items refl
     (c.in_ok-ended.ensures errand offered (record {
-      host_is = h.host_is; places_are = h.places_are; waits_are = h.waits_are; unasked_are = h.unasked_are;
-      extensions_are = c.extensions_of-self.ensures; settled_is = h.settled_is; running = h.running;
+      host_is = h.host_is;
+      places_are = h.places_are;
+      waits_are = h.waits_are;
+      unasked_are = h.unasked_are;
+      extensions_are = c.extensions_of-self.ensures;
+      settled_is = h.settled_is;
+      running = h.running;
     }) is)
