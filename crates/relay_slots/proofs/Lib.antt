@@ -1,0 +1,2 @@
+mod SlotLemmas
+pub mod Theorems
