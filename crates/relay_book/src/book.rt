@@ -2,7 +2,7 @@
 ghost use Rattle.std.specs.Prelude.{◌≡◌, ◌<◌, ◌≤◌, ◌+◌, ◌^◌, ◌++◌, ℕ, [], ◌∷◌, false, true, IfOk, IsErrOf, IsTrue, ◌↔◌, OnErr, OnOk};
 ghost use Rattle.std.specs.List.{Contains, flat_map, list_any};
 ghost use Rattle.std.specs.Option.{option_copied, option_map_or};
-ghost use Rattle.relay_book.specs.Book.{AllTold, AreTold, IsTold, is_held_until, marks_at};
+ghost use Rattle.relay_book.specs.Book.{AllTold, AreTold, IsTold, Rise, is_held_until, marks_at};
 ghost use Rattle.relay_book.specs.Marks.{leaving_of};
 ghost use Rattle.relay_book.specs.Queue.{FitsQueue, due_of, empty_queue, held_of, is_due_at, message_of, ruled, step};
 ghost use Rattle.relay_book.specs.Ready.{IsReady, entry_of, message_in};
@@ -77,6 +77,13 @@ impl Book {
         ensures { result ≡ self.now.queue.next }
     {
         self.next
+    }
+
+    /// Tells that the numbers of the messages rise, and are below the next. It does nothing.
+    pub fn numbers_rise(&self)
+        ensures { Rise 0 self.now.queue.next self.now.queue.messages }
+    {
+        let _next = self.next;
     }
 
     /// The message of a number, while a place of it is held. It takes no memory.

@@ -14,7 +14,7 @@ use Rattle.relay_course.specs.Extensions.{extensions_of}
 use Rattle.relay_course.specs.WrittenLine.{ehlo_line, helo_line, mail_line, rcpt_line_at, data_line, last_chunk, quit_line}
 use Rattle.relay_course.specs.VerdictTable.{content_verdict_by, kind_of, refusal, some_accepted}
 use Rattle.relay_course.specs.Progress.{Errand, Progress, answer_of, rcpt_replies, with_command, ended_by, with_rcpt, with_rcpts, with_content, behind_rcpts, with_next, with_mail, behind_hello, behind_answer, at_greeting, with_answer, behind_reply, behind_replies, progress}
-use Rattle.relay_course.specs.Laws.{CommandsStay, EachCommandWaits, EndIsEnd}
+use Rattle.relay_course.specs.Laws.{CommandsStay, EachCommandWaits, EachReplyAnswers, EndIsEnd, ReplyLeadsOn}
 
 -- the commands of the old begin those of the new; the old runs where the new does; while it runs each further command
 -- waits; nothing more is answered
@@ -246,3 +246,12 @@ stays errand now (reply ∷ replies) e =
 pub end_is_end : EndIsEnd
 end_is_end errand replies more e =
     behind_replies-append errand (at_greeting errand) replies more ∙ stays errand (progress errand replies) more e
+
+pub reply_leads_on : ReplyLeadsOn
+reply_leads_on errand replies reply = behind_replies-append errand (at_greeting errand) replies (reply ∷ [])
+
+pub each_reply_answers : EachReplyAnswers
+each_reply_answers errand replies reply none =
+    let here : Progress = progress errand replies in
+    ap (λ (end : Progress). length end.answered) (reply_leads_on errand replies reply)
+    ∙ answered_more errand here reply here.waits (each_command_waits errand replies none).0

@@ -18,8 +18,20 @@ use Rattle.relay_course.specs.declared.awaited.Awaited.{Awaited}
 use Rattle.relay_course.specs.declared.awaited.Awaited.TheVariants as awaited
 use Rattle.relay_course.specs.declared.reply_kind.ReplyKind.TheVariants.{Completion}
 use Rattle.relay_course.specs.VerdictTable.{all_later, kind_of}
-use Rattle.relay_course.specs.Progress.{Errand, Answered, Progress, answer_of, progress}
+use Rattle.relay_course.specs.Progress.{Errand, Answered, Progress, answer_of, behind_reply, progress}
 use Rattle.relay_course.specs.Course.{IsCourse, IsSentAs}
+
+-- A further reply leads on from where the others led.
+abbrev pub ReplyLeadsOn : Type 0
+ReplyLeadsOn =
+    (errand : Errand) (replies : List Reply) (reply : Reply)
+    → progress errand (replies ++ reply ∷ []) ≡ behind_reply errand (progress errand replies) reply
+
+-- Until an attempt ends, each further reply answers something.
+abbrev pub EachReplyAnswers : Type 0
+EachReplyAnswers =
+    (errand : Errand) (replies : List Reply) (reply : Reply) → (progress errand replies).verdicts ≡ None
+    → length (progress errand (replies ++ reply ∷ [])).answered ≡ length (progress errand replies).answered + 1
 
 -- What was written stays written, whatever replies come behind.
 abbrev pub CommandsStay : Type 0

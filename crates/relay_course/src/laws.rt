@@ -1,6 +1,16 @@
 //! What is true of every attempt, whatever the replies.
-ghost use Rattle.relay_course.specs.Laws.{AnsweredAreFirst, CommandsKeepUp, CommandsStay, CourseMayBeLost, EachCommandIsRead, EachCommandWaits, EndIsEnd, EndWaitsForNothing, RcptsAreInOrder, TakenWhereAnswered, VerdictForEachPlace, VerdictsMayBeStored};
+ghost use Rattle.relay_course.specs.Laws.{AnsweredAreFirst, CommandsKeepUp, CommandsStay, CourseMayBeLost, EachCommandIsRead, EachCommandWaits, EachReplyAnswers, EndIsEnd, EndWaitsForNothing, RcptsAreInOrder, ReplyLeadsOn, TakenWhereAnswered, VerdictForEachPlace, VerdictsMayBeStored};
 ghost use Rattle.relay_course.specs.RelayLaws.{CommandsToARelay, NothingBeforeAllRcpts};
+
+/// A further reply leads on from where the others led.
+pub fn reply_leads_on()
+    ensures { ReplyLeadsOn }
+{}
+
+/// Until an attempt ends, each further reply answers something.
+pub fn each_reply_answers()
+    ensures { EachReplyAnswers }
+{}
 
 /// What was written stays written, whatever replies come behind.
 pub fn commands_stay()

@@ -4,6 +4,7 @@ ghost use Rattle.std.specs.List.{Contains};
 ghost use Rattle.std.specs.Option.{option_copied, option_map};
 ghost use Rattle.relay_disk.specs.Device.{AddsNoImage, FailsNot};
 ghost use Rattle.relay_book.specs.declared.change.Change.{Change};
+ghost use Rattle.relay_book.specs.Book.{Rise};
 ghost use Rattle.relay_book.specs.Marks.{Held, IsQueuedAs};
 ghost use Rattle.relay_book.specs.Queue.{due_of, held_of, message_of};
 ghost use Rattle.relay_records.specs.Records.{Halted, Keeps, Stays};
@@ -49,6 +50,13 @@ impl<D: Disk> Records<D> {
             → Halted D.honest D.words self.now changes pending → result ≡ length changes + 1 }
     {
         self.book.next_number()
+    }
+
+    /// Tells that the numbers of the messages rise, and are below the next. It does nothing.
+    pub fn numbers_rise(&self)
+        ensures { Rise 0 self.now.queue.next self.now.queue.messages }
+    {
+        self.book.numbers_rise();
     }
 
     /// Whether another change can be numbered: numbers end at 2^62. It takes no memory.

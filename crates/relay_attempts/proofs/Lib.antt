@@ -1,0 +1,7 @@
+mod NameLemmas
+mod RunLemmas
+mod HopLemmas
+mod WorkLemmas
+mod KeyLemmas
+mod GatherLemmas
+mod DueLemmas

@@ -1,0 +1,5 @@
+pub mod Hops
+pub mod Gathering
+pub mod Runs
+pub mod Work
+pub mod Attempts

@@ -1,0 +1,4 @@
+mod MeetLemmas
+mod ScriptLemmas
+mod TriedLemmas
+mod WritesLemmas

@@ -1,0 +1,140 @@
+-- Two relays that meet: both ends by their histories, each of which has read a beginning of what the other wrote.
+use Rattle.std.specs.Prelude.{◌≡◌, ◌≢◌, ◌⊎◌, ◌<◌, ℕ, nat_le, Bool, true, List, [], ◌∷◌, ◌++◌, length, map, if◌then◌else◌, Some}
+use Rattle.relay_octets.specs.Beginning.{Begins}
+use Rattle.relay_lines.specs.Reply.{Reply}
+use Rattle.relay_lines.specs.ReplyReading.{CutsReplies, HasFault}
+use Rattle.relay_lines.specs.declared.reply_reader.ReplyFault.{ReplyFault}
+use Rattle.relay_envelope.specs.declared.envelope.Envelope.{Envelope}
+use Rattle.relay_envelope.specs.HostName.{IsHostName}
+use Rattle.relay_trace.specs.HeaderSection.{received_count_of}
+use Rattle.relay_server.specs.declared.reply_table.Row.TheVariants.{Greeting, NoRoute}
+use Rattle.relay_server.specs.declared.offer.Answer.{Answer}
+use Rattle.relay_server.specs.declared.offer.Answer.TheVariants.{Queued, Full}
+use Rattle.relay_server.specs.Dialogue.{IsDialogue, Offered, Said, Turn, offered_of, offered_by, read_by}
+use Rattle.relay_server.specs.DialogueLaws.{AreNumbered}
+use Rattle.relay_server.specs.Reply.{reply_of}
+use Rattle.relay_server.specs.Setup.{Setup}
+use Rattle.relay_server.specs.State.{State}
+use Rattle.relay_book.specs.declared.change.Verdict.{Verdict}
+use Rattle.relay_book.specs.declared.change.Verdict.TheVariants.{Taken}
+use Rattle.relay_course.specs.VerdictTable.{refusal}
+use Rattle.relay_course.specs.Progress.{Errand, progress}
+use Rattle.relay_course.specs.Course.{joined}
+use Rattle.relay_course.specs.Laws.{IsErrand}
+use Rattle.relay_meeting.specs.Meeting.{Meets, Step, replies_by}
+use Rattle.relay_meeting.specs.Script.{AreRcpts, AreTried, Tried, client_in, envelope_behind, opened_of, script_of}
+
+-- MAIL's values, and the accepted recipients in order
+abbrev pub child_envelope : Errand → List Tried → Envelope
+child_envelope errand tried = envelope_behind (opened_of errand.envelope) tried
+
+-- what the server may offer of the errand: the text once, with that envelope; or nothing, where no recipient is accepted,
+-- the text is too large, or it has come in a circle
+abbrev pub child_of : ℕ → Errand → List Tried → List Offered
+child_of limit errand tried =
+    if nat_le 1 (length (child_envelope errand tried).recipients)
+    then (if nat_le (length errand.text) limit
+    then (if nat_le 100 (received_count_of errand.text) then []
+    else offered_of (client_in errand) (child_envelope errand tried) errand.text ∷ [])
+    else [])
+    else []
+
+-- a server end with a dialogue, and a client end with a course of this errand, which has read these replies and a rest:
+-- each has read a beginning of what the other wrote
+pub record AreJoined (setup : Setup) (errand : Errand) (said : Said) (input output : List ℕ) (replies : List Reply)
+    (rest : List ℕ) : Type 0 where
+  pub dialogue : IsDialogue setup said
+  pub numbered : AreNumbered said.answers
+  pub host : IsHostName setup.host
+  pub cut : CutsReplies input replies rest
+  pub written : output ≡ joined (progress errand replies).commands
+  pub up : Begins said.input output
+  pub down : Begins input said.output
+
+-- what the two have said: turns of the script, of which the client has read a beginning of the replies, and no fault; and
+-- the text was offered at most once
+pub record HaveMet (setup : Setup) (errand : Errand) (tried : List Tried) (said : Said) (replies : List Reply)
+    (rest : List ℕ) : Type 0 where
+  pub turns : List Turn
+  pub state : State
+  pub meets : Meets setup (script_of setup.max_content errand tried) turns state
+  pub read : Begins replies (reply_of setup.host Greeting ∷ replies_by turns)
+  pub sound : (fault : ReplyFault) → ¬ HasFault rest fault
+  pub unread : List ℕ
+  pub input : said.input ≡ read_by turns ++ unread
+  pub offered : said.offers ≡ offered_by turns
+  pub children : Begins said.offers (child_of setup.max_content errand tried)
+
+-- Two relays meet so.
+abbrev pub TwoRelaysMeet : Type 0
+TwoRelaysMeet =
+    (setup : Setup) (errand : Errand) (tried : List Tried) (said : Said) (input output : List ℕ)
+    (replies : List Reply) (rest : List ℕ)
+    → IsErrand errand → AreTried setup errand.envelope.recipients errand.places tried
+    → AreJoined setup errand said input output replies rest
+    → HaveMet setup errand tried said replies rest
+
+-- the verdict of a place: where the server's table has no hop for it, it is refused, and else it has the last verdict
+abbrev pub verdict_at : List ℕ → Verdict → Tried → Verdict
+verdict_at host last tried = if tried.goes then last else refusal (reply_of host NoRoute)
+
+-- Taken, by a server that offers DSN, exactly where the offer was answered by a number
+abbrev pub Tells : Verdict → List Answer → Type 0
+Tells last answers =
+    ((last ≡ Taken true) × ((number : ℕ) × (answers ≡ Queued number ∷ [])))
+    ⊎ (((dsn : Bool) → last ≢ Taken dsn) × ((answers ≡ []) ⊎ (answers ≡ Full ∷ [])))
+
+-- an attempt that its replies ended has these verdicts
+pub record HaveEnded (setup : Setup) (errand : Errand) (tried : List Tried) (said : Said) (verdicts : List Verdict)
+    : Type 0 where
+  pub last : Verdict
+  pub verdicts_are : verdicts ≡ map (verdict_at setup.host last) tried
+  pub tells : Tells last said.answers
+
+-- An attempt at a relay ends so.
+abbrev pub TwoRelaysEnd : Type 0
+TwoRelaysEnd =
+    (setup : Setup) (errand : Errand) (tried : List Tried) (said : Said) (input output : List ℕ)
+    (replies : List Reply) (rest : List ℕ) (verdicts : List Verdict)
+    → IsErrand errand → AreTried setup errand.envelope.recipients errand.places tried
+    → AreJoined setup errand said input output replies rest
+    → length (progress errand replies).answered ≡ length replies
+    → (progress errand replies).verdicts ≡ Some verdicts
+    → HaveEnded setup errand tried said verdicts
+
+-- the client has read the replies to all RCPTs, each by the server's table
+pub record HaveReadRcpts (setup : Setup) (tried : List Tried) (replies : List Reply) : Type 0 where
+  pub greeting : Reply
+  pub hello : Reply
+  pub mail : Reply
+  pub rcpts : List Reply
+  pub later : List Reply
+  pub replies_are : replies ≡ greeting ∷ hello ∷ mail ∷ (rcpts ++ later)
+  pub by_table : AreRcpts setup.host tried rcpts
+
+-- Where there is an offer, the client has read them.
+abbrev pub OfferHoldsItsPlaces : Type 0
+OfferHoldsItsPlaces =
+    (setup : Setup) (errand : Errand) (tried : List Tried) (said : Said) (input output : List ℕ)
+    (replies : List Reply) (rest : List ℕ)
+    → IsErrand errand → AreTried setup errand.envelope.recipients errand.places tried
+    → AreJoined setup errand said input output replies rest → 0 < length said.offers
+    → HaveReadRcpts setup tried replies
+
+-- all of it: each place is tried as the server's table says; what was said; what the client has read where there is an
+-- offer; and how an attempt ends whose replies each answered something
+pub record HaveTalked (setup : Setup) (errand : Errand) (said : Said) (replies : List Reply) (rest : List ℕ)
+    : Type 0 where
+  pub tried : List Tried
+  pub are_tried : AreTried setup errand.envelope.recipients errand.places tried
+  pub met : HaveMet setup errand tried said replies rest
+  pub held : 0 < length said.offers → HaveReadRcpts setup tried replies
+  pub ended : (verdicts : List Verdict) → length (progress errand replies).answered ≡ length replies
+    → (progress errand replies).verdicts ≡ Some verdicts → HaveEnded setup errand tried said verdicts
+
+-- What two relays have said to each other: of a valid errand all of it is so.
+abbrev pub WhatRelaysSay : Type 0
+WhatRelaysSay =
+    (setup : Setup) (errand : Errand) (said : Said) (input output : List ℕ) (replies : List Reply) (rest : List ℕ)
+    → IsErrand errand → AreJoined setup errand said input output replies rest
+    → HaveTalked setup errand said replies rest

@@ -1,0 +1,132 @@
+-- What two relays of ours say to each other: the script of an errand at a server, by what its table makes of each place.
+use Rattle.std.specs.Prelude.{◌≡◌, ℕ, nat_le, Bool, true, false, List, [], ◌∷◌, ◌++◌, length, if◌then◌else◌, is_some, Ok}
+use Rattle.relay_lines.specs.Reply.{Reply}
+use Rattle.relay_body.specs.DotText.{ends_in_line_end}
+use Rattle.relay_envelope.specs.declared.envelope.Envelope.{Envelope}
+use Rattle.relay_envelope.specs.declared.envelope.Recipient.{Recipient}
+use Rattle.relay_envelope.specs.Envelope.{IsEnvelope, IsRecipient, rcpt_text, recipient_from}
+use Rattle.relay_envelope.specs.Mail.{Rcpt as RcptSaid, ReadsRcpt}
+use Rattle.relay_routes.specs.Routes.{hop_of}
+use Rattle.relay_trace.specs.declared.received.Protocol.TheVariants.{Esmtp}
+use Rattle.relay_server.specs.declared.client.Client.{Client}
+use Rattle.relay_server.specs.declared.reply_table.Row.{Row}
+use Rattle.relay_server.specs.declared.reply_table.Row.TheVariants as row
+use Rattle.relay_server.specs.Reply.{reply_of}
+use Rattle.relay_server.specs.ReplyTable.{Course, Replies, Offers, course_of_text, course_of_chunks}
+use Rattle.relay_server.specs.Setup.{Setup}
+use Rattle.relay_server.specs.State.{Greeted, Open, State, Command, Receiving, Closed, client_of, start}
+use Rattle.relay_course.specs.WrittenLine.{ehlo_line, mail_line, rcpt_line, rcpt_line_at, data_line, last_chunk, quit_line}
+use Rattle.relay_course.specs.Progress.{Errand, progress}
+use Rattle.relay_course.specs.Laws.{AreWithin, IsErrand}
+use Rattle.relay_meeting.specs.Meeting.{IsScript, Step, Writes, step_of}
+
+-- the recipient of a place that is tried, and whether the server's table has a hop for it
+pub record Tried : Type 0 where
+  pub recipient : Recipient
+  pub goes : Bool
+
+-- what its RCPT is answered
+abbrev pub row_of_hop : Bool → Row
+row_of_hop goes = if goes then row.RecipientOk else row.NoRoute
+
+-- the server's envelope behind it
+abbrev pub with_tried : Envelope → Tried → Envelope
+with_tried envelope tried =
+    if tried.goes then record envelope { recipients = envelope.recipients ++ tried.recipient ∷ [] } else envelope
+
+-- the server's envelope behind the RCPTs of all of these
+abbrev pub envelope_behind : Envelope → List Tried → Envelope
+envelope_behind envelope [] = envelope
+envelope_behind envelope (tried ∷ more) = envelope_behind (with_tried envelope tried) more
+
+-- QUIT closes
+abbrev pub quit_step : Step
+quit_step = step_of quit_line (Replies row.Closing Closed)
+
+-- the content, and QUIT: mail data behind DATA, or one last chunk
+abbrev pub content_steps : ℕ → Client → Errand → Envelope → List Step
+content_steps limit client errand envelope =
+    if ends_in_line_end errand.text
+    then step_of data_line (Replies row.StartMailInput (Receiving client envelope))
+    ∷ step_of errand.dot_text (course_of_text limit client envelope errand.text) ∷ quit_step ∷ []
+    else step_of (last_chunk errand.text) (course_of_chunks limit client envelope errand.text true) ∷ quit_step ∷ []
+
+-- what follows the RCPTs: the content where a recipient was accepted
+abbrev pub last_steps : ℕ → Client → Errand → Envelope → List Step
+last_steps limit client errand envelope =
+    if nat_le 1 (length envelope.recipients) then content_steps limit client errand envelope else quit_step ∷ []
+
+-- the RCPT of a place
+abbrev pub rcpt_step : Client → Envelope → Tried → Step
+rcpt_step client envelope tried =
+    step_of (rcpt_line true tried.recipient)
+    (Replies (row_of_hop tried.goes) (Command (Open client (with_tried envelope tried))))
+
+-- the RCPTs of these places, and what follows them
+abbrev pub rcpt_steps : ℕ → Client → Errand → Envelope → List Tried → List Step
+rcpt_steps limit client errand envelope [] = last_steps limit client errand envelope
+rcpt_steps limit client errand envelope (tried ∷ more) =
+    rcpt_step client envelope tried ∷ rcpt_steps limit client errand (with_tried envelope tried) more
+
+-- MAIL's values, and no recipient yet
+abbrev pub opened_of : Envelope → Envelope
+opened_of envelope = record envelope { recipients = [] }
+
+-- the client as the server knows it: by EHLO and our host's name
+abbrev pub client_in : Errand → Client
+client_in errand = client_of errand.host Esmtp
+
+-- EHLO, MAIL, the RCPTs, the content, QUIT
+abbrev pub script_of : ℕ → Errand → List Tried → List Step
+script_of limit errand tried =
+    step_of (ehlo_line errand.host) (Replies row.Extensions (Command (Greeted (client_in errand))))
+    ∷ step_of (mail_line true errand.envelope)
+      (Replies row.SenderOk (Command (Open (client_in errand) (opened_of errand.envelope))))
+    ∷ rcpt_steps limit (client_in errand) errand (opened_of errand.envelope) tried
+
+-- the server's table says so of the place
+pub record IsTried (setup : Setup) (tried : Tried) : Type 0 where
+  pub valid : IsRecipient tried.recipient
+  pub rcpt : RcptSaid
+  pub reads : ReadsRcpt (rcpt_text tried.recipient) (Ok rcpt)
+  pub same : recipient_from rcpt ≡ tried.recipient
+  pub goes : is_some (hop_of setup.routes rcpt.path) ≡ tried.goes
+
+-- the places of these recipients are those that are tried, in order
+abbrev pub AreTried : Setup → List Recipient → List ℕ → List Tried → Type 0
+AreTried setup recipients [] [] = Unit {0}
+AreTried setup recipients [] (tried ∷ more) = ⊥
+AreTried setup recipients (place ∷ places) [] = ⊥
+AreTried setup recipients (place ∷ places) (tried ∷ more) =
+    (rcpt_line_at true recipients place ≡ rcpt_line true tried.recipient) × IsTried setup tried
+    × AreTried setup recipients places more
+
+-- Each place of a valid envelope is tried as the server's table says.
+abbrev pub EachPlaceIsTried : Type 0
+EachPlaceIsTried =
+    (setup : Setup) (envelope : Envelope) (places : List ℕ) → IsEnvelope envelope
+    → AreWithin places envelope.recipients
+    → (tried : List Tried) × AreTried setup envelope.recipients places tried
+
+-- The script is what the server makes of the commands.
+abbrev pub ScriptIsServers : Type 0
+ScriptIsServers =
+    (setup : Setup) (errand : Errand) (tried : List Tried) → IsErrand errand
+    → AreTried setup errand.envelope.recipients errand.places tried
+    → IsScript setup start (script_of setup.max_content errand tried)
+
+-- A client of the errand writes the script.
+abbrev pub ClientWrites : Type 0
+ClientWrites =
+    (setup : Setup) (errand : Errand) (tried : List Tried) → IsErrand errand
+    → AreTried setup errand.envelope.recipients errand.places tried
+    → Writes setup.host (reply_of setup.host row.Greeting) (λ replies. (progress errand replies).commands)
+      (script_of setup.max_content errand tried)
+
+-- each RCPT's reply is by the table
+abbrev pub AreRcpts : List ℕ → List Tried → List Reply → Type 0
+AreRcpts host [] [] = Unit {0}
+AreRcpts host [] (reply ∷ rcpts) = ⊥
+AreRcpts host (tried ∷ more) [] = ⊥
+AreRcpts host (tried ∷ more) (reply ∷ rcpts) =
+    (reply ≡ reply_of host (row_of_hop tried.goes)) × AreRcpts host more rcpts

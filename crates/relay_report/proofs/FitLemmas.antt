@@ -1,0 +1,52 @@
+-- A report that is due may be stored.
+use Rattle.std.proofs.Common.{◌≡◌, ◌↔◌, ℕ, ◌+◌, ◌≤◌, ◌^◌, if◌then◌else◌, Bool, true, false, ◌||◌, List, [], ◌∷◌, ◌++◌, codes, length, slice_get, Option, None, Some, refl, sym, ap, ◌∙◌, arith}
+use Rattle.std.proofs.lemmas.Bool.{false≢true}
+use Rattle.std.specs.List.{list_any}
+use Rattle.std.specs.Option.{option_map_or}
+use Rattle.relay_envelope.specs.declared.envelope.Recipient.{Recipient}
+use Rattle.relay_book.specs.declared.change.Ruling.{Ruling}
+use Rattle.relay_book.specs.declared.message.Message.{Message}
+use Rattle.relay_book.specs.DueReport.{due_report_of, fate_of, report_of_fate}
+use Rattle.relay_book.specs.Queue.{reports_at}
+use Rattle.relay_book.specs.Record.{IsAccept, is_null, text_limit}
+use Rattle.relay_report.specs.StatusFields.{field}
+use Rattle.relay_report.specs.Multipart.{Told, header_fields, multipart_text, report_text}
+use Rattle.relay_report.specs.Report.{IsDueReport, IsReport, is_due}
+use Rattle.relay_report.specs.Fits.{DueReportFits, MayBeTold}
+use Rattle.relay_report.proofs.ShortLemmas.{report_is_short}
+
+-- no report is due for the null reverse path
+null_reports : (message : Message) (at : ℕ) (rulings : List Ruling) → is_null message.accept.envelope.reverse_path ≡ true → is_due message at rulings ≡ false
+null_reports message at [] null = refl
+null_reports message at (ruling ∷ rulings) null =
+    (λ i. first (slice_get message.accept.envelope.recipients ruling.place) i || is_due message at rulings) ∙ null_reports message at rulings null
+  where
+    first : (o : Option Recipient)
+        → option_map_or (λ recipient. option_map_or (λ _. true) (due_report_of message.accept.envelope.reverse_path recipient.notify (fate_of message.accept.at at ruling.verdict)) false) o false
+        ≡ false
+    first None = refl
+    first (Some recipient) = ap (λ (test : Bool). option_map_or (λ _. true) (if test then None else report_of_fate recipient.notify (fate_of message.accept.at at ruling.verdict)) false) null
+
+-- a report has text
+report_is_some : (told : Told) (text : List ℕ) → IsReport told text → text ≡ [] → ⊥
+unfolding report_text header_fields field
+report_is_some told text is none = let both = sym is.text_is ∙ none in cc
+
+limit_is : (test : Bool) → test ≡ false → (if test then 2 ^ 26 else 2 ^ 25) ≤ 2 ^ 25
+limit_is true e = absurd (false≢true (sym e))
+limit_is false e = omega arith
+
+pub due_report_fits : DueReportFits
+due_report_fits told text may is = by (is_due told.message told.at told.rulings) refl
+  where
+    short : (test : Bool) → is_null told.message.accept.envelope.reverse_path ≡ test → is_due told.message told.at told.rulings ≡ true → length text ≤ 2 ^ 26
+    short true null due = absurd (false≢true (sym (null_reports told.message told.at told.rulings null) ∙ due))
+    short false null due =
+        let all = report_is_short told text may (is.due due) in
+        let stored = may.accept.text in
+        let limit = limit_is (is_null told.message.accept.envelope.reverse_path) null in
+        omega (arith, all, stored, limit)
+    by : (test : Bool) → is_due told.message told.at told.rulings ≡ test
+        → ((text ≡ []) ↔ (is_due told.message told.at told.rulings ≡ false)) × (length text ≤ 2 ^ 26)
+    by true due = ((λ none. absurd (report_is_some told text (is.due due) none), λ not_due. absurd (false≢true (sym not_due ∙ due))), short (is_null told.message.accept.envelope.reverse_path) refl due)
+    by false none = ((λ _. none, λ _. is.none none), omega (arith, ap length (is.none none)))

@@ -1,0 +1,9 @@
+mod FieldLemmas
+mod JoinLemmas
+mod NumberLemmas
+mod CollectLemmas
+mod LeastLemmas
+mod CutLemmas
+mod ReportLemmas
+mod ShortLemmas
+mod FitLemmas

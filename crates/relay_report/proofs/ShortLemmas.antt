@@ -1,0 +1,331 @@
+-- How many octets a report has.
+use Rattle.std.proofs.Common.{◌≡◌, ◌⊎◌, inl, inr, ℕ, zero, suc, ◌+◌, ◌*◌, ◌-◌, ◌<◌, ◌≤◌, ◌^◌, min, nat_le, if◌then◌else◌, Bool, true, false, ◌&&◌, ◌||◌, List, [], ◌∷◌, ◌++◌, codes, decimal, length, take, drop, map, slice_get, Option, None, Some, refl, sym, ap, subst, ◌∙◌, arith, length-append}
+use Rattle.std.proofs.lemmas.Bool.{and_parts, leb-true, false≢true}
+use Rattle.std.proofs.lemmas.List.{length-map, length-take, length-drop}
+use Rattle.std.proofs.lemmas.Fmt.{length-decimal-le}
+use Rattle.std.specs.List.{flat_map, list_any, AllByRecursion, position_or_len}
+use Rattle.std.specs.Option.{option_map_or}
+use Rattle.std.specs.Char.{to_ascii_lowercase}
+use Rattle.relay_octets.specs.Line.{crlf}
+use Rattle.relay_trace.specs.HeaderSection.{header_end_of}
+use Rattle.relay_trace.proofs.Theorems.{date_text_has_31_octets}
+use Rattle.relay_envelope.proofs.Theorems.{decoded_is_spelled}
+use Rattle.relay_envelope.specs.HostName.{IsHostName}
+use Rattle.relay_envelope.specs.Xtext.{Part, Xchar, Hexchar, SpellsXtext, decoded, octet_of, part_text}
+use Rattle.relay_envelope.specs.Path.{Path, Null, Postmaster, Mailbox, IsPath, path_text}
+use Rattle.relay_envelope.specs.Parameters.{address_of, address_type_of, is_envid, is_octet, is_orcpt}
+use Rattle.relay_envelope.specs.Envelope.{IsRecipient, IsWrittenPath, may_be_envid, may_be_orcpt}
+use Rattle.relay_envelope.specs.declared.envelope.Recipient.{Recipient}
+use Rattle.relay_book.specs.declared.change.Ruling.{Ruling}
+use Rattle.relay_book.specs.declared.change.Verdict.{Verdict}
+use Rattle.relay_book.specs.declared.change.Verdict.TheVariants.{Taken, Refused, Later, CantSend, NoRoute}
+use Rattle.relay_book.specs.declared.due_report.DueReport.{DueReport}
+use Rattle.relay_book.specs.declared.due_report.DueReport.TheVariants.{OfFailure, OfRelay}
+use Rattle.relay_book.specs.declared.message.Message.{Message}
+use Rattle.relay_book.specs.Record.{IsAccept, IsRuling, IsVerdict, MayBeHop}
+use Rattle.relay_report.specs.StatusFields.{action_of, address_in, attempt_fields, diagnostic_code, field, last_attempt_date, message_fields, octets_or, original_envelope_id, original_recipient, plain_of, recipient_fields, remote_mta, reply_words, status_of, typed}
+use Rattle.relay_report.specs.Multipart.{Told, body_part, closing_line, due_to, fields_of, first_part, header_fields, if_due, line_of, message_id, multipart_text, part_head, postmaster_at, recipient_line, report_text, report_type, returned, returned_type, returns_whole, second_part, third_part, title_line}
+use Rattle.relay_report.specs.Boundary.{IsBoundary, boundary_text}
+use Rattle.relay_report.specs.Report.{IsReport}
+use Rattle.relay_report.specs.Fits.{MayBeTold, ReportIsShort}
+
+length-field : (name body : List ℕ) → length (field name body) ≡ length name + length body + 4
+unfolding field
+length-field name body = simp length-append (omega arith)
+
+length-typed : (kind text : List ℕ) → length (typed kind text) ≡ length kind + length text + 2
+unfolding typed
+length-typed kind text = simp length-append (omega arith)
+
+number_short : (n : ℕ) → n < 2 ^ 64 → length (decimal n) ≤ 20
+number_short n fits = length-decimal-le 20 n (omega arith) (omega (arith, fits)) fits
+
+-- xtext stands for no more octets than it has
+parts_short : (parts : List Part) → length (map octet_of parts) ≤ length (flat_map part_text parts)
+parts_short [] = omega arith
+parts_short (Xchar octet ∷ parts) = let rest = parts_short parts in omega (arith, rest)
+parts_short (Hexchar high low ∷ parts) = let rest = parts_short parts in omega (arith, rest)
+
+spelled_short : (text octets : List ℕ) → SpellsXtext text octets → length octets ≤ length text
+spelled_short text octets spells =
+    let short = parts_short spells.parts in
+    omega (arith, short, ap length spells.text_is, ap length spells.octets_are)
+
+plain_short : (text : List ℕ) → length (plain_of text) ≤ length text
+plain_short text = by (decoded text) refl
+  where
+    by : (o : Option (List ℕ)) → decoded text ≡ o → length (octets_or text o) ≤ length text
+    by None e = omega arith
+    by (Some octets) e = spelled_short text octets ((decoded_is_spelled text octets).0 e)
+
+-- texts that may be stored
+path_short : (path : Path) → IsPath path → length (path_text path) ≤ 256
+path_short Null valid = omega arith
+path_short (Postmaster word) valid =
+    let same = sym (length-map word to_ascii_lowercase) ∙ ap length valid in
+    omega (arith, same, length-append word (62 ∷ []))
+path_short (Mailbox route local domain) valid = valid.1
+
+written_short : (is_allowed : Path → Bool) (text : List ℕ) → IsWrittenPath is_allowed text → length text ≤ 256
+written_short is_allowed text written =
+    let fits = path_short written.path written.valid in
+    omega (arith, fits, ap length written.text_is)
+
+orcpt_short : (orcpt : List ℕ) → is_orcpt orcpt ≡ true → length orcpt ≤ 500
+unfolding is_orcpt
+orcpt_short orcpt valid =
+    let parts = and_parts _ _ valid in
+    let first = and_parts (nat_le (length orcpt) 500) _ parts.0 in
+    leb-true (length orcpt) 500 first.0
+
+envid_short : (envid : List ℕ) → is_envid envid ≡ true → length envid ≤ 100
+unfolding is_envid
+envid_short envid valid =
+    let parts = and_parts _ _ valid in
+    let range = and_parts (nat_le 1 (length envid)) (nat_le (length envid) 100) parts.0 in
+    leb-true (length envid) 100 range.1
+
+hop_short : (hop : List ℕ) → MayBeHop hop → length hop ≤ 255
+hop_short [] valid = omega arith
+hop_short (octet ∷ octets) valid = valid.few_octets
+
+-- the fields of the message
+envelope_id_short : (envid : Option (List ℕ)) → may_be_envid envid ≡ true → length (original_envelope_id envid) ≤ 124
+envelope_id_short None valid = omega arith
+envelope_id_short (Some envid) valid =
+    let short = envid_short envid valid in
+    let plain = plain_short envid in
+    omega (arith, short, plain, length-field (codes "Original-Envelope-Id") (plain_of envid))
+
+message_fields_short : (host arrival : List ℕ) (envid : Option (List ℕ)) → length host ≤ 255 → length arrival ≡ 31 → may_be_envid envid ≡ true
+    → length (message_fields host arrival envid) ≤ 500
+message_fields_short host arrival envid few day valid =
+    let id = envelope_id_short envid valid in
+    let mta = length-field (codes "Reporting-MTA") (typed (codes "dns") host) in
+    let name = length-typed (codes "dns") host in
+    let date = length-field (codes "Arrival-Date") arrival in
+    let one = length-append (original_envelope_id envid) (field (codes "Reporting-MTA") (typed (codes "dns") host)) in
+    let all = length-append (original_envelope_id envid ++ field (codes "Reporting-MTA") (typed (codes "dns") host)) (field (codes "Arrival-Date") arrival) in
+    omega (arith, id, mta, name, date, one, all, few, day)
+
+-- the fields of a recipient
+original_short : (orcpt : Option (List ℕ)) → may_be_orcpt orcpt ≡ true → length (original_recipient orcpt) ≤ 1024
+original_short None valid = omega arith
+original_short (Some orcpt) valid =
+    let short = orcpt_short orcpt valid in
+    let kind = length-take (position_or_len (is_octet 59) orcpt) orcpt in
+    let rest = length-drop (position_or_len (is_octet 59) orcpt + 1) orcpt in
+    let plain = plain_short (address_of orcpt) in
+    let all = length-typed (address_type_of orcpt) (plain_of (address_of orcpt)) in
+    let line = length-field (codes "Original-Recipient") (typed (address_type_of orcpt) (plain_of (address_of orcpt))) in
+    omega (arith, short, kind, rest, plain, all, line)
+
+action_short : (due : DueReport) → length (action_of due) ≤ 7
+action_short OfFailure = omega arith
+action_short OfRelay = omega arith
+
+status_short : (verdict : Verdict) → length (status_of verdict) ≡ 5
+status_short (Taken dsn) = refl
+status_short (Refused code text) = refl
+status_short Later = refl
+status_short CantSend = refl
+status_short NoRoute = refl
+
+mta_line_short : (hop : List ℕ) → length hop ≤ 255 → length (field (codes "Remote-MTA") (typed (codes "dns") hop)) ≤ 300
+mta_line_short hop few = let line = length-field (codes "Remote-MTA") (typed (codes "dns") hop) in let name = length-typed (codes "dns") hop in omega (arith, few, line, name)
+
+remote_short : (hop : List ℕ) (verdict : Verdict) → length hop ≤ 255 → length (remote_mta hop verdict) ≤ 300
+remote_short hop (Taken dsn) few = mta_line_short hop few
+remote_short hop (Refused code text) few = mta_line_short hop few
+remote_short hop Later few = omega arith
+remote_short hop CantSend few = omega arith
+remote_short hop NoRoute few = omega arith
+
+words_short : (code : ℕ) (text : List ℕ) → code < 2 ^ 16 → length text ≤ 200 → length (reply_words code text) ≤ 221
+words_short code [] fits few = let number = number_short code (omega (arith, fits)) in omega (arith, number)
+words_short code (octet ∷ octets) fits few =
+    let number = number_short code (omega (arith, fits)) in
+    let one = length-append (decimal code) (codes " ") in
+    let all = length-append (decimal code ++ codes " ") (octet ∷ octets) in
+    omega (arith, number, one, all, few)
+
+diagnostic_short : (verdict : Verdict) → IsVerdict verdict → length (diagnostic_code verdict) ≤ 300
+diagnostic_short (Taken dsn) valid = omega arith
+diagnostic_short (Refused code text) valid =
+    let words = words_short code text valid.code_fits valid.text_fits in
+    let line = length-field (codes "Diagnostic-Code") (typed (codes "smtp") (reply_words code text)) in
+    let kind = length-typed (codes "smtp") (reply_words code text) in
+    omega (arith, words, line, kind)
+diagnostic_short Later valid = omega arith
+diagnostic_short CantSend valid = omega arith
+diagnostic_short NoRoute valid = omega arith
+
+last_line_short : (date : List ℕ) → length date ≡ 31 → length (field (codes "Last-Attempt-Date") date) ≤ 60
+last_line_short date day = let line = length-field (codes "Last-Attempt-Date") date in omega (arith, line, day)
+
+last_short : (date : List ℕ) (verdict : Verdict) → length date ≡ 31 → length (last_attempt_date date verdict) ≤ 60
+last_short date (Taken dsn) day = last_line_short date day
+last_short date (Refused code text) day = last_line_short date day
+last_short date Later day = last_line_short date day
+last_short date CantSend day = last_line_short date day
+last_short date NoRoute day = omega arith
+
+attempt_short : (hop date : List ℕ) (verdict : Verdict) → length hop ≤ 255 → length date ≡ 31 → IsVerdict verdict → length (attempt_fields hop date verdict) ≤ 700
+attempt_short hop date verdict few day valid =
+    let status = length-field (codes "Status") (status_of verdict) in
+    let code = status_short verdict in
+    let remote = remote_short hop verdict few in
+    let diagnostic = diagnostic_short verdict valid in
+    let last = last_short date verdict day in
+    let one = length-append (field (codes "Status") (status_of verdict)) (remote_mta hop verdict) in
+    let two = length-append (field (codes "Status") (status_of verdict) ++ remote_mta hop verdict) (diagnostic_code verdict) in
+    let all = length-append (field (codes "Status") (status_of verdict) ++ remote_mta hop verdict ++ diagnostic_code verdict) (last_attempt_date date verdict) in
+    omega (arith, status, code, remote, diagnostic, last, one, two, all)
+
+recipient_short : (hop date : List ℕ) (recipient : Recipient) (due : DueReport) (verdict : Verdict) → length hop ≤ 255 → length date ≡ 31
+    → IsRecipient recipient → IsVerdict verdict → length (recipient_fields hop date recipient due verdict) ≤ 2200
+recipient_short hop date recipient due verdict few day valid rules =
+    let path = written_short _ recipient.path valid.path in
+    let cut = length-take (length recipient.path - 2) (drop 1 recipient.path) in
+    let original = original_short recipient.orcpt valid.orcpt in
+    let address = length-typed (codes "rfc822") (address_in recipient.path) in
+    let final = length-field (codes "Final-Recipient") (typed (codes "rfc822") (address_in recipient.path)) in
+    let word = action_short due in
+    let action = length-field (codes "Action") (action_of due) in
+    let attempt = attempt_short hop date verdict few day rules in
+    let one = length-append crlf (original_recipient recipient.orcpt) in
+    let two = length-append (crlf ++ original_recipient recipient.orcpt) (field (codes "Final-Recipient") (typed (codes "rfc822") (address_in recipient.path))) in
+    let three = length-append (crlf ++ original_recipient recipient.orcpt ++ field (codes "Final-Recipient") (typed (codes "rfc822") (address_in recipient.path))) (field (codes "Action") (action_of due)) in
+    let all = length-append (crlf ++ original_recipient recipient.orcpt ++ field (codes "Final-Recipient") (typed (codes "rfc822") (address_in recipient.path)) ++ field (codes "Action") (action_of due)) (attempt_fields hop date verdict) in
+    omega (arith, path, cut, original, address, final, word, action, attempt, one, two, three, all)
+
+line_short : (recipient : Recipient) (due : DueReport) → IsRecipient recipient → length (recipient_line recipient due) ≤ 300
+line_short recipient due valid =
+    let path = written_short _ recipient.path valid.path in
+    let word = action_short due in
+    let one = length-append (action_of due) (codes " ") in
+    let two = length-append (action_of due ++ codes " ") recipient.path in
+    let all = length-append (action_of due ++ codes " " ++ recipient.path) crlf in
+    omega (arith, path, word, one, two, all)
+
+-- what is written of a place, if a report is due
+place_short : (text : Recipient → DueReport → List ℕ) (due : Recipient → Option DueReport) (most : ℕ) → ((recipient : Recipient) (is : DueReport) → IsRecipient recipient → length (text recipient is) ≤ most)
+    → (recipients : List Recipient) (place : ℕ) → AllByRecursion IsRecipient recipients
+    → length (option_map_or (λ recipient. if_due text recipient (due recipient)) (slice_get recipients place) []) ≤ most
+place_short text due most each recipients place valid = at_place recipients place valid
+  where
+    one : (recipient : Recipient) (o : Option DueReport) → IsRecipient recipient → length (if_due text recipient o) ≤ most
+    one recipient None is = omega arith
+    one recipient (Some word) is = each recipient word is
+    at_place : (rest : List Recipient) (k : ℕ) → AllByRecursion IsRecipient rest → length (option_map_or (λ recipient. if_due text recipient (due recipient)) (slice_get rest k) []) ≤ most
+    at_place [] k all = omega arith
+    at_place (recipient ∷ rest) zero all = one recipient (due recipient) all.0
+    at_place (recipient ∷ rest) (suc k) all = at_place rest k all.1
+
+-- rows of short elements are short
+rows_short : (octets_of : Ruling → List ℕ) (most : ℕ) → ((ruling : Ruling) → IsRuling ruling → length (octets_of ruling) ≤ most)
+    → (rulings : List Ruling) → AllByRecursion IsRuling rulings → length (flat_map octets_of rulings) ≤ most * length rulings
+rows_short octets_of most each [] valid = omega arith
+rows_short octets_of most each (ruling ∷ rulings) valid =
+    let first = each ruling valid.0 in
+    let rest = rows_short octets_of most each rulings valid.1 in
+    let parts = length-append (octets_of ruling) (flat_map octets_of rulings) in
+    omega (arith, first, rest, parts)
+
+first_short : (told : Told) → MayBeTold told → length (first_part told) ≤ 30400
+unfolding first_part title_line
+first_short told may =
+    let host = may.host.few_octets in
+    let number = number_short told.message.number may.message in
+    let few = may.within in
+    let each = λ (ruling : Ruling) (is : IsRuling ruling). place_short recipient_line (due_to told.message told.at ruling.verdict) 300 line_short told.message.accept.envelope.recipients ruling.place may.accept.envelope.recipients in
+    let rows = rows_short (line_of told.message told.at) 300 each told.rulings may.rulings in
+    simp length-append (omega (arith, host, number, few, rows))
+
+second_short : (told : Told) (date arrival : List ℕ) → MayBeTold told → length date ≡ 31 → length arrival ≡ 31 → length (second_part told date arrival) ≤ 220500
+unfolding second_part
+second_short told date arrival may day came =
+    let few = may.within in
+    let hop = hop_short told.hop may.hop in
+    let fields = message_fields_short told.host arrival told.message.accept.envelope.envid may.host.few_octets came may.accept.envelope.envid in
+    let each = λ (ruling : Ruling) (is : IsRuling ruling). place_short (λ recipient due. recipient_fields told.hop date recipient due ruling.verdict) (due_to told.message told.at ruling.verdict) 2200
+        (λ recipient due valid. recipient_short told.hop date recipient due ruling.verdict hop day valid is.verdict) told.message.accept.envelope.recipients ruling.place may.accept.envelope.recipients in
+    let rows = rows_short (fields_of told.message told.hop told.at date) 2200 each told.rulings may.rulings in
+    let all = length-append (message_fields told.host arrival told.message.accept.envelope.envid) (flat_map (fields_of told.message told.hop told.at date) told.rulings) in
+    omega (arith, few, fields, rows, all)
+
+third_short : (whole : Bool) (text : List ℕ) → length (returned whole text) ≤ length text
+unfolding returned
+third_short true text = omega arith
+third_short false text = let cut = length-take (header_end_of text) text in omega (arith, cut)
+
+type_short : (whole : Bool) → length (returned_type whole) ≤ 19
+type_short true = omega arith
+type_short false = omega arith
+
+boundary_short : (number least : ℕ) → number < 2 ^ 64 → least < 2 ^ 64 → length (boundary_text number least) ≤ 49
+boundary_short number least one two =
+    let first = number_short number one in
+    let second = number_short least two in
+    simp length-append (omega (arith, first, second))
+
+head_short : (boundary kind : List ℕ) → length boundary ≤ 49 → length kind ≤ 28 → length (part_head boundary kind) ≤ 110
+unfolding part_head
+head_short boundary kind few short =
+    let line = length-field (codes "Content-Type") kind in
+    simp length-append (omega (arith, few, short, line))
+
+body_short : (boundary kind part : List ℕ) → length boundary ≤ 49 → length kind ≤ 28 → length (body_part boundary kind part) ≤ length part + 112
+unfolding body_part
+body_short boundary kind part few short =
+    let head = head_short boundary kind few short in
+    simp length-append (omega (arith, head))
+
+multipart_short : (boundary one two kind three : List ℕ) → length boundary ≤ 49 → length kind ≤ 28
+    → length (multipart_text boundary one two kind three) ≤ length one + length two + length three + 400
+unfolding multipart_text closing_line
+multipart_short boundary one two kind three few short =
+    let first = body_short boundary (codes "text/plain; charset=us-ascii") one few (omega arith) in
+    let second = body_short boundary (codes "message/delivery-status") two few (omega arith) in
+    let third = body_short boundary kind three few short in
+    simp length-append (omega (arith, first, second, third, few))
+
+header_short : (told : Told) (date : List ℕ) → MayBeTold told → length date ≡ 31 → length (header_fields told date) ≤ 1100
+unfolding header_fields postmaster_at message_id
+header_short told date may day =
+    let host = may.host.few_octets in
+    let path = written_short _ told.message.accept.envelope.reverse_path may.accept.envelope.reverse_path in
+    let number = number_short told.number may.number in
+    let from = length-field (codes "From") (postmaster_at told.host) in
+    let to = length-field (codes "To") told.message.accept.envelope.reverse_path in
+    let subject = length-field (codes "Subject") (codes "Delivery report") in
+    let dated = length-field (codes "Date") date in
+    let id = length-field (codes "Message-ID") (message_id told.number told.host) in
+    let mime = length-field (codes "MIME-Version") (codes "1.0") in
+    simp (length-append, length-field) (omega (arith, host, path, number, day))
+
+report_type_short : (boundary : List ℕ) → length boundary ≤ 49 → length (field (codes "Content-Type") (report_type boundary)) ≤ 150
+unfolding report_type
+report_type_short boundary few =
+    let line = length-field (codes "Content-Type") (report_type boundary) in
+    simp (length-append, length-field) (omega (arith, few))
+
+pub report_is_short : ReportIsShort
+unfolding report_text
+report_is_short told text may is =
+    let day = date_text_has_31_octets told.at is.date is.date_is in
+    let came = date_text_has_31_octets told.message.accept.at is.arrival is.arrival_is in
+    let bound = boundary_short told.number is.boundary_is.least may.number is.boundary_is.is_least.fits in
+    let few : length is.boundary ≤ 49 = omega (arith, bound, ap length is.boundary_is.boundary_is) in
+    let kind : length (returned_type (returns_whole told)) ≤ 28 = let short = type_short (returns_whole told) in omega (arith, short) in
+    let header = header_short told is.date may day in
+    let type = report_type_short is.boundary few in
+    let one = first_short told may in
+    let two = second_short told is.date is.arrival may day came in
+    let three = third_short (returns_whole told) told.message.accept.stored_text in
+    let parts = multipart_short is.boundary (first_part told) (second_part told is.date is.arrival) (returned_type (returns_whole told)) (third_part told) few kind in
+    let a = length-append (header_fields told is.date) (field (codes "Content-Type") (report_type is.boundary)) in
+    let b = length-append (header_fields told is.date ++ field (codes "Content-Type") (report_type is.boundary)) crlf in
+    let c = length-append (header_fields told is.date ++ field (codes "Content-Type") (report_type is.boundary) ++ crlf) (multipart_text is.boundary (first_part told) (second_part told is.date is.arrival) (returned_type (returns_whole told)) (third_part told)) in
+    let all = ap length is.text_is in
+    omega (arith, header, type, one, two, three, parts, a, b, c, all)

@@ -1,0 +1,69 @@
+-- The report of an outcome (RFC 3461, section 6; RFC 3464): its text, and that it is there exactly where it is due.
+use Rattle.std.specs.Prelude.{◌≡◌, ℕ, Bool, true, false, List, [], MatchOption}
+use Rattle.std.specs.List.{list_any}
+use Rattle.relay_trace.specs.DateTime.{IsDateText}
+use Rattle.relay_book.specs.declared.change.Ruling.{Ruling}
+use Rattle.relay_book.specs.declared.change.Outcome.{Outcome as OutcomeFields}
+use Rattle.relay_book.specs.declared.change.Change.{Change}
+use Rattle.relay_book.specs.declared.change.Change.TheVariants.{Accept, Outcome}
+use Rattle.relay_book.specs.declared.message.Message.{Message}
+use Rattle.relay_book.specs.Queue.{Queue, message_of, queue_of, reports_at}
+use Rattle.relay_report.specs.declared.report.Report.{Report}
+use Rattle.relay_report.specs.Boundary.{IsBoundary}
+use Rattle.relay_report.specs.Multipart.{Told, first_part, second_part, third_part, report_text}
+
+-- what a value of the code tells of
+abbrev pub told_of : Report → Told
+told_of report = record {
+  host = report.host.now;
+  number = report.number;
+  message = report.message.now;
+  hop = report.hop.now;
+  rulings = report.rulings.now;
+  at = report.at;
+}
+
+-- the text is the report that tells of this
+pub record IsReport (told : Told) (text : List ℕ) : Type 0 where
+  pub date : List ℕ
+  pub arrival : List ℕ
+  pub boundary : List ℕ
+  pub date_is : IsDateText told.at date
+  pub arrival_is : IsDateText told.message.accept.at arrival
+  pub boundary_is : IsBoundary told.number (first_part told) (second_part told date arrival) (third_part told) boundary
+  pub text_is : text ≡ report_text told date arrival boundary
+
+-- a report is due of one of the places
+abbrev pub is_due : Message → ℕ → List Ruling → Bool
+is_due message at rulings = list_any (reports_at message at) rulings
+
+-- the text is the report that is due, and empty where none is
+pub record IsDueReport (told : Told) (text : List ℕ) : Type 0 where
+  pub due : is_due told.message told.at told.rulings ≡ true → IsReport told text
+  pub none : is_due told.message told.at told.rulings ≡ false → text ≡ []
+
+-- what the report of an outcome for this message tells of, as it is made by this host under this number
+abbrev pub told_by : List ℕ → ℕ → OutcomeFields → Message → Told
+told_by host number outcome message = record {
+  host = host;
+  number = number;
+  message = message;
+  hop = outcome.hop;
+  rulings = outcome.rulings;
+  at = outcome.at;
+}
+
+-- an outcome is reported of the message that it is for
+abbrev pub IsReportedOf : List ℕ → ℕ → OutcomeFields → Message → Type 0
+IsReportedOf host number outcome message = IsDueReport (told_by host number outcome message) outcome.report
+
+-- A change behind a queue: an outcome of it has the report that is due, from this host, under the number of the
+-- change, and none where none is due.
+abbrev pub ReportedFrom : List ℕ → Queue → Change → Type 0
+ReportedFrom host queue (Accept accept) = Unit {0}
+ReportedFrom host queue (Outcome outcome) =
+    MatchOption (message_of queue.messages outcome.message) ⊥ (IsReportedOf host queue.next outcome)
+
+-- the same behind a list of changes
+abbrev pub Reported : List ℕ → List Change → Change → Type 0
+Reported host changes change = ReportedFrom host (queue_of changes) change

@@ -1,0 +1,16 @@
+//! Reports: the text of a delivery status notification (RFC 3461, section 6; RFC 3464).
+#![tactic(auto)]
+
+mod boundary;
+mod due;
+mod field;
+pub mod laws;
+mod part_text;
+mod parts;
+mod report;
+mod status_fields;
+
+pub use boundary::boundary_for;
+pub use due::{due_report, is_due};
+pub use parts::Parts;
+pub use report::{Report, report_content, report_if_due};

@@ -1,0 +1,180 @@
+//! The texts of the three parts.
+ghost use Rattle.std.specs.Prelude.{◌≡◌, ◌++◌, IfOk, OnOk};
+ghost use Rattle.std.specs.List.{flat_map, list_any};
+ghost use Rattle.relay_report.specs.Multipart.{fails_at, fields_of, first_part, is_full, line_of, recipient_line, returned, returns_whole, second_part, title_line};
+ghost use Rattle.relay_report.specs.Report.{told_of};
+
+use crate::due::{due_to, fails_at, recipient_at};
+use crate::field::push_decimal;
+use crate::report::Report;
+use crate::status_fields::{Attempt, action_of, push_message_fields, push_recipient_fields};
+use relay_book::{DueReport, Message, Ruling};
+use relay_envelope::{Recipient, Ret};
+use relay_trace::{Moment, header_end};
+use std::alloc::{AllocError, Global};
+
+/// The first part: a sentence, and a line for each place of which a report is due.
+#[tactic(auto, unfolding(crate::specs::Multipart::first_part))]
+pub(crate) fn first_part(alloc: Global, report: &Report<'_>) -> Result<Vec<u8>, AllocError>
+    ensures { IfOk result (λ part. part.items ≡ first_part (told_of report.now)) }
+{
+    let mut part = Vec::new(alloc);
+    push_title(&mut part, report.host, report.message.number)?;
+    push_lines(&mut part, report.message, report.rulings, report.at)?;
+    Ok(part)
+}
+
+/// The second part: the fields of the message, and those of each place of which a report is due.
+#[tactic(auto, unfolding(crate::specs::Multipart::second_part))]
+pub(crate) fn second_part(
+    alloc: Global,
+    report: &Report<'_>,
+    date: &[u8],
+    arrival: &[u8],
+) -> Result<Vec<u8>, AllocError>
+    ensures { IfOk result (λ part. part.items ≡ second_part (told_of report.now) date.now arrival.now) }
+{
+    let mut part = Vec::new(alloc);
+    let attempt = Attempt {
+        hop: report.hop,
+        date,
+    };
+    let message = report.message;
+    let envid = message.accept.envelope.envid.as_ref();
+    push_message_fields(alloc, &mut part, report.host, arrival, envid)?;
+    push_fields(alloc, &mut part, message, attempt, report.rulings, report.at)?;
+    Ok(part)
+}
+
+/// Whether the third part is the whole stored text: RET=FULL was given, and a failure is reported.
+pub(crate) fn returns_whole(report: &Report<'_>) -> bool
+    ensures { result ≡ returns_whole (told_of report.now) }
+{
+    is_full(report.message.accept.envelope.ret) && any_fails(report.message, report.rulings, report.at)
+}
+
+fn is_full(ret: Option<Ret>) -> bool
+    ensures { result ≡ is_full ret }
+{
+    match ret {
+        None => false,
+        Some(Ret::Full) => true,
+        Some(Ret::Hdrs) => false,
+    }
+}
+
+/// Whether a failure is reported of a place.
+fn any_fails(message: &Message, rulings: &[Ruling], now: Moment) -> bool
+    ensures { result ≡ list_any (fails_at message.now now) rulings.now }
+{
+    rulings.iter().any(|ruling| fails_at(message, ruling, now))
+}
+
+/// What is returned of a stored text: all of it, or its header section.
+#[tactic(auto, unfolding(crate::specs::Multipart::returned, relay_trace::specs::HeaderSection::header_end_of))]
+pub(crate) fn returned(whole: bool, text: &[u8]) -> &[u8]
+    ensures { result.now ≡ returned whole text.now }
+{
+    if whole {
+        text
+    } else {
+        &text[..header_end(text)]
+    }
+}
+
+/// Adds the sentence of a report.
+fn push_title(out: &mut Vec<u8>, host: &[u8], number: u64) -> Result<(), AllocError>
+    ensures { OnOk result (out.new.items ≡ out.old.items ++ title_line host.now number) }
+{
+    out.extend_from_slice(b"Delivery report of ")?;
+    out.extend_from_slice(host)?;
+    out.extend_from_slice(b" for message ")?;
+    push_decimal(out, number)?;
+    out.extend_from_slice(b".")?;
+    out.extend_from_slice(b"\r\n")?;
+    Ok(())
+}
+
+/// Adds a line for each place of which a report is due.
+fn push_lines(
+    out: &mut Vec<u8>,
+    message: &Message,
+    rulings: &[Ruling],
+    now: Moment,
+) -> Result<(), AllocError>
+    ensures { OnOk result (out.new.items ≡ out.old.items ++ flat_map (line_of message.now now) rulings.now) }
+{
+    for ruling in rulings {
+        push_line(out, message, ruling, now)?;
+    }
+    Ok(())
+}
+
+fn push_line(
+    out: &mut Vec<u8>,
+    message: &Message,
+    ruling: &Ruling,
+    now: Moment,
+) -> Result<(), AllocError>
+    ensures { OnOk result (out.new.items ≡ out.old.items ++ line_of message.now now ruling.now) }
+{
+    match recipient_at(message, ruling.place) {
+        Some(recipient) => match due_to(message, recipient, &ruling.verdict, now) {
+            Some(due) => push_recipient_line(out, recipient, due),
+            None => Ok(()),
+        },
+        None => Ok(()),
+    }
+}
+
+/// Adds the line of a recipient: the action and the path.
+fn push_recipient_line(
+    out: &mut Vec<u8>,
+    recipient: &Recipient,
+    due: DueReport,
+) -> Result<(), AllocError>
+    ensures { OnOk result (out.new.items ≡ out.old.items ++ recipient_line recipient.now due) }
+{
+    out.extend_from_slice(action_of(due))?;
+    out.extend_from_slice(b" ")?;
+    out.extend_from_slice(recipient.path.as_slice())?;
+    out.extend_from_slice(b"\r\n")
+}
+
+/// Adds the fields of each place of which a report is due.
+fn push_fields(
+    alloc: Global,
+    out: &mut Vec<u8>,
+    message: &Message,
+    attempt: Attempt<'_>,
+    rulings: &[Ruling],
+    now: Moment,
+) -> Result<(), AllocError>
+    ensures { OnOk result (out.new.items ≡ out.old.items
+        ++ flat_map (fields_of message.now attempt.entry.hop.now now attempt.entry.date.now) rulings.now) }
+{
+    for ruling in rulings {
+        push_fields_of(alloc, out, message, attempt, ruling, now)?;
+    }
+    Ok(())
+}
+
+fn push_fields_of(
+    alloc: Global,
+    out: &mut Vec<u8>,
+    message: &Message,
+    attempt: Attempt<'_>,
+    ruling: &Ruling,
+    now: Moment,
+) -> Result<(), AllocError>
+    ensures { OnOk result (out.new.items ≡ out.old.items
+        ++ fields_of message.now attempt.entry.hop.now now attempt.entry.date.now ruling.now) }
+{
+    match recipient_at(message, ruling.place) {
+        Some(recipient) => match due_to(message, recipient, &ruling.verdict, now) {
+            Some(due) => push_recipient_fields(alloc, out, attempt, recipient, due, &ruling.verdict),
+            None => Ok(()),
+        },
+        None => Ok(()),
+    }
+}

@@ -1,0 +1,243 @@
+//! The text of a report.
+ghost use Rattle.std.specs.Prelude.{◌≡◌, ◌++◌, IfOk, OnOk, codes};
+ghost use Rattle.relay_octets.specs.Line.{crlf};
+ghost use Rattle.relay_trace.specs.DateTime.{IsDateText};
+ghost use Rattle.relay_report.specs.StatusFields.{field};
+ghost use Rattle.relay_report.specs.Multipart.{body_part, closing_line, header_fields, message_id, multipart_text, part_head, postmaster_at, report_text, report_type, returned_type};
+ghost use Rattle.relay_report.specs.Report.{IsDueReport, IsReport, told_of};
+
+use crate::boundary::boundary_for;
+use crate::due::is_due;
+use crate::field::{begin_field, push_decimal, push_field};
+use crate::part_text::{first_part, returned, returns_whole, second_part};
+use crate::parts::Parts;
+use relay_book::{Message, Ruling};
+use relay_octets::Octets;
+use relay_trace::{Moment, date_text};
+use std::alloc::{AllocError, Global};
+
+/// The octets of most reports beside their parts.
+const USUAL_LEN: usize = 1024;
+
+/// What a report tells of.
+#[derive(Clone, Copy, Debug)]
+pub struct Report<'a> {
+    /// The name of this host.
+    pub host: &'a [u8],
+    /// The number of the report: that of the change which queues it.
+    pub number: u64,
+    /// The message that is reported.
+    pub message: &'a Message,
+    /// The name of the hop; empty where no place had one.
+    pub hop: &'a [u8],
+    /// What was said of the places.
+    pub rulings: &'a [Ruling],
+    /// When the report is made.
+    pub at: Moment,
+}
+
+/// The report that is due (RFC 3461, section 5.2), and no octet where none is. It fails where memory runs out.
+pub fn report_if_due(alloc: Global, report: &Report<'_>) -> Result<Octets, AllocError>
+    ensures { IfOk result (λ text. IsDueReport (told_of report.now) text) }
+{
+    if is_due(report.message, report.rulings, report.at) {
+        Ok(report_content(alloc, report)?)
+    } else {
+        Ok(Octets::new(Vec::new(alloc)))
+    }
+}
+
+/// The text of a report: a multipart/report of three parts, each line with its CR LF (RFC 3461, section 6; RFC 3464).
+/// The stored text of the message is copied once, as it is. It fails where memory runs out.
+pub fn report_content(alloc: Global, report: &Report<'_>) -> Result<Octets, AllocError>
+    ensures { IfOk result (λ text. IsReport (told_of report.now) text) }
+{
+    let date = date_of(alloc, report.at)?;
+    let arrival = date_of(alloc, report.message.accept.at)?;
+    let first = first_part(alloc, report)?;
+    let second = second_part(alloc, report, date.as_slice(), arrival.as_slice())?;
+    let whole = returns_whole(report);
+    let parts = Parts {
+        first: first.as_slice(),
+        second: second.as_slice(),
+        third: returned(whole, report.message.accept.stored_text.as_slice()),
+    };
+    let boundary = boundary_for(alloc, report.number, &parts)?;
+    let text = joined(alloc, report, date.as_slice(), boundary.as_slice(), &parts, whole)?;
+    Ok(Octets::new(text))
+}
+
+fn date_of(alloc: Global, moment: Moment) -> Result<Vec<u8>, AllocError>
+    ensures { IfOk result (λ date. IsDateText moment date.items) }
+{
+    match date_text(alloc, moment) {
+        Ok(date) => Ok(date),
+        Err(_) => Err(AllocError),
+    }
+}
+
+/// The text of a report of these parts.
+fn joined(
+    alloc: Global,
+    report: &Report<'_>,
+    date: &[u8],
+    boundary: &[u8],
+    parts: &Parts<'_>,
+    whole: bool,
+) -> Result<Vec<u8>, AllocError>
+    ensures { IfOk result (λ text. text.items
+        ≡ header_fields (told_of report.now) date.now
+        ++ field (codes "Content-Type") (report_type boundary.now) ++ crlf
+        ++ multipart_text boundary.now parts.now.first.now parts.now.second.now (returned_type whole)
+        parts.now.third.now) }
+{
+    let in_parts = parts.first.len().saturating_add(parts.second.len()).saturating_add(parts.third.len());
+    let mut text = Vec::with_capacity(alloc, in_parts.saturating_add(USUAL_LEN))?;
+    push_header(&mut text, report, date)?;
+    push_report_type(&mut text, boundary)?;
+    text.extend_from_slice(b"\r\n")?;
+    push_multipart(&mut text, boundary, parts, whole)?;
+    Ok(text)
+}
+
+/// Adds the header fields but for the one that names the boundary.
+#[tactic(auto, unfolding(crate::specs::Multipart::header_fields), using(crate::proofs::JoinLemmas::joins_6))]
+fn push_header(out: &mut Vec<u8>, report: &Report<'_>, date: &[u8]) -> Result<(), AllocError>
+    ensures { OnOk result (out.new.items ≡ out.old.items ++ header_fields (told_of report.now) date.now) }
+{
+    push_from(out, report.host)?;
+    push_field(out, b"To", report.message.accept.envelope.reverse_path.as_slice())?;
+    push_field(out, b"Subject", b"Delivery report")?;
+    push_field(out, b"Date", date)?;
+    push_message_id(out, report.number, report.host)?;
+    push_field(out, b"MIME-Version", b"1.0")?;
+    Ok(())
+}
+
+#[tactic(auto, using(crate::proofs::FieldLemmas::field_joins))]
+fn push_from(out: &mut Vec<u8>, host: &[u8]) -> Result<(), AllocError>
+    ensures { OnOk result (out.new.items ≡ out.old.items ++ field (codes "From") (postmaster_at host.now)) }
+{
+    begin_field(out, b"From")?;
+    push_postmaster(out, host)?;
+    out.extend_from_slice(b"\r\n")?;
+    Ok(())
+}
+
+fn push_postmaster(out: &mut Vec<u8>, host: &[u8]) -> Result<(), AllocError>
+    ensures { OnOk result (out.new.items ≡ out.old.items ++ postmaster_at host.now) }
+{
+    out.extend_from_slice(b"<postmaster@")?;
+    out.extend_from_slice(host)?;
+    out.extend_from_slice(b">")?;
+    Ok(())
+}
+
+#[tactic(auto, using(crate::proofs::FieldLemmas::field_joins))]
+fn push_message_id(out: &mut Vec<u8>, number: u64, host: &[u8]) -> Result<(), AllocError>
+    ensures { OnOk result (out.new.items ≡ out.old.items ++ field (codes "Message-ID") (message_id number host.now)) }
+{
+    begin_field(out, b"Message-ID")?;
+    push_message_id_text(out, number, host)?;
+    out.extend_from_slice(b"\r\n")?;
+    Ok(())
+}
+
+#[tactic(auto, unfolding(crate::specs::Multipart::message_id))]
+fn push_message_id_text(out: &mut Vec<u8>, number: u64, host: &[u8]) -> Result<(), AllocError>
+    ensures { OnOk result (out.new.items ≡ out.old.items ++ message_id number host.now) }
+{
+    out.extend_from_slice(b"<")?;
+    push_decimal(out, number)?;
+    out.extend_from_slice(b"@")?;
+    out.extend_from_slice(host)?;
+    out.extend_from_slice(b">")?;
+    Ok(())
+}
+
+/// Adds the field that names the boundary.
+fn push_report_type(out: &mut Vec<u8>, boundary: &[u8]) -> Result<(), AllocError>
+    ensures { OnOk result (out.new.items ≡ out.old.items ++ field (codes "Content-Type") (report_type boundary.now)) }
+{
+    begin_field(out, b"Content-Type")?;
+    push_report_type_text(out, boundary)?;
+    out.extend_from_slice(b"\r\n")?;
+    Ok(())
+}
+
+#[tactic(auto, unfolding(crate::specs::Multipart::report_type))]
+fn push_report_type_text(out: &mut Vec<u8>, boundary: &[u8]) -> Result<(), AllocError>
+    ensures { OnOk result (out.new.items ≡ out.old.items ++ report_type boundary.now) }
+{
+    out.extend_from_slice(b"multipart/report; report-type=delivery-status;\r\n boundary=\"")?;
+    out.extend_from_slice(boundary)?;
+    out.extend_from_slice(b"\"")?;
+    Ok(())
+}
+
+/// Adds the three parts between their boundaries.
+
+fn push_multipart(
+    out: &mut Vec<u8>,
+    boundary: &[u8],
+    parts: &Parts<'_>,
+    whole: bool,
+) -> Result<(), AllocError>
+    ensures { OnOk result (out.new.items ≡ out.old.items
+        ++ multipart_text boundary.now parts.now.first.now parts.now.second.now (returned_type whole)
+        parts.now.third.now) }
+{
+    push_body_part(out, boundary, b"text/plain; charset=us-ascii", parts.first)?;
+    push_body_part(out, boundary, b"message/delivery-status", parts.second)?;
+    push_body_part(out, boundary, returned_type(whole), parts.third)?;
+    push_closing_line(out, boundary)?;
+    Ok(())
+}
+
+/// The type of what is returned (RFC 3462, section 2).
+fn returned_type(whole: bool) -> &'static [u8]
+    ensures { result.now ≡ returned_type whole }
+{
+    if whole {
+        b"message/rfc822"
+    } else {
+        b"text/rfc822-headers"
+    }
+}
+
+/// Adds a part behind its head, and the line end that belongs to the next boundary.
+#[tactic(auto, unfolding(crate::specs::Multipart::body_part))]
+fn push_body_part(
+    out: &mut Vec<u8>,
+    boundary: &[u8],
+    kind: &[u8],
+    part: &[u8],
+) -> Result<(), AllocError>
+    ensures { OnOk result (out.new.items ≡ out.old.items ++ body_part boundary.now kind.now part.now) }
+{
+    push_part_head(out, boundary, kind)?;
+    out.extend_from_slice(part)?;
+    out.extend_from_slice(b"\r\n")
+}
+
+/// Adds the boundary's line, the type of a part, and an empty line.
+fn push_part_head(out: &mut Vec<u8>, boundary: &[u8], kind: &[u8]) -> Result<(), AllocError>
+    ensures { OnOk result (out.new.items ≡ out.old.items ++ part_head boundary.now kind.now) }
+{
+    out.extend_from_slice(b"--")?;
+    out.extend_from_slice(boundary)?;
+    out.extend_from_slice(b"\r\n")?;
+    push_field(out, b"Content-Type", kind)?;
+    out.extend_from_slice(b"\r\n")?;
+    Ok(())
+}
+
+/// Adds the boundary's line behind the last part.
+#[tactic(auto, unfolding(crate::specs::Multipart::closing_line))]
+fn push_closing_line(out: &mut Vec<u8>, boundary: &[u8]) -> Result<(), AllocError>
+    ensures { OnOk result (out.new.items ≡ out.old.items ++ closing_line boundary.now) }
+{
+    out.extend_from_slice(b"--")?;
+    out.extend_from_slice(boundary)?;
+    out.extend_from_slice(b"--\r\n")
+}
