@@ -1,7 +1,7 @@
 //! What is true of the custody of each recipient, by the list of changes.
 ghost use Rattle.relay_book.specs.DueLaw.{FoldDue};
 ghost use Rattle.relay_book.specs.HeldLaw.{FoldFinds};
-ghost use Rattle.relay_book.specs.Marks.{ExactlyOne, FoldHolds, FoldKnows, LeavingIsListed, MessageStays, OneMoreHolds, QueueLeaves, ReportMayBeStored};
+ghost use Rattle.relay_book.specs.Marks.{ExactlyOne, FoldHolds, FoldKnows, LeavingIsListed, MessageStays, OneMoreHolds, QueueLeaves, QueuedMayBeStored, ReportMayBeStored};
 
 /// The queue of a list of changes holds exactly what is held.
 pub fn fold_holds()
@@ -46,6 +46,11 @@ pub fn fold_due()
 /// A message stays what it was accepted as, whatever changes follow.
 pub fn message_stays()
     ensures { MessageStays }
+{}
+
+/// A queued message was accepted as one that may be stored.
+pub fn queued_may_be_stored()
+    ensures { QueuedMayBeStored }
 {}
 
 /// A report that an outcome queues may be stored as an accept.

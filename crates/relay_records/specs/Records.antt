@@ -18,6 +18,10 @@ pub record Kept (D : Type 0) : Type 0 where
   pub queue : Queue
   pub noted : Option Noted
 
+-- the queue is that of a list of changes
+abbrev pub HasList : Queue → Type 0
+HasList queue = (changes : List Change) × Fitting changes × (queue ≡ queue_of changes)
+
 -- What a stop may leave: the bodies stand for the changes, or for these with one more, which was being added.
 abbrev pub StandsForOrWith : List Change → Option Change → List (List ℕ) → Type 0
 StandsForOrWith changes pending bodies =

@@ -1,6 +1,7 @@
 -- The append decides what the records keep.
 use Rattle.std.proofs.Common.{◌≡◌, false, ◌∙◌, ap, rules}
 use Rattle.relay_book.specs.Queue.{Queue, step}
+use Rattle.relay_records.proofs.ListLemmas.{list_more}
 use Rattle.relay_records.proofs.RecordLemmas.{added, body_is_short, cut_short, noted_here, number_is, stop_stands}
 use Rattle.relay_records.proofs.records.Records.add.Goals as goal
 
@@ -49,3 +50,9 @@ returns-in-Err-clause-stop g c = λ changes keeps h.
     stop_stands g.D.Disk.honest g.D.Disk.words _ c.args.self.now c.self.view_is changes c.args.change c.as_slice.result.now keeps
     (c.requires.fits (search rules)) (c.as_slice.ensures ∙ c.in_ok-noted.ensures.octets_are ∙ c.requires.octets)
     c.append.new.spool.disk h (c.append.ensures.stop h)
+
+pub invariant_of-self-2 : goal.invariant_of-self-2
+invariant_of-self-2 g c =
+    list_more _ c.args.self.now c.self.view_is c.args.change (c.requires.fits (search rules)) c.self.invariant c.append.new.book.queue
+    (c.in-Ok.ensures.committed ∙ ap (step c.ready_of.new.book.queue) c.in_ok-ready.ensures.change
+    ∙ ap (λ (q : Queue). step q c.args.change) c.ready_of.ensures.queue)

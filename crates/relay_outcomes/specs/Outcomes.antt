@@ -1,0 +1,63 @@
+-- An outcome in the list of changes: it is added with the report that is due of it, in one change (RFC 3461, section 5.2).
+use Rattle.std.specs.Prelude.{◌≡◌, ◌⊎◌, ◌↔◌, ℕ, ◌+◌, ◌<◌, ◌≤◌, ◌^◌, List, [], length, MatchOption}
+use Rattle.std.specs.List.{AllByRecursion}
+use Rattle.relay_disk.specs.Device.{DiskWords}
+use Rattle.relay_book.specs.declared.change.Change.{Change}
+use Rattle.relay_book.specs.declared.change.Change.TheVariants as change
+use Rattle.relay_book.specs.declared.change.Outcome.{Outcome}
+use Rattle.relay_book.specs.declared.message.Message.{Message}
+use Rattle.relay_book.specs.Queue.{Queue, AllNoRoute, AreRulings, message_of}
+use Rattle.relay_book.specs.Record.{IsRuling, MayBeHop, encode}
+use Rattle.relay_records.specs.Records.{Adds, Cuts, IsStopped, Kept}
+use Rattle.relay_records.specs.declared.fault.NodeFault.{NodeFault}
+use Rattle.relay_records.specs.declared.fault.NodeFault.TheVariants.{NoMemory, Stopped, Unknown, TooMany, NotDue, Busy, Open, Full}
+use Rattle.relay_report.specs.Report.{Reported, ReportedFrom}
+
+-- the outcome with this report
+abbrev pub reported_as : Outcome → List ℕ → Change
+reported_as outcome report = change.Outcome (record outcome { report = report })
+
+-- the verdicts are of held places of the message, which rise, and a hop is named unless no place had one
+pub record RulesOn (outcome : Outcome) (message : Message) : Type 0 where
+  pub rulings : AreRulings message.places 0 outcome.rulings
+  pub hop : (outcome.hop ≡ []) ↔ AllNoRoute outcome.rulings
+
+-- But for its report, the outcome fits the queue: its message is queued, and what it says of it may be stored.
+pub record MayCome (queue : Queue) (outcome : Outcome) : Type 0 where
+  pub message : MatchOption (message_of queue.messages outcome.message) ⊥ (RulesOn outcome)
+  pub hop : MayBeHop outcome.hop
+  pub some : 1 ≤ length outcome.rulings
+  pub within : length outcome.rulings ≤ 100
+  pub rulings : AllByRecursion IsRuling outcome.rulings
+
+module _ {D : Type 0} (honest : Type 0) (words : DiskWords D) (host : List ℕ) (changes : List Change) (outcome : Outcome)
+    (used : ℕ) where
+  -- the outcome was added with the report that is due of it, and is the change of this number
+  pub record AddsOutcome (new : Kept D) (number : ℕ) : Type 0 where
+    pub number_is : number ≡ length changes + 1
+    pub report : List ℕ
+    pub reported : Reported host changes (reported_as outcome report)
+    pub adds : Adds honest words new changes (reported_as outcome report) used
+
+  -- a stop came while the outcome was added, with that report
+  pub record CutsOutcome (new : Kept D) : Type 0 where
+    pub report : List ℕ
+    pub reported : Reported host changes (reported_as outcome report)
+    pub cuts : Cuts honest words new changes (reported_as outcome report) used
+
+-- changes have no numbers any more, or the outcome, with the report that is due, would bring the spool past 2^40 octets
+pub data HasNoRoom {D : Type 0} (host : List ℕ) (outcome : Outcome) (old : Kept D) : Type 0 where
+  NoNumber : 2 ^ 62 < old.queue.next → HasNoRoom host outcome old
+  TooLarge : (report : List ℕ) → ReportedFrom host old.queue (reported_as outcome report)
+      → 2 ^ 40 < old.spool.size + 5 + length (encode (reported_as outcome report)) → HasNoRoom host outcome old
+
+-- what is left where no outcome is added
+abbrev pub RefusesOutcome : {D : Type 0} → DiskWords D → List ℕ → Outcome → Kept D → Kept D → NodeFault → Type 0
+RefusesOutcome words host outcome old new NoMemory = new ≡ old
+RefusesOutcome words host outcome old new Stopped = IsStopped words old new
+RefusesOutcome words host outcome old new Unknown = ⊥
+RefusesOutcome words host outcome old new TooMany = ⊥
+RefusesOutcome words host outcome old new NotDue = ⊥
+RefusesOutcome words host outcome old new Busy = ⊥
+RefusesOutcome words host outcome old new (Open cause) = ⊥
+RefusesOutcome words host outcome old new Full = (new ≡ old) × HasNoRoom host outcome old

@@ -1,0 +1,84 @@
+//! An outcome with the report that is due of it.
+ghost use Rattle.std.specs.Prelude.{◌≡◌, ◌≤◌, ◌<◌, ◌^◌, List, Err, IfErr, IfOk, IsTrue};
+ghost use Rattle.relay_book.specs.declared.change.Change.{Change};
+ghost use Rattle.relay_book.specs.Queue.{FitsQueue, message_of, step};
+ghost use Rattle.relay_envelope.specs.HostName.{IsHostName};
+ghost use Rattle.relay_records.specs.Records.{Grows, Keeps};
+ghost use Rattle.relay_report.specs.Report.{ReportedFrom};
+ghost use Rattle.relay_outcomes.specs.Outcomes.{AddsOutcome, CutsOutcome, MayCome, RefusesOutcome, GrowsBy, IsReported};
+
+use relay_book::{Change, Outcome, encode_change};
+use relay_disk::Disk;
+use relay_octets::Octets;
+use relay_records::{NodeFault, Records};
+use relay_report::{Report, report_if_due};
+use std::alloc::{AllocError, Global};
+
+/// Adds an outcome of a queued message, with the report that is due of it by this host, in one change; what its report says
+/// doesn't count. The answer is its number, and `used` is how many octets of its piece the call had used. All growths come
+/// before the append.
+///
+/// `NoMemory` leaves everything as it was, and so does `Full`, where changes have no numbers any more or the spool would pass
+/// 2^40 octets. At `Stopped` the device failed: a stop leaves the changes as they were or with this one, and it is noted.
+pub fn add_outcome<D: Disk>(
+    alloc: Global,
+    host: &[u8],
+    records: &mut Records<D>,
+    outcome: Outcome,
+    used: usize,
+) -> Result<u64, NodeFault>
+    requires live { IsTrue records.old.spool.live }
+    requires host { IsHostName host.now }
+    requires comes { MayCome records.old.queue outcome }
+    ensures ok { (changes : List Change) → Keeps D.honest D.words records.old changes
+        → IfOk result (AddsOutcome D.honest D.words host.now changes outcome used records.new) }
+    ensures cut { (changes : List Change) → Keeps D.honest D.words records.old changes
+        → result ≡ Err NodeFault.Stopped
+        → CutsOutcome D.honest D.words host.now changes outcome used records.new }
+    ensures grows { IfOk result (GrowsBy D.words host.now outcome records.old records.new) }
+    ensures full { 2 ^ 62 < records.old.queue.next → result ≡ Err NodeFault.Full }
+    ensures refused { IfErr result (RefusesOutcome D.words host.now outcome records.old records.new) }
+{
+    if !records.has_number() {
+        return Err(NodeFault::Full);
+    }
+    let change = reported(alloc, host, records, outcome)?;
+    let octets = Octets::new(encode_change(alloc, &change)?);
+    records.add(alloc, change, octets, used)
+}
+
+/// The outcome as a change, with the report that is due. It fails where memory runs out.
+fn reported<D: Disk>(
+    alloc: Global,
+    host: &[u8],
+    records: &Records<D>,
+    outcome: Outcome,
+) -> Result<Change, AllocError>
+    requires number { records.now.queue.next ≤ 2 ^ 62 }
+    requires host { IsHostName host.now }
+    requires comes { MayCome records.now.queue outcome }
+    ensures { IfOk result (IsReported host.now records.now.queue outcome) }
+{
+    let Some(message) = records.message(outcome.message) else {
+        unreachable!()
+    };
+    records.has_list();
+    let report = report_if_due(
+        alloc,
+        &Report {
+            host,
+            number: records.next_number(),
+            message,
+            hop: outcome.hop.as_slice(),
+            rulings: outcome.rulings.as_slice(),
+            at: outcome.at,
+        },
+    )?;
+    Ok(with_report(outcome, report))
+}
+
+/// The outcome with another report.
+fn with_report(outcome: Outcome, report: Octets) -> Change
+{
+    Change::Outcome(Outcome { report, ..outcome })
+}
