@@ -46,6 +46,7 @@ due_report_fits told text may is = by (is_due told.message told.at told.rulings)
         let stored = may.accept.text in
         let limit = limit_is (is_null told.message.accept.envelope.reverse_path) null in
         omega (arith, all, stored, limit)
+
     by : (test : Bool) → is_due told.message told.at told.rulings ≡ test
         → ((text ≡ []) ↔ (is_due told.message told.at told.rulings ≡ false)) × (length text ≤ 2 ^ 26)
     by true due = ((λ none. absurd (report_is_some told text (is.due due) none), λ not_due. absurd (false≢true (sym not_due ∙ due))), short (is_null told.message.accept.envelope.reverse_path) refl due)

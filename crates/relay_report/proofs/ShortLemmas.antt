@@ -217,6 +217,7 @@ place_short text due most each recipients place valid = at_place recipients plac
     one : (recipient : Recipient) (o : Option DueReport) → IsRecipient recipient → length (if_due text recipient o) ≤ most
     one recipient None is = omega arith
     one recipient (Some word) is = each recipient word is
+
     at_place : (rest : List Recipient) (k : ℕ) → AllByRecursion IsRecipient rest → length (option_map_or (λ recipient. if_due text recipient (due recipient)) (slice_get rest k) []) ≤ most
     at_place [] k all = omega arith
     at_place (recipient ∷ rest) zero all = one recipient (due recipient) all.0
@@ -249,7 +250,7 @@ second_short told date arrival may day came =
     let hop = hop_short told.hop may.hop in
     let fields = message_fields_short told.host arrival told.message.accept.envelope.envid may.host.few_octets came may.accept.envelope.envid in
     let each = λ (ruling : Ruling) (is : IsRuling ruling). place_short (λ recipient due. recipient_fields told.hop date recipient due ruling.verdict) (due_to told.message told.at ruling.verdict) 2200
-        (λ recipient due valid. recipient_short told.hop date recipient due ruling.verdict hop day valid is.verdict) told.message.accept.envelope.recipients ruling.place may.accept.envelope.recipients in
+    (λ recipient due valid. recipient_short told.hop date recipient due ruling.verdict hop day valid is.verdict) told.message.accept.envelope.recipients ruling.place may.accept.envelope.recipients in
     let rows = rows_short (fields_of told.message told.hop told.at date) 2200 each told.rulings may.rulings in
     let all = length-append (message_fields told.host arrival told.message.accept.envelope.envid) (flat_map (fields_of told.message told.hop told.at date) told.rulings) in
     omega (arith, few, fields, rows, all)
