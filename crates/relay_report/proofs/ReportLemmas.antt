@@ -1,5 +1,5 @@
 -- A report from its pieces.
-use Rattle.std.proofs.Common.{◌≡◌, ℕ, Bool, List, ◌++◌, codes, refl, sym, ap, subst, ◌∙◌}
+use Rattle.std.proofs.Common.{◌≡◌, ℕ, Bool, List, ◌++◌, codes, ap, subst, ◌∙◌}
 use Rattle.relay_octets.specs.Line.{crlf}
 use Rattle.relay_trace.specs.DateTime.{IsDateText}
 use Rattle.relay_report.specs.Boundary.{IsBoundary}

@@ -1,13 +1,12 @@
 -- Taking a multipart text apart.
-use Rattle.std.proofs.Common.{◌≡◌, ◌⊎◌, inl, inr, ℕ, zero, suc, ◌+◌, ◌-◌, ◌<◌, ◌≤◌, Bool, true, false, ◌==◌, List, [], ◌∷◌, ◌++◌, length, take, drop, get_or, Option, Some, None, refl, sym, ap, subst, ◌∙◌, arith, append_assoc}
+use Rattle.std.proofs.Common.{◌≡◌, ℕ, zero, suc, ◌+◌, ◌<◌, ◌≤◌, List, [], ◌++◌, length, take, drop, Some, None, sym, ap, subst, ◌∙◌, arith, append_assoc}
 use Rattle.std.proofs.lemmas.List.{take_at, drop_at, length-take}
-use Rattle.std.proofs.lemmas.Bool.{eqb-true, eq-eqb, false≢true}
+use Rattle.std.proofs.lemmas.Bool.{eqb-true, eq-eqb}
 use Rattle.std.specs.Prelude.{slice_index}
 use Rattle.memchr.specs.Find.{IsFirstByte, is_byte}
 use Rattle.relay_octets.specs.Line.{HasNoCrlf, ReadsLine, crlf}
 use Rattle.relay_octets.proofs.Theorems.{first_line_is_one}
 use Rattle.relay_trace.specs.HeaderSection.{header_end_of}
-use Rattle.relay_report.specs.Boundary.{StandsNowhere}
 use Rattle.relay_report.specs.Parts.{BeginsOnce, CutsInThree, HasNoThree, IsThreeOf}
 use Rattle.relay_report.specs.Split.{Delimits, HasNoEmptyLine, OpensWith, OpensWithNone, HasParts, HasNoParts, PartsAreOne, part_of}
 use Rattle.relay_report.proofs.CutLemmas.{parts_come_back}

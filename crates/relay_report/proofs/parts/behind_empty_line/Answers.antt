@@ -1,5 +1,5 @@
 -- no line, or another one
-use Rattle.std.proofs.Common.{arith, refl, take}
+use Rattle.std.proofs.Common.{arith, refl}
 use Rattle.relay_report.proofs.SplitLemmas.{no_line, other_line}
 use Rattle.relay_report.proofs.parts.behind_empty_line.Goals as goal
 

@@ -1,5 +1,5 @@
 -- a CR, or none
-use Rattle.relay_report.proofs.SplitLemmas.{cr_begins_not, no_cr_begins}
+use Rattle.relay_report.proofs.SplitLemmas.{cr_begins_not}
 use Rattle.std.proofs.Common.{rules}
 use Rattle.relay_report.proofs.parts.has_no_cr.Goals as goal
 
