@@ -18,6 +18,7 @@ test:
 	tests/book_without_memory.sh crates/relay_book_tests/out/relay_book_tests
 	tests/node_without_memory.sh crates/relay_node_tests/out/relay_node_tests
 	tests/spool_on_a_file.sh crates/relay_spool_tests/out/relay_spool_tests
+	tests/reports_read_by_python.py crates/relay_report_tests/out/relay_report_tests
 	tail -n 1 build/gate.log
 
 # Proves and builds the program, a line a crate, and holds its first dialogue.

@@ -61,11 +61,13 @@ found_or_later stem rest place k none fits stands = split (cases_lt (length stan
   where
     e : rest ≡ stands.before ++ (stem ++ (decimal k ++ stands.after))
     e = un_numbered stem rest stands.before stands.after k stands.text_is
+
     at_place : length stands.before ≡ place → Contains (begun (drop (place + length stem) rest)) k
     at_place same =
         let behind : drop (place + length stem) rest ≡ decimal k ++ stands.after =
         sym (drop-drop (length stem) place rest) ∙ ap (drop (length stem)) (ap (drop place) e ∙ drop_at stands.before (stem ++ (decimal k ++ stands.after)) place same) ∙ drop_at stem (decimal k ++ stands.after) (length stem) refl in
         subst (λ l. Contains (begun l) k) (sym behind) (begun_finds k stands.after fits)
+
     split : (length stands.before < place) ⊎ (place ≤ length stands.before) → (length stands.before ≡ place) ⊎ (length stands.before ≡ place → ⊥)
         → Contains (begun (drop (place + length stem) rest)) k ⊎ StandsIn (numbered stem k) (drop (place + 1) rest)
     split (inl near) other = absurd (none.before (length stands.before) (omega arith) near (occurs_behind rest stem stands.before (decimal k ++ stands.after) e))
@@ -86,9 +88,11 @@ collect_step stem text rest more old now new place so found new_is more_is = rec
     right : (k : ℕ) → Contains (begun (drop (place + length stem) rest)) k ⊎ StandsIn (numbered stem k) (drop (place + 1) rest) → Contains new k ⊎ StandsIn (numbered stem k) more
     right k (inl has) = inl (subst (λ l. Contains l k) (sym new_is) (Contains-append_right now _ k has))
     right k (inr stands) = inr (subst (StandsIn (numbered stem k)) (sym more_is) stands)
+
     finds : (k : ℕ) → k < 2 ^ 64 → Contains now k ⊎ StandsIn (numbered stem k) rest → Contains new k ⊎ StandsIn (numbered stem k) more
     finds k fits (inl has) = inl (subst (λ l. Contains l k) (sym new_is) (Contains-append_left now _ k has))
     finds k fits (inr stands) = right k (found_or_later stem rest place k found.0 fits stands)
+
     only : (k : ℕ) → Contains now k ⊎ Contains (begun (drop (place + length stem) rest)) k → Contains old k ⊎ StandsIn (numbered stem k) text
     only k (inl has) = so.only k has
     only k (inr has) = inr (so.part k (behind_stands stem rest place k found.1 has))

@@ -29,7 +29,7 @@ not_earlier mark text piece rest place begins cut at early = split (cases_lt (le
         let own = occurs_behind text mark piece rest cut.text_is in
         let gap : place + (length piece - place) ≡ length piece + 0 = omega (arith, early) in
         begins.once (length piece - place) (omega (arith, early)) (omega (arith, over, early))
-            (sym (at.reads (length piece - place) (omega (arith, over, early))) ∙ ap (λ n. get_or text n 0) gap ∙ own.reads 0 begins.some)
+        (sym (at.reads (length piece - place) (omega (arith, over, early))) ∙ ap (λ n. get_or text n 0) gap ∙ own.reads 0 begins.some)
 
 pub cut_is_one : CutIsOne
 cut_is_one mark text piece rest other more begins one two = split (cases_lt (length piece) (length other)) (cases_lt (length other) (length piece))
@@ -85,22 +85,22 @@ nowhere_behind_line word front back plain in_front in_back = record { nowhere = 
 
 pub parts_come_back : PartsComeBack
 parts_come_back mark text one two three tail first second third rest begins a b =
-    let outer = cut_is_one mark text one _ first _ begins (record { text_is = a.text_is; first = a.one_plain; }) (record { text_is = b.text_is; first = b.one_plain; }) in
-    let middle = cut_is_one mark (two ++ (mark ++ (three ++ (mark ++ tail)))) two _ second _ begins (record { text_is = refl; first = a.two_plain; }) (record { text_is = outer.1; first = b.two_plain; }) in
-    let inner = cut_is_one mark (three ++ (mark ++ tail)) three tail third rest begins (record { text_is = refl; first = a.three_plain; }) (record { text_is = middle.1; first = b.three_plain; }) in
+    let outer = cut_is_one mark text one _ first _ begins (record { text_is = a.text_is; first = a.one_plain }) (record { text_is = b.text_is; first = b.one_plain }) in
+    let middle = cut_is_one mark (two ++ (mark ++ (three ++ (mark ++ tail)))) two _ second _ begins (record { text_is = refl; first = a.two_plain }) (record { text_is = outer.1; first = b.two_plain }) in
+    let inner = cut_is_one mark (three ++ (mark ++ tail)) three tail third rest begins (record { text_is = refl; first = a.three_plain }) (record { text_is = middle.1; first = b.three_plain }) in
     (outer.0, middle.0, inner.0, inner.1)
 
 pub no_second : (mark text one behind : List ℕ) → BeginsOnce mark → CutsAt mark text one behind → StandsNowhere mark behind → HasNoThree mark text
 no_second mark text one behind begins cut none = record {
   none = λ a b d tail three.
-      let outer = cut_is_one mark text one behind a _ begins cut (record { text_is = three.text_is; first = three.one_plain; }) in
+      let outer = cut_is_one mark text one behind a _ begins cut (record { text_is = three.text_is; first = three.one_plain }) in
       none.nowhere b (d ++ (mark ++ tail)) outer.1;
 }
 
 pub no_third : (mark text one behind two more : List ℕ) → BeginsOnce mark → CutsAt mark text one behind → CutsAt mark behind two more → StandsNowhere mark more → HasNoThree mark text
 no_third mark text one behind two more begins cut again none = record {
   none = λ a b d tail three.
-      let outer = cut_is_one mark text one behind a _ begins cut (record { text_is = three.text_is; first = three.one_plain; }) in
-      let middle = cut_is_one mark behind two more b _ begins again (record { text_is = outer.1; first = three.two_plain; }) in
+      let outer = cut_is_one mark text one behind a _ begins cut (record { text_is = three.text_is; first = three.one_plain }) in
+      let middle = cut_is_one mark behind two more b _ begins again (record { text_is = outer.1; first = three.two_plain }) in
       none.nowhere d tail middle.1;
 }

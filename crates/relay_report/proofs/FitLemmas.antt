@@ -1,18 +1,16 @@
 -- A report that is due may be stored.
-use Rattle.std.proofs.Common.{◌≡◌, ◌↔◌, ℕ, ◌+◌, ◌≤◌, ◌^◌, if◌then◌else◌, Bool, true, false, ◌||◌, List, [], ◌∷◌, ◌++◌, codes, length, slice_get, Option, None, Some, refl, sym, ap, ◌∙◌, arith}
+use Rattle.std.proofs.Common.{◌≡◌, ◌↔◌, ℕ, ◌≤◌, ◌^◌, if◌then◌else◌, Bool, true, false, ◌||◌, List, [], ◌∷◌, length, slice_get, Option, None, Some, refl, sym, ap, ◌∙◌, arith}
 use Rattle.std.proofs.lemmas.Bool.{false≢true}
-use Rattle.std.specs.List.{list_any}
 use Rattle.std.specs.Option.{option_map_or}
 use Rattle.relay_envelope.specs.declared.envelope.Recipient.{Recipient}
 use Rattle.relay_book.specs.declared.change.Ruling.{Ruling}
 use Rattle.relay_book.specs.declared.message.Message.{Message}
 use Rattle.relay_book.specs.DueReport.{due_report_of, fate_of, report_of_fate}
-use Rattle.relay_book.specs.Queue.{reports_at}
-use Rattle.relay_book.specs.Record.{IsAccept, is_null, text_limit}
+use Rattle.relay_book.specs.Record.{is_null}
 use Rattle.relay_report.specs.StatusFields.{field}
-use Rattle.relay_report.specs.Multipart.{Told, header_fields, multipart_text, report_text}
-use Rattle.relay_report.specs.Report.{IsDueReport, IsReport, is_due}
-use Rattle.relay_report.specs.Fits.{DueReportFits, MayBeTold}
+use Rattle.relay_report.specs.Multipart.{Told, header_fields, report_text}
+use Rattle.relay_report.specs.Report.{IsReport, is_due}
+use Rattle.relay_report.specs.Fits.{DueReportFits}
 use Rattle.relay_report.proofs.ShortLemmas.{report_is_short}
 
 -- no report is due for the null reverse path
@@ -46,6 +44,7 @@ due_report_fits told text may is = by (is_due told.message told.at told.rulings)
         let stored = may.accept.text in
         let limit = limit_is (is_null told.message.accept.envelope.reverse_path) null in
         omega (arith, all, stored, limit)
+
     by : (test : Bool) → is_due told.message told.at told.rulings ≡ test
         → ((text ≡ []) ↔ (is_due told.message told.at told.rulings ≡ false)) × (length text ≤ 2 ^ 26)
     by true due = ((λ none. absurd (report_is_some told text (is.due due) none), λ not_due. absurd (false≢true (sym not_due ∙ due))), short (is_null told.message.accept.envelope.reverse_path) refl due)

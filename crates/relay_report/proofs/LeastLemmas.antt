@@ -53,6 +53,7 @@ below_least k j (x ∷ xs) low high = by (x == k) refl (below_least k j xs low) 
     pick : (x == k) ≡ true → (k + 1 ≤ j → j < least_from (k + 1) xs → Contains xs j) → (k ≡ j) ⊎ (k ≡ j → ⊥) → Contains (x ∷ xs) j
     pick e again (inl same) = subst (Contains (x ∷ xs)) (eqb-true x k e ∙ same) (here x xs)
     pick e again (inr other) = later x j xs (again (omega (arith, low, other)) (omega (arith, high, step_same k x xs e)))
+
     by : (b : Bool) → (x == k) ≡ b → (j < least_from k xs → Contains xs j) → (k + 1 ≤ j → j < least_from (k + 1) xs → Contains xs j) → Contains (x ∷ xs) j
     by true e one two = pick e two (cases_eq k j)
     by false e one two = later x j xs (one (omega (arith, high, step_other k x xs e)))
@@ -64,11 +65,14 @@ not_in k (x ∷ xs) rises has = by (x == k) refl (not_in k xs rises.1) (not_in (
   where
     part : (r : ℕ) → (Contains xs r → ⊥) → (x ≡ r → ⊥) → Contains (x ∷ xs) r → ⊥
     part r none first c = ⊎_elim first none (one_of x r xs c)
+
     above : (x == k) ≡ false → k ≤ x → (y : ℕ) → x ≤ y → k < y
     above e large y up = omega (arith, large, up, differs x k e)
+
     other : (x == k) ≡ false → (x < k) ⊎ (k ≤ x) → x ≡ least_from k xs → ⊥
     other e (inl small) same = omega (arith, small, same, least_grows k xs)
     other e (inr large) same = differs x k e (same ∙ least_stays k xs (λ y c. above e large y (rises.0 y c)))
+
     by : (b : Bool) → (x == k) ≡ b → (Contains xs (least_from k xs) → ⊥) → (Contains xs (least_from (k + 1) xs) → ⊥) → ⊥
     by true e one two = part (least_from (k + 1) xs) two (λ same. omega (arith, same, eqb-true x k e, least_grows (k + 1) xs)) (subst (Contains (x ∷ xs)) (step_same k x xs e) has)
     by false e one two = part (least_from k xs) one (other e (cases_lt x k)) (subst (Contains (x ∷ xs)) (step_other k x xs e) has)
@@ -85,19 +89,23 @@ least_is_free stem one two three none first second third taken number empty a b 
   where
     rises : Rises taken
     rises = rises_from taken (IsNonDecreasingBy-from_sort (λ x. x) taken sorted)
+
     found : IsTaken stem one two three number → Contains third number
     found (inl is) = c.keeps number (b.keeps number (a.finds number fits is))
     found (inr (inl is)) = c.keeps number (b.finds number fits is)
     found (inr (inr is)) = c.finds number fits is
+
     whose : (k : ℕ) → Contains third k → IsTaken stem one two three k
     whose k has = third_is k (c.only k has)
       where
         first_is : (k : ℕ) → Contains none k ⊎ StandsIn (numbered stem k) one → IsTaken stem one two three k
         first_is k (inl old) = absurd (none_in k (subst (λ l. Contains l k) empty old))
         first_is k (inr is) = inl is
+
         second_is : (k : ℕ) → Contains first k ⊎ StandsIn (numbered stem k) two → IsTaken stem one two three k
         second_is k (inl old) = first_is k (a.only k old)
         second_is k (inr is) = inr (inl is)
+
         third_is : (k : ℕ) → Contains second k ⊎ StandsIn (numbered stem k) three → IsTaken stem one two three k
         third_is k (inl old) = second_is k (b.only k old)
         third_is k (inr is) = inr (inr is)

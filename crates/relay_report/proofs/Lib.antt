@@ -7,3 +7,4 @@ mod CutLemmas
 mod ReportLemmas
 mod ShortLemmas
 mod FitLemmas
+mod SplitLemmas

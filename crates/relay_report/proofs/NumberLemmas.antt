@@ -104,6 +104,7 @@ grown_only n k (c ∷ cs) has = by (may_grow n c) refl (grown_only (one_more n c
     step : (Contains (grown (one_more n c) cs) k → Grows (one_more n c) cs k) → (one_more n c ≡ k) ⊎ Contains (grown (one_more n c) cs) k → (one_more n c ≡ k) ⊎ Grows (one_more n c) cs k
     step again (inl e) = inl e
     step again (inr more) = inr (again more)
+
     by : (b : Bool) → may_grow n c ≡ b → (Contains (grown (one_more n c) cs) k → Grows (one_more n c) cs k) → Grows n (c ∷ cs) k
     by true e again = grows_by n c k cs (may_grow_says n c e) (step again (one_of (one_more n c) k _ (subst (λ l. Contains l k) (grown_more n c cs e) has)))
     by false e again = absurd (none_in k (subst (λ l. Contains l k) (grown_stops n c cs e) has))
@@ -147,6 +148,7 @@ begun_only k (c ∷ cs) has = split (c == 48) refl
     zero_case : c ≡ 48 → (0 ≡ k) ⊎ Contains [] k → (rest : List ℕ) × (c ∷ cs ≡ decimal k ++ rest) × (k < 2 ^ 64)
     zero_case is (inl e) = (cs, ap (λ n. n ∷ cs) is ∙ ap (λ l. l ++ cs) (sym (decimal_digit 0 (omega arith))) ∙ ap (λ n. decimal n ++ cs) e, omega (arith, e))
     zero_case is (inr h) = absurd (none_in k h)
+
     other : (c == 48) ≡ false → (ds rest : List ℕ) → c ∷ cs ≡ ds ++ rest → 0 < length ds → Digits ds → k ≡ after 0 ds → k < 2 ^ 64 → (rest : List ℕ) × (c ∷ cs ≡ decimal k ++ rest) × (k < 2 ^ 64)
     other is [] rest e some d k_is fits = absurd (omega arith)
     other is (b ∷ bs) rest e some d k_is fits =
@@ -159,6 +161,7 @@ begun_only k (c ∷ cs) has = split (c == 48) refl
         let first : decimal (one_more 0 b) ≡ b ∷ [] = decimal_digit (one_more 0 b) (omega (arith, low, high)) ∙ ap (λ n. n ∷ []) (omega (arith, low)) in
         let whole : decimal k ≡ b ∷ bs = ap decimal k_is ∙ decimal_after (one_more 0 b) bs positive d.2 fit ∙ ap (λ l. l ++ bs) first in
         (rest, e ∙ ap (λ l. l ++ rest) (sym whole), fits)
+
     split : (b : Bool) → (c == 48) ≡ b → (rest : List ℕ) × (c ∷ cs ≡ decimal k ++ rest) × (k < 2 ^ 64)
     split true is = zero_case (eqb-true c 48 is) (one_of 0 k [] (subst (λ l. Contains l k) (begun_zero c cs (eqb-true c 48 is)) has))
     split false is =

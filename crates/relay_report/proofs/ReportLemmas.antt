@@ -1,5 +1,5 @@
 -- A report from its pieces.
-use Rattle.std.proofs.Common.{◌≡◌, ℕ, Bool, List, ◌++◌, codes, refl, sym, ap, subst, ◌∙◌}
+use Rattle.std.proofs.Common.{◌≡◌, ℕ, Bool, List, ◌++◌, codes, ap, subst, ◌∙◌}
 use Rattle.relay_octets.specs.Line.{crlf}
 use Rattle.relay_trace.specs.DateTime.{IsDateText}
 use Rattle.relay_report.specs.Boundary.{IsBoundary}
@@ -50,6 +50,6 @@ pub is_report_by : (told : Told) (date arrival boundary one two three text : Lis
     → IsReport told text
 is_report_by told date arrival boundary one two three text whole date_1 arrival_1 one_1 two_1 stored date_2 boundary_2 at came d1 a1 first second w o1 t1 s third bound d2 b2 e =
     is_report told date arrival boundary one_1 two_1 three text whole at came (o1 ∙ first) (t1 ∙ second ∙ ap (λ l. second_part told l arrival_1) d1 ∙ ap (second_part told date) a1) w
-        (third ∙ ap (returned whole) s) bound
-        (subst (λ l. text ≡ header_fields told l ++ field (codes "Content-Type") (report_type boundary) ++ crlf ++ multipart_text boundary one_1 two_1 (returned_type whole) three) d2
-        (subst (λ l. text ≡ header_fields told date_2 ++ field (codes "Content-Type") (report_type l) ++ crlf ++ multipart_text l one_1 two_1 (returned_type whole) three) b2 e))
+    (third ∙ ap (returned whole) s) bound
+    (subst (λ l. text ≡ header_fields told l ++ field (codes "Content-Type") (report_type boundary) ++ crlf ++ multipart_text boundary one_1 two_1 (returned_type whole) three) d2
+    (subst (λ l. text ≡ header_fields told date_2 ++ field (codes "Content-Type") (report_type l) ++ crlf ++ multipart_text l one_1 two_1 (returned_type whole) three) b2 e))

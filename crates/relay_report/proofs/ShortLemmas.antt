@@ -1,16 +1,15 @@
 -- How many octets a report has.
-use Rattle.std.proofs.Common.{◌≡◌, ◌⊎◌, inl, inr, ℕ, zero, suc, ◌+◌, ◌*◌, ◌-◌, ◌<◌, ◌≤◌, ◌^◌, min, nat_le, if◌then◌else◌, Bool, true, false, ◌&&◌, ◌||◌, List, [], ◌∷◌, ◌++◌, codes, decimal, length, take, drop, map, slice_get, Option, None, Some, refl, sym, ap, subst, ◌∙◌, arith, length-append}
-use Rattle.std.proofs.lemmas.Bool.{and_parts, leb-true, false≢true}
+use Rattle.std.proofs.Common.{◌≡◌, ℕ, zero, suc, ◌+◌, ◌*◌, ◌-◌, ◌<◌, ◌≤◌, ◌^◌, nat_le, Bool, true, false, List, [], ◌∷◌, ◌++◌, codes, decimal, length, drop, map, slice_get, Option, None, Some, refl, sym, ap, ◌∙◌, arith, length-append}
+use Rattle.std.proofs.lemmas.Bool.{and_parts, leb-true}
 use Rattle.std.proofs.lemmas.List.{length-map, length-take, length-drop}
 use Rattle.std.proofs.lemmas.Fmt.{length-decimal-le}
-use Rattle.std.specs.List.{flat_map, list_any, AllByRecursion, position_or_len}
+use Rattle.std.specs.List.{flat_map, AllByRecursion, position_or_len}
 use Rattle.std.specs.Option.{option_map_or}
 use Rattle.std.specs.Char.{to_ascii_lowercase}
 use Rattle.relay_octets.specs.Line.{crlf}
 use Rattle.relay_trace.specs.HeaderSection.{header_end_of}
 use Rattle.relay_trace.proofs.Theorems.{date_text_has_31_octets}
 use Rattle.relay_envelope.proofs.Theorems.{decoded_is_spelled}
-use Rattle.relay_envelope.specs.HostName.{IsHostName}
 use Rattle.relay_envelope.specs.Xtext.{Part, Xchar, Hexchar, SpellsXtext, decoded, octet_of, part_text}
 use Rattle.relay_envelope.specs.Path.{Path, Null, Postmaster, Mailbox, IsPath, path_text}
 use Rattle.relay_envelope.specs.Parameters.{address_of, address_type_of, is_envid, is_octet, is_orcpt}
@@ -21,12 +20,10 @@ use Rattle.relay_book.specs.declared.change.Verdict.{Verdict}
 use Rattle.relay_book.specs.declared.change.Verdict.TheVariants.{Taken, Refused, Later, CantSend, NoRoute}
 use Rattle.relay_book.specs.declared.due_report.DueReport.{DueReport}
 use Rattle.relay_book.specs.declared.due_report.DueReport.TheVariants.{OfFailure, OfRelay}
-use Rattle.relay_book.specs.declared.message.Message.{Message}
-use Rattle.relay_book.specs.Record.{IsAccept, IsRuling, IsVerdict, MayBeHop}
+use Rattle.relay_book.specs.Record.{IsRuling, IsVerdict, MayBeHop}
 use Rattle.relay_report.specs.StatusFields.{action_of, address_in, attempt_fields, diagnostic_code, field, last_attempt_date, message_fields, octets_or, original_envelope_id, original_recipient, plain_of, recipient_fields, remote_mta, reply_words, status_of, typed}
 use Rattle.relay_report.specs.Multipart.{Told, body_part, closing_line, due_to, fields_of, first_part, header_fields, if_due, line_of, message_id, multipart_text, part_head, postmaster_at, recipient_line, report_text, report_type, returned, returned_type, returns_whole, second_part, third_part, title_line}
-use Rattle.relay_report.specs.Boundary.{IsBoundary, boundary_text}
-use Rattle.relay_report.specs.Report.{IsReport}
+use Rattle.relay_report.specs.Boundary.{boundary_text}
 use Rattle.relay_report.specs.Fits.{MayBeTold, ReportIsShort}
 
 length-field : (name body : List ℕ) → length (field name body) ≡ length name + length body + 4
@@ -217,6 +214,7 @@ place_short text due most each recipients place valid = at_place recipients plac
     one : (recipient : Recipient) (o : Option DueReport) → IsRecipient recipient → length (if_due text recipient o) ≤ most
     one recipient None is = omega arith
     one recipient (Some word) is = each recipient word is
+
     at_place : (rest : List Recipient) (k : ℕ) → AllByRecursion IsRecipient rest → length (option_map_or (λ recipient. if_due text recipient (due recipient)) (slice_get rest k) []) ≤ most
     at_place [] k all = omega arith
     at_place (recipient ∷ rest) zero all = one recipient (due recipient) all.0
@@ -249,7 +247,7 @@ second_short told date arrival may day came =
     let hop = hop_short told.hop may.hop in
     let fields = message_fields_short told.host arrival told.message.accept.envelope.envid may.host.few_octets came may.accept.envelope.envid in
     let each = λ (ruling : Ruling) (is : IsRuling ruling). place_short (λ recipient due. recipient_fields told.hop date recipient due ruling.verdict) (due_to told.message told.at ruling.verdict) 2200
-        (λ recipient due valid. recipient_short told.hop date recipient due ruling.verdict hop day valid is.verdict) told.message.accept.envelope.recipients ruling.place may.accept.envelope.recipients in
+    (λ recipient due valid. recipient_short told.hop date recipient due ruling.verdict hop day valid is.verdict) told.message.accept.envelope.recipients ruling.place may.accept.envelope.recipients in
     let rows = rows_short (fields_of told.message told.hop told.at date) 2200 each told.rulings may.rulings in
     let all = length-append (message_fields told.host arrival told.message.accept.envelope.envid) (flat_map (fields_of told.message told.hop told.at date) told.rulings) in
     omega (arith, few, fields, rows, all)

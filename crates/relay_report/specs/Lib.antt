@@ -5,3 +5,4 @@ pub mod Report
 pub mod Fits
 pub mod Numbers
 pub mod Parts
+pub mod Split

@@ -39,7 +39,8 @@ pub record IsLeastOutside (numbers : List ℕ) (least : ℕ) : Type 0 where
 -- what a pass has added before it comes to the rest
 pub record Collecting (stem text rest old new : List ℕ) : Type 0 where
   pub keeps : (number : ℕ) → Contains old number → Contains new number
-  pub finds : (number : ℕ) → number < 2 ^ 64 → StandsIn (numbered stem number) text → Contains new number ⊎ StandsIn (numbered stem number) rest
+  pub finds : (number : ℕ) → number < 2 ^ 64 → StandsIn (numbered stem number) text
+      → Contains new number ⊎ StandsIn (numbered stem number) rest
   pub only : (number : ℕ) → Contains new number → Contains old number ⊎ StandsIn (numbered stem number) text
   pub part : (number : ℕ) → StandsIn (numbered stem number) rest → StandsIn (numbered stem number) text
   pub shorter : length rest ≤ length text

@@ -15,8 +15,8 @@ pub record BeginsOnce (mark : List ℕ) : Type 0 where
 -- where a text is cut at such a mark is fixed by the text
 abbrev pub CutIsOne : Type 0
 CutIsOne =
-    (mark text piece rest other more : List ℕ) → BeginsOnce mark → CutsAt mark text piece rest → CutsAt mark text other more
-    → (piece ≡ other) × (rest ≡ more)
+    (mark text piece rest other more : List ℕ) → BeginsOnce mark
+    → CutsAt mark text piece rest → CutsAt mark text other more → (piece ≡ other) × (rest ≡ more)
 
 -- a word without an LF stands nowhere in two texts with an LF between, if it stands in neither
 abbrev pub NowhereBehindLine : Type 0

@@ -11,12 +11,7 @@ use relay_trace::Moment;
 
 /// Which report is due of a place of a message by a verdict at a moment (RFC 3461, section 5.2): none of a place
 /// that the message doesn't have. It takes no memory.
-pub fn due_report(
-    message: &Message,
-    place: u8,
-    verdict: &Verdict,
-    now: Moment,
-) -> Option<DueReport>
+pub fn due_report(message: &Message, place: u8, verdict: &Verdict, now: Moment) -> Option<DueReport>
     ensures { result ≡ due_at message.now now place verdict.now }
 {
     match recipient_at(message, place) {
@@ -45,7 +40,11 @@ pub(crate) fn due_to(
 {
     let accept = &message.accept;
     let fate = fate_of(accept.at, now, verdict);
-    due_report_of(accept.envelope.reverse_path.as_slice(), recipient.notify, fate)
+    due_report_of(
+        accept.envelope.reverse_path.as_slice(),
+        recipient.notify,
+        fate,
+    )
 }
 
 /// Whether a failure is reported of the place of a verdict.

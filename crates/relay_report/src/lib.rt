@@ -12,5 +12,5 @@ mod status_fields;
 
 pub use boundary::boundary_for;
 pub use due::{due_report, is_due};
-pub use parts::Parts;
+pub use parts::{Parts, split_report};
 pub use report::{Report, report_content, report_if_due};

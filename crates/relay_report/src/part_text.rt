@@ -42,7 +42,14 @@ pub(crate) fn second_part(
     let message = report.message;
     let envid = message.accept.envelope.envid.as_ref();
     push_message_fields(alloc, &mut part, report.host, arrival, envid)?;
-    push_fields(alloc, &mut part, message, attempt, report.rulings, report.at)?;
+    push_fields(
+        alloc,
+        &mut part,
+        message,
+        attempt,
+        report.rulings,
+        report.at,
+    )?;
     Ok(part)
 }
 
@@ -50,7 +57,8 @@ pub(crate) fn second_part(
 pub(crate) fn returns_whole(report: &Report<'_>) -> bool
     ensures { result ≡ returns_whole (told_of report.now) }
 {
-    is_full(report.message.accept.envelope.ret) && any_fails(report.message, report.rulings, report.at)
+    is_full(report.message.accept.envelope.ret)
+        && any_fails(report.message, report.rulings, report.at)
 }
 
 fn is_full(ret: Option<Ret>) -> bool
@@ -172,7 +180,14 @@ fn push_fields_of(
 {
     match recipient_at(message, ruling.place) {
         Some(recipient) => match due_to(message, recipient, &ruling.verdict, now) {
-            Some(due) => push_recipient_fields(alloc, out, attempt, recipient, due, &ruling.verdict),
+            Some(due) => push_recipient_fields(
+                alloc,
+                out,
+                attempt,
+                recipient,
+                due,
+                &ruling.verdict,
+            ),
             None => Ok(()),
         },
         None => Ok(()),

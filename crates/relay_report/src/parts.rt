@@ -1,9 +1,13 @@
 //! The three parts of a report.
-ghost use Rattle.std.specs.Prelude.{◌<◌, length, MatchOption};
+ghost use Rattle.std.specs.Prelude.{◌≡◌, ◌↔◌, ◌+◌, ◌<◌, ◌≤◌, ◌++◌, [], drop, length, IsTrue, MatchOption};
+ghost use Rattle.relay_octets.specs.Line.{ReadsLine, crlf};
 ghost use Rattle.relay_report.specs.Boundary.{StandsNowhere};
+ghost use Rattle.relay_report.specs.Split.{Delimits, HasNoEmptyLine, HasNoParts, HasParts, OpensWithNone, part_of};
 ghost use Rattle.relay_report.specs.Parts.{CutsAt, BeginsOnce, HasNoThree, IsThreeOf};
 
-use memchr::memmem;
+use memchr::{memchr, memmem};
+use relay_octets::find_crlf;
+use relay_trace::header_end;
 
 /// The three parts of a report, without what stands between them.
 #[derive(Clone, Copy, Debug)]
@@ -15,6 +19,94 @@ pub struct Parts<'a> {
     /// What is returned of the message.
     pub third: &'a [u8],
 }
+/// The three parts of a report (RFC 2046, section 5.1.1): slices of its text. None where the text has no three parts:
+/// a boundary's line behind its header section that cuts what follows in three. It takes no memory.
+pub fn split_report(text: &[u8]) -> Option<Parts<'_>>
+    ensures { MatchOption result (HasNoParts text.now)
+        (λ parts. HasParts text.now parts.first.now parts.second.now parts.third.now) }
+{
+    let start = behind(text, header_end(text));
+    match delimiter(start) {
+        None => None,
+        Some((mark, pieces)) => match split_in_three(pieces, mark) {
+            None => None,
+            Some((first, second, third)) => Some(Parts {
+                first: part_of(first),
+                second: part_of(second),
+                third: part_of(third),
+            }),
+        },
+    }
+}
+
+/// The boundary's line that stands behind an empty line, with the line end before it, and what follows.
+fn delimiter(text: &[u8]) -> Option<(&[u8], &[u8])>
+    ensures delimiter { MatchOption result (OpensWithNone text.now)
+        (λ parts. Delimits text.now parts.0.now parts.1.now) }
+    ensures once { MatchOption result (Unit {0}) (λ parts. BeginsOnce parts.0.now) }
+{
+    match behind_empty_line(text) {
+        None => None,
+        Some(behind) => match find_crlf(behind) {
+            None => None,
+            Some(size) => {
+                let (line, _) = behind.split_at(size);
+                if has_no_cr(line) {
+                    Some(text.split_at(size + 2))
+                } else {
+                    None
+                }
+            }
+        },
+    }
+}
+
+/// What stands behind an empty line at the front.
+fn behind_empty_line(text: &[u8]) -> Option<&[u8]>
+    ensures line { MatchOption result (HasNoEmptyLine text.now) (λ behind. ReadsLine text.now [] behind.now) }
+    ensures shorter { MatchOption result (Unit {0}) (λ behind. length behind.now + 2 ≤ length text.now) }
+{
+    match find_crlf(text) {
+        None => None,
+        Some(size) => {
+            if size == 0 {
+                Some(behind(text, 2))
+            } else {
+                None
+            }
+        }
+    }
+}
+
+/// Whether a line has no CR, so that a CR LF stands before it alone.
+fn has_no_cr(line: &[u8]) -> bool
+    ensures { IsTrue result ↔ BeginsOnce (crlf ++ line.now) }
+{
+    match memchr(b'\r', line) {
+        Some(_) => false,
+        None => true,
+    }
+}
+
+/// The part of a piece: what stands behind the end of the boundary's line, the header section, and its empty line.
+fn part_of(piece: &[u8]) -> &[u8]
+    ensures { result.now ≡ part_of piece.now }
+{
+    let headed = behind(piece, 2);
+    behind(headed, header_end(headed).saturating_add(2))
+}
+
+/// What stands behind so many octets: nothing where there are fewer.
+fn behind(text: &[u8], size: usize) -> &[u8]
+    ensures { result.now ≡ drop size text.now }
+{
+    if size < text.len() {
+        &text[size..]
+    } else {
+        &text[text.len()..]
+    }
+}
+
 /// What stands before the first mark, and behind it.
 pub(crate) fn cut_at<'a>(text: &'a [u8], mark: &[u8]) -> Option<(&'a [u8], &'a [u8])>
     requires { BeginsOnce mark.now }
@@ -32,7 +124,10 @@ pub(crate) fn cut_at<'a>(text: &'a [u8], mark: &[u8]) -> Option<(&'a [u8], &'a [
 }
 
 /// The three pieces between the marks, and what stands behind the last one.
-pub(crate) fn split_in_three<'a>(text: &'a [u8], mark: &[u8]) -> Option<(&'a [u8], &'a [u8], &'a [u8])>
+pub(crate) fn split_in_three<'a>(
+    text: &'a [u8],
+    mark: &[u8],
+) -> Option<(&'a [u8], &'a [u8], &'a [u8])>
     requires { BeginsOnce mark.now }
     ensures { MatchOption result (HasNoThree mark.now text.now)
         (λ parts. IsThreeOf mark.now text.now parts.0.now parts.1.now parts.2.now) }

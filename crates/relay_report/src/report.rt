@@ -63,7 +63,14 @@ pub fn report_content(alloc: Global, report: &Report<'_>) -> Result<Octets, Allo
         third: returned(whole, report.message.accept.stored_text.as_slice()),
     };
     let boundary = boundary_for(alloc, report.number, &parts)?;
-    let text = joined(alloc, report, date.as_slice(), boundary.as_slice(), &parts, whole)?;
+    let text = joined(
+        alloc,
+        report,
+        date.as_slice(),
+        boundary.as_slice(),
+        &parts,
+        whole,
+    )?;
     Ok(Octets::new(text))
 }
 
@@ -91,7 +98,11 @@ fn joined(
         ++ multipart_text boundary.now parts.now.first.now parts.now.second.now (returned_type whole)
         parts.now.third.now) }
 {
-    let in_parts = parts.first.len().saturating_add(parts.second.len()).saturating_add(parts.third.len());
+    let in_parts = parts
+        .first
+        .len()
+        .saturating_add(parts.second.len())
+        .saturating_add(parts.third.len());
     let mut text = Vec::with_capacity(alloc, in_parts.saturating_add(USUAL_LEN))?;
     push_header(&mut text, report, date)?;
     push_report_type(&mut text, boundary)?;
@@ -106,7 +117,11 @@ fn push_header(out: &mut Vec<u8>, report: &Report<'_>, date: &[u8]) -> Result<()
     ensures { OnOk result (out.new.items ≡ out.old.items ++ header_fields (told_of report.now) date.now) }
 {
     push_from(out, report.host)?;
-    push_field(out, b"To", report.message.accept.envelope.reverse_path.as_slice())?;
+    push_field(
+        out,
+        b"To",
+        report.message.accept.envelope.reverse_path.as_slice(),
+    )?;
     push_field(out, b"Subject", b"Delivery report")?;
     push_field(out, b"Date", date)?;
     push_message_id(out, report.number, report.host)?;

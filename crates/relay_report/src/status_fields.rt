@@ -65,7 +65,12 @@ pub(crate) fn push_recipient_fields(
 {
     out.extend_from_slice(b"\r\n")?;
     push_original_recipient(alloc, out, recipient.orcpt.as_ref())?;
-    push_typed_field(out, b"Final-Recipient", b"rfc822", address_in(recipient.path.as_slice()))?;
+    push_typed_field(
+        out,
+        b"Final-Recipient",
+        b"rfc822",
+        address_in(recipient.path.as_slice()),
+    )?;
     push_field(out, b"Action", action_of(due))?;
     push_attempt_fields(out, attempt, verdict)?;
     Ok(())
@@ -81,7 +86,12 @@ fn push_original_recipient(
     match orcpt {
         Some(orcpt) => {
             let plain = plain_of(alloc, orcpt.address())?;
-            push_typed_field(out, b"Original-Recipient", orcpt.address_type(), plain.as_slice())
+            push_typed_field(
+                out,
+                b"Original-Recipient",
+                orcpt.address_type(),
+                plain.as_slice(),
+            )
         }
         None => Ok(()),
     }

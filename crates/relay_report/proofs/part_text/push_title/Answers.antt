@@ -9,5 +9,5 @@ pub returns : goal.returns
 unfolding title_line
 returns c =
     joins_6 c.args.out.now.items (codes "Delivery report of ") c.args.host.now (codes " for message ") (decimal c.args.number) (codes ".") crlf
-        c.extend_from_slice.new.self.items c.extend_from_slice-2.new.self.items c.extend_from_slice-3.new.self.items c.push_decimal.new.out.items c.extend_from_slice-4.new.self.items c.extend_from_slice-5.new.self.items
-        c.in_ok-extend_from_slice.ensures.items c.in_ok-extend_from_slice-2.ensures.items c.in_ok-extend_from_slice-3.ensures.items c.in_ok-push_decimal.ensures c.in_ok-extend_from_slice-4.ensures.items c.in_ok-extend_from_slice-5.ensures.items
+    c.extend_from_slice.new.self.items c.extend_from_slice-2.new.self.items c.extend_from_slice-3.new.self.items c.push_decimal.new.out.items c.extend_from_slice-4.new.self.items c.extend_from_slice-5.new.self.items
+    c.in_ok-extend_from_slice.ensures.items c.in_ok-extend_from_slice-2.ensures.items c.in_ok-extend_from_slice-3.ensures.items c.in_ok-push_decimal.ensures c.in_ok-extend_from_slice-4.ensures.items c.in_ok-extend_from_slice-5.ensures.items

@@ -8,5 +8,5 @@ pub returns : goal.returns
 unfolding multipart_text
 returns c =
     joins_4 c.args.out.now.items (body_part c.args.boundary.now (codes "text/plain; charset=us-ascii") c.args.parts.now.first.now) (body_part c.args.boundary.now (codes "message/delivery-status") c.args.parts.now.second.now) (body_part c.args.boundary.now (returned_type c.args.whole) c.args.parts.now.third.now) (closing_line c.args.boundary.now)
-        c.push_body_part.new.out.items c.push_body_part-2.new.out.items c.push_body_part-3.new.out.items c.push_closing_line.new.out.items
-        c.in_ok-push_body_part.ensures c.in_ok-push_body_part-2.ensures (cc c.in_ok-push_body_part-3.ensures) c.in_ok-push_closing_line.ensures
+    c.push_body_part.new.out.items c.push_body_part-2.new.out.items c.push_body_part-3.new.out.items c.push_closing_line.new.out.items
+    c.in_ok-push_body_part.ensures c.in_ok-push_body_part-2.ensures (cc c.in_ok-push_body_part-3.ensures) c.in_ok-push_closing_line.ensures

@@ -10,5 +10,5 @@ pub returns : goal.returns
 unfolding part_head
 returns c =
     joins_5 c.args.out.now.items (codes "--") c.args.boundary.now crlf (field (codes "Content-Type") c.args.kind.now) crlf
-        c.extend_from_slice.new.self.items c.extend_from_slice-2.new.self.items c.extend_from_slice-3.new.self.items c.push_field.new.out.items c.extend_from_slice-4.new.self.items
-        c.in_ok-extend_from_slice.ensures.items c.in_ok-extend_from_slice-2.ensures.items c.in_ok-extend_from_slice-3.ensures.items c.in_ok-push_field.ensures c.in_ok-extend_from_slice-4.ensures.items
+    c.extend_from_slice.new.self.items c.extend_from_slice-2.new.self.items c.extend_from_slice-3.new.self.items c.push_field.new.out.items c.extend_from_slice-4.new.self.items
+    c.in_ok-extend_from_slice.ensures.items c.in_ok-extend_from_slice-2.ensures.items c.in_ok-extend_from_slice-3.ensures.items c.in_ok-push_field.ensures c.in_ok-extend_from_slice-4.ensures.items

@@ -8,4 +8,4 @@ pub returns : goal.returns
 unfolding postmaster_at
 returns c =
     joins_3 c.args.out.now.items (codes "<postmaster@") c.args.host.now (codes ">") c.extend_from_slice.new.self.items c.extend_from_slice-2.new.self.items c.extend_from_slice-3.new.self.items
-        c.in_ok-extend_from_slice.ensures.items c.in_ok-extend_from_slice-2.ensures.items c.in_ok-extend_from_slice-3.ensures.items
+    c.in_ok-extend_from_slice.ensures.items c.in_ok-extend_from_slice-2.ensures.items c.in_ok-extend_from_slice-3.ensures.items

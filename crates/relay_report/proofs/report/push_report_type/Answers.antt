@@ -7,4 +7,4 @@ use Rattle.relay_report.proofs.report.push_report_type.Goals as goal
 pub returns : goal.returns
 returns c =
     field_joins c.args.out.now.items (codes "Content-Type") (report_type c.args.boundary.now) c.begin_field.new.out.items c.push_report_type_text.new.out.items c.extend_from_slice.new.self.items
-        c.in_ok-begin_field.ensures c.in_ok-push_report_type_text.ensures c.in_ok-extend_from_slice.ensures.items
+    c.in_ok-begin_field.ensures c.in_ok-push_report_type_text.ensures c.in_ok-extend_from_slice.ensures.items

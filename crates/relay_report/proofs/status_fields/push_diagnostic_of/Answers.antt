@@ -7,4 +7,4 @@ use Rattle.relay_report.proofs.status_fields.push_diagnostic_of.Goals as goal
 pub returns : goal.returns
 returns c =
     typed_joins c.args.out.now.items (codes "Diagnostic-Code") (codes "smtp") (reply_words c.args.code c.args.text.now)
-        c.begin_typed_field.new.out.items c.push_reply_words.new.out.items c.extend_from_slice.new.self.items c.in_ok-begin_typed_field.ensures c.in_ok-push_reply_words.ensures c.in_ok-extend_from_slice.ensures.items
+    c.begin_typed_field.new.out.items c.push_reply_words.new.out.items c.extend_from_slice.new.self.items c.in_ok-begin_typed_field.ensures c.in_ok-push_reply_words.ensures c.in_ok-extend_from_slice.ensures.items

@@ -8,4 +8,4 @@ use Rattle.relay_report.proofs.status_fields.push_message_fields.Goals as goal
 pub returns : goal.returns
 returns c =
     joins_3 c.args.out.now.items (original_envelope_id (option_copied c.args.envid)) (field (codes "Reporting-MTA") (typed (codes "dns") c.args.host.now)) (field (codes "Arrival-Date") c.args.arrival.now)
-        c.push_original_envelope_id.new.out.items c.push_typed_field.new.out.items c.push_field.new.out.items c.in_ok-push_original_envelope_id.ensures c.in_ok-push_typed_field.ensures c.in_ok-push_field.ensures
+    c.push_original_envelope_id.new.out.items c.push_typed_field.new.out.items c.push_field.new.out.items c.in_ok-push_original_envelope_id.ensures c.in_ok-push_typed_field.ensures c.in_ok-push_field.ensures

@@ -1,0 +1,33 @@
+//! Octets written in hexadecimal.
+ghost use Rattle.std.specs.Prelude.{◌<◌, IfSome};
+
+use std::alloc::{AllocError, Global};
+
+/// The value of a digit in lower case.
+fn digit(octet: u8) -> Option<u8>
+    ensures { IfSome result (λ value. value < 16) }
+{
+    match octet {
+        b'0'..=b'9' => Some(octet - b'0'),
+        b'a'..=b'f' => Some(octet - b'a' + 10),
+        _ => None,
+    }
+}
+
+/// The octets that a text writes, two digits each. What is no digit, and a last one alone, are passed over.
+pub fn octets_of(alloc: Global, text: &str) -> Result<Vec<u8>, AllocError> {
+    let mut octets = Vec::new(alloc);
+    let mut first: Option<u8> = None;
+    for octet in text.as_bytes() {
+        if let Some(low) = digit(*octet) {
+            match first {
+                None => first = Some(low),
+                Some(high) => {
+                    octets.push(high.wrapping_mul(16).wrapping_add(low))?;
+                    first = None;
+                }
+            }
+        }
+    }
+    Ok(octets)
+}
