@@ -6,9 +6,9 @@ use Rattle.relay_book.specs.declared.change.Change.{Change}
 use Rattle.relay_book.specs.declared.change.Change.TheVariants as change
 use Rattle.relay_book.specs.declared.change.Outcome.{Outcome}
 use Rattle.relay_book.specs.declared.message.Message.{Message}
-use Rattle.relay_book.specs.Queue.{Queue, AllNoRoute, AreRulings, message_of}
+use Rattle.relay_book.specs.Queue.{Queue, AllNoRoute, AreRulings, FitsQueue, message_of}
 use Rattle.relay_book.specs.Record.{IsRuling, MayBeHop, encode}
-use Rattle.relay_records.specs.Records.{Adds, Cuts, IsStopped, Kept}
+use Rattle.relay_records.specs.Records.{Adds, Cuts, Grows, IsStopped, Kept}
 use Rattle.relay_records.specs.declared.fault.NodeFault.{NodeFault}
 use Rattle.relay_records.specs.declared.fault.NodeFault.TheVariants.{NoMemory, Stopped, Unknown, TooMany, NotDue, Busy, Open, Full}
 use Rattle.relay_report.specs.Report.{Reported, ReportedFrom}
@@ -24,11 +24,26 @@ pub record RulesOn (outcome : Outcome) (message : Message) : Type 0 where
 
 -- But for its report, the outcome fits the queue: its message is queued, and what it says of it may be stored.
 pub record MayCome (queue : Queue) (outcome : Outcome) : Type 0 where
+  pub number : outcome.message < 2 ^ 64
   pub message : MatchOption (message_of queue.messages outcome.message) ⊥ (RulesOn outcome)
   pub hop : MayBeHop outcome.hop
   pub some : 1 ≤ length outcome.rulings
   pub within : length outcome.rulings ≤ 100
   pub rulings : AllByRecursion IsRuling outcome.rulings
+
+-- the change is the outcome with the report that is due of it, and fits the queue
+pub record IsReported (host : List ℕ) (queue : Queue) (outcome : Outcome) (change : Change) : Type 0 where
+  pub report : List ℕ
+  pub change_is : change ≡ reported_as outcome report
+  pub reported : ReportedFrom host queue change
+  pub fits : FitsQueue queue change
+
+-- what an outcome that was added, with the report that is due of it, did to the records, whatever list they keep
+pub record GrowsBy {D : Type 0} (words : DiskWords D) (host : List ℕ) (outcome : Outcome) (old new : Kept D) (number : ℕ)
+    : Type 0 where
+  pub report : List ℕ
+  pub reported : ReportedFrom host old.queue (reported_as outcome report)
+  pub grows : Grows words old (reported_as outcome report) number new
 
 module _ {D : Type 0} (honest : Type 0) (words : DiskWords D) (host : List ℕ) (changes : List Change) (outcome : Outcome)
     (used : ℕ) where

@@ -1,17 +1,16 @@
 //! An outcome with the report that is due of it.
 ghost use Rattle.std.specs.Prelude.{◌≡◌, ◌≤◌, ◌<◌, ◌^◌, List, Err, IfErr, IfOk, IsTrue};
 ghost use Rattle.relay_book.specs.declared.change.Change.{Change};
-ghost use Rattle.relay_book.specs.Queue.{FitsQueue, message_of, step};
 ghost use Rattle.relay_envelope.specs.HostName.{IsHostName};
-ghost use Rattle.relay_records.specs.Records.{Grows, Keeps};
-ghost use Rattle.relay_report.specs.Report.{ReportedFrom};
-ghost use Rattle.relay_outcomes.specs.Outcomes.{AddsOutcome, CutsOutcome, MayCome, RefusesOutcome, GrowsBy, IsReported};
+ghost use Rattle.relay_records.specs.Records.{Keeps};
+ghost use Rattle.relay_outcomes.specs.Outcomes.{AddsOutcome, CutsOutcome, GrowsBy, IsReported, MayCome, RefusesOutcome, reported_as};
 
 use relay_book::{Change, Outcome, encode_change};
 use relay_disk::Disk;
 use relay_octets::Octets;
 use relay_records::{NodeFault, Records};
 use relay_report::{Report, report_if_due};
+use relay_trace::LAST_SECOND;
 use std::alloc::{AllocError, Global};
 
 /// Adds an outcome of a queued message, with the report that is due of it by this host, in one change; what its report says
@@ -63,6 +62,8 @@ fn reported<D: Disk>(
         unreachable!()
     };
     records.has_list();
+    let is_moment = outcome.at.seconds() <= LAST_SECOND;
+    prove!(is_moment);
     let report = report_if_due(
         alloc,
         &Report {
@@ -79,6 +80,7 @@ fn reported<D: Disk>(
 
 /// The outcome with another report.
 fn with_report(outcome: Outcome, report: Octets) -> Change
+    ensures { result ≡ reported_as outcome report }
 {
     Change::Outcome(Outcome { report, ..outcome })
 }

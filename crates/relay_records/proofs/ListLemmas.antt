@@ -33,7 +33,7 @@ fitting_more changes change fitting fits =
 -- a queue of a list and one change more is that of a list
 pub list_more : {D : Type 0} (seen old : Kept D) → seen ≡ old → (change : Change) → FitsQueue old.queue change → HasList seen.queue
     → (new : Queue) → new ≡ step seen.queue change → HasList new
-list_more seen old seen_is change fits (changes, fitting, queue_is) new new_is =
+list_more {D = D} seen old seen_is change fits (changes, fitting, queue_is) new new_is =
     (changes ++ change ∷ [],
     fitting_more changes change fitting (subst (λ (q : Queue). FitsQueue q change) (sym (ap (λ (r : Kept D). r.queue) seen_is) ∙ queue_is) fits),
     new_is ∙ ap (λ (q : Queue). step q change) queue_is ∙ sym (queue_of_more changes change))

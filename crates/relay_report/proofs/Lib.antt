@@ -8,3 +8,4 @@ mod ReportLemmas
 mod ShortLemmas
 mod FitLemmas
 mod SplitLemmas
+pub mod Theorems

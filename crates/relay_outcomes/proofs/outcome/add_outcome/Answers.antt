@@ -1,0 +1,9 @@
+-- What is left where the outcome isn't added.
+use Rattle.std.proofs.Common.{rules}
+use Rattle.relay_outcomes.proofs.OutcomeLemmas.{refused_outcome}
+use Rattle.relay_outcomes.proofs.outcome.add_outcome.Goals as goal
+
+pub returns-clause-refused : goal.returns-clause-refused
+returns-clause-refused g c =
+    refused_outcome g.D.Disk.words c.args.host.now c.args.outcome c.in_ok-change.change c.new-octets.result c.args.records.now c.add.new.self c.add.result
+    (search rules) (search rules) c.add.ensures.full c.add.ensures.refused
