@@ -1,5 +1,5 @@
 -- Each place of a valid envelope is read by the server, and its table has a hop for it or not.
-use Rattle.std.proofs.Common.{◌≡◌, ◌<◌, ℕ, ◌+◌, zero, suc, true, List, [], ◌∷◌, length, is_some, refl, arith}
+use Rattle.std.proofs.Common.{◌≡◌, ◌<◌, ℕ, zero, suc, true, List, [], ◌∷◌, length, is_some, refl, arith}
 use Rattle.std.specs.List.{AllByRecursion}
 use Rattle.relay_envelope.specs.declared.envelope.Recipient.{Recipient}
 use Rattle.relay_envelope.specs.Envelope.{IsRecipient}
@@ -8,7 +8,7 @@ use Rattle.relay_routes.specs.Routes.{hop_of}
 use Rattle.relay_server.specs.Setup.{Setup}
 use Rattle.relay_course.specs.WrittenLine.{rcpt_line, rcpt_line_at}
 use Rattle.relay_course.specs.Laws.{AreWithin}
-use Rattle.relay_meeting.specs.Script.{AreTried, EachPlaceIsTried, IsTried, Tried}
+use Rattle.relay_meeting.specs.Script.{AreTried, EachPlaceIsTried, Tried}
 
 -- the recipient of a place
 pub record IsPlace (recipients : List Recipient) (place : ℕ) : Type 0 where
@@ -16,14 +16,16 @@ pub record IsPlace (recipients : List Recipient) (place : ℕ) : Type 0 where
   pub valid : IsRecipient recipient
   pub line : rcpt_line_at true recipients place ≡ rcpt_line true recipient
 
-place_of : (recipients : List Recipient) (place : ℕ) → AllByRecursion IsRecipient recipients → place < length recipients → IsPlace recipients place
+place_of : (recipients : List Recipient) (place : ℕ) → AllByRecursion IsRecipient recipients → place < length recipients
+    → IsPlace recipients place
 place_of [] place valid h = absurd (omega arith)
 place_of (recipient ∷ recipients) zero valid h = record { recipient = recipient; valid = valid.0; line = refl }
 place_of (recipient ∷ recipients) (suc place) valid h =
     let behind = place_of recipients place valid.1 (omega arith) in
     record { recipient = behind.recipient; valid = behind.valid; line = behind.line }
 
-tried_all : (setup : Setup) (recipients : List Recipient) (places : List ℕ) → AllByRecursion IsRecipient recipients → AreWithin places recipients → (tried : List Tried) × AreTried setup recipients places tried
+tried_all : (setup : Setup) (recipients : List Recipient) (places : List ℕ) → AllByRecursion IsRecipient recipients
+    → AreWithin places recipients → (tried : List Tried) × AreTried setup recipients places tried
 tried_all setup recipients [] valid within = ([], tt)
 tried_all setup recipients (place ∷ places) valid within =
     let here = place_of recipients place valid within.0 in

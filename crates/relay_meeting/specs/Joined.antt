@@ -21,7 +21,7 @@ use Rattle.relay_course.specs.VerdictTable.{refusal}
 use Rattle.relay_course.specs.Progress.{Errand, progress}
 use Rattle.relay_course.specs.Course.{joined}
 use Rattle.relay_course.specs.Laws.{IsErrand}
-use Rattle.relay_meeting.specs.Meeting.{Meets, Step, replies_by}
+use Rattle.relay_meeting.specs.Meeting.{Meets, replies_by}
 use Rattle.relay_meeting.specs.Script.{AreRcpts, AreTried, Tried, client_in, envelope_behind, opened_of, script_of}
 
 -- MAIL's values, and the accepted recipients in order
@@ -130,7 +130,7 @@ pub record HaveTalked (setup : Setup) (errand : Errand) (said : Said) (replies :
   pub met : HaveMet setup errand tried said replies rest
   pub held : 0 < length said.offers → HaveReadRcpts setup tried replies
   pub ended : (verdicts : List Verdict) → length (progress errand replies).answered ≡ length replies
-    → (progress errand replies).verdicts ≡ Some verdicts → HaveEnded setup errand tried said verdicts
+      → (progress errand replies).verdicts ≡ Some verdicts → HaveEnded setup errand tried said verdicts
 
 -- What two relays have said to each other: of a valid errand all of it is so.
 abbrev pub WhatRelaysSay : Type 0
