@@ -74,6 +74,12 @@ abbrev pub AnsweredAreFirst : Type 0
 AnsweredAreFirst =
     (errand : Errand) (replies : List Reply) → Begins (replies_in (progress errand replies).answered) replies
 
+-- What was answered stays answered, whatever replies come behind.
+abbrev pub AnswersStay : Type 0
+AnswersStay =
+    (errand : Errand) (replies more : List Reply)
+    → Begins (progress errand replies).answered (progress errand (replies ++ more)).answered
+
 -- the RCPTs that were answered
 abbrev pub if_rcpt_one : Awaited → Answered → List Answered
 if_rcpt_one (awaited.Rcpt place) one = one ∷ []

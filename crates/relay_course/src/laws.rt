@@ -1,5 +1,5 @@
 //! What is true of every attempt, whatever the replies.
-ghost use Rattle.relay_course.specs.Laws.{AnsweredAreFirst, CommandsKeepUp, CommandsStay, CourseMayBeLost, EachCommandIsRead, EachCommandWaits, EachReplyAnswers, EndIsEnd, EndWaitsForNothing, RcptsAreInOrder, ReplyLeadsOn, TakenWhereAnswered, VerdictForEachPlace, VerdictsMayBeStored};
+ghost use Rattle.relay_course.specs.Laws.{AnsweredAreFirst, AnswersStay, CommandsKeepUp, CommandsStay, CourseMayBeLost, EachCommandIsRead, EachCommandWaits, EachReplyAnswers, EndIsEnd, EndWaitsForNothing, RcptsAreInOrder, ReplyLeadsOn, TakenWhereAnswered, VerdictForEachPlace, VerdictsMayBeStored};
 ghost use Rattle.relay_course.specs.RelayLaws.{CommandsToARelay, NothingBeforeAllRcpts};
 
 /// A further reply leads on from where the others led.
@@ -40,6 +40,11 @@ pub fn commands_keep_up()
 /// The replies that answered something are the first ones, in order.
 pub fn answered_are_first()
     ensures { AnsweredAreFirst }
+{}
+
+/// What was answered stays answered, whatever replies come behind.
+pub fn answers_stay()
+    ensures { AnswersStay }
 {}
 
 /// The RCPTs that were answered are those of the first places, in order.
