@@ -1,5 +1,5 @@
 -- What is true of every attempt, whatever the replies.
-use Rattle.std.specs.Prelude.{◌≡◌, ◌⊎◌, ◌↔◌, ◌<◌, ◌≤◌, ◌^◌, ℕ, ◌+◌, Bool, true, false, List, [], ◌∷◌, ◌++◌, length, map, slice_get, None, Some}
+use Rattle.std.specs.Prelude.{◌≡◌, ◌⊎◌, ◌↔◌, ◌<◌, ◌≤◌, ◌^◌, ℕ, ◌+◌, Bool, true, false, List, [], ◌∷◌, ◌++◌, length, map, slice_get, Option, None, Some}
 use Rattle.std.specs.List.{AllByRecursion, Contains, flat_map}
 use Rattle.relay_octets.specs.Beginning.{Begins}
 use Rattle.relay_octets.specs.Line.{line_text}
@@ -192,3 +192,12 @@ CourseMayBeLost =
     (host : List ℕ) (envelope : Envelope) (text places input output : List ℕ)
     → IsCourse host envelope text places input false output None
     → IsCourse host envelope text places input true output (Some (all_later places))
+
+-- What was read, and whether a loss was told, fix what was written and the verdicts.
+abbrev pub CourseIsOne : Type 0
+CourseIsOne =
+    (host : List ℕ) (envelope : Envelope) (text places input : List ℕ) (told : Bool) (output other : List ℕ)
+    (verdicts others : Option (List Verdict))
+    → IsCourse host envelope text places input told output verdicts
+    → IsCourse host envelope text places input told other others
+    → (output ≡ other) × (verdicts ≡ others)

@@ -1,5 +1,5 @@
 //! What is true of every attempt, whatever the replies.
-ghost use Rattle.relay_course.specs.Laws.{AnsweredAreFirst, AnswersStay, CommandsKeepUp, CommandsStay, CourseMayBeLost, EachCommandIsRead, EachCommandWaits, EachReplyAnswers, EndIsEnd, EndWaitsForNothing, RcptsAreInOrder, ReplyLeadsOn, TakenWhereAnswered, VerdictForEachPlace, VerdictsMayBeStored};
+ghost use Rattle.relay_course.specs.Laws.{AnsweredAreFirst, AnswersStay, CommandsKeepUp, CommandsStay, CourseIsOne, CourseMayBeLost, EachCommandIsRead, EachCommandWaits, EachReplyAnswers, EndIsEnd, EndWaitsForNothing, RcptsAreInOrder, ReplyLeadsOn, TakenWhereAnswered, VerdictForEachPlace, VerdictsMayBeStored};
 ghost use Rattle.relay_course.specs.RelayLaws.{CommandsToARelay, NothingBeforeAllRcpts};
 
 /// A further reply leads on from where the others led.
@@ -75,6 +75,11 @@ pub fn verdicts_may_be_stored()
 /// A course that goes on may be lost: then each place may be tried again, and nothing more is written.
 pub fn course_may_be_lost()
     ensures { CourseMayBeLost }
+{}
+
+/// What was read, and whether a loss was told, fix what was written and the verdicts.
+pub fn course_is_one()
+    ensures { CourseIsOne }
 {}
 
 /// At a relay an attempt writes EHLO, MAIL, the RCPTs, the content where one of those is accepted, and QUIT, and has
