@@ -5,4 +5,4 @@ pub use Rattle.relay_course.proofs.EndLemmas.{answered_are_first, answers_stay, 
 pub use Rattle.relay_course.proofs.OneLemmas.{course_is_one}
 pub use Rattle.relay_course.proofs.TakenLemmas.{taken_where_answered}
 pub use Rattle.relay_course.proofs.WrittenLemmas.{each_command_is_read}
-pub use Rattle.relay_course.proofs.RelayLemmas.{commands_to_a_relay, nothing_before_all_rcpts}
+pub use Rattle.relay_course.proofs.RelayLemmas.{all_rcpts_answered, commands_to_a_relay, nothing_before_all_rcpts}

@@ -1,6 +1,6 @@
 //! What is true of every attempt, whatever the replies.
 ghost use Rattle.relay_course.specs.Laws.{AnsweredAreFirst, AnswersStay, CommandsKeepUp, CommandsStay, CourseIsOne, CourseMayBeLost, EachCommandIsRead, EachCommandWaits, EachReplyAnswers, EndIsEnd, EndWaitsForNothing, RcptsAreInOrder, ReplyLeadsOn, TakenWhereAnswered, VerdictForEachPlace, VerdictsMayBeStored};
-ghost use Rattle.relay_course.specs.RelayLaws.{CommandsToARelay, NothingBeforeAllRcpts};
+ghost use Rattle.relay_course.specs.RelayLaws.{AllRcptsAnswered, CommandsToARelay, NothingBeforeAllRcpts};
 
 /// A further reply leads on from where the others led.
 pub fn reply_leads_on()
@@ -91,4 +91,9 @@ pub fn commands_to_a_relay()
 /// Before all RCPTs are answered, nothing is written behind them, and the others wait.
 pub fn nothing_before_all_rcpts()
     ensures { NothingBeforeAllRcpts }
+{}
+
+/// Where all RCPTs were answered, so was what was written before them, and nothing else.
+pub fn all_rcpts_answered()
+    ensures { AllRcptsAnswered }
 {}
