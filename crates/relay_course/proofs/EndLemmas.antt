@@ -84,9 +84,9 @@ answered_are_first errand replies =
 
 -- what was answered before is still there
 answered-kept : (errand : Errand) (now : Progress) (reply : Reply) (replies : List Reply) (waits : List Awaited)
-  → now.waits ≡ waits
-  → ((mid : Progress) → Begins mid.answered (behind_replies errand mid replies).answered)
-  → Begins now.answered (behind_replies errand now (reply ∷ replies)).answered
+    → now.waits ≡ waits
+    → ((mid : Progress) → Begins mid.answered (behind_replies errand mid replies).answered)
+    → Begins now.answered (behind_replies errand now (reply ∷ replies)).answered
 answered-kept errand now reply replies [] e more =
     subst (λ (end : Progress). Begins now.answered end.answered) (sym (stays errand now (reply ∷ replies) e))
     ([], sym (append-nil now.answered))
@@ -95,13 +95,14 @@ answered-kept errand now reply replies (waited ∷ waits) e more =
     let one : List Answered = answer_of waited reply ∷ [] in
     let behind = more mid in
     let is : mid.answered ≡ now.answered ++ one =
-      ap (λ (w : List Awaited). (with_answer errand w reply now).answered) e
-      ∙ (answer-goes errand waited (kind_of reply.code) reply (answered_by waited waits reply now)).0.3 in
-    (one ++ behind.0,
-    behind.1 ∙ ap (λ (l : List Answered). l ++ behind.0) is ∙ append_assoc now.answered one behind.0)
+    ap (λ (w : List Awaited). (with_answer errand w reply now).answered) e
+    ∙ (answer-goes errand waited (kind_of reply.code) reply (answered_by waited waits reply now)).0.3 in (
+      one ++ behind.0,
+      behind.1 ∙ ap (λ (l : List Answered). l ++ behind.0) is ∙ append_assoc now.answered one behind.0,
+    )
 
 along-kept : (errand : Errand) (now : Progress) (replies : List Reply)
-  → Begins now.answered (behind_replies errand now replies).answered
+    → Begins now.answered (behind_replies errand now replies).answered
 along-kept errand now [] = ([], sym (append-nil now.answered))
 along-kept errand now (reply ∷ replies) =
     answered-kept errand now reply replies now.waits refl (λ mid. along-kept errand mid replies)

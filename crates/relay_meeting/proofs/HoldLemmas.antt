@@ -22,6 +22,7 @@ use Rattle.relay_meeting.specs.Meeting.{Plays, Step, replies_by, step_of}
 use Rattle.relay_meeting.specs.Script.{Tried, quit_step, last_steps, rcpt_steps, with_tried, client_in, opened_of, script_of, AreTried}
 use Rattle.relay_meeting.specs.Joined.{AreJoined, HaveMet, OfferHoldsItsPlaces}
 use Rattle.relay_meeting.proofs.MeetLemmas.{either_begins, joined-append, meeting}
+use Rattle.relay_meeting.proofs.TriedLemmas.{rcpt_line-at}
 use Rattle.relay_meeting.proofs.ScriptLemmas.{script_is_servers}
 use Rattle.relay_meeting.proofs.WritesLemmas.{all_replies, as_many_tried, client_writes, fill}
 use Rattle.relay_meeting.proofs.JoinLemmas.{all_written, two_relays_meet}
@@ -64,7 +65,7 @@ rcpts_read setup host limit client errand recipients (place ∷ places) envelope
     let behind =
     rcpts_read setup host limit client errand recipients places (with_tried envelope tried) more turns all.2 plays.2
     (omega (arith, none)) in
-    let line = ap length (plays.0 ∙ sym all.0) in
+    let line = ap length (plays.0 ∙ sym (rcpt_line-at true recipients place tried.recipient all.0)) in
     omega (
       arith,
       behind,
@@ -210,11 +211,9 @@ offer_holds_its_places setup errand tried said input output replies rest is all 
     parts.willing n is.some (either_begins replies front (heard.0 ++ filled.later) (last ++ parts.quit ∷ []) line)
     read.octets read.long in
     record {
-      greeting = greeting;
-      hello = hello;
-      mail = parts.mail;
       rcpts = parts.rcpts;
       later = enough.0;
-      replies_are = enough.1;
+      replies_are = enough.1
+          ∙ ap (λ (mail : Reply). opening_replies greeting hello mail parts.rcpts ++ enough.0) parts.mail_is;
       by_table = parts.are;
     }

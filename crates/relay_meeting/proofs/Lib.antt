@@ -5,5 +5,6 @@ mod WritesLemmas
 mod JoinLemmas
 mod EndLemmas
 mod HoldLemmas
+mod ChildLemmas
 mod WholeLemmas
 pub mod Theorems

@@ -6,4 +6,5 @@ pub use Rattle.relay_meeting.proofs.WritesLemmas.{client_writes}
 pub use Rattle.relay_meeting.proofs.JoinLemmas.{two_relays_meet}
 pub use Rattle.relay_meeting.proofs.EndLemmas.{two_relays_end}
 pub use Rattle.relay_meeting.proofs.HoldLemmas.{offer_holds_its_places}
+pub use Rattle.relay_meeting.proofs.ChildLemmas.{child_holds_its_places}
 pub use Rattle.relay_meeting.proofs.WholeLemmas.{what_relays_say}

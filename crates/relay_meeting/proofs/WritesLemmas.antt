@@ -23,6 +23,7 @@ use Rattle.relay_course.specs.Progress.{Errand, Progress, progress}
 use Rattle.relay_course.specs.RelayLaws.{AreWilling, all_extensions, content_commands, content_replies, opening_commands, relay_replies}
 use Rattle.relay_course.proofs.Theorems.{commands_keep_up, commands_stay, commands_to_a_relay, end_is_end}
 use Rattle.relay_meeting.specs.Meeting.{Step, step_of, AreExpected, IsExpected, commands_in}
+use Rattle.relay_meeting.proofs.TriedLemmas.{rcpt_line-at}
 use Rattle.relay_meeting.specs.Script.{AreRcpts, Tried, row_of_hop, with_tried, quit_step, content_steps, last_steps, rcpt_steps, opened_of, client_in, script_of, envelope_behind, AreTried, ClientWrites}
 
 -- a reply that a course may have
@@ -219,7 +220,8 @@ rcpt_commands setup limit client errand recipients [] [] envelope all = refl
 rcpt_commands setup limit client errand recipients [] (tried ∷ more) envelope all = absurd all
 rcpt_commands setup limit client errand recipients (place ∷ places) [] envelope all = absurd all
 rcpt_commands setup limit client errand recipients (place ∷ places) (tried ∷ more) envelope all =
-    ap (λ l. l ∷ commands_in (rcpt_steps limit client errand (with_tried envelope tried) more)) (sym all.0)
+    ap (λ l. l ∷ commands_in (rcpt_steps limit client errand (with_tried envelope tried) more))
+    (sym (rcpt_line-at true recipients place tried.recipient all.0))
     ∙ ap (λ l. rcpt_line_at true recipients place ∷ l)
     (rcpt_commands setup limit client errand recipients places more (with_tried envelope tried) all.2)
 
@@ -262,6 +264,22 @@ hello_kind : (host : List ℕ) → kind_of (reply_of host row.Extensions).code �
 unfolding reply_of
 hello_kind host = refl
 
+input-is : (host : List ℕ) → kind_of (reply_of host row.StartMailInput).code ≡ Intermediate
+unfolding reply_of
+input-is host = refl
+
+-- a relay of ours is willing
+pub willing_relay : (host : List ℕ)
+    → AreWilling (reply_of host row.Greeting) (reply_of host row.Extensions) (reply_of host row.SenderOk)
+    (reply_of host row.StartMailInput)
+willing_relay host = record {
+  greets = greeting_kind host;
+  says_hello = hello_kind host;
+  offers = offers_all host;
+  takes_mail = mail_kind host (reply_of host row.SenderOk) refl;
+  takes_input = input-is host;
+}
+
 -- the replies to all of a script
 pub record AllReplies (setup : Setup) (errand : Errand) (tried : List Tried) (replies : List Reply) : Type 0 where
   pub mail : Reply
@@ -270,6 +288,7 @@ pub record AllReplies (setup : Setup) (errand : Errand) (tried : List Tried) (re
   pub content : Reply
   pub quit : Reply
   pub willing : AreWilling (reply_of setup.host row.Greeting) (reply_of setup.host row.Extensions) mail input
+  pub mail_is : mail ≡ reply_of setup.host row.SenderOk
   pub count : length rcpts ≡ length tried
   pub are : AreRcpts setup.host tried rcpts
   pub some : has_some (envelope_behind (opened_of errand.envelope) tried) ≡ some_accepted rcpts
@@ -305,6 +324,7 @@ all_replies setup errand tried (hello ∷ mail ∷ replies) e n =
         takes_mail = mail_kind setup.host mail e.1.0;
         takes_input = last.goes_on;
       };
+      mail_is = e.1.0;
       count = parts.count;
       are = parts.are;
       some = is;

@@ -1,5 +1,5 @@
 -- What two relays of ours say to each other: the script of an errand at a server, by what its table makes of each place.
-use Rattle.std.specs.Prelude.{◌≡◌, ℕ, nat_le, Bool, true, List, [], ◌∷◌, ◌++◌, length, if◌then◌else◌, is_some, Ok}
+use Rattle.std.specs.Prelude.{◌≡◌, ℕ, nat_le, Bool, true, List, [], ◌∷◌, ◌++◌, length, if◌then◌else◌, is_some, slice_get, Some, Ok}
 use Rattle.relay_lines.specs.Reply.{Reply}
 use Rattle.relay_body.specs.DotText.{ends_in_line_end}
 use Rattle.relay_envelope.specs.declared.envelope.Envelope.{Envelope}
@@ -15,7 +15,7 @@ use Rattle.relay_server.specs.Reply.{reply_of}
 use Rattle.relay_server.specs.ReplyTable.{Replies, course_of_text, course_of_chunks}
 use Rattle.relay_server.specs.Setup.{Setup}
 use Rattle.relay_server.specs.State.{Greeted, Open, Command, Receiving, Closed, client_of, start}
-use Rattle.relay_course.specs.WrittenLine.{ehlo_line, mail_line, rcpt_line, rcpt_line_at, data_line, last_chunk, quit_line}
+use Rattle.relay_course.specs.WrittenLine.{ehlo_line, mail_line, rcpt_line, data_line, last_chunk, quit_line}
 use Rattle.relay_course.specs.Progress.{Errand, progress}
 use Rattle.relay_course.specs.Laws.{AreWithin, IsErrand}
 use Rattle.relay_meeting.specs.Meeting.{IsScript, Step, Writes, step_of}
@@ -98,8 +98,7 @@ AreTried setup recipients [] [] = Unit {0}
 AreTried setup recipients [] (tried ∷ more) = ⊥
 AreTried setup recipients (place ∷ places) [] = ⊥
 AreTried setup recipients (place ∷ places) (tried ∷ more) =
-    (rcpt_line_at true recipients place ≡ rcpt_line true tried.recipient) × IsTried setup tried
-    × AreTried setup recipients places more
+    (slice_get recipients place ≡ Some tried.recipient) × IsTried setup tried × AreTried setup recipients places more
 
 -- Each place of a valid envelope is tried as the server's table says.
 abbrev pub EachPlaceIsTried : Type 0

@@ -1,5 +1,5 @@
 //! What is true of two relays that meet.
-ghost use Rattle.relay_meeting.specs.Joined.{OfferHoldsItsPlaces, TwoRelaysEnd, TwoRelaysMeet, WhatRelaysSay};
+ghost use Rattle.relay_meeting.specs.Joined.{ChildHoldsItsPlaces, OfferHoldsItsPlaces, TwoRelaysEnd, TwoRelaysMeet, WhatRelaysSay};
 ghost use Rattle.relay_meeting.specs.Meeting.{Meeting};
 ghost use Rattle.relay_meeting.specs.Script.{ClientWrites, EachPlaceIsTried, ScriptIsServers};
 
@@ -37,6 +37,11 @@ pub fn two_relays_end()
 /// Where a relay has made an offer, the client has read the replies to all RCPTs.
 pub fn offer_holds_its_places()
     ensures { OfferHoldsItsPlaces }
+{}
+
+/// Where a relay has made an offer, it is one, of the recipients whose RCPTs the client has read to be accepted.
+pub fn child_holds_its_places()
+    ensures { ChildHoldsItsPlaces }
 {}
 
 /// What two relays have said to each other of a valid errand, all of it.
