@@ -18,8 +18,8 @@ use Rattle.relay_course.specs.declared.reply_kind.ReplyKind.TheVariants.{Complet
 use Rattle.relay_course.specs.VerdictTable.{all_later, content_verdict_by, kind_of, rcpt_verdict_by, refusal, shown, verdicts_of}
 use Rattle.relay_course.specs.Progress.{Errand, Answered, Progress, answer_of, rcpt_replies, at_greeting, with_answer, behind_reply, behind_replies, progress}
 use Rattle.relay_course.specs.Course.{Concludes, errand_of}
-use Rattle.relay_course.specs.Laws.{AnsweredAreFirst, CommandsKeepUp, CourseMayBeLost, RcptsAreInOrder, VerdictForEachPlace, VerdictsMayBeStored, rcpt_places, replies_in}
-use Rattle.relay_course.proofs.GoingLemmas.{answer-goes, answered_by, each_command_waits, end_is_end, stays}
+use Rattle.relay_course.specs.Laws.{AnsweredAreFirst, AnswersStay, CommandsKeepUp, CourseMayBeLost, RcptsAreInOrder, VerdictForEachPlace, VerdictsMayBeStored, rcpt_places, replies_in}
+use Rattle.relay_course.proofs.GoingLemmas.{answer-goes, answered_by, behind_replies-append, each_command_waits, end_is_end, stays}
 use Rattle.relay_course.proofs.OrderLemmas.{EndedBefore, EndedByContent, StandsBy, content_replies_in, ended-over, end_waits_for_nothing, progress-stands, waiting_places}
 
 keep-up-by : (errand : Errand) (replies more : List Reply) (verdicts : Option (List Verdict))
@@ -81,6 +81,37 @@ pub answered_are_first : AnsweredAreFirst
 answered_are_first errand replies =
     let some = along-answered errand (at_greeting errand) replies in
     (some.1, some.2 ∙ ap (λ (l : List Reply). l ++ some.1) (sym some.3))
+
+-- what was answered before is still there
+answered-kept : (errand : Errand) (now : Progress) (reply : Reply) (replies : List Reply) (waits : List Awaited)
+    → now.waits ≡ waits
+    → ((mid : Progress) → Begins mid.answered (behind_replies errand mid replies).answered)
+    → Begins now.answered (behind_replies errand now (reply ∷ replies)).answered
+answered-kept errand now reply replies [] e more =
+    subst (λ (end : Progress). Begins now.answered end.answered) (sym (stays errand now (reply ∷ replies) e))
+    ([], sym (append-nil now.answered))
+answered-kept errand now reply replies (waited ∷ waits) e more =
+    let mid : Progress = behind_reply errand now reply in
+    let one : List Answered = answer_of waited reply ∷ [] in
+    let behind = more mid in
+    let is : mid.answered ≡ now.answered ++ one =
+    ap (λ (w : List Awaited). (with_answer errand w reply now).answered) e
+    ∙ (answer-goes errand waited (kind_of reply.code) reply (answered_by waited waits reply now)).0.3 in (
+      one ++ behind.0,
+      behind.1 ∙ ap (λ (l : List Answered). l ++ behind.0) is ∙ append_assoc now.answered one behind.0,
+    )
+
+along-kept : (errand : Errand) (now : Progress) (replies : List Reply)
+    → Begins now.answered (behind_replies errand now replies).answered
+along-kept errand now [] = ([], sym (append-nil now.answered))
+along-kept errand now (reply ∷ replies) =
+    answered-kept errand now reply replies now.waits refl (λ mid. along-kept errand mid replies)
+
+pub answers_stay : AnswersStay
+answers_stay errand replies more =
+    let here : Progress = progress errand replies in
+    subst (λ (end : Progress). Begins here.answered end.answered)
+    (sym (behind_replies-append errand (at_greeting errand) replies more)) (along-kept errand here more)
 
 in-order-by : (errand : Errand) (now : Progress) (verdicts : Option (List Verdict)) → StandsBy errand now verdicts
     → Begins (rcpt_places now.answered) errand.places

@@ -97,7 +97,7 @@ content-goes errand now =
     (with_command (last_chunk errand.text) Content now)
     (asked data_line Data now) (asked (last_chunk errand.text) Content now)
 
-rcpts-go : (errand : Errand) (now : Progress) → GoesOn now (behind_rcpts errand now)
+pub rcpts-go : (errand : Errand) (now : Progress) → GoesOn now (behind_rcpts errand now)
 rcpts-go errand now =
     chosen now (some_accepted (rcpt_replies now.answered)) (with_content errand now) (ended_by errand Later now)
     (content-goes errand now) (ended errand Later now)

@@ -2,6 +2,7 @@ mod GoingLemmas
 mod OrderLemmas
 mod TakenLemmas
 mod EndLemmas
+mod OneLemmas
 mod WrittenLemmas
 mod RelayLemmas
 pub mod Theorems

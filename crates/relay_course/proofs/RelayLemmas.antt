@@ -15,8 +15,8 @@ use Rattle.relay_course.specs.Extensions.{no_extensions}
 use Rattle.relay_course.specs.WrittenLine.{ehlo_line, mail_line, rcpt_line_at, data_line, last_chunk, quit_line}
 use Rattle.relay_course.specs.VerdictTable.{content_verdict_by, kind_of, some_accepted, verdicts_of}
 use Rattle.relay_course.specs.Progress.{Errand, Answered, Progress, answer_of, if_rcpt, rcpt_replies, with_command, ended_by, with_rcpts, with_content, behind_rcpts, with_mail, behind_hello, behind_answer, at_greeting, behind_replies}
-use Rattle.relay_course.specs.RelayLaws.{AreWilling, CommandsToARelay, NothingBeforeAllRcpts, all_extensions, answered_rcpts, content_answers, content_commands, content_replies, last_verdict, opening_answers, opening_commands, opening_replies, relay_progress}
-use Rattle.relay_course.proofs.GoingLemmas.{behind_replies-append}
+use Rattle.relay_course.specs.RelayLaws.{AllRcptsAnswered, AreWilling, CommandsToARelay, NothingBeforeAllRcpts, all_extensions, answered_rcpts, content_answers, content_commands, content_replies, last_verdict, opening_answers, opening_commands, opening_replies, relay_progress}
+use Rattle.relay_course.proofs.GoingLemmas.{behind_replies-append, rcpts-go}
 
 abbrev rcpt_lines : Errand → Bool → List ℕ → List (List ℕ)
 rcpt_lines errand dsn places = map (rcpt_line_at dsn errand.envelope.recipients) places
@@ -276,3 +276,9 @@ commands_to_a_relay errand greeting hello mail input content rcpts willing e =
     (opened-all errand errand.places greeting hello mail input rcpts willing e)
     ∙ finish errand input content (opening_commands errand) answers (some_accepted rcpts) willing.takes_input some
     ∙ end-is errand greeting hello mail input content rcpts e
+
+pub all_rcpts_answered : AllRcptsAnswered
+all_rcpts_answered errand greeting hello mail input rcpts willing e =
+    let answers : List Answered = opening_answers errand.places greeting hello mail rcpts in
+    ap (λ (now : Progress). now.answered) (opened-all errand errand.places greeting hello mail input rcpts willing e)
+    ∙ (rcpts-go errand (progress_at (opening_commands errand) [] [] all_extensions answers)).0.3

@@ -1,5 +1,5 @@
 -- What is true of every attempt, whatever the replies.
-use Rattle.std.specs.Prelude.{◌≡◌, ◌⊎◌, ◌↔◌, ◌<◌, ◌≤◌, ◌^◌, ℕ, ◌+◌, Bool, true, false, List, [], ◌∷◌, ◌++◌, length, map, slice_get, None, Some}
+use Rattle.std.specs.Prelude.{◌≡◌, ◌⊎◌, ◌↔◌, ◌<◌, ◌≤◌, ◌^◌, ℕ, ◌+◌, Bool, true, false, List, [], ◌∷◌, ◌++◌, length, map, slice_get, Option, None, Some, if◌then◌else◌}
 use Rattle.std.specs.List.{AllByRecursion, Contains, flat_map}
 use Rattle.relay_octets.specs.Beginning.{Begins}
 use Rattle.relay_octets.specs.Line.{line_text}
@@ -17,7 +17,7 @@ use Rattle.relay_book.specs.Record.{IsVerdict}
 use Rattle.relay_course.specs.declared.awaited.Awaited.{Awaited}
 use Rattle.relay_course.specs.declared.awaited.Awaited.TheVariants as awaited
 use Rattle.relay_course.specs.declared.reply_kind.ReplyKind.TheVariants.{Completion}
-use Rattle.relay_course.specs.VerdictTable.{all_later, kind_of}
+use Rattle.relay_course.specs.VerdictTable.{all_later, is_accepted, kind_of}
 use Rattle.relay_course.specs.Progress.{Errand, Answered, Progress, answer_of, behind_reply, progress}
 use Rattle.relay_course.specs.Course.{IsCourse, IsSentAs}
 
@@ -74,6 +74,12 @@ abbrev pub AnsweredAreFirst : Type 0
 AnsweredAreFirst =
     (errand : Errand) (replies : List Reply) → Begins (replies_in (progress errand replies).answered) replies
 
+-- What was answered stays answered, whatever replies come behind.
+abbrev pub AnswersStay : Type 0
+AnswersStay =
+    (errand : Errand) (replies more : List Reply)
+    → Begins (progress errand replies).answered (progress errand (replies ++ more)).answered
+
 -- the RCPTs that were answered
 abbrev pub if_rcpt_one : Awaited → Answered → List Answered
 if_rcpt_one (awaited.Rcpt place) one = one ∷ []
@@ -89,6 +95,14 @@ if_rcpt_place _ = []
 
 abbrev pub rcpt_places : List Answered → List ℕ
 rcpt_places answered = flat_map (λ one. if_rcpt_place one.waited) answered
+
+-- the places whose RCPT was answered 2yz
+abbrev pub if_accepted_place : Awaited → Reply → List ℕ
+if_accepted_place (awaited.Rcpt place) reply = if is_accepted reply then place ∷ [] else []
+if_accepted_place _ reply = []
+
+abbrev pub accepted_places : List Answered → List ℕ
+accepted_places answered = flat_map (λ one. if_accepted_place one.waited one.reply) answered
 
 -- The RCPTs that were answered are those of the first places, in order.
 abbrev pub RcptsAreInOrder : Type 0
@@ -186,3 +200,12 @@ CourseMayBeLost =
     (host : List ℕ) (envelope : Envelope) (text places input output : List ℕ)
     → IsCourse host envelope text places input false output None
     → IsCourse host envelope text places input true output (Some (all_later places))
+
+-- What was read, and whether a loss was told, fix what was written and the verdicts.
+abbrev pub CourseIsOne : Type 0
+CourseIsOne =
+    (host : List ℕ) (envelope : Envelope) (text places input : List ℕ) (told : Bool) (output other : List ℕ)
+    (verdicts others : Option (List Verdict))
+    → IsCourse host envelope text places input told output verdicts
+    → IsCourse host envelope text places input told other others
+    → (output ≡ other) × (verdicts ≡ others)

@@ -119,3 +119,11 @@ NothingBeforeAllRcpts =
     → AreWilling greeting hello mail input → length rcpts < length errand.places
     → progress errand (opening_replies greeting hello mail rcpts)
     ≡ opening_progress errand greeting hello mail rcpts
+
+-- Where all RCPTs were answered, so was what was written before them, and nothing else.
+abbrev pub AllRcptsAnswered : Type 0
+AllRcptsAnswered =
+    (errand : Errand) (greeting hello mail input : Reply) (rcpts : List Reply)
+    → AreWilling greeting hello mail input → length rcpts ≡ length errand.places
+    → (progress errand (opening_replies greeting hello mail rcpts)).answered
+    ≡ opening_answers errand.places greeting hello mail rcpts

@@ -1,6 +1,6 @@
 //! What is true of every attempt, whatever the replies.
-ghost use Rattle.relay_course.specs.Laws.{AnsweredAreFirst, CommandsKeepUp, CommandsStay, CourseMayBeLost, EachCommandIsRead, EachCommandWaits, EachReplyAnswers, EndIsEnd, EndWaitsForNothing, RcptsAreInOrder, ReplyLeadsOn, TakenWhereAnswered, VerdictForEachPlace, VerdictsMayBeStored};
-ghost use Rattle.relay_course.specs.RelayLaws.{CommandsToARelay, NothingBeforeAllRcpts};
+ghost use Rattle.relay_course.specs.Laws.{AnsweredAreFirst, AnswersStay, CommandsKeepUp, CommandsStay, CourseIsOne, CourseMayBeLost, EachCommandIsRead, EachCommandWaits, EachReplyAnswers, EndIsEnd, EndWaitsForNothing, RcptsAreInOrder, ReplyLeadsOn, TakenWhereAnswered, VerdictForEachPlace, VerdictsMayBeStored};
+ghost use Rattle.relay_course.specs.RelayLaws.{AllRcptsAnswered, CommandsToARelay, NothingBeforeAllRcpts};
 
 /// A further reply leads on from where the others led.
 pub fn reply_leads_on()
@@ -42,6 +42,11 @@ pub fn answered_are_first()
     ensures { AnsweredAreFirst }
 {}
 
+/// What was answered stays answered, whatever replies come behind.
+pub fn answers_stay()
+    ensures { AnswersStay }
+{}
+
 /// The RCPTs that were answered are those of the first places, in order.
 pub fn rcpts_are_in_order()
     ensures { RcptsAreInOrder }
@@ -72,6 +77,11 @@ pub fn course_may_be_lost()
     ensures { CourseMayBeLost }
 {}
 
+/// What was read, and whether a loss was told, fix what was written and the verdicts.
+pub fn course_is_one()
+    ensures { CourseIsOne }
+{}
+
 /// At a relay an attempt writes EHLO, MAIL, the RCPTs, the content where one of those is accepted, and QUIT, and has
 /// ended.
 pub fn commands_to_a_relay()
@@ -81,4 +91,9 @@ pub fn commands_to_a_relay()
 /// Before all RCPTs are answered, nothing is written behind them, and the others wait.
 pub fn nothing_before_all_rcpts()
     ensures { NothingBeforeAllRcpts }
+{}
+
+/// Where all RCPTs were answered, so was what was written before them, and nothing else.
+pub fn all_rcpts_answered()
+    ensures { AllRcptsAnswered }
 {}

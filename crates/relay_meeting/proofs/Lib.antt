@@ -2,3 +2,9 @@ mod MeetLemmas
 mod ScriptLemmas
 mod TriedLemmas
 mod WritesLemmas
+mod JoinLemmas
+mod EndLemmas
+mod HoldLemmas
+mod ChildLemmas
+mod WholeLemmas
+pub mod Theorems

@@ -1,5 +1,5 @@
 -- A script, the client that writes it, and the server that reads it.
-use Rattle.std.proofs.Common.{◌≡◌, ◌≤◌, ◌<◌, ◌⊎◌, ℕ, ◌+◌, suc, List, [], ◌∷◌, ◌++◌, length, map, inl, inr, refl, sym, ap, ◌∙◌, subst, arith}
+use Rattle.std.proofs.Common.{◌≡◌, ◌≤◌, ◌<◌, ◌⊎◌, ℕ, ◌+◌, suc, List, [], ◌∷◌, ◌++◌, length, inl, inr, refl, sym, ap, ◌∙◌, subst, arith}
 use Rattle.std.proofs.lemmas.List.{append_assoc, append-nil, append_cancel_left, length-append, map-append}
 use Rattle.std.proofs.lemmas.List.Concat.{flat_map-append}
 use Rattle.relay_lines.specs.Reply.{Reply}
@@ -11,10 +11,11 @@ use Rattle.relay_server.specs.Unit.{IsUnit}
 use Rattle.relay_server.proofs.Theorems.{asked_is_a_unit, no_unit_is_empty, turn_is_of_its_unit}
 use Rattle.relay_octets.specs.Beginning.{Begins}
 use Rattle.relay_course.specs.Course.{joined}
-use Rattle.relay_meeting.specs.Meeting.{Meeting, Step, IsScript, IsExpected, AreExpected, Plays, Writes, Meets, behind_turns, commands_in, replies_by, state_behind}
+use Rattle.relay_meeting.specs.Meeting.{Meeting, Step, IsScript, IsExpected, AreExpected, Writes, Meets, commands_in, replies_by, state_behind}
 
 -- of two lists that begin one list, one begins the other
-either_behind : {A : Type 0} (x y : A) (one two : List A) → Begins one two ⊎ Begins two one → x ≡ y → Begins (x ∷ one) (y ∷ two) ⊎ Begins (y ∷ two) (x ∷ one)
+either_behind : {A : Type 0} (x y : A) (one two : List A) → Begins one two ⊎ Begins two one → x ≡ y
+    → Begins (x ∷ one) (y ∷ two) ⊎ Begins (y ∷ two) (x ∷ one)
 either_behind x y one two (inl begins) e = inl (begins.0, cc)
 either_behind x y one two (inr begins) e = inr (begins.0, cc)
 
@@ -29,18 +30,21 @@ either_begins (x ∷ one) (y ∷ two) rest more e =
 begins_trans : {A : Type 0} (one two three : List A) → Begins one two → Begins two three → Begins one three
 begins_trans one two three a b = (a.0 ++ b.0, b.1 ∙ ap (λ l. l ++ b.0) a.1 ∙ append_assoc one a.0 b.0)
 
-expected_behind : (host : List ℕ) (done todo : List Step) (replies more : List Reply) → length replies ≡ length done → AreExpected host done replies → AreExpected host todo more → AreExpected host (done ++ todo) (replies ++ more)
+expected_behind : (host : List ℕ) (done todo : List Step) (replies more : List Reply) → length replies ≡ length done
+    → AreExpected host done replies → AreExpected host todo more → AreExpected host (done ++ todo) (replies ++ more)
 expected_behind host [] todo [] more n a b = b
 expected_behind host [] todo (reply ∷ replies) more n a b = absurd a
 expected_behind host (step ∷ done) todo [] more n a b = absurd (omega arith)
 expected_behind host (step ∷ done) todo (reply ∷ replies) more n a b =
     (a.0, expected_behind host done todo replies more (omega arith) a.1 b)
 
-pub taken_expected : (host : List ℕ) (course : Course) (turn : Turn) (new : State) → Takes host course turn new → IsExpected host course turn.reply
+pub taken_expected : (host : List ℕ) (course : Course) (turn : Turn) (new : State) → Takes host course turn new
+    → IsExpected host course turn.reply
 taken_expected host (Replies row next) turn new takes = takes.0
 taken_expected host (Offers client envelope content) turn new takes = (takes.0, takes.1)
 
-taken_state : (host : List ℕ) (course : Course) (turn : Turn) (new : State) → Takes host course turn new → new ≡ state_behind course
+taken_state : (host : List ℕ) (course : Course) (turn : Turn) (new : State) → Takes host course turn new
+    → new ≡ state_behind course
 taken_state host (Replies row next) turn new takes = takes.2
 taken_state host (Offers client envelope content) turn new takes = takes.3
 
@@ -51,15 +55,21 @@ pub record Written (commands : List (List ℕ)) (all : List (List ℕ)) (least :
   pub of_client : Begins front commands
   pub enough : (least ≤ length front) ⊎ (front ≡ commands)
 
-written_from : (commands front all : List (List ℕ)) (least : ℕ) → Begins front all → Begins front commands → (least ≤ length front) ⊎ (front ≡ commands) → Written commands all least
+written_from : (commands front all : List (List ℕ)) (least : ℕ) → Begins front all → Begins front commands
+    → (least ≤ length front) ⊎ (front ≡ commands) → Written commands all least
 written_from commands front all least a b c = record { front = front; of_script = a; of_client = b; enough = c }
 
-enough_of : (commands : List Reply → List (List ℕ)) (so_far heard more : List Reply) → heard ≡ so_far ++ more → (length so_far ≤ length (commands so_far)) ⊎ (commands (so_far ++ more) ≡ commands so_far) → (length so_far ≤ length (commands so_far)) ⊎ (commands so_far ≡ commands heard)
+enough_of : (commands : List Reply → List (List ℕ)) (so_far heard more : List Reply) → heard ≡ so_far ++ more
+    → (length so_far ≤ length (commands so_far)) ⊎ (commands (so_far ++ more) ≡ commands so_far)
+    → (length so_far ≤ length (commands so_far)) ⊎ (commands so_far ≡ commands heard)
 enough_of commands so_far heard more is (inl h) = inl h
 enough_of commands so_far heard more is (inr e) = inr (sym e ∙ ap commands (sym is))
 
 -- the client has read all replies so far, or only some of them
-written_so_far : (host : List ℕ) (greeting : Reply) (commands : List Reply → List (List ℕ)) (script : List Step) → Writes host greeting commands script → (replies heard : List Reply) → AreExpected host script replies → Begins heard (greeting ∷ replies) ⊎ Begins (greeting ∷ replies) heard → Written (commands heard) (commands_in script) (length (greeting ∷ replies))
+written_so_far : (host : List ℕ) (greeting : Reply) (commands : List Reply → List (List ℕ)) (script : List Step)
+    → Writes host greeting commands script → (replies heard : List Reply) → AreExpected host script replies
+    → Begins heard (greeting ∷ replies) ⊎ Begins (greeting ∷ replies) heard
+    → Written (commands heard) (commands_in script) (length (greeting ∷ replies))
 written_so_far host greeting commands script writes replies heard expected (inl part) =
     let begins = writes.expected replies expected in
     let stays = subst (λ (l : List Reply). Begins (commands heard) (commands l)) (sym part.1) (writes.stays heard part.0) in
@@ -83,12 +93,6 @@ pub record Reaches (front one two : List (List ℕ)) : Type 0 where
   pub begins : Begins tail two
   pub some : 0 < length tail
 
-reaches_more : (command : List ℕ) (front one two : List (List ℕ)) → Reaches front one two → Reaches (command ∷ front) (command ∷ one) two
-reaches_more command front one two r = record { tail = r.tail; front_is = ap (λ l. command ∷ l) r.front_is; begins = r.begins; some = r.some }
-
-reaches_at : (x y : List ℕ) (front one two : List (List ℕ)) → x ≡ y → Reaches (y ∷ front) (x ∷ one) two → Reaches (y ∷ front) (x ∷ one) two
-reaches_at x y front one two e r = r
-
 reaches : (front one two : List (List ℕ)) → Begins front (one ++ two) → length one < length front → Reaches front one two
 reaches front [] two begins h = record { tail = front; front_is = refl; begins = begins; some = h }
 reaches [] (x ∷ one) two begins h = absurd (omega arith)
@@ -97,16 +101,26 @@ reaches (y ∷ front) (x ∷ one) two begins h =
     let head : x ≡ y = cc in
     let tail : one ++ two ≡ front ++ begins.0 = cc in
     let r = reaches front one two (begins.0, tail) (omega arith) in
-    record { tail = r.tail; front_is = ap (λ c. c ∷ front) (sym head) ∙ ap (λ l. x ∷ l) r.front_is; begins = r.begins; some = r.some }
+    record {
+      tail = r.tail;
+      front_is = ap (λ c. c ∷ front) (sym head) ∙ ap (λ l. x ∷ l) r.front_is;
+      begins =
+          r.begins;
+      some = r.some;
+    }
 
 -- where octets were written behind the commands done, so was a command
-not_all_done : (front done : List (List ℕ)) (behind : List ℕ) → Begins front done → joined front ≡ joined done ++ behind → 0 < length behind → ⊥
+not_all_done : (front done : List (List ℕ)) (behind : List ℕ) → Begins front done → joined front ≡ joined done ++ behind
+    → 0 < length behind → ⊥
 not_all_done front done behind begins e h =
-    let whole = ap length (ap joined begins.1 ∙ joined-append front begins.0) ∙ length-append (joined front) (joined begins.0) in
+    let whole =
+    ap length (ap joined begins.1 ∙ joined-append front begins.0) ∙ length-append (joined front) (joined begins.0) in
     let part = ap length e ∙ length-append (joined done) behind in
     omega (arith, whole, part)
 
-reached_by : (front done todo : List (List ℕ)) (behind : List ℕ) → Begins front (done ++ todo) → joined front ≡ joined done ++ behind → 0 < length behind → Begins front done ⊎ Begins done front → length done < length front
+reached_by : (front done todo : List (List ℕ)) (behind : List ℕ) → Begins front (done ++ todo)
+    → joined front ≡ joined done ++ behind → 0 < length behind → Begins front done ⊎ Begins done front
+    → length done < length front
 reached_by front done todo behind begins e h (inl part) = absurd (not_all_done front done behind part e h)
 reached_by front done todo behind begins e h (inr ([], is)) =
     absurd (not_all_done front done behind ([], sym (append-nil done) ∙ sym is ∙ sym (append-nil front)) e h)
@@ -114,7 +128,9 @@ reached_by front done todo behind begins e h (inr (command ∷ tail, is)) =
     let n = ap length is ∙ length-append done (command ∷ tail) in
     omega (arith, n)
 
-reached : (commands front done todo : List (List ℕ)) (behind : List ℕ) → Begins front (done ++ todo) → joined commands ≡ joined done ++ behind → 0 < length behind → (suc (length done) ≤ length front) ⊎ (front ≡ commands) → length done < length front
+reached : (commands front done todo : List (List ℕ)) (behind : List ℕ) → Begins front (done ++ todo)
+    → joined commands ≡ joined done ++ behind → 0 < length behind → (suc (length done) ≤ length front) ⊎ (front ≡ commands)
+    → length done < length front
 reached commands front done todo behind begins e h (inl long) = omega arith
 reached commands front done todo behind begins e h (inr is) =
     reached_by front done todo behind begins (ap joined is ∙ e) h (either_begins front done begins.0 todo (sym begins.1))
@@ -124,23 +140,24 @@ pub record IsNext (commands done : List (List ℕ)) (next : List ℕ) (behind : 
   pub later : List ℕ
   pub behind_is : behind ≡ next ++ later
 
-next_of_tail : (tail later done commands todo : List (List ℕ)) (next behind : List ℕ) → Begins tail (next ∷ todo) → 0 < length tail → commands ≡ (done ++ tail) ++ later → joined commands ≡ joined done ++ behind → IsNext commands done next behind
+next_of_tail : (tail later done commands todo : List (List ℕ)) (next behind : List ℕ) → Begins tail (next ∷ todo)
+    → 0 < length tail → commands ≡ (done ++ tail) ++ later → joined commands ≡ joined done ++ behind
+    → IsNext commands done next behind
 next_of_tail [] later done commands todo next behind begins h is e = absurd (omega arith)
 next_of_tail (command ∷ tail) later done commands todo next behind begins h is e =
     let whole = begins.1 in
     let same : next ≡ command = cc in
     let all : joined commands ≡ joined done ++ (command ++ joined (tail ++ later)) =
-      ap joined (is ∙ append_assoc done (command ∷ tail) later) ∙ joined-append done (command ∷ (tail ++ later)) in
+    ap joined (is ∙ append_assoc done (command ∷ tail) later) ∙ joined-append done (command ∷ (tail ++ later)) in
     record {
       later = joined (tail ++ later);
-      behind_is = append_cancel_left (joined done) behind (command ++ joined (tail ++ later)) (sym e ∙ all) ∙ ap (λ c. c ++ joined (tail ++ later)) (sym same);
+      behind_is = append_cancel_left (joined done) behind (command ++ joined (tail ++ later)) (sym e ∙ all)
+          ∙ ap (λ c. c ++ joined (tail ++ later)) (sym same);
     }
 
-next_none : (tail : List (List ℕ)) → Begins tail [] → 0 < length tail → ⊥
-next_none [] begins h = omega arith
-next_none (command ∷ tail) begins h = let e = begins.1 in (cc)
-
-next_is : (done todo : List (List ℕ)) (commands : List (List ℕ)) (next behind : List ℕ) → Written commands (done ++ next ∷ todo) (suc (length done)) → joined commands ≡ joined done ++ behind → 0 < length behind → IsNext commands done next behind
+next_is : (done todo : List (List ℕ)) (commands : List (List ℕ)) (next behind : List ℕ)
+    → Written commands (done ++ next ∷ todo) (suc (length done)) → joined commands ≡ joined done ++ behind
+    → 0 < length behind → IsNext commands done next behind
 next_is done todo commands next behind written e h =
     let long = reached commands written.front done (next ∷ todo) behind written.of_script e h written.enough in
     let r = reaches written.front done (next ∷ todo) written.of_script long in
@@ -161,7 +178,9 @@ pub record TurnIs (setup : Setup) (step : Step) (turn : Turn) (new : State) : Ty
   pub takes : Takes setup.host step.course turn new
   pub new_is : new ≡ state_behind step.course
 
-turn_is : (setup : Setup) (old new : State) (step : Step) (turn : Turn) (rest later : List ℕ) → Comes setup old step.command step.course → Answers setup old turn new → turn.asked ++ rest ≡ step.command ++ later → TurnIs setup step turn new
+turn_is : (setup : Setup) (old new : State) (step : Step) (turn : Turn) (rest later : List ℕ)
+    → Comes setup old step.command step.course → Answers setup old turn new → turn.asked ++ rest ≡ step.command ++ later
+    → TurnIs setup step turn new
 turn_is setup old new step turn rest later comes is e =
     let same = turn_is_of_its_unit setup old new step.command rest later step.course turn comes is e in
     record {
@@ -171,7 +190,8 @@ turn_is setup old new step turn rest later comes is e =
     }
 
 -- the octets of the commands done, with one more
-done_more : (done : List Step) (step : Step) (turn : Turn) → turn.asked ≡ step.command → joined (commands_in done) ++ turn.asked ≡ joined (commands_in (done ++ step ∷ []))
+done_more : (done : List Step) (step : Step) (turn : Turn) → turn.asked ≡ step.command
+    → joined (commands_in done) ++ turn.asked ≡ joined (commands_in (done ++ step ∷ []))
 done_more done step turn e =
     ap (λ l. joined (commands_in done) ++ l) (e ∙ sym (append-nil step.command))
     ∙ sym (joined-append (commands_in done) (step.command ∷ []))
@@ -181,38 +201,48 @@ length-commands : (script : List Step) → length (commands_in script) ≡ lengt
 length-commands [] = refl
 length-commands (step ∷ script) = ap suc (length-commands script)
 
-pub meet : (setup : Setup) (greeting : Reply) (commands : List Reply → List (List ℕ)) (done todo : List Step) → Writes setup.host greeting commands (done ++ todo)
-  → (replies : List Reply) (old new : State) (turns : List Turn) (heard more : List Reply) (unread : List ℕ)
-  → length replies ≡ length done → AreExpected setup.host done replies → IsScript setup old todo → Turns setup old turns new
-  → joined (commands heard) ≡ joined (commands_in done) ++ (read_by turns ++ unread)
-  → (greeting ∷ replies) ++ replies_by turns ≡ heard ++ more
-  → Meets setup todo turns new
+pub meet : (setup : Setup) (greeting : Reply) (commands : List Reply → List (List ℕ)) (done todo : List Step)
+    → Writes setup.host greeting commands (done ++ todo)
+    → (replies : List Reply) (old new : State) (turns : List Turn) (heard more : List Reply) (unread : List ℕ)
+    → length replies ≡ length done → AreExpected setup.host done replies → IsScript setup old todo → Turns setup old turns new
+    → joined (commands heard) ≡ joined (commands_in done) ++ (read_by turns ++ unread)
+    → (greeting ∷ replies) ++ replies_by turns ≡ heard ++ more
+    → Meets setup todo turns new
 meet setup greeting commands done todo writes replies old new [] heard more unread n expected script runs e r =
     record { plays = tt; goes_on = subst (λ (s : State). IsScript setup s todo) runs script }
 meet setup greeting commands done [] writes replies old new (turn ∷ turns) heard more unread n expected script runs e r =
     absurd (none_closed setup old runs.0 turn script runs.1)
-meet setup greeting commands done (step ∷ todo) writes replies old new (turn ∷ turns) heard more unread n expected script runs e r =
+meet setup greeting commands done (step ∷ todo) writes replies old new (turn ∷ turns) heard more unread n expected script
+    runs e r =
     let mid : State = runs.0 in
     let behind : List ℕ = turn.asked ++ (read_by turns ++ unread) in
-    let octets : joined (commands heard) ≡ joined (commands_in done) ++ behind = e ∙ ap (λ l. joined (commands_in done) ++ l) (append_assoc turn.asked (read_by turns) unread) in
+    let octets : joined (commands heard) ≡ joined (commands_in done) ++ behind =
+    e ∙ ap (λ l. joined (commands_in done) ++ l) (append_assoc turn.asked (read_by turns) unread) in
     let some_asked = some_octets turn.asked (no_unit_is_empty old turn.asked (asked_is_a_unit setup old mid turn runs.1)) in
     let some = length-append turn.asked (read_by turns ++ unread) in
-    let all = subst (λ (l : List Reply). AreExpected setup.host (done ++ step ∷ todo) l) (append-nil replies) (expected_behind setup.host done (step ∷ todo) replies [] n expected tt) in
+    let all =
+    subst (λ (l : List Reply). AreExpected setup.host (done ++ step ∷ todo) l) (append-nil replies)
+    (expected_behind setup.host done (step ∷ todo) replies [] n expected tt) in
     let either = either_begins heard (greeting ∷ replies) more (replies_by (turn ∷ turns)) (sym r) in
     let written = written_so_far setup.host greeting commands (done ++ step ∷ todo) writes replies heard all either in
     let count : length (greeting ∷ replies) ≡ suc (length (commands_in done)) = ap suc (n ∙ sym (length-commands done)) in
     let here = subst (λ k. Written (commands heard) (commands_in done ++ step.command ∷ commands_in todo) k) count
-      (subst (λ l. Written (commands heard) l (length (greeting ∷ replies))) (map-append (λ s. s.command) done (step ∷ todo)) written) in
-    let next = next_is (commands_in done) (commands_in todo) (commands heard) step.command behind here octets (omega (arith, some, some_asked)) in
+    (subst (λ l. Written (commands heard) l (length (greeting ∷ replies)))
+    (map-append (λ s. s.command) done (step ∷ todo)) written) in
+    let next =
+    next_is (commands_in done) (commands_in todo) (commands heard) step.command behind here octets
+    (omega (arith, some, some_asked)) in
     let is = turn_is setup old mid step turn (read_by turns ++ unread) next.later script.0 runs.1 next.behind_is in
     let later = meet setup greeting commands (done ++ step ∷ []) todo
-      (subst (λ (s : List Step). Writes setup.host greeting commands s) (sym (append_assoc done (step ∷ []) todo)) writes)
-      (replies ++ turn.reply ∷ []) mid new turns heard more unread
-      (length-append replies (turn.reply ∷ []) ∙ ap (λ k. k + 1) n ∙ sym (length-append done (step ∷ [])))
-      (expected_behind setup.host done (step ∷ []) replies (turn.reply ∷ []) n expected (taken_expected setup.host step.course turn mid is.takes, tt))
-      (subst (λ (s : State). IsScript setup s todo) (sym is.new_is) script.1) runs.2
-      (octets ∙ sym (append_assoc (joined (commands_in done)) turn.asked (read_by turns ++ unread)) ∙ ap (λ l. l ++ (read_by turns ++ unread)) (done_more done step turn is.asked_is))
-      (append_assoc (greeting ∷ replies) (turn.reply ∷ []) (replies_by turns) ∙ r) in
+    (subst (λ (s : List Step). Writes setup.host greeting commands s) (sym (append_assoc done (step ∷ []) todo)) writes)
+    (replies ++ turn.reply ∷ []) mid new turns heard more unread
+    (length-append replies (turn.reply ∷ []) ∙ ap (λ k. k + 1) n ∙ sym (length-append done (step ∷ [])))
+    (expected_behind setup.host done (step ∷ []) replies (turn.reply ∷ []) n expected
+    (taken_expected setup.host step.course turn mid is.takes, tt))
+    (subst (λ (s : State). IsScript setup s todo) (sym is.new_is) script.1) runs.2
+    (octets ∙ sym (append_assoc (joined (commands_in done)) turn.asked (read_by turns ++ unread))
+    ∙ ap (λ l. l ++ (read_by turns ++ unread)) (done_more done step turn is.asked_is))
+    (append_assoc (greeting ∷ replies) (turn.reply ∷ []) (replies_by turns) ∙ r) in
     record {
       plays = (is.asked_is, subst (λ (s : State). Takes setup.host step.course turn s) is.new_is is.takes, later.plays);
       goes_on = later.goes_on;

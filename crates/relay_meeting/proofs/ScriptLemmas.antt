@@ -1,8 +1,7 @@
 -- The script is what the server makes of the commands.
-use Rattle.std.proofs.Common.{◌≡◌, ◌≤◌, ◌<◌, ◌^◌, ◌+◌, ℕ, nat_le, Bool, true, false, MatchBool, List, [], ◌∷◌, ◌++◌, codes, decimal, length, is_some, Ok, Result, inl, inr, refl, sym, ap, ◌∙◌, subst, cond, arith, append-nil}
-use Rattle.std.proofs.lemmas.List.{append_assoc, length-append}
+use Rattle.std.proofs.Common.{◌≡◌, ◌≤◌, ◌<◌, ◌^◌, ◌+◌, ℕ, nat_le, Bool, true, false, MatchBool, List, [], ◌∷◌, ◌++◌, length, is_some, Ok, Result, inr, refl, sym, ap, ◌∙◌, subst, cond, arith, append-nil}
+use Rattle.std.proofs.lemmas.List.{length-append}
 use Rattle.std.proofs.lemmas.Bool.{le-leb, lt-leb}
-use Rattle.std.proofs.lemmas.List.Sums.{AllPass-from_list_all}
 use Rattle.relay_octets.specs.Line.{line_text}
 use Rattle.relay_lines.specs.Command.{Command, Mail, Rcpt, Ehlo, Data, Quit, Bdat}
 use Rattle.relay_lines.specs.Command.{reading_of}
@@ -18,20 +17,18 @@ use Rattle.relay_envelope.proofs.Theorems.{mail_is_command_line, mail_is_read_ag
 use Rattle.relay_routes.specs.Routes.{hop_of}
 use Rattle.relay_trace.specs.HeaderSection.{received_count_of}
 use Rattle.relay_server.specs.declared.client.Client.{Client}
-use Rattle.relay_server.specs.declared.reply_table.Row.{Row}
 use Rattle.relay_server.specs.declared.reply_table.Row.TheVariants as row
 use Rattle.relay_server.specs.Dialogue.{Comes}
-use Rattle.relay_server.specs.ReplyTable.{Course, Replies, Offers, course_of, course_of_content, course_of_text, course_of_chunks}
+use Rattle.relay_server.specs.ReplyTable.{Course, Replies, Offers, course_of, course_of_text, course_of_chunks}
 use Rattle.relay_server.specs.Setup.{Setup}
-use Rattle.relay_server.specs.State.{CommandState, Fresh, Greeted, Open, Spent, State, Command as Awaits, Receiving, Closed, start}
+use Rattle.relay_server.specs.State.{CommandState, Fresh, Greeted, Open, Spent, State, Command as Awaits, Receiving, Closed}
 use Rattle.relay_server.specs.Unit.{Asked, AsksBy, announced_by, announced_of}
 use Rattle.relay_server.specs.Unit as asked
 use Rattle.relay_course.specs.WrittenLine.{ehlo_line, mail_line, rcpt_line, data_line, last_chunk, quit_line}
 use Rattle.relay_course.specs.Progress.{Errand}
-use Rattle.relay_meeting.specs.Meeting.{IsScript, Step, step_of, state_behind}
+use Rattle.relay_meeting.specs.Meeting.{IsScript, step_of, state_behind}
 use Rattle.relay_course.specs.Laws.{IsErrand}
-use Rattle.relay_meeting.specs.Script.{Tried, row_of_hop, with_tried, quit_step, content_steps, last_steps, rcpt_step, rcpt_steps, opened_of, client_in, script_of, AreTried, IsTried}
-
+use Rattle.relay_meeting.specs.Script.{Tried, row_of_hop, with_tried, quit_step, content_steps, rcpt_steps, opened_of, client_in, AreTried, IsTried, ScriptIsServers}
 
 announces_none : (b : Bool) (n : ℕ) → n ≡ 0 → 0 ≡ cond b n 0
 announces_none true n e = sym e
@@ -39,8 +36,8 @@ announces_none false n e = refl
 
 -- a line comes that announces nothing
 line_comes : (setup : Setup) (old : CommandState) (line : List ℕ) (command : Command) (what : Asked)
-  → IsCommandLine line command → announced_by (Ok command) ≡ 0 → AsksBy (Ok command) [] what
-  → Comes setup (Awaits old) (line_text line) (course_of setup what old)
+    → IsCommandLine line command → announced_by (Ok command) ≡ 0 → AsksBy (Ok command) [] what
+    → Comes setup (Awaits old) (line_text line) (course_of setup what old)
 line_comes setup old line command what is none asks =
     let short : length line ≤ 2046 = omega (arith, is.short) in
     record {
@@ -51,29 +48,33 @@ line_comes setup old line command what is none asks =
         unit_is = sym (append-nil (line_text line));
         line = is.has_no_crlf;
         counted = announces_none (nat_le (length line) 2046) (announced_by (reading_of line))
-          (ap announced_by is.is_read ∙ none);
+            (ap announced_by is.is_read ∙ none);
       };
       asks = inr (short, subst (λ (r : Result Command LineFault). AsksBy r [] what) (sym is.is_read) asks);
       course_is = refl;
     }
 
-comes_as : (setup : Setup) (old : State) (unit : List ℕ) (course other : Course) → course ≡ other → Comes setup old unit course → Comes setup old unit other
+comes_as : (setup : Setup) (old : State) (unit : List ℕ) (course other : Course) → course ≡ other
+    → Comes setup old unit course → Comes setup old unit other
 comes_as setup old unit course other e comes = subst (λ (c : Course). Comes setup old unit c) e comes
 
 quit_comes : (setup : Setup) (old : CommandState)
-  → Comes setup (Awaits old) quit_line (Replies row.Closing Closed)
+    → Comes setup (Awaits old) quit_line (Replies row.Closing Closed)
 quit_comes setup old =
     line_comes setup old (written_command Quit) Quit asked.Quit (written_command_is_read Quit tt) refl refl
 
 quits : (setup : Setup) (old : CommandState) → IsScript setup (Awaits old) (quit_step ∷ [])
 quits setup old = (quit_comes setup old, refl)
 
-ehlo_comes : (setup : Setup) (old : CommandState) (errand : Errand) → IsErrand errand → Comes setup (Awaits old) (ehlo_line errand.host) (Replies row.Extensions (Awaits (Greeted (client_in errand))))
+ehlo_comes : (setup : Setup) (old : CommandState) (errand : Errand) → IsErrand errand
+    → Comes setup (Awaits old) (ehlo_line errand.host) (Replies row.Extensions (Awaits (Greeted (client_in errand))))
 ehlo_comes setup old errand is =
     line_comes setup old (written_command (Ehlo errand.host)) (Ehlo errand.host) (asked.Hello (client_in errand))
     (written_command_is_read (Ehlo errand.host) is.host) refl refl
 
-mail_comes : (setup : Setup) (client : Client) (envelope : Envelope) → IsEnvelope envelope → Comes setup (Awaits (Greeted client)) (mail_line true envelope) (Replies row.SenderOk (Awaits (Open client (opened_of envelope))))
+mail_comes : (setup : Setup) (client : Client) (envelope : Envelope) → IsEnvelope envelope
+    → Comes setup (Awaits (Greeted client)) (mail_line true envelope)
+    (Replies row.SenderOk (Awaits (Open client (opened_of envelope))))
 mail_comes setup client envelope valid =
     let again = mail_is_read_again envelope valid in
     let text : List ℕ = mail_text envelope in
@@ -85,20 +86,33 @@ mail_comes setup client envelope valid =
     (mail_is_command_line envelope valid).0 refl (Ok again.0, again.1, refl))
 
 rcpt_by : (client : Client) (envelope : Envelope) (one two : Recipient) (goes : Bool) → one ≡ two
-  → cond goes (Replies row.RecipientOk (Awaits (Open client (record envelope { recipients = envelope.recipients ++ one ∷ [] })))) (Replies row.NoRoute (Awaits (Open client envelope)))
-  ≡ Replies (row_of_hop goes) (Awaits (Open client (with_tried envelope (record { recipient = two; goes = goes }))))
+    → cond goes (Replies row.RecipientOk (Awaits
+    (Open client (record envelope { recipients = envelope.recipients ++ one ∷ [] }))))
+    (Replies row.NoRoute (Awaits (Open client envelope)))
+    ≡ Replies (row_of_hop goes) (Awaits (Open client (with_tried envelope (record { recipient = two; goes = goes }))))
 rcpt_by client envelope one two true e =
-    ap (λ (r : Recipient). Replies row.RecipientOk (Awaits (Open client (record envelope { recipients = envelope.recipients ++ r ∷ [] })))) e
+    ap (λ (r : Recipient). Replies row.RecipientOk
+    (Awaits (Open client (record envelope { recipients = envelope.recipients ++ r ∷ [] })))) e
 rcpt_by client envelope one two false e = refl
 
-rcpt_course : (setup : Setup) (client : Client) (envelope : Envelope) (tried : Tried) (is : IsTried setup tried) → length envelope.recipients < 100
-  → course_of setup (asked.Rcpt (Ok is.rcpt)) (Open client envelope) ≡ Replies (row_of_hop tried.goes) (Awaits (Open client (with_tried envelope tried)))
+rcpt_course : (setup : Setup) (client : Client) (envelope : Envelope) (tried : Tried) (is : IsTried setup tried)
+    → length envelope.recipients < 100
+    → course_of setup (asked.Rcpt (Ok is.rcpt)) (Open client envelope) ≡ Replies (row_of_hop tried.goes)
+    (Awaits (Open client (with_tried envelope tried)))
 rcpt_course setup client envelope tried is few =
-    ap (λ b. cond b (Replies row.TooManyRecipients (Awaits (Open client envelope))) (cond (is_some (hop_of setup.routes is.rcpt.path)) (Replies row.RecipientOk (Awaits (Open client (record envelope { recipients = envelope.recipients ++ recipient_from is.rcpt ∷ [] })))) (Replies row.NoRoute (Awaits (Open client envelope))))) (lt-leb 100 (length envelope.recipients) few)
-    ∙ ap (λ b. cond b (Replies row.RecipientOk (Awaits (Open client (record envelope { recipients = envelope.recipients ++ recipient_from is.rcpt ∷ [] })))) (Replies row.NoRoute (Awaits (Open client envelope)))) is.goes
+    ap (λ b. cond b (Replies row.TooManyRecipients (Awaits (Open client envelope)))
+    (cond (is_some (hop_of setup.routes is.rcpt.path))
+    (Replies row.RecipientOk (Awaits (Open client
+    (record envelope { recipients = envelope.recipients ++ recipient_from is.rcpt ∷ [] }))))
+    (Replies row.NoRoute (Awaits (Open client envelope))))) (lt-leb 100 (length envelope.recipients) few)
+    ∙ ap (λ b. cond b (Replies row.RecipientOk
+    (Awaits (Open client (record envelope { recipients = envelope.recipients ++ recipient_from is.rcpt ∷ [] }))))
+    (Replies row.NoRoute (Awaits (Open client envelope)))) is.goes
     ∙ rcpt_by client envelope (recipient_from is.rcpt) tried.recipient tried.goes is.same
 
-rcpt_comes : (setup : Setup) (client : Client) (envelope : Envelope) (tried : Tried) → IsTried setup tried → length envelope.recipients < 100 → Comes setup (Awaits (Open client envelope)) (rcpt_line true tried.recipient) (Replies (row_of_hop tried.goes) (Awaits (Open client (with_tried envelope tried))))
+rcpt_comes : (setup : Setup) (client : Client) (envelope : Envelope) (tried : Tried) → IsTried setup tried
+    → length envelope.recipients < 100 → Comes setup (Awaits (Open client envelope)) (rcpt_line true tried.recipient)
+    (Replies (row_of_hop tried.goes) (Awaits (Open client (with_tried envelope tried))))
 rcpt_comes setup client envelope tried is few =
     let text : List ℕ = rcpt_text tried.recipient in
     comes_as setup (Awaits (Open client envelope)) (rcpt_line true tried.recipient)
@@ -108,16 +122,22 @@ rcpt_comes setup client envelope tried is few =
     (line_comes setup (Open client envelope) (written_command (Rcpt text)) (Rcpt text) (asked.Rcpt (Ok is.rcpt))
     (rcpt_is_command_line tried.recipient is.valid).0 refl (Ok is.rcpt, is.reads, refl))
 
-data_comes : (setup : Setup) (client : Client) (envelope : Envelope) → nat_le 1 (length envelope.recipients) ≡ true → Comes setup (Awaits (Open client envelope)) data_line (Replies row.StartMailInput (Receiving client envelope))
+data_comes : (setup : Setup) (client : Client) (envelope : Envelope) → nat_le 1 (length envelope.recipients) ≡ true
+    → Comes setup (Awaits (Open client envelope)) data_line (Replies row.StartMailInput (Receiving client envelope))
 data_comes setup client envelope some =
-    comes_as setup (Awaits (Open client envelope)) data_line (course_of setup asked.Data (Open client envelope)) (Replies row.StartMailInput (Receiving client envelope))
-    (ap (λ b. cond b (Replies row.StartMailInput (Receiving client envelope)) (Replies row.NoValidRecipients (Awaits (Open client envelope)))) some)
+    comes_as setup (Awaits (Open client envelope)) data_line (course_of setup asked.Data (Open client envelope))
+    (Replies row.StartMailInput (Receiving client envelope))
+    (ap (λ b. cond b (Replies row.StartMailInput (Receiving client envelope))
+    (Replies row.NoValidRecipients (Awaits (Open client envelope)))) some)
     (line_comes setup (Open client envelope) (written_command Data) Data asked.Data (written_command_is_read Data tt) refl refl)
 
 announced : (n size : ℕ) → n ≤ 2046 → size ≡ cond (nat_le n 2046) size 0
 announced n size h = ap (λ b. cond b size 0) (sym (le-leb n 2046 h))
 
-chunk_comes : (setup : Setup) (client : Client) (envelope : Envelope) (text : List ℕ) → length text < 2 ^ 32 → nat_le 1 (length envelope.recipients) ≡ true → Comes setup (Awaits (Open client envelope)) (last_chunk text) (course_of_chunks setup.max_content client envelope text true)
+chunk_comes : (setup : Setup) (client : Client) (envelope : Envelope) (text : List ℕ) → length text < 2 ^ 32
+    → nat_le 1 (length envelope.recipients) ≡ true
+    → Comes setup (Awaits (Open client envelope)) (last_chunk text)
+    (course_of_chunks setup.max_content client envelope text true)
 chunk_comes setup client envelope text short some =
     let command : Command = Bdat (record { size = length text; last = true }) in
     let line : List ℕ = written_command command in
@@ -131,40 +151,59 @@ chunk_comes setup client envelope text short some =
         unit_is = refl;
         line = is.has_no_crlf;
         counted = announced (length line) (length text) few
-          ∙ ap (λ r. cond (nat_le (length line) 2046) (announced_by r) 0) (sym is.is_read);
+            ∙ ap (λ r. cond (nat_le (length line) 2046) (announced_by r) 0) (sym is.is_read);
       };
       asks = inr (few, subst (λ (r : Result Command LineFault). AsksBy r text (asked.Bdat text true)) (sym is.is_read) refl);
       course_is = ap (λ b. cond b (course_of_chunks setup.max_content client envelope text true)
-        (Replies row.NoValidRecipients (Awaits (Spent client)))) (sym some);
+          (Replies row.NoValidRecipients (Awaits (Spent client)))) (sym some);
     }
 
 -- the mail data that is sent behind DATA
 sent_behind : (text dot_text : List ℕ) (test : Bool) → test ≡ true
-  → MatchBool test (WritesDotText text dot_text) (dot_text ≡ []) → WritesDotText text dot_text
+    → MatchBool test (WritesDotText text dot_text) (dot_text ≡ []) → WritesDotText text dot_text
 sent_behind text dot_text true e writes = writes
 sent_behind text dot_text false e writes = absurd (cc)
 
 -- behind the content a command is awaited again
-content_behind : (client : Client) (envelope : Envelope) (content : List ℕ) (many : Bool) → state_behind (cond many (Replies row.TooManyReceived (Awaits (Greeted client))) (Offers client envelope content)) ≡ Awaits (Greeted client)
+content_behind : (client : Client) (envelope : Envelope) (content : List ℕ) (many : Bool)
+    → state_behind (cond many (Replies row.TooManyReceived (Awaits (Greeted client))) (Offers client envelope content))
+    ≡ Awaits (Greeted client)
 content_behind client envelope content true = refl
 content_behind client envelope content false = refl
 
-text_behind : (client : Client) (envelope : Envelope) (content : List ℕ) (fits many : Bool) → state_behind (cond fits (cond many (Replies row.TooManyReceived (Awaits (Greeted client))) (Offers client envelope content)) (Replies row.ContentTooLarge (Awaits (Greeted client)))) ≡ Awaits (Greeted client)
+text_behind : (client : Client) (envelope : Envelope) (content : List ℕ) (fits many : Bool)
+    → state_behind (cond fits (cond many (Replies row.TooManyReceived (Awaits (Greeted client)))
+    (Offers client envelope content)) (Replies row.ContentTooLarge (Awaits (Greeted client)))) ≡ Awaits (Greeted client)
 text_behind client envelope content true many = content_behind client envelope content many
 text_behind client envelope content false many = refl
 
-chunk_behind : (client : Client) (envelope : Envelope) (content : List ℕ) (fits many : Bool) → (state : CommandState) × (state_behind (cond fits (cond many (Replies row.TooManyReceived (Awaits (Greeted client))) (Offers client envelope content)) (Replies row.ContentTooLarge (Awaits (Spent client)))) ≡ Awaits state)
+chunk_behind : (client : Client) (envelope : Envelope) (content : List ℕ) (fits many : Bool) → (state : CommandState)
+    × (state_behind (cond fits (cond many (Replies row.TooManyReceived (Awaits (Greeted client)))
+    (Offers client envelope content)) (Replies row.ContentTooLarge (Awaits (Spent client)))) ≡ Awaits state)
 chunk_behind client envelope content true many = (Greeted client, content_behind client envelope content many)
 chunk_behind client envelope content false many = (Spent client, refl)
 
-content_script : (setup : Setup) (client : Client) (errand : Errand) (envelope : Envelope) (ends : Bool) → IsErrand errand → nat_le 1 (length envelope.recipients) ≡ true → ends_in_line_end errand.text ≡ ends
-  → IsScript setup (Awaits (Open client envelope)) (cond ends (step_of data_line (Replies row.StartMailInput (Receiving client envelope)) ∷ step_of errand.dot_text (course_of_text setup.max_content client envelope errand.text) ∷ quit_step ∷ []) (step_of (last_chunk errand.text) (course_of_chunks setup.max_content client envelope errand.text true) ∷ quit_step ∷ []))
+content_script : (setup : Setup) (client : Client) (errand : Errand) (envelope : Envelope) (ends : Bool) → IsErrand errand
+    → nat_le 1 (length envelope.recipients) ≡ true → ends_in_line_end errand.text ≡ ends
+    → IsScript setup (Awaits (Open client envelope))
+    (cond ends (step_of data_line (Replies row.StartMailInput (Receiving client envelope)) ∷ step_of errand.dot_text
+    (course_of_text setup.max_content client envelope errand.text) ∷ quit_step ∷ [])
+    (step_of (last_chunk errand.text) (course_of_chunks setup.max_content client envelope errand.text true) ∷ quit_step
+    ∷ []))
 content_script setup client errand envelope true is some e =
     let fits : Bool = nat_le (length errand.text) setup.max_content in
     let many : Bool = nat_le 100 (received_count_of errand.text) in (
       data_comes setup client envelope some,
-      (record { content = errand.text; reads = written_is_read errand.text errand.dot_text (sent_behind errand.text errand.dot_text (ends_in_line_end errand.text) e is.dot_text); course_is = refl },
-      subst (λ (s : State). IsScript setup s (quit_step ∷ [])) (sym (text_behind client envelope errand.text fits many)) (quits setup (Greeted client))),
+      (
+        record {
+          content = errand.text;
+          reads = written_is_read errand.text errand.dot_text
+              (sent_behind errand.text errand.dot_text (ends_in_line_end errand.text) e is.dot_text);
+          course_is = refl;
+        },
+        subst (λ (s : State). IsScript setup s (quit_step ∷ [])) (sym (text_behind client envelope errand.text fits many))
+            (quits setup (Greeted client)),
+      ),
     )
 content_script setup client errand envelope false is some e =
     let fits : Bool = nat_le (length errand.text) setup.max_content in
@@ -174,18 +213,24 @@ content_script setup client errand envelope false is some e =
       subst (λ (s : State). IsScript setup s (quit_step ∷ [])) (sym behind.1) (quits setup behind.0),
     )
 
-last_script : (setup : Setup) (client : Client) (errand : Errand) (envelope : Envelope) (some : Bool) → IsErrand errand → nat_le 1 (length envelope.recipients) ≡ some
-  → IsScript setup (Awaits (Open client envelope)) (cond some (content_steps setup.max_content client errand envelope) (quit_step ∷ []))
+last_script : (setup : Setup) (client : Client) (errand : Errand) (envelope : Envelope) (some : Bool) → IsErrand errand
+    → nat_le 1 (length envelope.recipients) ≡ some
+    → IsScript setup (Awaits (Open client envelope))
+    (cond some (content_steps setup.max_content client errand envelope) (quit_step ∷ []))
 last_script setup client errand envelope true is e =
     content_script setup client errand envelope (ends_in_line_end errand.text) is e refl
 last_script setup client errand envelope false is e = quits setup (Open client envelope)
 
-with_tried-length : (envelope : Envelope) (recipient : Recipient) (goes : Bool) → length (with_tried envelope (record { recipient = recipient; goes = goes })).recipients ≤ length envelope.recipients + 1
+with_tried-length : (envelope : Envelope) (recipient : Recipient) (goes : Bool)
+    → length (with_tried envelope (record { recipient = recipient; goes = goes })).recipients ≤ length envelope.recipients
+    + 1
 with_tried-length envelope recipient true = omega (arith, length-append envelope.recipients (recipient ∷ []))
 with_tried-length envelope recipient false = omega arith
 
-rcpt_script : (setup : Setup) (client : Client) (errand : Errand) (recipients : List Recipient) (places : List ℕ) (tried : List Tried) (envelope : Envelope) → IsErrand errand → AreTried setup recipients places tried → length envelope.recipients + length places ≤ 100
-  → IsScript setup (Awaits (Open client envelope)) (rcpt_steps setup.max_content client errand envelope tried)
+rcpt_script : (setup : Setup) (client : Client) (errand : Errand) (recipients : List Recipient) (places : List ℕ)
+    (tried : List Tried) (envelope : Envelope) → IsErrand errand → AreTried setup recipients places tried
+    → length envelope.recipients + length places ≤ 100
+    → IsScript setup (Awaits (Open client envelope)) (rcpt_steps setup.max_content client errand envelope tried)
 rcpt_script setup client errand recipients [] [] envelope is all few =
     last_script setup client errand envelope (nat_le 1 (length envelope.recipients)) is refl
 rcpt_script setup client errand recipients [] (tried ∷ more) envelope is all few = absurd all
@@ -193,12 +238,15 @@ rcpt_script setup client errand recipients (place ∷ places) [] envelope is all
 rcpt_script setup client errand recipients (place ∷ places) (tried ∷ more) envelope is all few = (
   rcpt_comes setup client envelope tried all.1 (omega arith),
   rcpt_script setup client errand recipients places more (with_tried envelope tried) is all.2
-  (let n = with_tried-length envelope tried.recipient tried.goes in omega arith),
+      (let n = with_tried-length envelope tried.recipient tried.goes in omega arith),
 )
 
-pub is_script : (setup : Setup) (errand : Errand) (tried : List Tried) → IsErrand errand → AreTried setup errand.envelope.recipients errand.places tried → IsScript setup start (script_of setup.max_content errand tried)
-is_script setup errand tried is all = (
+pub script_is_servers : ScriptIsServers
+script_is_servers setup errand tried is all = (
   ehlo_comes setup Fresh errand is,
-  (mail_comes setup (client_in errand) errand.envelope is.envelope,
-  rcpt_script setup (client_in errand) errand errand.envelope.recipients errand.places tried (opened_of errand.envelope) is all (omega (arith, is.few))),
+  (
+    mail_comes setup (client_in errand) errand.envelope is.envelope,
+    rcpt_script setup (client_in errand) errand errand.envelope.recipients errand.places tried (opened_of errand.envelope)
+        is all (omega (arith, is.few)),
+  ),
 )

@@ -1,13 +1,12 @@
 -- The client writes the script.
-use Rattle.std.proofs.Common.{◌≡◌, ◌≤◌, ◌<◌, ◌⊎◌, inl, inr, ℕ, ◌+◌, suc, nat_le, Bool, true, false, List, [], ◌∷◌, ◌++◌, length, map, refl, sym, ap, ◌∙◌, subst, cond, arith}
-use Rattle.std.proofs.lemmas.List.{append_assoc, append-nil, length-append, map-append}
+use Rattle.std.proofs.Common.{◌≡◌, ℕ, suc, nat_le, Bool, true, false, List, [], ◌∷◌, ◌++◌, length, map, refl, sym, ap, ◌∙◌, subst, cond, arith}
+use Rattle.std.proofs.lemmas.List.{append_assoc, length-append}
 use Rattle.std.proofs.lemmas.Bool.{le-leb}
 use Rattle.relay_lines.specs.Reply.{Reply}
 use Rattle.relay_body.specs.DotText.{ends_in_line_end}
 use Rattle.relay_envelope.specs.declared.envelope.Envelope.{Envelope}
 use Rattle.relay_envelope.specs.declared.envelope.Recipient.{Recipient}
 use Rattle.relay_server.specs.declared.client.Client.{Client}
-use Rattle.relay_server.specs.declared.reply_table.Row.{Row}
 use Rattle.relay_server.specs.declared.reply_table.Row.TheVariants as row
 use Rattle.relay_server.specs.declared.offer.Answer.TheVariants as answer
 use Rattle.relay_server.specs.Reply.{reply_of}
@@ -18,13 +17,13 @@ use Rattle.relay_octets.specs.Beginning.{Begins}
 use Rattle.relay_lines.specs.Word.{first_word, word_len, is_word}
 use Rattle.relay_course.specs.declared.reply_kind.ReplyKind.TheVariants.{Completion, Intermediate}
 use Rattle.relay_course.specs.Extensions.{extensions_of}
-use Rattle.relay_course.specs.WrittenLine.{ehlo_line, mail_line, rcpt_line, rcpt_line_at, data_line, last_chunk, quit_line}
-use Rattle.relay_course.specs.VerdictTable.{is_accepted, kind_of, some_accepted}
+use Rattle.relay_course.specs.WrittenLine.{ehlo_line, mail_line, rcpt_line_at, data_line, last_chunk, quit_line}
+use Rattle.relay_course.specs.VerdictTable.{kind_of, some_accepted}
 use Rattle.relay_course.specs.Progress.{Errand, Progress, progress}
-use Rattle.relay_course.specs.Laws.{IsErrand}
-use Rattle.relay_course.specs.RelayLaws.{AreWilling, all_extensions, content_commands, content_replies, opening_commands, opening_replies, relay_commands, relay_progress, relay_replies}
+use Rattle.relay_course.specs.RelayLaws.{AreWilling, all_extensions, content_commands, content_replies, opening_commands, relay_replies}
 use Rattle.relay_course.proofs.Theorems.{commands_keep_up, commands_stay, commands_to_a_relay, end_is_end}
-use Rattle.relay_meeting.specs.Meeting.{Step, step_of, AreExpected, IsExpected, Writes, commands_in}
+use Rattle.relay_meeting.specs.Meeting.{Step, step_of, AreExpected, IsExpected, commands_in}
+use Rattle.relay_meeting.proofs.TriedLemmas.{rcpt_line-at}
 use Rattle.relay_meeting.specs.Script.{AreRcpts, Tried, row_of_hop, with_tried, quit_step, content_steps, last_steps, rcpt_steps, opened_of, client_in, script_of, envelope_behind, AreTried, ClientWrites}
 
 -- a reply that a course may have
@@ -38,7 +37,8 @@ pub record Filled (host : List ℕ) (script : List Step) (replies : List Reply) 
   pub expected : AreExpected host script (replies ++ later)
   pub all : length (replies ++ later) ≡ length script
 
-pub fill : (host : List ℕ) (script : List Step) (replies : List Reply) → AreExpected host script replies → Filled host script replies
+pub fill : (host : List ℕ) (script : List Step) (replies : List Reply) → AreExpected host script replies
+    → Filled host script replies
 fill host [] [] e = record { later = []; expected = tt; all = refl }
 fill host [] (reply ∷ replies) e = absurd e
 fill host (step ∷ script) [] e =
@@ -53,7 +53,8 @@ abbrev pub has_some : Envelope → Bool
 has_some envelope = nat_le 1 (length envelope.recipients)
 
 -- the replies to the RCPTs, and those behind them
-pub record RcptReplies (host : List ℕ) (limit : ℕ) (client : Client) (errand : Errand) (envelope : Envelope) (tried : List Tried) (replies : List Reply) : Type 0 where
+pub record RcptReplies (host : List ℕ) (limit : ℕ) (client : Client) (errand : Errand) (envelope : Envelope)
+    (tried : List Tried) (replies : List Reply) : Type 0 where
   pub rcpts : List Reply
   pub last : List Reply
   pub replies_are : replies ≡ rcpts ++ last
@@ -71,26 +72,43 @@ both_true : (b : Bool) → true ≡ cond b true true
 both_true true = refl
 both_true false = refl
 
-accepted_first : (host : List ℕ) (reply : Reply) (rcpts : List Reply) → reply ≡ reply_of host row.RecipientOk → some_accepted (reply ∷ rcpts) ≡ true
+accepted_first : (host : List ℕ) (reply : Reply) (rcpts : List Reply) → reply ≡ reply_of host row.RecipientOk
+    → some_accepted (reply ∷ rcpts) ≡ true
 unfolding reply_of
 accepted_first host reply rcpts e = ap (λ (r : Reply). some_accepted (r ∷ rcpts)) e
 
-refused_first : (host : List ℕ) (reply : Reply) (rcpts : List Reply) → reply ≡ reply_of host row.NoRoute → some_accepted (reply ∷ rcpts) ≡ some_accepted rcpts
+refused_first : (host : List ℕ) (reply : Reply) (rcpts : List Reply) → reply ≡ reply_of host row.NoRoute
+    → some_accepted (reply ∷ rcpts) ≡ some_accepted rcpts
 unfolding reply_of
 refused_first host reply rcpts e = ap (λ (r : Reply). some_accepted (r ∷ rcpts)) e
 
-one_more : (host : List ℕ) (envelope : Envelope) (recipient : Recipient) (goes : Bool) (reply : Reply) (rcpts : List Reply) → reply ≡ reply_of host (row_of_hop goes)
-  → cond (has_some (with_tried envelope (record { recipient = recipient; goes = goes }))) true (some_accepted rcpts) ≡ cond (has_some envelope) true (some_accepted (reply ∷ rcpts))
+one_more : (host : List ℕ) (envelope : Envelope) (recipient : Recipient) (goes : Bool) (reply : Reply)
+    (rcpts : List Reply) → reply ≡ reply_of host (row_of_hop goes)
+    → cond (has_some (with_tried envelope (record { recipient = recipient; goes = goes }))) true (some_accepted rcpts)
+    ≡ cond (has_some envelope) true (some_accepted (reply ∷ rcpts))
 one_more host envelope recipient true reply rcpts e =
-    ap (λ b. cond b true (some_accepted rcpts)) (le-leb 1 (length (envelope.recipients ++ recipient ∷ [])) (omega (arith, length-append envelope.recipients (recipient ∷ []))))
+    ap (λ b. cond b true (some_accepted rcpts))
+    (le-leb 1 (length (envelope.recipients ++ recipient ∷ []))
+    (omega (arith, length-append envelope.recipients (recipient ∷ []))))
     ∙ both_true (has_some envelope)
     ∙ ap (λ b. cond (has_some envelope) true b) (sym (accepted_first host reply rcpts e))
 one_more host envelope recipient false reply rcpts e =
     ap (λ b. cond (has_some envelope) true b) (sym (refused_first host reply rcpts e))
 
-rcpt_replies_are : (host : List ℕ) (limit : ℕ) (client : Client) (errand : Errand) (envelope : Envelope) (tried : List Tried) (replies : List Reply) → AreExpected host (rcpt_steps limit client errand envelope tried) replies → length replies ≡ length (rcpt_steps limit client errand envelope tried) → RcptReplies host limit client errand envelope tried replies
+rcpt_replies_are : (host : List ℕ) (limit : ℕ) (client : Client) (errand : Errand) (envelope : Envelope)
+    (tried : List Tried) (replies : List Reply) → AreExpected host (rcpt_steps limit client errand envelope tried) replies
+    → length replies ≡ length (rcpt_steps limit client errand envelope tried)
+    → RcptReplies host limit client errand envelope tried replies
 rcpt_replies_are host limit client errand envelope [] replies e n = record {
-  rcpts = []; last = replies; replies_are = refl; count = refl; are = tt; some = either_true (has_some envelope); last_are = e; all = n;
+  rcpts = [];
+  last = replies;
+  replies_are = refl;
+  count = refl;
+  are = tt;
+  some =
+      either_true (has_some envelope);
+  last_are = e;
+  all = n;
 }
 rcpt_replies_are host limit client errand envelope (tried ∷ more) [] e n = absurd (omega arith)
 rcpt_replies_are host limit client errand envelope (tried ∷ more) (reply ∷ replies) e n =
@@ -123,73 +141,110 @@ input_kind : (host : List ℕ) (reply : Reply) → reply ≡ reply_of host row.S
 unfolding reply_of
 input_kind host reply e = ap (λ (r : Reply). kind_of r.code) e
 
-text_replies : (host : List ℕ) (errand : Errand) (first : Course) (text chunk : Step) (t : Bool) (client : Client) (envelope : Envelope) (last : List Reply)
-  → AreExpected host (cond t (step_of data_line (Replies row.StartMailInput (Receiving client envelope)) ∷ text ∷ quit_step ∷ []) (chunk ∷ quit_step ∷ [])) last
-  → length last ≡ length (cond t (step_of data_line (Replies row.StartMailInput (Receiving client envelope)) ∷ text ∷ quit_step ∷ []) (chunk ∷ quit_step ∷ []))
-  → ends_in_line_end errand.text ≡ t → LastReplies errand true last
+text_replies : (host : List ℕ) (errand : Errand) (first : Course) (text chunk : Step) (t : Bool) (client : Client)
+    (envelope : Envelope) (last : List Reply)
+    → AreExpected host (cond t (step_of data_line (Replies row.StartMailInput (Receiving client envelope)) ∷ text
+    ∷ quit_step ∷ []) (chunk ∷ quit_step ∷ [])) last
+    → length last ≡ length (cond t (step_of data_line (Replies row.StartMailInput (Receiving client envelope)) ∷ text
+    ∷ quit_step ∷ []) (chunk ∷ quit_step ∷ []))
+    → ends_in_line_end errand.text ≡ t → LastReplies errand true last
 text_replies host errand first text chunk true client envelope [] e n t = absurd (omega arith)
 text_replies host errand first text chunk true client envelope (input ∷ []) e n t = absurd (omega arith)
 text_replies host errand first text chunk true client envelope (input ∷ content ∷ []) e n t = absurd (omega arith)
 text_replies host errand first text chunk true client envelope (input ∷ content ∷ quit ∷ []) e n t = record {
-  input = input; content = content; quit = quit; goes_on = input_kind host input e.0;
+  input = input;
+  content = content;
+  quit = quit;
+  goes_on = input_kind host input e.0;
   last_are = ap (λ b. cond b (input ∷ content ∷ []) (content ∷ []) ++ quit ∷ []) (sym t);
 }
-text_replies host errand first text chunk true client envelope (input ∷ content ∷ quit ∷ next ∷ more) e n t = absurd (omega arith)
+text_replies host errand first text chunk true client envelope (input ∷ content ∷ quit ∷ next ∷ more) e n t =
+    absurd (omega arith)
 text_replies host errand first text chunk false client envelope [] e n t = absurd (omega arith)
 text_replies host errand first text chunk false client envelope (content ∷ []) e n t = absurd (omega arith)
 text_replies host errand first text chunk false client envelope (content ∷ quit ∷ []) e n t = record {
-  input = reply_of host row.StartMailInput; content = content; quit = quit; goes_on = input_kind host (reply_of host row.StartMailInput) refl;
+  input = reply_of host row.StartMailInput;
+  content = content;
+  quit = quit;
+  goes_on =
+      input_kind host (reply_of host row.StartMailInput) refl;
   last_are = ap (λ b. cond b (reply_of host row.StartMailInput ∷ content ∷ []) (content ∷ []) ++ quit ∷ []) (sym t);
 }
 text_replies host errand first text chunk false client envelope (content ∷ quit ∷ next ∷ more) e n t = absurd (omega arith)
 
-last_replies_are : (host : List ℕ) (limit : ℕ) (client : Client) (errand : Errand) (envelope : Envelope) (some : Bool) (last : List Reply)
-  → AreExpected host (cond some (content_steps limit client errand envelope) (quit_step ∷ [])) last
-  → length last ≡ length (cond some (content_steps limit client errand envelope) (quit_step ∷ [])) → LastReplies errand some last
+last_replies_are : (host : List ℕ) (limit : ℕ) (client : Client) (errand : Errand) (envelope : Envelope) (some : Bool)
+    (last : List Reply)
+    → AreExpected host (cond some (content_steps limit client errand envelope) (quit_step ∷ [])) last
+    → length last ≡ length (cond some (content_steps limit client errand envelope) (quit_step ∷ []))
+    → LastReplies errand some last
 last_replies_are host limit client errand envelope true last e n =
-    text_replies host errand (course_of_text limit client envelope errand.text) (step_of errand.dot_text (course_of_text limit client envelope errand.text)) (step_of (last_chunk errand.text) (course_of_chunks limit client envelope errand.text true)) (ends_in_line_end errand.text) client envelope last e n refl
+    text_replies host errand (course_of_text limit client envelope errand.text)
+    (step_of errand.dot_text (course_of_text limit client envelope errand.text))
+    (step_of (last_chunk errand.text) (course_of_chunks limit client envelope errand.text true))
+    (ends_in_line_end errand.text) client envelope last e n refl
 last_replies_are host limit client errand envelope false [] e n = absurd (omega arith)
 last_replies_are host limit client errand envelope false (quit ∷ []) e n = record {
-  input = reply_of host row.StartMailInput; content = quit; quit = quit; goes_on = input_kind host (reply_of host row.StartMailInput) refl; last_are = refl;
+  input = reply_of host row.StartMailInput;
+  content = quit;
+  quit = quit;
+  goes_on =
+      input_kind host (reply_of host row.StartMailInput) refl;
+  last_are = refl;
 }
 last_replies_are host limit client errand envelope false (quit ∷ next ∷ more) e n = absurd (omega arith)
 
 -- the commands of the script
-text_commands : (errand : Errand) (input text chunk : Step) (t : Bool) → input.command ≡ data_line → text.command ≡ errand.dot_text → chunk.command ≡ last_chunk errand.text
-  → commands_in (cond t (input ∷ text ∷ quit_step ∷ []) (chunk ∷ quit_step ∷ [])) ≡ cond t (data_line ∷ errand.dot_text ∷ []) (last_chunk errand.text ∷ []) ++ quit_line ∷ []
-text_commands errand input text chunk true d x c = ap (λ l. l ∷ text.command ∷ quit_line ∷ []) d ∙ ap (λ l. data_line ∷ l ∷ quit_line ∷ []) x
+text_commands : (errand : Errand) (input text chunk : Step) (t : Bool) → input.command ≡ data_line
+    → text.command ≡ errand.dot_text → chunk.command ≡ last_chunk errand.text
+    → commands_in (cond t (input ∷ text ∷ quit_step ∷ []) (chunk ∷ quit_step ∷ [])) ≡ cond t
+    (data_line ∷ errand.dot_text ∷ []) (last_chunk errand.text ∷ []) ++ quit_line ∷ []
+text_commands errand input text chunk true d x c =
+    ap (λ l. l ∷ text.command ∷ quit_line ∷ []) d ∙ ap (λ l. data_line ∷ l ∷ quit_line ∷ []) x
 text_commands errand input text chunk false d x c = ap (λ l. l ∷ quit_line ∷ []) c
 
 last_commands : (limit : ℕ) (client : Client) (errand : Errand) (envelope : Envelope) (some : Bool)
-  → commands_in (cond some (content_steps limit client errand envelope) (quit_step ∷ [])) ≡ cond some (content_commands errand) [] ++ quit_line ∷ []
+    → commands_in (cond some (content_steps limit client errand envelope) (quit_step ∷ [])) ≡ cond some
+    (content_commands errand) [] ++ quit_line ∷ []
 last_commands limit client errand envelope true =
-    text_commands errand (step_of data_line (Replies row.StartMailInput (Receiving client envelope))) (step_of errand.dot_text (course_of_text limit client envelope errand.text)) (step_of (last_chunk errand.text) (course_of_chunks limit client envelope errand.text true)) (ends_in_line_end errand.text) refl refl refl
+    text_commands errand (step_of data_line (Replies row.StartMailInput (Receiving client envelope)))
+    (step_of errand.dot_text (course_of_text limit client envelope errand.text))
+    (step_of (last_chunk errand.text) (course_of_chunks limit client envelope errand.text true))
+    (ends_in_line_end errand.text) refl refl refl
 last_commands limit client errand envelope false = refl
 
-rcpt_commands : (setup : Setup) (limit : ℕ) (client : Client) (errand : Errand) (recipients : List Recipient) (places : List ℕ) (tried : List Tried) (envelope : Envelope) → AreTried setup recipients places tried
-  → commands_in (rcpt_steps limit client errand envelope tried) ≡ map (rcpt_line_at true recipients) places ++ commands_in (last_steps limit client errand (envelope_behind envelope tried))
+rcpt_commands : (setup : Setup) (limit : ℕ) (client : Client) (errand : Errand) (recipients : List Recipient)
+    (places : List ℕ) (tried : List Tried) (envelope : Envelope) → AreTried setup recipients places tried
+    → commands_in (rcpt_steps limit client errand envelope tried) ≡ map (rcpt_line_at true recipients) places ++ commands_in
+    (last_steps limit client errand (envelope_behind envelope tried))
 rcpt_commands setup limit client errand recipients [] [] envelope all = refl
 rcpt_commands setup limit client errand recipients [] (tried ∷ more) envelope all = absurd all
 rcpt_commands setup limit client errand recipients (place ∷ places) [] envelope all = absurd all
 rcpt_commands setup limit client errand recipients (place ∷ places) (tried ∷ more) envelope all =
-    ap (λ l. l ∷ commands_in (rcpt_steps limit client errand (with_tried envelope tried) more)) (sym all.0)
-    ∙ ap (λ l. rcpt_line_at true recipients place ∷ l) (rcpt_commands setup limit client errand recipients places more (with_tried envelope tried) all.2)
+    ap (λ l. l ∷ commands_in (rcpt_steps limit client errand (with_tried envelope tried) more))
+    (sym (rcpt_line-at true recipients place tried.recipient all.0))
+    ∙ ap (λ l. rcpt_line_at true recipients place ∷ l)
+    (rcpt_commands setup limit client errand recipients places more (with_tried envelope tried) all.2)
 
-pub as_many_tried : (setup : Setup) (recipients : List Recipient) (places : List ℕ) (tried : List Tried) → AreTried setup recipients places tried → length tried ≡ length places
+pub as_many_tried : (setup : Setup) (recipients : List Recipient) (places : List ℕ) (tried : List Tried)
+    → AreTried setup recipients places tried → length tried ≡ length places
 as_many_tried setup recipients [] [] all = refl
 as_many_tried setup recipients [] (tried ∷ more) all = absurd all
 as_many_tried setup recipients (place ∷ places) [] all = absurd all
 as_many_tried setup recipients (place ∷ places) (tried ∷ more) all = ap suc (as_many_tried setup recipients places more all.2)
 
-script_commands : (setup : Setup) (errand : Errand) (tried : List Tried) (some : Bool) → AreTried setup errand.envelope.recipients errand.places tried
-  → has_some (envelope_behind (opened_of errand.envelope) tried) ≡ some
-  → commands_in (script_of setup.max_content errand tried)
-  ≡ (ehlo_line errand.host ∷ mail_line true errand.envelope ∷ map (rcpt_line_at true errand.envelope.recipients) errand.places) ++ (cond some (content_commands errand) [] ++ quit_line ∷ [])
+script_commands : (setup : Setup) (errand : Errand) (tried : List Tried) (some : Bool)
+    → AreTried setup errand.envelope.recipients errand.places tried
+    → has_some (envelope_behind (opened_of errand.envelope) tried) ≡ some
+    → commands_in (script_of setup.max_content errand tried)
+    ≡ (ehlo_line errand.host ∷ mail_line true errand.envelope ∷ map (rcpt_line_at true errand.envelope.recipients)
+    errand.places) ++ (cond some (content_commands errand) [] ++ quit_line ∷ [])
 script_commands setup errand tried some all is =
     let front : List (List ℕ) = map (rcpt_line_at true errand.envelope.recipients) errand.places in
     ap (λ l. ehlo_line errand.host ∷ mail_line true errand.envelope ∷ l)
-    (rcpt_commands setup setup.max_content (client_in errand) errand errand.envelope.recipients errand.places tried (opened_of errand.envelope) all
-    ∙ ap (λ l. front ++ l) (last_commands setup.max_content (client_in errand) errand (envelope_behind (opened_of errand.envelope) tried) (has_some (envelope_behind (opened_of errand.envelope) tried))
+    (rcpt_commands setup setup.max_content (client_in errand) errand errand.envelope.recipients errand.places tried
+    (opened_of errand.envelope) all
+    ∙ ap (λ l. front ++ l) (last_commands setup.max_content (client_in errand) errand
+    (envelope_behind (opened_of errand.envelope) tried) (has_some (envelope_behind (opened_of errand.envelope) tried))
     ∙ ap (λ b. cond b (content_commands errand) [] ++ quit_line ∷ []) is))
 
 pub greeting_kind : (host : List ℕ) → kind_of (reply_of host row.Greeting).code ≡ Completion
@@ -209,6 +264,22 @@ hello_kind : (host : List ℕ) → kind_of (reply_of host row.Extensions).code �
 unfolding reply_of
 hello_kind host = refl
 
+input-is : (host : List ℕ) → kind_of (reply_of host row.StartMailInput).code ≡ Intermediate
+unfolding reply_of
+input-is host = refl
+
+-- a relay of ours is willing
+pub willing_relay : (host : List ℕ)
+    → AreWilling (reply_of host row.Greeting) (reply_of host row.Extensions) (reply_of host row.SenderOk)
+    (reply_of host row.StartMailInput)
+willing_relay host = record {
+  greets = greeting_kind host;
+  says_hello = hello_kind host;
+  offers = offers_all host;
+  takes_mail = mail_kind host (reply_of host row.SenderOk) refl;
+  takes_input = input-is host;
+}
+
 -- the replies to all of a script
 pub record AllReplies (setup : Setup) (errand : Errand) (tried : List Tried) (replies : List Reply) : Type 0 where
   pub mail : Reply
@@ -217,16 +288,17 @@ pub record AllReplies (setup : Setup) (errand : Errand) (tried : List Tried) (re
   pub content : Reply
   pub quit : Reply
   pub willing : AreWilling (reply_of setup.host row.Greeting) (reply_of setup.host row.Extensions) mail input
+  pub mail_is : mail ≡ reply_of setup.host row.SenderOk
   pub count : length rcpts ≡ length tried
   pub are : AreRcpts setup.host tried rcpts
   pub some : has_some (envelope_behind (opened_of errand.envelope) tried) ≡ some_accepted rcpts
   pub replies_are : reply_of setup.host row.Greeting ∷ replies
-    ≡ relay_replies errand (reply_of setup.host row.Greeting) (reply_of setup.host row.Extensions) mail rcpts input
+      ≡ relay_replies errand (reply_of setup.host row.Greeting) (reply_of setup.host row.Extensions) mail rcpts input
       content ++ quit ∷ []
 
 pub all_replies : (setup : Setup) (errand : Errand) (tried : List Tried) (replies : List Reply)
-  → AreExpected setup.host (script_of setup.max_content errand tried) replies
-  → length replies ≡ length (script_of setup.max_content errand tried) → AllReplies setup errand tried replies
+    → AreExpected setup.host (script_of setup.max_content errand tried) replies
+    → length replies ≡ length (script_of setup.max_content errand tried) → AllReplies setup errand tried replies
 all_replies setup errand tried [] e n = absurd (omega arith)
 all_replies setup errand tried (hello ∷ []) e n = absurd (omega arith)
 all_replies setup errand tried (hello ∷ mail ∷ replies) e n =
@@ -236,7 +308,7 @@ all_replies setup errand tried (hello ∷ mail ∷ replies) e n =
     let parts = rcpt_replies_are setup.host setup.max_content client errand opened tried replies e.1.1 (omega arith) in
     let some : Bool = has_some (envelope_behind opened tried) in
     let last = last_replies_are setup.host setup.max_content client errand (envelope_behind opened tried) some
-      parts.last parts.last_are parts.all in
+    parts.last parts.last_are parts.all in
     let is : some ≡ some_accepted parts.rcpts = parts.some in
     let content : List Reply = content_replies errand parts.rcpts last.input last.content in
     record {
@@ -252,11 +324,12 @@ all_replies setup errand tried (hello ∷ mail ∷ replies) e n =
         takes_mail = mail_kind setup.host mail e.1.0;
         takes_input = last.goes_on;
       };
+      mail_is = e.1.0;
       count = parts.count;
       are = parts.are;
       some = is;
       replies_are = ap (λ r. greeting ∷ r ∷ mail ∷ replies) e.0
-        ∙ ap (λ l. greeting ∷ reply_of setup.host row.Extensions ∷ mail ∷ l)
+          ∙ ap (λ l. greeting ∷ reply_of setup.host row.Extensions ∷ mail ∷ l)
           (parts.replies_are
           ∙ ap (λ l. parts.rcpts ++ l) (last.last_are
           ∙ ap (λ b. content_replies_by errand b last.input last.content ++ last.quit ∷ []) is)
@@ -265,26 +338,26 @@ all_replies setup errand tried (hello ∷ mail ∷ replies) e n =
 
 -- on all replies of a script the commands are the script's
 whole_script : (setup : Setup) (errand : Errand) (tried : List Tried) (replies : List Reply)
-  → AreTried setup errand.envelope.recipients errand.places tried → AllReplies setup errand tried replies
-  → (progress errand (reply_of setup.host row.Greeting ∷ replies)).commands
-  ≡ commands_in (script_of setup.max_content errand tried)
+    → AreTried setup errand.envelope.recipients errand.places tried → AllReplies setup errand tried replies
+    → (progress errand (reply_of setup.host row.Greeting ∷ replies)).commands
+    ≡ commands_in (script_of setup.max_content errand tried)
 whole_script setup errand tried replies all parts =
     let greeting : Reply = reply_of setup.host row.Greeting in
     let hello : Reply = reply_of setup.host row.Extensions in
     let whole : List Reply = relay_replies errand greeting hello parts.mail parts.rcpts parts.input parts.content in
     let at = commands_to_a_relay errand greeting hello parts.mail parts.input parts.content parts.rcpts parts.willing
-      (parts.count ∙ as_many_tried setup errand.envelope.recipients errand.places tried all) in
+    (parts.count ∙ as_many_tried setup errand.envelope.recipients errand.places tried all) in
     let some : Bool = some_accepted parts.rcpts in
     ap (λ (l : List Reply). (progress errand l).commands) parts.replies_are
     ∙ ap (λ (end : Progress). end.commands)
-      (end_is_end errand whole (parts.quit ∷ []) (ap (λ (end : Progress). end.waits) at) ∙ at)
+    (end_is_end errand whole (parts.quit ∷ []) (ap (λ (end : Progress). end.waits) at) ∙ at)
     ∙ append_assoc (opening_commands errand) (cond some (content_commands errand) []) (quit_line ∷ [])
     ∙ sym (script_commands setup errand tried some all parts.some)
 
 expected : (setup : Setup) (errand : Errand) (tried : List Tried)
-  → AreTried setup errand.envelope.recipients errand.places tried → (replies : List Reply)
-  → AreExpected setup.host (script_of setup.max_content errand tried) replies
-  → Begins (progress errand (reply_of setup.host row.Greeting ∷ replies)).commands
+    → AreTried setup errand.envelope.recipients errand.places tried → (replies : List Reply)
+    → AreExpected setup.host (script_of setup.max_content errand tried) replies
+    → Begins (progress errand (reply_of setup.host row.Greeting ∷ replies)).commands
     (commands_in (script_of setup.max_content errand tried))
 expected setup errand tried all replies e =
     let greeting : Reply = reply_of setup.host row.Greeting in

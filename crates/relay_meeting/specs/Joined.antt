@@ -1,13 +1,15 @@
 -- Two relays that meet: both ends by their histories, each of which has read a beginning of what the other wrote.
-use Rattle.std.specs.Prelude.{◌≡◌, ◌≢◌, ◌⊎◌, ◌<◌, ℕ, nat_le, Bool, true, List, [], ◌∷◌, ◌++◌, length, map, if◌then◌else◌, Some}
+use Rattle.std.specs.Prelude.{◌≡◌, ◌≢◌, ◌⊎◌, ◌<◌, ℕ, nat_le, Bool, true, List, [], ◌∷◌, ◌++◌, length, map, slice_get, option_to_list, if◌then◌else◌, Some}
+use Rattle.std.specs.List.{flat_map}
 use Rattle.relay_octets.specs.Beginning.{Begins}
 use Rattle.relay_lines.specs.Reply.{Reply}
 use Rattle.relay_lines.specs.ReplyReading.{CutsReplies, HasFault}
 use Rattle.relay_lines.specs.declared.reply_reader.ReplyFault.{ReplyFault}
 use Rattle.relay_envelope.specs.declared.envelope.Envelope.{Envelope}
+use Rattle.relay_envelope.specs.declared.envelope.Recipient.{Recipient}
 use Rattle.relay_envelope.specs.HostName.{IsHostName}
 use Rattle.relay_trace.specs.HeaderSection.{received_count_of}
-use Rattle.relay_server.specs.declared.reply_table.Row.TheVariants.{Greeting, NoRoute}
+use Rattle.relay_server.specs.declared.reply_table.Row.TheVariants.{Greeting, Extensions, SenderOk, NoRoute}
 use Rattle.relay_server.specs.declared.offer.Answer.{Answer}
 use Rattle.relay_server.specs.declared.offer.Answer.TheVariants.{Queued, Full}
 use Rattle.relay_server.specs.Dialogue.{IsDialogue, Offered, Said, Turn, offered_of, offered_by, read_by}
@@ -20,8 +22,9 @@ use Rattle.relay_book.specs.declared.change.Verdict.TheVariants.{Taken}
 use Rattle.relay_course.specs.VerdictTable.{refusal}
 use Rattle.relay_course.specs.Progress.{Errand, progress}
 use Rattle.relay_course.specs.Course.{joined}
-use Rattle.relay_course.specs.Laws.{IsErrand}
-use Rattle.relay_meeting.specs.Meeting.{Meets, Step, replies_by}
+use Rattle.relay_course.specs.Laws.{IsErrand, accepted_places}
+use Rattle.relay_course.specs.RelayLaws.{opening_replies}
+use Rattle.relay_meeting.specs.Meeting.{Meets, replies_by}
 use Rattle.relay_meeting.specs.Script.{AreRcpts, AreTried, Tried, client_in, envelope_behind, opened_of, script_of}
 
 -- MAIL's values, and the accepted recipients in order
@@ -102,14 +105,13 @@ TwoRelaysEnd =
     → (progress errand replies).verdicts ≡ Some verdicts
     → HaveEnded setup errand tried said verdicts
 
--- the client has read the replies to all RCPTs, each by the server's table
+-- the client has read the replies to all RCPTs, each by the server's table, and those before them
 pub record HaveReadRcpts (setup : Setup) (tried : List Tried) (replies : List Reply) : Type 0 where
-  pub greeting : Reply
-  pub hello : Reply
-  pub mail : Reply
   pub rcpts : List Reply
   pub later : List Reply
-  pub replies_are : replies ≡ greeting ∷ hello ∷ mail ∷ (rcpts ++ later)
+  pub replies_are : replies
+      ≡ opening_replies (reply_of setup.host Greeting) (reply_of setup.host Extensions) (reply_of setup.host SenderOk)
+      rcpts ++ later
   pub by_table : AreRcpts setup.host tried rcpts
 
 -- Where there is an offer, the client has read them.
@@ -121,16 +123,38 @@ OfferHoldsItsPlaces =
     → AreJoined setup errand said input output replies rest → 0 < length said.offers
     → HaveReadRcpts setup tried replies
 
+-- the recipients of these places
+abbrev pub recipients_at : List Recipient → List ℕ → List Recipient
+recipients_at recipients places = flat_map (λ place. option_to_list (slice_get recipients place)) places
+
+-- the one child of an errand: MAIL's values, the recipients whose RCPTs the client knows as accepted, and the text
+abbrev pub child_by : Errand → List Reply → Offered
+child_by errand replies =
+    offered_of (client_in errand)
+    (record errand.envelope {
+      recipients =
+          recipients_at errand.envelope.recipients (accepted_places (progress errand replies).answered);
+    })
+    errand.text
+
+-- Where there is an offer, it is one, of the recipients whose RCPTs the client has read to be accepted, in order.
+abbrev pub ChildHoldsItsPlaces : Type 0
+ChildHoldsItsPlaces =
+    (setup : Setup) (errand : Errand) (said : Said) (input output : List ℕ) (replies : List Reply) (rest : List ℕ)
+    → IsErrand errand → AreJoined setup errand said input output replies rest → 0 < length said.offers
+    → said.offers ≡ child_by errand replies ∷ []
+
 -- all of it: each place is tried as the server's table says; what was said; what the client has read where there is an
--- offer; and how an attempt ends whose replies each answered something
+-- offer, and that this is one; and how an attempt ends whose replies each answered something
 pub record HaveTalked (setup : Setup) (errand : Errand) (said : Said) (replies : List Reply) (rest : List ℕ)
     : Type 0 where
   pub tried : List Tried
   pub are_tried : AreTried setup errand.envelope.recipients errand.places tried
   pub met : HaveMet setup errand tried said replies rest
   pub held : 0 < length said.offers → HaveReadRcpts setup tried replies
+  pub child : 0 < length said.offers → said.offers ≡ child_by errand replies ∷ []
   pub ended : (verdicts : List Verdict) → length (progress errand replies).answered ≡ length replies
-    → (progress errand replies).verdicts ≡ Some verdicts → HaveEnded setup errand tried said verdicts
+      → (progress errand replies).verdicts ≡ Some verdicts → HaveEnded setup errand tried said verdicts
 
 -- What two relays have said to each other: of a valid errand all of it is so.
 abbrev pub WhatRelaysSay : Type 0

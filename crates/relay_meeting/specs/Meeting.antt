@@ -70,9 +70,9 @@ pub record Writes (host : List ℕ) (greeting : Reply) (commands : List Reply �
     : Type 0 where
   pub stays : (replies more : List Reply) → Begins (commands replies) (commands (replies ++ more))
   pub keeps_up : (replies more : List Reply)
-    → (length replies ≤ length (commands replies)) ⊎ (commands (replies ++ more) ≡ commands replies)
+      → (length replies ≤ length (commands replies)) ⊎ (commands (replies ++ more) ≡ commands replies)
   pub expected : (replies : List Reply) → AreExpected host script replies
-    → Begins (commands (greeting ∷ replies)) (commands_in script)
+      → Begins (commands (greeting ∷ replies)) (commands_in script)
 
 -- the turns of a server are the first ones of a script, and the rest is still one
 pub record Meets (setup : Setup) (script : List Step) (turns : List Turn) (new : State) : Type 0 where

@@ -1,5 +1,5 @@
 -- What two relays of ours say to each other: the script of an errand at a server, by what its table makes of each place.
-use Rattle.std.specs.Prelude.{◌≡◌, ℕ, nat_le, Bool, true, false, List, [], ◌∷◌, ◌++◌, length, if◌then◌else◌, is_some, Ok}
+use Rattle.std.specs.Prelude.{◌≡◌, ℕ, nat_le, Bool, true, List, [], ◌∷◌, ◌++◌, length, if◌then◌else◌, is_some, slice_get, Some, Ok}
 use Rattle.relay_lines.specs.Reply.{Reply}
 use Rattle.relay_body.specs.DotText.{ends_in_line_end}
 use Rattle.relay_envelope.specs.declared.envelope.Envelope.{Envelope}
@@ -12,10 +12,10 @@ use Rattle.relay_server.specs.declared.client.Client.{Client}
 use Rattle.relay_server.specs.declared.reply_table.Row.{Row}
 use Rattle.relay_server.specs.declared.reply_table.Row.TheVariants as row
 use Rattle.relay_server.specs.Reply.{reply_of}
-use Rattle.relay_server.specs.ReplyTable.{Course, Replies, Offers, course_of_text, course_of_chunks}
+use Rattle.relay_server.specs.ReplyTable.{Replies, course_of_text, course_of_chunks}
 use Rattle.relay_server.specs.Setup.{Setup}
-use Rattle.relay_server.specs.State.{Greeted, Open, State, Command, Receiving, Closed, client_of, start}
-use Rattle.relay_course.specs.WrittenLine.{ehlo_line, mail_line, rcpt_line, rcpt_line_at, data_line, last_chunk, quit_line}
+use Rattle.relay_server.specs.State.{Greeted, Open, Command, Receiving, Closed, client_of, start}
+use Rattle.relay_course.specs.WrittenLine.{ehlo_line, mail_line, rcpt_line, data_line, last_chunk, quit_line}
 use Rattle.relay_course.specs.Progress.{Errand, progress}
 use Rattle.relay_course.specs.Laws.{AreWithin, IsErrand}
 use Rattle.relay_meeting.specs.Meeting.{IsScript, Step, Writes, step_of}
@@ -81,7 +81,7 @@ abbrev pub script_of : ℕ → Errand → List Tried → List Step
 script_of limit errand tried =
     step_of (ehlo_line errand.host) (Replies row.Extensions (Command (Greeted (client_in errand))))
     ∷ step_of (mail_line true errand.envelope)
-      (Replies row.SenderOk (Command (Open (client_in errand) (opened_of errand.envelope))))
+    (Replies row.SenderOk (Command (Open (client_in errand) (opened_of errand.envelope))))
     ∷ rcpt_steps limit (client_in errand) errand (opened_of errand.envelope) tried
 
 -- the server's table says so of the place
@@ -98,8 +98,7 @@ AreTried setup recipients [] [] = Unit {0}
 AreTried setup recipients [] (tried ∷ more) = ⊥
 AreTried setup recipients (place ∷ places) [] = ⊥
 AreTried setup recipients (place ∷ places) (tried ∷ more) =
-    (rcpt_line_at true recipients place ≡ rcpt_line true tried.recipient) × IsTried setup tried
-    × AreTried setup recipients places more
+    (slice_get recipients place ≡ Some tried.recipient) × IsTried setup tried × AreTried setup recipients places more
 
 -- Each place of a valid envelope is tried as the server's table says.
 abbrev pub EachPlaceIsTried : Type 0
@@ -121,7 +120,7 @@ ClientWrites =
     (setup : Setup) (errand : Errand) (tried : List Tried) → IsErrand errand
     → AreTried setup errand.envelope.recipients errand.places tried
     → Writes setup.host (reply_of setup.host row.Greeting) (λ replies. (progress errand replies).commands)
-      (script_of setup.max_content errand tried)
+    (script_of setup.max_content errand tried)
 
 -- each RCPT's reply is by the table
 abbrev pub AreRcpts : List ℕ → List Tried → List Reply → Type 0

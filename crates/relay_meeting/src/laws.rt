@@ -1,7 +1,50 @@
 //! What is true of two relays that meet.
+ghost use Rattle.relay_meeting.specs.Joined.{ChildHoldsItsPlaces, OfferHoldsItsPlaces, TwoRelaysEnd, TwoRelaysMeet, WhatRelaysSay};
 ghost use Rattle.relay_meeting.specs.Meeting.{Meeting};
+ghost use Rattle.relay_meeting.specs.Script.{ClientWrites, EachPlaceIsTried, ScriptIsServers};
 
-/// The turns of a server that reads what a client of a script writes are of the script.
+/// Of a client that writes a script, and a server that has read a beginning of what it wrote, the turns are of the
+/// script.
 pub fn meeting()
     ensures { Meeting }
+{}
+
+/// Each place of a valid envelope is tried as the server's table says.
+pub fn each_place_is_tried()
+    ensures { EachPlaceIsTried }
+{}
+
+/// The script of an errand is what the server makes of its commands.
+pub fn script_is_servers()
+    ensures { ScriptIsServers }
+{}
+
+/// A client of the errand writes the script.
+pub fn client_writes()
+    ensures { ClientWrites }
+{}
+
+/// Two relays of which each has read a beginning of what the other wrote have said turns of the script.
+pub fn two_relays_meet()
+    ensures { TwoRelaysMeet }
+{}
+
+/// An attempt that the replies of a relay ended has the verdicts of its table, and Taken where the offer was queued.
+pub fn two_relays_end()
+    ensures { TwoRelaysEnd }
+{}
+
+/// Where a relay has made an offer, the client has read the replies to all RCPTs.
+pub fn offer_holds_its_places()
+    ensures { OfferHoldsItsPlaces }
+{}
+
+/// Where a relay has made an offer, it is one, of the recipients whose RCPTs the client has read to be accepted.
+pub fn child_holds_its_places()
+    ensures { ChildHoldsItsPlaces }
+{}
+
+/// What two relays have said to each other of a valid errand, all of it.
+pub fn what_relays_say()
+    ensures { WhatRelaysSay }
 {}

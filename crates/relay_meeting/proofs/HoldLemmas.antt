@@ -1,0 +1,219 @@
+-- Where content was offered, the client has read the replies to all RCPTs.
+use Rattle.std.proofs.Common.{◌≡◌, ◌≤◌, ◌<◌, ◌⊎◌, inl, inr, ℕ, nat_le, Bool, true, false, List, [], ◌∷◌, ◌++◌, length, map, sym, ap, ◌∙◌, subst, cond, arith}
+use Rattle.std.proofs.lemmas.List.{append_assoc, append-nil, length-append}
+use Rattle.relay_lines.specs.Reply.{Reply}
+use Rattle.relay_body.specs.DotText.{ends_in_line_end}
+use Rattle.relay_envelope.specs.declared.envelope.Envelope.{Envelope}
+use Rattle.relay_envelope.specs.declared.envelope.Recipient.{Recipient}
+use Rattle.relay_server.specs.declared.client.Client.{Client}
+use Rattle.relay_server.specs.declared.reply_table.Row.TheVariants as row
+use Rattle.relay_server.specs.Dialogue.{Said, Turn, offered_by, offers_in, read_by}
+use Rattle.relay_server.specs.Reply.{reply_of}
+use Rattle.relay_server.specs.ReplyTable.{Replies, course_of_text, course_of_chunks}
+use Rattle.relay_server.specs.Setup.{Setup}
+use Rattle.relay_server.specs.State.{Receiving}
+use Rattle.relay_course.specs.WrittenLine.{data_line, ehlo_line, last_chunk, mail_line, rcpt_line_at}
+use Rattle.relay_course.specs.Progress.{Errand, Progress, progress}
+use Rattle.relay_octets.specs.Beginning.{Begins}
+use Rattle.relay_course.specs.RelayLaws.{AreWilling, content_replies, opening_commands, opening_replies}
+use Rattle.relay_course.specs.Course.{joined}
+use Rattle.relay_course.proofs.Theorems.{commands_stay, nothing_before_all_rcpts}
+use Rattle.relay_meeting.specs.Meeting.{Plays, Step, replies_by, step_of}
+use Rattle.relay_meeting.specs.Script.{Tried, quit_step, last_steps, rcpt_steps, with_tried, client_in, opened_of, script_of, AreTried}
+use Rattle.relay_meeting.specs.Joined.{AreJoined, HaveMet, OfferHoldsItsPlaces}
+use Rattle.relay_meeting.proofs.MeetLemmas.{either_begins, joined-append, meeting}
+use Rattle.relay_meeting.proofs.TriedLemmas.{rcpt_line-at}
+use Rattle.relay_meeting.proofs.ScriptLemmas.{script_is_servers}
+use Rattle.relay_meeting.proofs.WritesLemmas.{all_replies, as_many_tried, client_writes, fill}
+use Rattle.relay_meeting.proofs.JoinLemmas.{all_written, two_relays_meet}
+use Rattle.relay_meeting.proofs.EndLemmas.{plays_expected}
+
+chunk_some : (text : List ℕ) → 0 < length (last_chunk text)
+chunk_some text = omega arith
+
+first_some : (host : List ℕ) (turn : Turn) (turns : List Turn) (first text chunk : Step) (some t : Bool)
+    → 0 < length first.command → 0 < length chunk.command
+    → Plays host (cond some (cond t (first ∷ text ∷ quit_step ∷ []) (chunk ∷ quit_step ∷ [])) (quit_step ∷ []))
+    (turn ∷ turns) → 0 < length turn.asked
+first_some host turn turns first text chunk true true a b plays = subst (λ (l : List ℕ). 0 < length l) (sym plays.0) a
+first_some host turn turns first text chunk true false a b plays = subst (λ (l : List ℕ). 0 < length l) (sym plays.0) b
+first_some host turn turns first text chunk false t a b plays = omega (arith, ap length plays.0)
+
+last_some : (host : List ℕ) (limit : ℕ) (client : Client) (errand : Errand) (envelope : Envelope) (turn : Turn)
+    (turns : List Turn) → Plays host (last_steps limit client errand envelope) (turn ∷ turns) → 0 < length turn.asked
+last_some host limit client errand envelope turn turns plays =
+    first_some host turn turns (step_of data_line (Replies row.StartMailInput (Receiving client envelope)))
+    (step_of errand.dot_text (course_of_text limit client envelope errand.text))
+    (step_of (last_chunk errand.text) (course_of_chunks limit client envelope errand.text true))
+    (nat_le 1 (length envelope.recipients)) (ends_in_line_end errand.text) (omega arith) (chunk_some errand.text) plays
+
+-- turns with an offer have read all RCPTs, and more
+rcpts_read : (setup : Setup) (host : List ℕ) (limit : ℕ) (client : Client) (errand : Errand) (recipients : List Recipient)
+    (places : List ℕ) (envelope : Envelope) (tried : List Tried) (turns : List Turn)
+    → AreTried setup recipients places tried
+    → Plays host (rcpt_steps limit client errand envelope tried) turns → 0 < length (offered_by turns)
+    → length (joined (map (rcpt_line_at true recipients) places)) < length (read_by turns)
+rcpts_read setup host limit client errand recipients [] envelope [] [] all plays h = absurd (omega arith)
+rcpts_read setup host limit client errand recipients [] envelope [] (turn ∷ turns) all plays h =
+    omega (arith, last_some host limit client errand envelope turn turns plays, length-append turn.asked (read_by turns))
+rcpts_read setup host limit client errand recipients [] envelope (tried ∷ more) turns all plays h = absurd all
+rcpts_read setup host limit client errand recipients (place ∷ places) envelope [] turns all plays h = absurd all
+rcpts_read setup host limit client errand recipients (place ∷ places) envelope (tried ∷ more) [] all plays h =
+    absurd (omega arith)
+rcpts_read setup host limit client errand recipients (place ∷ places) envelope (tried ∷ more) (turn ∷ turns) all plays h =
+    let none = ap (λ o. length (offers_in o ++ offered_by turns)) plays.1.1 in
+    let behind =
+    rcpts_read setup host limit client errand recipients places (with_tried envelope tried) more turns all.2 plays.2
+    (omega (arith, none)) in
+    let line = ap length (plays.0 ∙ sym (rcpt_line-at true recipients place tried.recipient all.0)) in
+    omega (
+      arith,
+      behind,
+      line,
+      length-append turn.asked (read_by turns),
+      length-append
+          (rcpt_line_at true recipients place) (joined (map (rcpt_line_at true recipients) places)),
+    )
+
+script_read : (setup : Setup) (errand : Errand) (tried : List Tried) (turns : List Turn)
+    → AreTried setup errand.envelope.recipients errand.places tried
+    → Plays setup.host (script_of setup.max_content errand tried) turns → 0 < length (offered_by turns)
+    → length (joined (opening_commands errand)) < length (read_by turns)
+script_read setup errand tried [] all plays h = absurd (omega arith)
+script_read setup errand tried (first ∷ []) all plays h =
+    absurd (omega (arith, ap (λ o. length (offers_in o)) plays.1.1, length-append (offers_in first.offer) []))
+script_read setup errand tried (first ∷ second ∷ turns) all plays h =
+    let none = ap (λ o. length (offers_in o)) plays.1.1 in
+    let nothing = ap (λ o. length (offers_in o)) plays.2.1.1 in
+    let a = length-append (offers_in first.offer) (offered_by (second ∷ turns)) in
+    let b = length-append (offers_in second.offer) (offered_by turns) in
+    let behind =
+    rcpts_read setup setup.host setup.max_content (client_in errand) errand errand.envelope.recipients errand.places
+    (opened_of errand.envelope) tried turns all plays.2.2 (omega (arith, none, nothing, a, b)) in
+    let lines : List (List ℕ) = map (rcpt_line_at true errand.envelope.recipients) errand.places in
+    omega (
+      arith,
+      behind,
+      ap length plays.0,
+      ap length plays.2.0,
+      length-append first.asked (read_by (second ∷ turns)),
+      length-append second.asked (read_by turns),
+      length-append (ehlo_line errand.host)
+          (joined (mail_line true errand.envelope ∷ lines)),
+      length-append (mail_line true errand.envelope) (joined lines),
+    )
+
+-- replies before those of all RCPTs
+begins_opening : (errand : Errand) (greeting hello mail : Reply) (rcpts replies : List Reply)
+    → Begins replies (greeting ∷ hello ∷ mail ∷ rcpts)
+    → ((front : List Reply) → length front < length rcpts
+    → (progress errand (greeting ∷ hello ∷ mail ∷ front)).commands ≡ opening_commands errand)
+    → length replies < length (greeting ∷ hello ∷ mail ∷ rcpts) → 0 < length rcpts
+    → Begins (progress errand replies).commands (opening_commands errand)
+begins_opening errand greeting hello mail rcpts [] begins only h some =
+    subst (λ (l : List (List ℕ)). Begins (progress errand []).commands l) (only [] some)
+    (commands_stay errand [] (greeting ∷ hello ∷ mail ∷ []))
+begins_opening errand greeting hello mail rcpts (a ∷ []) begins only h some =
+    let whole = begins.1 in
+    let same : greeting ≡ a = cc in
+    subst (λ (r : Reply). Begins (progress errand (r ∷ [])).commands (opening_commands errand)) same
+    (subst (λ (l : List (List ℕ)). Begins (progress errand (greeting ∷ [])).commands l) (only [] some)
+    (commands_stay errand (greeting ∷ []) (hello ∷ mail ∷ [])))
+begins_opening errand greeting hello mail rcpts (a ∷ b ∷ []) begins only h some =
+    let whole = begins.1 in
+    let same : greeting ∷ hello ∷ [] ≡ a ∷ b ∷ [] = cc in
+    subst (λ (l : List Reply). Begins (progress errand l).commands (opening_commands errand)) same
+    (subst (λ (l : List (List ℕ)). Begins (progress errand (greeting ∷ hello ∷ [])).commands l) (only [] some)
+    (commands_stay errand (greeting ∷ hello ∷ []) (mail ∷ [])))
+begins_opening errand greeting hello mail rcpts (a ∷ b ∷ c ∷ front) begins only h some =
+    let whole = begins.1 in
+    let same : greeting ∷ hello ∷ mail ∷ front ≡ a ∷ b ∷ c ∷ front = cc in (
+      [],
+      sym (ap (λ (l : List Reply). (progress errand l).commands) (sym same) ∙ only front (omega arith))
+          ∙ sym (append-nil (progress errand (a ∷ b ∷ c ∷ front)).commands),
+    )
+
+-- what was written isn't longer than what it begins
+not_longer : (front whole : List (List ℕ)) (read : List ℕ) (unread : List ℕ) → Begins front whole
+    → joined front ≡ read ++ unread → length (joined whole) < length read → ⊥
+not_longer front whole read unread begins e h =
+    omega (
+      arith,
+      ap length (ap joined begins.1 ∙ joined-append front begins.0),
+      length-append (joined front)
+          (joined begins.0),
+      ap length e,
+      length-append read unread,
+    )
+
+-- so the replies reach to those of all RCPTs
+enough_replies : (errand : Errand) (greeting hello mail input : Reply) (rcpts replies : List Reply)
+    (read unread : List ℕ)
+    → AreWilling greeting hello mail input → length rcpts ≡ length errand.places → 1 ≤ length errand.places
+    → Begins replies (opening_replies greeting hello mail rcpts) ⊎ Begins (opening_replies greeting hello mail rcpts) replies
+    → joined (progress errand replies).commands ≡ read ++ unread
+    → length (joined (opening_commands errand)) < length read
+    → Begins (opening_replies greeting hello mail rcpts) replies
+enough_replies errand greeting hello mail input rcpts replies read unread willing n some (inr b) e h = b
+enough_replies errand greeting hello mail input rcpts replies read unread willing n some (inl ([], is)) e h =
+    let whole : List Reply = opening_replies greeting hello mail rcpts in
+    ([], sym (append-nil replies) ∙ sym is ∙ sym (append-nil whole))
+enough_replies errand greeting hello mail input rcpts replies read unread willing n some (inl (reply ∷ more, is)) e h =
+    absurd (not_longer (progress errand replies).commands (opening_commands errand) read unread
+    (begins_opening errand greeting hello mail rcpts replies (reply ∷ more, is)
+    (λ front k. ap (λ (now : Progress). now.commands)
+    (nothing_before_all_rcpts errand greeting hello mail input front willing (omega (arith, n, k))))
+    (omega (arith, ap length is, length-append replies (reply ∷ more))) (omega (arith, n, some))) e h)
+
+-- what the server has read where it has made an offer
+pub record ReadPast (errand : Errand) (replies : List Reply) : Type 0 where
+  pub read : List ℕ
+  pub unread : List ℕ
+  pub octets : joined (progress errand replies).commands ≡ read ++ unread
+  pub long : length (joined (opening_commands errand)) < length read
+
+script_offers : (setup : Setup) (errand : Errand) (tried : List Tried) (said : Said) (input output : List ℕ)
+    (replies : List Reply) (rest : List ℕ) → AreTried setup errand.envelope.recipients errand.places tried
+    → AreJoined setup errand said input output replies rest → HaveMet setup errand tried said replies rest
+    → 0 < length said.offers → ReadPast errand replies
+script_offers setup errand tried said input output replies rest all ends met some = record {
+  read = read_by met.turns;
+  unread = met.unread ++ ends.up.0;
+  octets = sym ends.written ∙ ends.up.1 ∙ ap (λ l. l ++ ends.up.0) met.input
+      ∙ append_assoc (read_by met.turns) met.unread ends.up.0;
+  long = script_read setup errand tried met.turns all met.meets.plays (omega (arith, some, ap length met.offered));
+}
+
+pub offer_holds_its_places : OfferHoldsItsPlaces
+offer_holds_its_places setup errand tried said input output replies rest is all ends some =
+    let greeting : Reply = reply_of setup.host row.Greeting in
+    let hello : Reply = reply_of setup.host row.Extensions in
+    let script : List Step = script_of setup.max_content errand tried in
+    let d = ends.dialogue in
+    let heard = all_written setup said input replies rest d ends.numbered ends.host ends.cut ends.down in
+    let sent : List Reply = replies_by d.turns in
+    let octets : joined (progress errand replies).commands ≡ read_by d.turns ++ (d.rest ++ ends.up.0) =
+    sym ends.written ∙ ends.up.1 ∙ ap (λ l. l ++ ends.up.0) d.input ∙ append_assoc (read_by d.turns) d.rest ends.up.0 in
+    let meets = meeting setup greeting (λ l. (progress errand l).commands) script d.state d.turns replies heard.0
+    (d.rest ++ ends.up.0) (client_writes setup errand tried is all) (script_is_servers setup errand tried is all) d.runs octets
+    heard.1 in
+    let filled = fill setup.host script sent (plays_expected setup.host script d.turns meets.plays) in
+    let parts = all_replies setup errand tried (sent ++ filled.later) filled.expected filled.all in
+    let last : List Reply = content_replies errand parts.rcpts parts.input parts.content in
+    let n = parts.count ∙ as_many_tried setup errand.envelope.recipients errand.places tried all in
+    let front : List Reply = opening_replies greeting hello parts.mail parts.rcpts in
+    let line : replies ++ (heard.0 ++ filled.later) ≡ front ++ (last ++ parts.quit ∷ []) =
+    sym (append_assoc replies heard.0 filled.later) ∙ ap (λ l. l ++ filled.later) (sym heard.1) ∙ parts.replies_are
+    ∙ append_assoc front last (parts.quit ∷ []) in
+    let read = script_offers setup errand tried said input output replies rest all ends
+    (two_relays_meet setup errand tried said input output replies rest is all ends) some in
+    let enough = enough_replies errand greeting hello parts.mail parts.input parts.rcpts replies read.read read.unread
+    parts.willing n is.some (either_begins replies front (heard.0 ++ filled.later) (last ++ parts.quit ∷ []) line)
+    read.octets read.long in
+    record {
+      rcpts = parts.rcpts;
+      later = enough.0;
+      replies_are = enough.1
+          ∙ ap (λ (mail : Reply). opening_replies greeting hello mail parts.rcpts ++ enough.0) parts.mail_is;
+      by_table = parts.are;
+    }

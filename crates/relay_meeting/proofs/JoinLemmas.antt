@@ -1,0 +1,220 @@
+-- Two relays that meet.
+use Rattle.std.proofs.Common.{◌≡◌, inl, inr, ℕ, nat_le, Bool, true, false, List, [], ◌∷◌, ◌++◌, length, Some, refl, sym, ap, ◌∙◌, subst, cond}
+use Rattle.std.proofs.lemmas.List.{append_assoc, append-nil}
+use Rattle.std.proofs.lemmas.List.Concat.{flat_map-append}
+use Rattle.std.specs.List.{AllByRecursion, flat_map}
+use Rattle.relay_lines.specs.Reply.{Reply, IsReply, reply_text}
+use Rattle.relay_lines.specs.Reply.{written_replies}
+use Rattle.relay_lines.specs.ReplyReading.{CutsReplies}
+use Rattle.relay_lines.proofs.Theorems.{beginning_is_cut}
+use Rattle.relay_body.specs.DotText.{ends_in_line_end}
+use Rattle.relay_envelope.specs.declared.envelope.Envelope.{Envelope}
+use Rattle.relay_envelope.specs.HostName.{IsHostName}
+use Rattle.relay_trace.specs.HeaderSection.{received_count_of}
+use Rattle.relay_server.specs.declared.client.Client.{Client}
+use Rattle.relay_server.specs.declared.offer.Answer.{Answer}
+use Rattle.relay_server.specs.declared.offer.Answer.TheVariants as answer
+use Rattle.relay_server.specs.declared.reply_table.Row.TheVariants as row
+use Rattle.relay_server.specs.Dialogue.{Answers, IsDialogue, IsLeft, Offered, Said, Takes, Turn, Turns, offered_of, offered_by, offers_in, answers_in, read_by, written_by, answered_by}
+use Rattle.relay_server.specs.DialogueLaws.{AreNumbered}
+use Rattle.relay_server.specs.Reply.{reply_of}
+use Rattle.relay_server.specs.ReplyTable.{Course, Replies, Offers, course_of_text, course_of_chunks}
+use Rattle.relay_server.specs.Setup.{Setup}
+use Rattle.relay_server.specs.State.{State, Command, Greeted, Receiving, Spent, start}
+use Rattle.relay_server.proofs.Theorems.{replies_are_well_formed, runs_compose}
+use Rattle.relay_course.specs.WrittenLine.{data_line, last_chunk}
+use Rattle.relay_course.specs.Progress.{Errand, progress}
+use Rattle.relay_octets.specs.Beginning.{Begins}
+use Rattle.relay_course.specs.Course.{joined}
+use Rattle.relay_meeting.specs.Meeting.{Plays, Step, replies_by, state_behind, step_of}
+use Rattle.relay_meeting.specs.Script.{Tried, quit_step, content_steps, last_steps, rcpt_steps, with_tried, client_in, envelope_behind, opened_of, script_of}
+use Rattle.relay_meeting.specs.Joined.{TwoRelaysMeet, child_envelope, child_of}
+use Rattle.relay_meeting.proofs.MeetLemmas.{meeting}
+use Rattle.relay_meeting.proofs.ScriptLemmas.{script_is_servers}
+use Rattle.relay_meeting.proofs.WritesLemmas.{client_writes}
+
+-- what a course may offer
+abbrev may_offer : Course → List Offered
+may_offer (Replies row next) = []
+may_offer (Offers client envelope content) = offered_of client envelope content ∷ []
+
+abbrev may_offer_in : List Step → List Offered
+may_offer_in script = flat_map (λ step. may_offer step.course) script
+
+taken_offer : (host : List ℕ) (course : Course) (turn : Turn) (new : State) → Takes host course turn new
+    → offers_in turn.offer ≡ may_offer course
+taken_offer host (Replies row next) turn new takes = ap offers_in takes.1
+taken_offer host (Offers client envelope content) turn new takes = ap offers_in takes.2
+
+plays_offer : (host : List ℕ) (script : List Step) (turns : List Turn) → Plays host script turns
+    → Begins (offered_by turns) (may_offer_in script)
+plays_offer host script [] plays = (may_offer_in script, refl)
+plays_offer host [] (turn ∷ turns) plays = absurd plays
+plays_offer host (step ∷ script) (turn ∷ turns) plays =
+    let behind = plays_offer host script turns plays.2 in
+    let one = taken_offer host step.course turn (state_behind step.course) plays.1 in (
+      behind.0,
+      ap (λ l. may_offer step.course ++ l) behind.1 ∙ ap (λ l. l ++ (offered_by turns ++ behind.0)) (sym one)
+          ∙ sym (append_assoc (offers_in turn.offer) (offered_by turns) behind.0),
+    )
+
+content_offer : (client : Client) (envelope : Envelope) (content : List ℕ) (many : Bool)
+    → may_offer (cond many (Replies row.TooManyReceived (Command (Greeted client))) (Offers client envelope content)) ≡ cond
+    many [] (offered_of client envelope content ∷ [])
+content_offer client envelope content true = refl
+content_offer client envelope content false = refl
+
+text_offer : (client : Client) (envelope : Envelope) (content : List ℕ) (over : State) (fits many : Bool)
+    → may_offer (cond fits (cond many (Replies row.TooManyReceived (Command (Greeted client)))
+    (Offers client envelope content)) (Replies row.ContentTooLarge over)) ≡ cond fits
+    (cond many [] (offered_of client envelope content ∷ [])) []
+text_offer client envelope content over true many = content_offer client envelope content many
+text_offer client envelope content over false many = refl
+
+steps_offer : (client : Client) (envelope : Envelope) (text chunk : Step) (t : Bool) (one : List Offered)
+    → may_offer text.course ≡ one → may_offer chunk.course ≡ one
+    → may_offer_in (cond t (step_of data_line (Replies row.StartMailInput (Receiving client envelope)) ∷ text ∷ quit_step
+    ∷ []) (chunk ∷ quit_step ∷ [])) ≡ one
+steps_offer client envelope text chunk true one a b = append-nil (may_offer text.course) ∙ a
+steps_offer client envelope text chunk false one a b = append-nil (may_offer chunk.course) ∙ b
+
+last_offer : (limit : ℕ) (client : Client) (errand : Errand) (envelope : Envelope) (some : Bool)
+    → may_offer_in (cond some (content_steps limit client errand envelope) (quit_step ∷ []))
+    ≡ cond some (cond (nat_le (length errand.text) limit)
+    (cond (nat_le 100 (received_count_of errand.text)) [] (offered_of client envelope errand.text ∷ [])) []) []
+last_offer limit client errand envelope true =
+    let fits : Bool = nat_le (length errand.text) limit in
+    let many : Bool = nat_le 100 (received_count_of errand.text) in
+    steps_offer client envelope (step_of errand.dot_text (course_of_text limit client envelope errand.text))
+    (step_of (last_chunk errand.text) (course_of_chunks limit client envelope errand.text true))
+    (ends_in_line_end errand.text)
+    (cond fits (cond many [] (offered_of client envelope errand.text ∷ [])) [])
+    (text_offer client envelope errand.text (Command (Greeted client)) fits many)
+    (text_offer client envelope errand.text (Command (Spent client)) fits many)
+last_offer limit client errand envelope false = refl
+
+rcpt_offer : (limit : ℕ) (client : Client) (errand : Errand) (envelope : Envelope) (tried : List Tried)
+    → may_offer_in (rcpt_steps limit client errand envelope tried) ≡ may_offer_in
+    (last_steps limit client errand (envelope_behind envelope tried))
+rcpt_offer limit client errand envelope [] = refl
+rcpt_offer limit client errand envelope (tried ∷ more) = rcpt_offer limit client errand (with_tried envelope tried) more
+
+script_offer : (limit : ℕ) (errand : Errand) (tried : List Tried)
+    → may_offer_in (script_of limit errand tried) ≡ child_of limit errand tried
+script_offer limit errand tried =
+    rcpt_offer limit (client_in errand) errand (opened_of errand.envelope) tried
+    ∙ last_offer limit (client_in errand) errand (child_envelope errand tried)
+    (nat_le 1 (length (child_envelope errand tried).recipients))
+
+-- the turns of a dialogue, with one more where an offer is unanswered: its answer might be that the spool is full
+pub record Turned (setup : Setup) (said : Said) : Type 0 where
+  pub turns : List Turn
+  pub state : State
+  pub runs : Turns setup start turns state
+  pub unread : List ℕ
+  pub input : said.input ≡ read_by turns ++ unread
+  pub unwritten : List ℕ
+  pub output : reply_text (reply_of setup.host row.Greeting) ++ written_by turns ≡ said.output ++ unwritten
+  pub offers : said.offers ≡ offered_by turns
+  pub numbered : AreNumbered (answered_by turns)
+
+numbered_more : (answers : List Answer) → AreNumbered answers → AreNumbered (answers ++ answer.Full ∷ [])
+numbered_more [] h = (tt, tt)
+numbered_more (one ∷ answers) h = (h.0, numbered_more answers h.1)
+
+pub turned_by : (setup : Setup) (said : Said) (d : IsDialogue setup said) → AreNumbered said.answers
+    → IsLeft setup d.state d.rest d.unanswered → Turned setup said
+turned_by setup said d numbered (inl none) = record {
+  turns = d.turns;
+  state = d.state;
+  runs = d.runs;
+  unread = d.rest;
+  input = d.input;
+  unwritten = [];
+  output = sym d.output ∙ sym (append-nil said.output);
+  offers = d.offers ∙ ap (λ l. offered_by d.turns ++ l) none.1 ∙ append-nil (offered_by d.turns);
+  numbered = subst AreNumbered d.answers numbered;
+}
+turned_by setup said d numbered (inr waiting) =
+    let offer : Offered = offered_of waiting.client waiting.envelope waiting.content in
+    let reply : Reply = reply_of setup.host row.SpoolFull in
+    let turn : Turn = record { asked = d.rest; reply = reply; offer = Some (offer, answer.Full) } in
+    let new : State = Command (Greeted waiting.client) in
+    let is : Answers setup d.state turn new =
+    record {
+      course = Offers waiting.client waiting.envelope waiting.content;
+      comes = waiting.comes;
+      takes =
+          (answer.Full, refl, refl, refl);
+    } in
+    record {
+      turns = d.turns ++ turn ∷ [];
+      state = new;
+      runs = runs_compose setup start d.state new d.turns (turn ∷ []) d.runs (new, is, refl);
+      unread = [];
+      input = d.input ∙ ap (λ l. read_by d.turns ++ l) (sym (append-nil d.rest))
+          ∙ sym (flat_map-append (λ t. t.asked) d.turns (turn ∷ [])) ∙ sym (append-nil (read_by (d.turns ++ turn ∷ [])));
+      unwritten = reply_text reply;
+      output = ap (λ l. reply_text (reply_of setup.host row.Greeting) ++ l)
+          (flat_map-append (λ t. reply_text t.reply) d.turns (turn ∷ [])
+          ∙ ap (λ l. written_by d.turns ++ l) (append-nil (reply_text reply)))
+          ∙ sym (append_assoc (reply_text (reply_of setup.host row.Greeting)) (written_by d.turns) (reply_text reply))
+          ∙ ap (λ l. l ++ reply_text reply) (sym d.output);
+      offers = d.offers ∙ ap (λ l. offered_by d.turns ++ l) waiting.offer_is
+          ∙ sym (flat_map-append (λ t. offers_in t.offer) d.turns (turn ∷ []));
+      numbered = subst AreNumbered (sym (flat_map-append (λ t. answers_in t.offer) d.turns (turn ∷ [])))
+          (numbered_more (answered_by d.turns) (subst AreNumbered d.answers numbered));
+    }
+
+pub replies_written : (turns : List Turn) → written_by turns ≡ written_replies (replies_by turns)
+replies_written [] = refl
+replies_written (turn ∷ turns) = ap (λ l. reply_text turn.reply ++ l) (replies_written turns)
+
+all_replies : (turns : List Turn) → AllByRecursion (λ turn. IsReply turn.reply) turns
+    → AllByRecursion IsReply (replies_by turns)
+all_replies [] h = tt
+all_replies (turn ∷ turns) h = (h.0, all_replies turns h.1)
+
+pub two_relays_meet : TwoRelaysMeet
+two_relays_meet setup errand tried said input output replies rest is all ends =
+    let greeting : Reply = reply_of setup.host row.Greeting in
+    let t = turned_by setup said ends.dialogue ends.numbered ends.dialogue.left in
+    let formed = replies_are_well_formed setup ends.host in
+    let sent : List Reply = greeting ∷ replies_by t.turns in
+    let written : input ++ (ends.down.0 ++ t.unwritten) ≡ written_replies sent =
+    sym (append_assoc input ends.down.0 t.unwritten) ∙ ap (λ l. l ++ t.unwritten) (sym ends.down.1) ∙ sym t.output
+    ∙ ap (λ l. reply_text greeting ++ l) (replies_written t.turns) in
+    let heard = beginning_is_cut input (ends.down.0 ++ t.unwritten) rest replies sent
+    (formed.0, all_replies t.turns (formed.1 start t.state t.turns t.runs t.numbered)) written ends.cut in
+    let octets : joined (progress errand replies).commands ≡ read_by t.turns ++ (t.unread ++ ends.up.0) =
+    sym ends.written ∙ ends.up.1 ∙ ap (λ l. l ++ ends.up.0) t.input ∙ append_assoc (read_by t.turns) t.unread ends.up.0 in
+    let meets = meeting setup greeting (λ l. (progress errand l).commands) (script_of setup.max_content errand tried)
+    t.state t.turns replies heard.0.0 (t.unread ++ ends.up.0)
+    (client_writes setup errand tried is all) (script_is_servers setup errand tried is all) t.runs octets heard.0.1 in
+    record {
+      turns = t.turns;
+      state = t.state;
+      meets = meets;
+      read = heard.0;
+      sound = heard.1;
+      unread = t.unread;
+      input = t.input;
+      offered = t.offers;
+      children = subst (λ l. Begins l (child_of setup.max_content errand tried)) (sym t.offers)
+          (subst (λ l. Begins (offered_by t.turns) l) (script_offer setup.max_content errand tried)
+          (plays_offer setup.host (script_of setup.max_content errand tried) t.turns meets.plays));
+    }
+
+-- the replies that were read begin those of the turns
+pub all_written : (setup : Setup) (said : Said) (input : List ℕ) (replies : List Reply) (rest : List ℕ)
+    (d : IsDialogue setup said) → AreNumbered said.answers → IsHostName setup.host → CutsReplies input replies rest
+    → Begins input said.output → Begins replies (reply_of setup.host row.Greeting ∷ replies_by d.turns)
+all_written setup said input replies rest d numbered host cut down =
+    let greeting : Reply = reply_of setup.host row.Greeting in
+    let formed = replies_are_well_formed setup host in
+    let sent : List Reply = greeting ∷ replies_by d.turns in
+    let written : input ++ down.0 ≡ written_replies sent =
+    sym down.1 ∙ d.output ∙ ap (λ l. reply_text greeting ++ l) (replies_written d.turns) in
+    (beginning_is_cut input down.0 rest replies sent
+    (formed.0, all_replies d.turns (formed.1 start d.state d.turns d.runs (subst AreNumbered d.answers numbered)))
+    written cut).0
