@@ -1,5 +1,6 @@
 -- What was accepted stays, and a report may be stored.
-use Rattle.std.proofs.Common.{◌≡◌, ◌≢◌, ℕ, zero, suc, false, List, [], ◌∷◌, slice_get, codes, Option, None, Some, MatchOption, refl, sym, subst, ap, ◌∙◌, arith, option_and_then}
+use Rattle.std.proofs.Common.{◌≡◌, ◌≢◌, ◌==◌, ◌++◌, ℕ, zero, suc, Bool, true, false, if◌then◌else◌, fold, List, [], ◌∷◌, slice_get, codes, Option, None, Some, MatchOption, refl, sym, subst, ap, ◌∙◌, arith, option_and_then}
+use Rattle.std.specs.List.{AllByRecursion, list_any}
 use Rattle.std.proofs.lemmas.Bool.{false≢true}
 use Rattle.relay_envelope.specs.Path.{Null}
 use Rattle.relay_envelope.specs.Envelope.{IsForwardPath}
@@ -10,8 +11,8 @@ use Rattle.relay_book.specs.declared.change.Change.{Change}
 use Rattle.relay_book.specs.declared.change.Change.TheVariants.{Accept, Outcome}
 use Rattle.relay_book.specs.declared.message.Message.{Message}
 use Rattle.relay_book.specs.Record.{IsAccept, IsOutcome, is_null}
-use Rattle.relay_book.specs.Queue.{Queue, FitsFrom, FitsMessage, FitsQueue, Fitting, empty_queue, report_of, step}
-use Rattle.relay_book.specs.Marks.{MessageStays, ReportMayBeStored, change_at, own_accept}
+use Rattle.relay_book.specs.Queue.{Queue, FitsFrom, FitsMessage, FitsQueue, Fitting, accepted, empty_queue, if_held, is_held, message_after, message_of, queue_of, report_of, reported, ruled, step}
+use Rattle.relay_book.specs.Marks.{MessageStays, QueuedMayBeStored, ReportMayBeStored, change_at, own_accept}
 use Rattle.relay_book.proofs.PlaceLemmas.{none_some, some_is}
 use Rattle.relay_book.proofs.ChangeLemmas.{message_other, message_within, own_from}
 use Rattle.relay_book.proofs.CustodyLemmas.{not_null}
@@ -66,3 +67,54 @@ report_may_be_stored changes fitting outcome message fits found some = by outcom
         let known = (stand changes fitting).knows.accept outcome.message message found in
         let valid = own_is_valid changes outcome.message message.accept fitting (own_from changes outcome.message message.accept known path) in
         report_is_accept message.accept outcome fits.2 (reverse_path_is_forward message.accept.envelope.reverse_path valid.envelope.reverse_path (not_null_text message.accept.envelope.reverse_path path))
+
+-- all these messages may be stored
+abbrev AreStored : List (ℕ × Message) → Type 0
+AreStored entries = AllByRecursion (λ entry. IsAccept entry.1.accept) entries
+
+both_stored : (entries more : List (ℕ × Message)) → AreStored entries → AreStored more → AreStored (entries ++ more)
+both_stored [] more stored rest = rest
+both_stored (entry ∷ entries) more stored rest = (stored.0, both_stored entries more stored.1 rest)
+
+found_stored : (entries : List (ℕ × Message)) (number : ℕ) (message : Message) → AreStored entries → message_of entries number ≡ Some message → IsAccept message.accept
+found_stored [] number message stored found = absurd (none_some message found)
+found_stored (entry ∷ entries) number message stored found = by (entry.0 == number) (found_stored entries number message stored.1) found
+  where
+    by : (here : Bool) → (message_of entries number ≡ Some message → IsAccept message.accept)
+        → (if here then Some entry.1 else message_of entries number) ≡ Some message → IsAccept message.accept
+    by true more is = subst (λ (m : Message). IsAccept m.accept) (some_is entry.1 message is) stored.0
+    by false more is = more is
+
+ruled_stored : (outcome : OutcomeFields) (entries : List (ℕ × Message)) → AreStored entries → AreStored (ruled outcome entries)
+ruled_stored outcome [] stored = tt
+ruled_stored outcome (entry ∷ entries) stored = by (entry.0 == outcome.message) (list_any is_held (message_after outcome entry.1).places) (ruled_stored outcome entries stored.1)
+  where
+    by : (here held : Bool) → AreStored (ruled outcome entries)
+        → AreStored (if here then (if held then (entry.0, message_after outcome entry.1) ∷ [] else []) ++ entries else entry ∷ ruled outcome entries)
+    by true true rest = (stored.0, stored.1)
+    by true false rest = stored.1
+    by false held rest = (stored.0, rest)
+
+reported_stored : (number : ℕ) (outcome : OutcomeFields) (entries : List (ℕ × Message)) (message : Option Message) → IsOutcome outcome
+    → MatchOption message ⊥ (λ message. FitsMessage message outcome) → AreStored entries → message_of entries outcome.message ≡ message
+    → (report : List ℕ) → outcome.report ≡ report → AreStored (reported number outcome report message)
+reported_stored number outcome entries message valid fits stored found [] is = tt
+reported_stored number outcome entries None valid fits stored found (octet ∷ rest) is = tt
+reported_stored number outcome entries (Some message) valid fits stored found (octet ∷ rest) is =
+    let path = not_null message outcome octet rest fits is in
+    let accept = found_stored entries outcome.message message stored found in
+    (report_is_accept message.accept outcome valid (reverse_path_is_forward message.accept.envelope.reverse_path accept.envelope.reverse_path (not_null_text message.accept.envelope.reverse_path path)), tt)
+
+step_stored : (queue : Queue) (change : Change) → FitsQueue queue change → AreStored queue.messages → AreStored (step queue change).messages
+step_stored queue (Accept accept) fits stored = both_stored queue.messages ((queue.next, accepted queue.next accept) ∷ []) stored (fits.1, tt)
+step_stored queue (Outcome outcome) fits stored =
+    both_stored (ruled outcome queue.messages) (reported queue.next outcome outcome.report (message_of queue.messages outcome.message))
+    (ruled_stored outcome queue.messages stored)
+    (reported_stored queue.next outcome queue.messages (message_of queue.messages outcome.message) fits.2 fits.1 stored refl outcome.report refl)
+
+all_stored : (queue : Queue) (changes : List Change) → FitsFrom queue changes → AreStored queue.messages → AreStored (fold step queue changes).messages
+all_stored queue [] fits stored = stored
+all_stored queue (change ∷ changes) fits stored = all_stored (step queue change) changes fits.1 (step_stored queue change fits.0 stored)
+
+pub queued_may_be_stored : QueuedMayBeStored
+queued_may_be_stored changes fitting number message found = found_stored (queue_of changes).messages number message (all_stored empty_queue changes fitting tt) found

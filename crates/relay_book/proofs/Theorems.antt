@@ -7,6 +7,6 @@ pub use Rattle.relay_book.proofs.LengthLemmas.{record_is_short}
 -- custody
 pub use Rattle.relay_book.proofs.MarkLaws.{fold_finds, fold_holds, fold_knows, exactly_one, one_more_holds}
 pub use Rattle.relay_book.proofs.LeavingLemmas.{queue_leaves, leaving_is_listed}
-pub use Rattle.relay_book.proofs.StoredLemmas.{message_stays, report_may_be_stored}
+pub use Rattle.relay_book.proofs.StoredLemmas.{message_stays, queued_may_be_stored, report_may_be_stored}
 -- due moments
 pub use Rattle.relay_book.proofs.TimeLaws.{fold_due}

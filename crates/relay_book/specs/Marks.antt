@@ -174,3 +174,9 @@ ReportMayBeStored =
     → FitsQueue (queue_of changes) (Outcome outcome)
     → message_of (queue_of changes).messages outcome.message ≡ Some message
     → outcome.report ≢ [] → IsAccept (report_of message.accept outcome)
+
+-- A queued message may be stored.
+abbrev pub QueuedMayBeStored : Type 0
+QueuedMayBeStored =
+    (changes : List Change) → Fitting changes → (number : ℕ) (message : Message)
+    → message_of (queue_of changes).messages number ≡ Some message → IsAccept message.accept

@@ -1,7 +1,7 @@
 //! What is true of the custody of each recipient, by the list of changes.
 ghost use Rattle.relay_book.specs.DueLaw.{FoldDue};
 ghost use Rattle.relay_book.specs.HeldLaw.{FoldFinds};
-ghost use Rattle.relay_book.specs.Marks.{ExactlyOne, FoldHolds, FoldKnows, LeavingIsListed, MessageStays, OneMoreHolds, QueueLeaves, ReportMayBeStored};
+ghost use Rattle.relay_book.specs.Marks.{ExactlyOne, FoldHolds, FoldKnows, LeavingIsListed, MessageStays, OneMoreHolds, QueueLeaves, QueuedMayBeStored, ReportMayBeStored};
 
 /// The queue of a list of changes holds exactly what is held.
 pub fn fold_holds()
@@ -51,4 +51,9 @@ pub fn message_stays()
 /// A report that an outcome queues may be stored as an accept.
 pub fn report_may_be_stored()
     ensures { ReportMayBeStored }
+{}
+
+/// A queued message may be stored.
+pub fn queued_may_be_stored()
+    ensures { QueuedMayBeStored }
 {}

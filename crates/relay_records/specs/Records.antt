@@ -18,6 +18,12 @@ pub record Kept (D : Type 0) : Type 0 where
   pub queue : Queue
   pub noted : Option Noted
 
+-- a list of changes leaves this queue
+pub record HasList (queue : Queue) : Type 0 where
+  pub changes : List Change
+  pub fitting : Fitting changes
+  pub queue_is : queue ≡ queue_of changes
+
 -- What a stop may leave: the bodies stand for the changes, or for these with one more, which was being added.
 abbrev pub StandsForOrWith : List Change → Option Change → List (List ℕ) → Type 0
 StandsForOrWith changes pending bodies =

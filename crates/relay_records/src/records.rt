@@ -7,7 +7,7 @@ ghost use Rattle.relay_book.specs.declared.change.Change.{Change};
 ghost use Rattle.relay_book.specs.Book.{Rise};
 ghost use Rattle.relay_book.specs.Marks.{Held, IsQueuedAs};
 ghost use Rattle.relay_book.specs.Queue.{due_of, held_of, message_of};
-ghost use Rattle.relay_records.specs.Records.{Halted, Keeps, Stays};
+ghost use Rattle.relay_records.specs.Records.{Halted, HasList, Keeps, Stays};
 ghost use Rattle.relay_records.specs.HeldPlace.{IsWaiting, waiting_at};
 
 use crate::noted::Noted;
@@ -33,11 +33,13 @@ pub struct Records<D: Disk> {
 }
 
 impl<D: Disk> Model for Records<D> {
-    ghost use Rattle.relay_records.specs.Records.{Kept};
+    ghost use Rattle.relay_records.specs.Records.{HasList, Kept};
 
     ghost Value = { Kept D };
 
     ghost view = { λ r. record { spool = r.spool; queue = r.book.queue; noted = r.noted } };
+
+    ghost invariant = { λ r. HasList r.book.queue };
 }
 
 impl<D: Disk> Records<D> {
@@ -57,6 +59,13 @@ impl<D: Disk> Records<D> {
         ensures { Rise 0 self.now.queue.next self.now.queue.messages }
     {
         self.book.numbers_rise();
+    }
+
+    /// Tells that the queue is that of a list of changes. It does nothing.
+    pub fn has_list(&self)
+        ensures { HasList self.now.queue }
+    {
+        let _is_noted = self.noted.is_some();
     }
 
     /// Whether another change can be numbered: numbers end at 2^62. It takes no memory.
