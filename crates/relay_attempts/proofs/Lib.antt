@@ -1,5 +1,4 @@
 mod NameLemmas
-mod RunLemmas
 mod HopLemmas
 mod WorkLemmas
 mod KeyLemmas

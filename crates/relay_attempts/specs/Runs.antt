@@ -1,31 +1,14 @@
 -- The running attempts of a node, by number, 0 to 63.
-use Rattle.std.specs.Prelude.{◌≡◌, ◌≢◌, ◌<◌, ◌==◌, ℕ, Bool, true, false, ◌&&◌, List, [], ◌∷◌, Option, None, Some, slice_index_or, bytes_eq}
-use Rattle.std.specs.List.{list_any}
+use Rattle.std.specs.Prelude.{◌≡◌, ℕ, ◌==◌, Bool, true, false, ◌&&◌, List, Option, None, Some, bytes_eq}
+use Rattle.std.specs.List.{AllByRecursion, list_any}
+use Rattle.relay_slots.specs.Slots.{slot_at}
+use Rattle.relay_routes.specs.Routes.{RouteTable}
+use Rattle.relay_book.specs.declared.message.Message.{Message}
+use Rattle.relay_book.specs.declared.message.Place.{Place}
+use Rattle.relay_book.specs.Queue.{Queue, holds_at, message_of}
+use Rattle.relay_client.specs.Attempt.{Follows}
 use Rattle.relay_attempts.specs.declared.runs.Run.{Run}
-
--- the attempt of this number
-abbrev pub run_at : List (Option Run) → ℕ → Option Run
-run_at runs number = slice_index_or runs number None
-
--- all other attempts are the same
-abbrev pub OthersStay : List (Option Run) → List (Option Run) → ℕ → Type 0
-OthersStay old new number = (other : ℕ) → other ≢ number → run_at new other ≡ run_at old other
-
--- no number has an attempt
-abbrev pub AreFree : List (Option Run) → Type 0
-AreFree [] = Unit {0}
-AreFree (None ∷ runs) = AreFree runs
-AreFree (Some run ∷ runs) = ⊥
-
--- all 64 numbers have an attempt
-abbrev pub IsFull : List (Option Run) → Type 0
-IsFull runs = (number : ℕ) → number < 64 → run_at runs number ≢ None
-
--- the least number that has none
-pub record IsLeastFree (runs : List (Option Run)) (number : ℕ) : Type 0 where
-  pub within : number < 64
-  pub free : run_at runs number ≡ None
-  pub least : (lower : ℕ) → lower < number → run_at runs lower ≢ None
+use Rattle.relay_attempts.specs.Hops.{goes_to}
 
 -- the attempt is for this message and the hop of this name
 abbrev pub is_run_for : ℕ → List ℕ → Option Run → Bool

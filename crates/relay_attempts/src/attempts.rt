@@ -7,22 +7,23 @@ ghost use Rattle.relay_attempts.specs.Work.{works_of};
 
 use crate::gathering::gathered;
 use crate::hops::has_stranded;
-use crate::runs::Runs;
+use crate::runs::Run;
 use crate::work::{Finder, Work};
 use relay_disk::Disk;
 use relay_records::Records;
 use relay_routes::Table;
+use relay_slots::Slots;
 use relay_trace::Moment;
 use std::alloc::{AllocError, Global};
 use std::collections::BTreeSet;
 use std::marker::Model;
 
 /// The attempts of a node that are running, up to 64, and the messages with a held place that has no hop.
-#[derive(Debug, Drop)]
+#[derive(Drop)]
 pub struct Attempts {
-    runs: Runs,
+    pub(crate) runs: Slots<Run>,
     /// The numbers of the messages with a held place that has no hop, in order.
-    stranded: Vec<u64>,
+    pub(crate) stranded: Vec<u64>,
 }
 
 impl Model for Attempts {

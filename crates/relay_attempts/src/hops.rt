@@ -1,13 +1,14 @@
 //! The hops of a message's places.
-ghost use Rattle.std.specs.Prelude.{◌≡◌, not};
-ghost use Rattle.std.specs.Option.{option_copied, option_map_or};
+ghost use Rattle.std.specs.Prelude.{◌≡◌, IfOk};
+ghost use Rattle.std.specs.Option.{option_copied};
 ghost use Rattle.relay_book.specs.Queue.{is_due_at};
-ghost use Rattle.relay_attempts.specs.Hops.{goes_to, hop_name, hop_of_place, is_any, is_due_for, is_stranded, places_where, stranded_places};
+ghost use Rattle.relay_attempts.specs.Hops.{due_places_in, goes_to, hop_name, hop_of_place, is_any, is_due_for, is_stranded, stranded_places};
 
 use relay_book::{Message, Place};
 use relay_envelope::{PathBuf, Recipients};
 use relay_routes::{HostName, Table};
 use relay_trace::Moment;
+use std::alloc::{AllocError, Global};
 
 /// The name of the next hop of a path.
 #[tactic(auto, unfolding(crate::specs::Hops::hop_name))]
@@ -88,4 +89,55 @@ pub(crate) fn has_stranded(table: &Table, message: &Message) -> bool
         }
     }
     false
+}
+
+/// Whether a place of a message is due and goes to this hop.
+pub(crate) fn has_due(table: &Table, message: &Message, hop: &HostName, now: Moment) -> bool
+    ensures { result ≡ is_any (due_places_in table.now hop.now now message.now) }
+{
+    let recipients = &message.accept.envelope.recipients;
+    for (index, place) in message.places.as_slice().iter().enumerate() {
+        if is_due_for(table, recipients, hop, now, index, *place) {
+            return true;
+        }
+    }
+    false
+}
+
+/// The places of a message that are due and go to this hop, in order. It fails where memory runs out.
+pub(crate) fn due_places(
+    alloc: Global,
+    table: &Table,
+    message: &Message,
+    hop: &HostName,
+    now: Moment,
+) -> Result<Vec<u8>, AllocError>
+    ensures { IfOk result (λ places. places.items ≡ due_places_in table.now hop.now now message.now) }
+{
+    let recipients = &message.accept.envelope.recipients;
+    let mut places = Vec::new(alloc);
+    for (index, place) in message.places.as_slice().iter().enumerate() {
+        if is_due_for(table, recipients, hop, now, index, *place) {
+            places.push(index as u8)?;
+        }
+    }
+    Ok(places)
+}
+
+/// The held places of a message that have no hop, in order. It fails where memory runs out.
+pub(crate) fn stranded_places(
+    alloc: Global,
+    table: &Table,
+    message: &Message,
+) -> Result<Vec<u8>, AllocError>
+    ensures { IfOk result (λ places. places.items ≡ stranded_places table.now message.now) }
+{
+    let recipients = &message.accept.envelope.recipients;
+    let mut places = Vec::new(alloc);
+    for (index, place) in message.places.as_slice().iter().enumerate() {
+        if is_stranded(table, recipients, index, *place) {
+            places.push(index as u8)?;
+        }
+    }
+    Ok(places)
 }

@@ -7,12 +7,13 @@ ghost use Rattle.relay_attempts.specs.Hops.{due_hop, due_hops};
 ghost use Rattle.relay_attempts.specs.Work.{is_try_of, message_works, no_route, one_try, tries};
 
 use crate::hops::{has_stranded, hop_of_place, is_due};
-use crate::runs::Runs;
+use crate::runs::{Run, is_running};
 use relay_book::{Message, Place};
 use relay_disk::Disk;
 use relay_envelope::Recipients;
 use relay_records::Records;
 use relay_routes::{HostName, Table};
+use relay_slots::Slots;
 use relay_trace::Moment;
 use std::alloc::{AllocError, Global};
 use std::collections::BTreeSet;
@@ -34,7 +35,7 @@ pub(crate) struct Finder<'a> {
     /// Where mail goes.
     pub(crate) table: &'a Table,
     /// The running attempts.
-    pub(crate) runs: &'a Runs,
+    pub(crate) runs: &'a Slots<Run>,
     /// The moment at which places are due.
     pub(crate) at: Moment,
 }
@@ -142,7 +143,7 @@ impl<'a> Finder<'a> {
         let Some(hop) = hop else {
             return Ok(());
         };
-        if !self.runs.is_running(number, hop) && !has_try(&works.as_slice()[first..], hop) {
+        if !is_running(self.runs, number, hop) && !has_try(&works.as_slice()[first..], hop) {
             works.push(Work::Try(number, hop.copy(self.alloc)?))?;
         }
         Ok(())

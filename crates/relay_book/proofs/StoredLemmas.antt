@@ -1,5 +1,5 @@
 -- What was accepted stays, and a report may be stored.
-use Rattle.std.proofs.Common.{◌≡◌, ◌≢◌, ℕ, ◌==◌, ◌++◌, zero, suc, Bool, true, false, if◌then◌else◌, fold, List, [], ◌∷◌, slice_get, codes, Option, None, Some, MatchOption, refl, sym, subst, ap, ◌∙◌, arith, option_and_then}
+use Rattle.std.proofs.Common.{◌≡◌, ◌≢◌, ◌==◌, ◌++◌, ℕ, zero, suc, Bool, true, false, if◌then◌else◌, fold, List, [], ◌∷◌, slice_get, codes, Option, None, Some, MatchOption, refl, sym, subst, ap, ◌∙◌, arith, option_and_then}
 use Rattle.std.specs.List.{AllByRecursion, list_any}
 use Rattle.std.proofs.lemmas.Bool.{false≢true}
 use Rattle.relay_envelope.specs.Path.{Null}
@@ -68,61 +68,53 @@ report_may_be_stored changes fitting outcome message fits found some = by outcom
         let valid = own_is_valid changes outcome.message message.accept fitting (own_from changes outcome.message message.accept known path) in
         report_is_accept message.accept outcome fits.2 (reverse_path_is_forward message.accept.envelope.reverse_path valid.envelope.reverse_path (not_null_text message.accept.envelope.reverse_path path))
 
--- each message was accepted as one that may be stored
-abbrev AreValid : List (ℕ × Message) → Type 0
-AreValid entries = AllByRecursion (λ entry. IsAccept entry.1.accept) entries
+-- all these messages may be stored
+abbrev AreStored : List (ℕ × Message) → Type 0
+AreStored entries = AllByRecursion (λ entry. IsAccept entry.1.accept) entries
 
-are_joined : (entries more : List (ℕ × Message)) → AreValid entries → AreValid more → AreValid (entries ++ more)
-are_joined [] more valid others = others
-are_joined (entry ∷ entries) more valid others = (valid.0, are_joined entries more valid.1 others)
+both_stored : (entries more : List (ℕ × Message)) → AreStored entries → AreStored more → AreStored (entries ++ more)
+both_stored [] more stored rest = rest
+both_stored (entry ∷ entries) more stored rest = (stored.0, both_stored entries more stored.1 rest)
 
-message_is_valid : (entries : List (ℕ × Message)) (number : ℕ) (message : Message) → AreValid entries → message_of entries number ≡ Some message → IsAccept message.accept
-message_is_valid [] number message valid is = absurd (none_some message is)
-message_is_valid (entry ∷ entries) number message valid is = by (λ e. message_is_valid entries number message valid.1 e) (entry.0 == number) is
+found_stored : (entries : List (ℕ × Message)) (number : ℕ) (message : Message) → AreStored entries → message_of entries number ≡ Some message → IsAccept message.accept
+found_stored [] number message stored found = absurd (none_some message found)
+found_stored (entry ∷ entries) number message stored found = by (entry.0 == number) (found_stored entries number message stored.1) found
   where
-    by : (message_of entries number ≡ Some message → IsAccept message.accept) → (test : Bool) → (if test then Some entry.1 else message_of entries number) ≡ Some message → IsAccept message.accept
-    by behind true e = subst (λ (m : Message). IsAccept m.accept) (some_is entry.1 message e) valid.0
-    by behind false e = behind e
+    by : (here : Bool) → (message_of entries number ≡ Some message → IsAccept message.accept)
+        → (if here then Some entry.1 else message_of entries number) ≡ Some message → IsAccept message.accept
+    by true more is = subst (λ (m : Message). IsAccept m.accept) (some_is entry.1 message is) stored.0
+    by false more is = more is
 
-held_are_valid : (number : ℕ) (message : Message) (entries : List (ℕ × Message)) → IsAccept message.accept → AreValid entries → AreValid (if_held number message ++ entries)
-held_are_valid number message entries first valid = by (list_any is_held message.places)
+ruled_stored : (outcome : OutcomeFields) (entries : List (ℕ × Message)) → AreStored entries → AreStored (ruled outcome entries)
+ruled_stored outcome [] stored = tt
+ruled_stored outcome (entry ∷ entries) stored = by (entry.0 == outcome.message) (list_any is_held (message_after outcome entry.1).places) (ruled_stored outcome entries stored.1)
   where
-    by : (test : Bool) → AreValid ((if test then (number, message) ∷ [] else []) ++ entries)
-    by true = (first, valid)
-    by false = valid
+    by : (here held : Bool) → AreStored (ruled outcome entries)
+        → AreStored (if here then (if held then (entry.0, message_after outcome entry.1) ∷ [] else []) ++ entries else entry ∷ ruled outcome entries)
+    by true true rest = (stored.0, stored.1)
+    by true false rest = stored.1
+    by false held rest = (stored.0, rest)
 
-ruled_are_valid : (outcome : OutcomeFields) (entries : List (ℕ × Message)) → AreValid entries → AreValid (ruled outcome entries)
-ruled_are_valid outcome [] valid = tt
-ruled_are_valid outcome (entry ∷ entries) valid = by (ruled_are_valid outcome entries valid.1) (entry.0 == outcome.message)
-  where
-    by : AreValid (ruled outcome entries) → (test : Bool) → AreValid (if test then if_held entry.0 (message_after outcome entry.1) ++ entries else entry ∷ ruled outcome entries)
-    by behind true = held_are_valid entry.0 (message_after outcome entry.1) entries valid.0 valid.1
-    by behind false = (valid.0, behind)
+reported_stored : (number : ℕ) (outcome : OutcomeFields) (entries : List (ℕ × Message)) (message : Option Message) → IsOutcome outcome
+    → MatchOption message ⊥ (λ message. FitsMessage message outcome) → AreStored entries → message_of entries outcome.message ≡ message
+    → (report : List ℕ) → outcome.report ≡ report → AreStored (reported number outcome report message)
+reported_stored number outcome entries message valid fits stored found [] is = tt
+reported_stored number outcome entries None valid fits stored found (octet ∷ rest) is = tt
+reported_stored number outcome entries (Some message) valid fits stored found (octet ∷ rest) is =
+    let path = not_null message outcome octet rest fits is in
+    let accept = found_stored entries outcome.message message stored found in
+    (report_is_accept message.accept outcome valid (reverse_path_is_forward message.accept.envelope.reverse_path accept.envelope.reverse_path (not_null_text message.accept.envelope.reverse_path path)), tt)
 
-reported_is_valid : (queue : Queue) (outcome : OutcomeFields) (message : Message) → IsAccept message.accept → FitsMessage message outcome → IsOutcome outcome → (octet : ℕ) (rest : List ℕ) → outcome.report ≡ octet ∷ rest → IsAccept (report_of message.accept outcome)
-reported_is_valid queue outcome message valid fits whole octet rest is =
-    report_is_accept message.accept outcome whole
-    (reverse_path_is_forward message.accept.envelope.reverse_path valid.envelope.reverse_path
-    (not_null_text message.accept.envelope.reverse_path (not_null message outcome octet rest fits is)))
+step_stored : (queue : Queue) (change : Change) → FitsQueue queue change → AreStored queue.messages → AreStored (step queue change).messages
+step_stored queue (Accept accept) fits stored = both_stored queue.messages ((queue.next, accepted queue.next accept) ∷ []) stored (fits.1, tt)
+step_stored queue (Outcome outcome) fits stored =
+    both_stored (ruled outcome queue.messages) (reported queue.next outcome outcome.report (message_of queue.messages outcome.message))
+    (ruled_stored outcome queue.messages stored)
+    (reported_stored queue.next outcome queue.messages (message_of queue.messages outcome.message) fits.2 fits.1 stored refl outcome.report refl)
 
-step_is_valid : (queue : Queue) (change : Change) → AreValid queue.messages → FitsQueue queue change → AreValid (step queue change).messages
-step_is_valid queue (Accept accept) valid fits = are_joined queue.messages ((queue.next, accepted queue.next accept) ∷ []) valid (fits.1, tt)
-step_is_valid queue (Outcome outcome) valid fits =
-    are_joined (ruled outcome queue.messages) (reported queue.next outcome outcome.report (message_of queue.messages outcome.message))
-    (ruled_are_valid outcome queue.messages valid) (by (message_of queue.messages outcome.message) refl outcome.report refl)
-  where
-    by : (found : Option Message) → message_of queue.messages outcome.message ≡ found → (report : List ℕ) → outcome.report ≡ report → AreValid (reported queue.next outcome report found)
-    by None e [] r = tt
-    by None e (octet ∷ rest) r = tt
-    by (Some message) e [] r = tt
-    by (Some message) e (octet ∷ rest) r =
-        (reported_is_valid queue outcome message (message_is_valid queue.messages outcome.message message valid e)
-        (subst (λ (o : Option Message). MatchOption o ⊥ (λ message. FitsMessage message outcome)) e fits.1) fits.2 octet rest r, tt)
-
-all_are_valid : (queue : Queue) (changes : List Change) → AreValid queue.messages → FitsFrom queue changes → AreValid (fold step queue changes).messages
-all_are_valid queue [] valid fits = valid
-all_are_valid queue (change ∷ changes) valid fits = all_are_valid (step queue change) changes (step_is_valid queue change valid fits.0) fits.1
+all_stored : (queue : Queue) (changes : List Change) → FitsFrom queue changes → AreStored queue.messages → AreStored (fold step queue changes).messages
+all_stored queue [] fits stored = stored
+all_stored queue (change ∷ changes) fits stored = all_stored (step queue change) changes fits.1 (step_stored queue change fits.0 stored)
 
 pub queued_may_be_stored : QueuedMayBeStored
-queued_may_be_stored changes fitting number message is =
-    message_is_valid (queue_of changes).messages number message (all_are_valid empty_queue changes tt fitting) is
+queued_may_be_stored changes fitting number message found = found_stored (queue_of changes).messages number message (all_stored empty_queue changes fitting tt) found

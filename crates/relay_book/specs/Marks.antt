@@ -167,12 +167,6 @@ MessageStays =
     → (number : ℕ) (accept : AcceptFields)
     → message_at changes number ≡ Some accept → message_at (changes ++ change ∷ []) number ≡ Some accept
 
--- A queued message was accepted as one that may be stored.
-abbrev pub QueuedMayBeStored : Type 0
-QueuedMayBeStored =
-    (changes : List Change) → Fitting changes → (number : ℕ) (message : Message)
-    → message_of (queue_of changes).messages number ≡ Some message → IsAccept message.accept
-
 -- A report that an outcome queues may be stored as an accept.
 abbrev pub ReportMayBeStored : Type 0
 ReportMayBeStored =
@@ -180,3 +174,9 @@ ReportMayBeStored =
     → FitsQueue (queue_of changes) (Outcome outcome)
     → message_of (queue_of changes).messages outcome.message ≡ Some message
     → outcome.report ≢ [] → IsAccept (report_of message.accept outcome)
+
+-- A queued message may be stored.
+abbrev pub QueuedMayBeStored : Type 0
+QueuedMayBeStored =
+    (changes : List Change) → Fitting changes → (number : ℕ) (message : Message)
+    → message_of (queue_of changes).messages number ≡ Some message → IsAccept message.accept

@@ -48,12 +48,12 @@ pub fn message_stays()
     ensures { MessageStays }
 {}
 
-/// A queued message was accepted as one that may be stored.
-pub fn queued_may_be_stored()
-    ensures { QueuedMayBeStored }
-{}
-
 /// A report that an outcome queues may be stored as an accept.
 pub fn report_may_be_stored()
     ensures { ReportMayBeStored }
+{}
+
+/// A queued message may be stored.
+pub fn queued_may_be_stored()
+    ensures { QueuedMayBeStored }
 {}

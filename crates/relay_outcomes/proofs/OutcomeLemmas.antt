@@ -32,16 +32,16 @@ pub is_reported : (host : List ℕ) (queue : Queue) (outcome : Outcome) (message
     → queue.next ≤ 2 ^ 62 → IsHostName host → outcome.at ≤ LAST_SECOND → MayCome queue outcome → HasList queue
     → message_of queue.messages outcome.message ≡ Some message → IsDueReport (told_by host queue.next outcome message) text
     → IsReported host queue outcome (reported_as outcome text)
-is_reported host queue outcome message text next is_host moment comes (changes, fitting, queue_is) found due =
-    let listed : message_of (queue_of changes).messages outcome.message ≡ Some message =
-    sym (ap (λ (q : Queue). message_of q.messages outcome.message) queue_is) ∙ found in
-    let known = fold_knows changes fitting outcome.message message listed in
+is_reported host queue outcome message text next is_host moment comes listed found due =
+    let in_list : message_of (queue_of listed.changes).messages outcome.message ≡ Some message =
+    sym (ap (λ (q : Queue). message_of q.messages outcome.message) listed.queue_is) ∙ found in
+    let known = fold_knows listed.changes listed.fitting outcome.message message in_list in
     let rules : RulesOn outcome message = subst (λ (o : Option Message). MatchOption o ⊥ (RulesOn outcome)) found comes.message in
     let fit = due_report_fits (told_by host queue.next outcome message) text (record {
       host = is_host;
       number = omega (arith, next);
       message = subst (λ (n : ℕ). n < 2 ^ 64) (sym known.number_is) comes.number;
-      accept = queued_may_be_stored changes fitting outcome.message message listed;
+      accept = queued_may_be_stored listed.changes listed.fitting outcome.message message in_list;
       hop = comes.hop;
       within = comes.within;
       rulings = comes.rulings;

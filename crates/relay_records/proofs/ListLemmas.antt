@@ -10,7 +10,6 @@ use Rattle.relay_book.specs.Queue.{Queue, FitsQueue, Fitting, empty_queue, held_
 use Rattle.relay_book.specs.declared.message.Message.{Message}
 use Rattle.relay_book.specs.Marks.{Held, IsQueuedAs}
 use Rattle.relay_records.specs.ListLaws.{NextIsOneMore}
-use Rattle.relay_records.specs.Records.{HasList, Kept}
 use Rattle.relay_book.proofs.Theorems.{fold_holds, fold_knows, one_more_stands}
 
 next_after : (queue : Queue) (changes : List Change) → (fold step queue changes).next ≡ queue.next + length changes
@@ -29,14 +28,6 @@ queue_of_more changes change = fold-append step empty_queue changes (change ∷ 
 pub fitting_more : (changes : List Change) (change : Change) → Fitting changes → FitsQueue (queue_of changes) change → Fitting (changes ++ change ∷ [])
 fitting_more changes change fitting fits =
     (one_more_stands (map encode changes) changes change (record { fitting = fitting; bodies_are = refl }) fits).fitting
-
--- a queue of a list and one change more is that of a list
-pub list_more : {D : Type 0} (seen old : Kept D) → seen ≡ old → (change : Change) → FitsQueue old.queue change → HasList seen.queue
-    → (new : Queue) → new ≡ step seen.queue change → HasList new
-list_more {D = D} seen old seen_is change fits (changes, fitting, queue_is) new new_is =
-    (changes ++ change ∷ [],
-    fitting_more changes change fitting (subst (λ (q : Queue). FitsQueue q change) (sym (ap (λ (r : Kept D). r.queue) seen_is) ∙ queue_is) fits),
-    new_is ∙ ap (λ (q : Queue). step q change) queue_is ∙ sym (queue_of_more changes change))
 
 -- the places that are held by the queue of a list are those that the list holds
 pub held_by_list : (changes : List Change) (queue : Queue) (marks : List (ℕ × ℕ)) → Fitting changes → queue ≡ queue_of changes → marks ≡ held_of queue

@@ -14,7 +14,7 @@ use Rattle.relay_book.specs.StandsFor.{StandsFor}
 use Rattle.relay_book.proofs.Theorems.{one_more_stands, queue_leaves, record_is_short}
 use Rattle.relay_records.specs.declared.noted.Noted.{Noted}
 use Rattle.relay_records.specs.Note.{IsNoted, NotesNext}
-use Rattle.relay_records.specs.Records.{Adds, Cuts, Keeps, Kept, StandsForOrWith}
+use Rattle.relay_records.specs.Records.{Adds, Cuts, HasList, Keeps, Kept, StandsForOrWith}
 use Rattle.relay_records.proofs.ListLemmas.{fitting_more, next_is_one_more, queue_of_more}
 
 pub fits_is_change : (queue : Queue) (change : Change) → FitsQueue queue change → IsChange change
@@ -47,6 +47,14 @@ refused_otherwise words old new Full refused other = refused
 refused_otherwise words old new NotASpool refused other = absurd refused
 refused_otherwise words old new (Damaged place) refused other = absurd refused
 refused_otherwise words old new NotEmpty refused other = absurd refused
+
+-- one change more makes the list of one change more
+pub list_more : (old new : Queue) (change : Change) → HasList old → FitsQueue old change → new ≡ step old change → HasList new
+list_more old new change list fits is = record {
+  changes = list.changes ++ change ∷ [];
+  fitting = fitting_more list.changes change list.fitting (subst (λ (q : Queue). FitsQueue q change) list.queue_is fits);
+  queue_is = is ∙ ap (λ (q : Queue). step q change) list.queue_is ∙ sym (queue_of_more list.changes change);
+}
 
 -- The fields of the records are seen apart while a call changes them; `seen` is the value that they make.
 module _ {D : Type 0} (honest : Type 0) (words : DiskWords D) (seen old : Kept D) (seen_is : seen ≡ old)

@@ -18,9 +18,11 @@ pub record Kept (D : Type 0) : Type 0 where
   pub queue : Queue
   pub noted : Option Noted
 
--- the queue is that of a list of changes
-abbrev pub HasList : Queue → Type 0
-HasList queue = (changes : List Change) × Fitting changes × (queue ≡ queue_of changes)
+-- a list of changes leaves this queue
+pub record HasList (queue : Queue) : Type 0 where
+  pub changes : List Change
+  pub fitting : Fitting changes
+  pub queue_is : queue ≡ queue_of changes
 
 -- What a stop may leave: the bodies stand for the changes, or for these with one more, which was being added.
 abbrev pub StandsForOrWith : List Change → Option Change → List (List ℕ) → Type 0

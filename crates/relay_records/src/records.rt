@@ -65,7 +65,7 @@ impl<D: Disk> Records<D> {
     pub fn has_list(&self)
         ensures { HasList self.now.queue }
     {
-        let _book = &self.book;
+        let _is_noted = self.noted.is_some();
     }
 
     /// Whether another change can be numbered: numbers end at 2^62. It takes no memory.

@@ -1,5 +1,5 @@
 -- the tries for the places so far
-use Rattle.std.proofs.Common.{◌≡◌, ◌++◌, length, take}
+use Rattle.std.proofs.Common.{◌≡◌, ◌++◌, take}
 use Rattle.relay_attempts.specs.Hops.{due_hops}
 use Rattle.relay_attempts.specs.Work.{tries}
 use Rattle.relay_attempts.proofs.work.Finder.push_tries.Given as goal
