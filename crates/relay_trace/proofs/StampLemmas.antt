@@ -13,6 +13,7 @@ use Rattle.jiff_core.specs.Date.{weekday_of}
 use Rattle.jiff_core.specs.declared.civil.datetime.DateTime.{DateTime}
 use Rattle.relay_octets.specs.Line.{HasNoCrlf, lines_text, ends_in_cr, begins_with_lf}
 use Rattle.relay_octets.proofs.Theorems.{has_crlf, no_crlf_by_test, no_crlf_joined, no_crlf_nil}
+use Rattle.relay_trace.specs.DateLine.{DateTextHasNoCrlf}
 use Rattle.relay_trace.specs.DateTime.{IsDateText, date_time_text, day_name, day_names, month_name, month_names, two_digits}
 use Rattle.relay_trace.specs.HeaderSection.{IsFilledLine, is_received, received_count_of, header_end_of}
 use Rattle.relay_trace.specs.TimeStamp.{Stamp, IsStamp, IsTimeStamp, TimeStampIsOne, TimeStampIsOneField, PassingAddsOne, PassingKeepsHeader, address_text, protocol_word, from_line, by_line, date_line}
@@ -281,3 +282,6 @@ time_stamp_is_one stamp line other one two =
     let date = date_text_is_one stamp.accepted one.date two.date one.date_is two.date_is in
     one.line_is ∙ ap (λ d. lines_text (from_line stamp ∷ by_line stamp ∷ date_line d ∷ [])) date
     ∙ sym two.line_is
+
+pub date_text_has_no_crlf : DateTextHasNoCrlf
+date_text_has_no_crlf seconds text is = no_crlf (date_free seconds text is)

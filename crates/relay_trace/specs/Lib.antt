@@ -1,3 +1,4 @@
 pub mod DateTime
 pub mod HeaderSection
 pub mod TimeStamp
+pub mod DateLine

@@ -1,5 +1,6 @@
 //! What is true of dates, header sections and time stamp lines, whoever writes them.
 ghost use Rattle.relay_trace.specs.DateTime.{DateTextHas31Octets, DateTextIsOne, DateTextTellsMoment, LastSecondIsShown};
+ghost use Rattle.relay_trace.specs.DateLine.{DateTextHasNoCrlf};
 ghost use Rattle.relay_trace.specs.HeaderSection.{HeaderEndsAtEmptyLine, HeaderEndsWithText, HeaderGoesOn, LinesAreOne, ReceivedIsTested};
 ghost use Rattle.relay_trace.specs.TimeStamp.{PassingAddsOne, PassingKeepsHeader, TimeStampIsOne, TimeStampIsOneField, TimeStampIsShort};
 
@@ -16,6 +17,11 @@ pub fn date_text_tells_moment()
 /// A date text has 31 octets.
 pub fn date_text_has_31_octets()
     ensures { DateTextHas31Octets }
+{}
+
+/// No CR LF stands in a date text.
+pub fn date_text_has_no_crlf()
+    ensures { DateTextHasNoCrlf }
 {}
 
 /// The greatest moment is the last second of 31 December 9998.
