@@ -1,5 +1,5 @@
 -- What a call does to an attempt, seen by its caller.
-use Rattle.std.proofs.Common.{◌≡◌, ℕ, Bool, true, false, MatchBool, List, [], ◌++◌, drop, Option, Some, None, refl, sym, ap, ◌∙◌, subst, arith}
+use Rattle.std.proofs.Common.{◌≡◌, ℕ, Bool, true, false, MatchBool, List, [], drop, Option, Some, None, refl, sym, ap, ◌∙◌, subst, arith}
 use Rattle.relay_lines.specs.ReplySteps.{HasRead}
 use Rattle.relay_body.specs.DotText.{WritesDotText, ends_in_line_end}
 use Rattle.relay_body.proofs.Theorems.{each_content_is_written}
@@ -9,9 +9,8 @@ use Rattle.relay_course.specs.Course.{IsCourse, IsSentAs, errand_of}
 use Rattle.relay_course.specs.VerdictTable.{all_later}
 use Rattle.relay_client.specs.declared.attempt.Attempt.{Attempt}
 use Rattle.relay_client.specs.declared.attempt.Stage.TheVariants.{Running}
-use Rattle.relay_client.specs.declared.mail_object.MailObject.{MailObject}
-use Rattle.relay_client.specs.Conversation.{IsAtGreeting, IsErrandOf}
-use Rattle.relay_client.specs.Attempt.{Follows, FollowsOn, KeepsOn, KeepsTo, stage_by}
+use Rattle.relay_client.specs.Conversation.{IsAtGreeting}
+use Rattle.relay_client.specs.Attempt.{Follows, FollowsOn, KeepsOn, stage_by}
 use Rattle.relay_client.proofs.Theorems.{followed_may_be_lost}
 
 sent_by : (text : List ℕ) (test : Bool) → (test ≡ true → (dot_text : List ℕ) × WritesDotText text dot_text)

@@ -1,9 +1,9 @@
 -- What is written of a place and of a text.
-use Rattle.std.proofs.Common.{◌≡◌, ◌<◌, ◌≤◌, ℕ, zero, suc, Bool, true, false, MatchBool, IsTrue, List, [], ◌∷◌, ◌++◌, length, refl, sym, ap, ◌∙◌, arith}
+use Rattle.std.proofs.Common.{◌≡◌, ◌<◌, ◌≤◌, ℕ, zero, suc, Bool, true, false, MatchBool, List, [], ◌∷◌, ◌++◌, length, refl, sym, ap, ◌∙◌, arith}
 use Rattle.std.specs.Prelude.{slice_index_or}
 use Rattle.std.proofs.lemmas.List.{append-nil}
 use Rattle.relay_body.specs.DotText.{AddsDotText, WritesDotText, ends_in_line_end}
-use Rattle.relay_body.proofs.Theorems.{each_content_is_written, one_text}
+use Rattle.relay_body.proofs.Theorems.{one_text}
 use Rattle.relay_envelope.specs.declared.envelope.Recipient.{Recipient}
 use Rattle.relay_course.specs.Course.{IsSentAs}
 use Rattle.relay_course.specs.WrittenLine.{rcpt_line, rcpt_line_at}

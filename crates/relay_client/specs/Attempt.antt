@@ -1,5 +1,5 @@
 -- An attempt as its caller sees it: what it has read and written, and its verdicts.
-use Rattle.std.specs.Prelude.{◌≡◌, ℕ, ◌<◌, false, List, [], length, Option, Some, None, MatchOption}
+use Rattle.std.specs.Prelude.{◌≡◌, ℕ, ◌<◌, false, List, [], length, Option, Some, None}
 use Rattle.relay_lines.specs.Reply.{Reply}
 use Rattle.relay_lines.specs.ReplySteps.{HasRead}
 use Rattle.relay_lines.specs.declared.reply_reader.ReplyReader.{ReplyReader}

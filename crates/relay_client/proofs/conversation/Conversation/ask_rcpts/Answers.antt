@@ -1,6 +1,6 @@
 use Rattle.std.proofs.Common.{◌≡◌, ◌∷◌, ◌+◌, drop, ap, sym, ◌∙◌, ℕ, arith}
 use Rattle.std.proofs.lemmas.List.{drop_more}
-use Rattle.relay_client.proofs.DoesLemmas.{asks_on_start, asks_on_step, asks_on_end, drop_past}
+use Rattle.relay_client.proofs.DoesLemmas.{asks_on_step, asks_on_end, drop_past}
 use Rattle.relay_client.proofs.conversation.Conversation.ask_rcpts.Goals as goal
 
 pub returns : goal.returns
