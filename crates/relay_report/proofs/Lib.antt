@@ -8,3 +8,6 @@ mod ReportLemmas
 mod ShortLemmas
 mod FitLemmas
 mod SplitLemmas
+mod ApartLemmas
+mod ReportSplitLemmas
+pub mod Theorems
