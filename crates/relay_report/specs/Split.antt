@@ -2,6 +2,9 @@
 use Rattle.std.specs.Prelude.{◌≡◌, ℕ, ◌+◌, List, [], ◌++◌, drop}
 use Rattle.relay_octets.specs.Line.{ReadsLine, crlf}
 use Rattle.relay_trace.specs.HeaderSection.{header_end_of}
+use Rattle.relay_report.specs.Multipart.{Told, first_part, second_part, third_part}
+use Rattle.relay_report.specs.Report.{IsReport}
+use Rattle.relay_report.specs.Fits.{MayBeTold}
 use Rattle.relay_report.specs.Parts.{BeginsOnce, IsThreeOf}
 
 -- the text begins with an empty line and a boundary's line, in which no CR stands, and the rest follows
@@ -57,3 +60,9 @@ abbrev pub PartsAreOne : Type 0
 PartsAreOne =
     (text one two three first second third : List ℕ) → HasParts text one two three → HasParts text first second third
     → (one ≡ first) × (two ≡ second) × (three ≡ third)
+
+-- A report has the three parts that it was made of.
+abbrev pub ReportComesApart : Type 0
+ReportComesApart =
+    (told : Told) (text : List ℕ) → MayBeTold told → (is : IsReport told text)
+    → HasParts text (first_part told) (second_part told is.date is.arrival) (third_part told)

@@ -1,5 +1,6 @@
 //! What is true of reports, whoever writes them.
 ghost use Rattle.relay_report.specs.Fits.{DueReportFits, ReportIsShort};
+ghost use Rattle.relay_report.specs.Split.{PartsAreOne, ReportComesApart};
 
 /// A report has at most 2^18 octets beside the stored text.
 pub fn report_is_short()
@@ -9,4 +10,14 @@ pub fn report_is_short()
 /// There is a report exactly where one is due, and it is short enough for the record of an outcome.
 pub fn due_report_fits()
     ensures { DueReportFits }
+{}
+
+/// A text has its three parts in one way.
+pub fn parts_are_one()
+    ensures { PartsAreOne }
+{}
+
+/// A report has the three parts that it was made of.
+pub fn report_comes_apart()
+    ensures { ReportComesApart }
 {}
