@@ -1,0 +1,130 @@
+use crate::escape::{push_unescaped, unescaped};
+use crate::mark::Mark;
+use relay_envelope::{Envelope, Recipient, Recipients, read_mail, read_rcpt};
+use std::alloc::{AllocError, Global};
+
+/// How an attempt of a row ends.
+#[derive(Clone, Copy, Debug, PartialEq, Eq)]
+pub enum End {
+    /// It goes on.
+    None,
+    /// A reply ends it.
+    Reply,
+    /// Something that is no reply ends it.
+    Fault,
+    /// Its connection is lost.
+    Loss,
+}
+
+/// A row of the data: a message, what a server says and what is to be written to it, and the verdicts.
+///
+/// Each line of it begins with a word: `name`, `host`, `mail`, `rcpt` (once for each recipient), `text`, `place` (once for
+/// each), `S` (a line of the server), `s` (octets of it), `C` (a line of ours), `c` (octets of ours), `B` (a line of the
+/// server behind the end), `end`, `V` (a verdict).
+#[derive(Drop)]
+pub struct Row {
+    pub name: String,
+    pub host: Vec<u8>,
+    pub envelope: Option<Envelope>,
+    pub recipients: Recipients,
+    pub text: Vec<u8>,
+    pub places: Vec<u8>,
+    /// What the server says up to the end.
+    pub said: Vec<u8>,
+    /// What it says behind that.
+    pub behind: Vec<u8>,
+    /// What is to be written.
+    pub written: Vec<u8>,
+    pub marks: Vec<Mark>,
+    pub end: End,
+    /// The verdicts, each a line.
+    pub verdicts: Vec<u8>,
+}
+
+impl Row {
+    /// A row of which no line is read.
+    pub fn new(alloc: Global) -> Self {
+        Row {
+            name: String::new(alloc),
+            host: Vec::new(alloc),
+            envelope: None,
+            recipients: Recipients::new(alloc),
+            text: Vec::new(alloc),
+            places: Vec::new(alloc),
+            said: Vec::new(alloc),
+            behind: Vec::new(alloc),
+            written: Vec::new(alloc),
+            marks: Vec::new(alloc),
+            end: End::None,
+            verdicts: Vec::new(alloc),
+        }
+    }
+
+    /// Takes a line of the row, and says whether it is one.
+    pub fn take(&mut self, alloc: Global, line: &str) -> Result<bool, AllocError> {
+        let (word, rest) = line.split_once(' ').unwrap_or((line, ""));
+        let text = rest.as_bytes();
+        match word {
+            "name" => self.name.push_str(rest)?,
+            "host" => push_unescaped(&mut self.host, text)?,
+            "mail" => return self.take_mail(alloc, text),
+            "rcpt" => return self.take_rcpt(alloc, text),
+            "text" => push_unescaped(&mut self.text, text)?,
+            "place" => self.places.push(rest.parse::<u8>().unwrap_or(255))?,
+            "S" => push_line(&mut self.said, text)?,
+            "s" => push_unescaped(&mut self.said, text)?,
+            "B" => push_line(&mut self.behind, text)?,
+            "C" => return self.take_written(text, b"\r\n"),
+            "c" => return self.take_written(text, b""),
+            "V" => push_line(&mut self.verdicts, text)?,
+            "end" => self.end = end_of(rest),
+            _ => return Ok(false),
+        }
+        Ok(true)
+    }
+
+    /// Takes what stands behind the colon of MAIL.
+    fn take_mail(&mut self, alloc: Global, text: &[u8]) -> Result<bool, AllocError> {
+        let Ok(mail) = read_mail(text) else {
+            return Ok(false);
+        };
+        self.envelope = Some(Envelope::new(alloc, mail)?);
+        Ok(true)
+    }
+
+    /// Takes what stands behind the colon of RCPT.
+    fn take_rcpt(&mut self, alloc: Global, text: &[u8]) -> Result<bool, AllocError> {
+        let Ok(rcpt) = read_rcpt(text) else {
+            return Ok(false);
+        };
+        self.recipients.push(Recipient::new(alloc, rcpt)?)?;
+        Ok(true)
+    }
+
+    /// Takes what is to be written behind what was said so far.
+    fn take_written(&mut self, text: &[u8], end: &[u8]) -> Result<bool, AllocError> {
+        push_unescaped(&mut self.written, text)?;
+        self.written.extend_from_slice(end)?;
+        self.marks.push(Mark {
+            said: self.said.len(),
+            written: self.written.len(),
+        })?;
+        Ok(true)
+    }
+}
+
+/// How an attempt ends by this word.
+fn end_of(word: &str) -> End {
+    match word {
+        "reply" => End::Reply,
+        "fault" => End::Fault,
+        "loss" => End::Loss,
+        _ => End::None,
+    }
+}
+
+/// Puts the octets of a line behind what stands in `out`.
+fn push_line(out: &mut Vec<u8>, text: &[u8]) -> Result<(), AllocError> {
+    push_unescaped(out, text)?;
+    out.extend_from_slice(b"\r\n")
+}
