@@ -1,0 +1,6 @@
+mod SettledLemmas
+mod WrittenLemmas
+mod DoesLemmas
+mod KeepLemmas
+pub mod Theorems
+mod FollowLemmas

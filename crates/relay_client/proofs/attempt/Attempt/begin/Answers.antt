@@ -1,0 +1,7 @@
+use Rattle.std.proofs.Common.{refl}
+use Rattle.relay_client.proofs.FollowLemmas.{begins_to_follow}
+use Rattle.relay_client.proofs.attempt.Attempt.begin.Goals as goal
+
+pub returns : goal.returns
+returns c = λ envelope text.
+    begins_to_follow _ c.args.host.now envelope text c.args.places.items c.new.ensures c.in_ok-begin.ensures refl

@@ -1,0 +1,17 @@
+use Rattle.relay_client.proofs.DoesLemmas.{does_answer}
+use Rattle.relay_client.proofs.conversation.Conversation.answer.Goals as goal
+
+pub returns : goal.returns
+returns c = λ errand old h is.
+    let s = c.in_ok-settle.ensures in
+    does_answer errand old c.args.self.now c.settle.new.self c.behind_answer.new.self c.in-Some.waited
+    c.take_first.new.self c.args.reply c.in_ok-ended.ended c.args.out.now.items c.behind_answer.new.out.items
+    h c.in-Some.ensures
+    (record {
+      host_stays = s.host_stays;
+      places_stay = s.places_stay;
+      waits_are = s.waits_are;
+      asked_stays = s.asked_stays;
+      extensions_stay = s.extensions_stay;
+      settles = s.settles;
+    }) (λ m hm. c.in_ok-ended.ensures errand m hm is)

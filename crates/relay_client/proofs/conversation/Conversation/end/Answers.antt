@@ -1,0 +1,7 @@
+use Rattle.relay_client.proofs.DoesLemmas.{does_end}
+use Rattle.relay_client.proofs.conversation.Conversation.end.Goals as goal
+
+pub returns : goal.returns
+returns c = λ errand old h.
+    does_end errand old c.args.self.now _ c.args.last.now c.in_ok-verdicts.verdicts c.args.out.now.items
+    c.write_quit.new.out.items h c.in_ok-write_quit.ensures c.in_ok-verdicts.ensures

@@ -1,0 +1,196 @@
+ghost use Rattle.std.specs.Prelude.{◌≡◌, ◌<◌, ◌≤◌, ℕ, List, [], ◌++◌, take, length, Some, None, OnErr, IfOk, MatchBool, true};
+ghost use Rattle.relay_envelope.specs.declared.envelope.Envelope.{Envelope};
+ghost use Rattle.relay_course.specs.Course.{IsCourse};
+ghost use Rattle.relay_course.specs.Progress.{Errand};
+ghost use Rattle.relay_client.specs.Conversation.{IsErrandOf};
+ghost use Rattle.relay_client.specs.Attempt.{Follows, FollowsOn, HasFailed, KeepsOn, KeepsTo, Turns, stage_by};
+
+use crate::conversation::Conversation;
+use crate::mail_object::MailObject;
+use crate::verdicts::Verdicts;
+use relay_lines::{ReplyFault, ReplyReader};
+use std::alloc::{AllocError, Global};
+
+/// What a feed has done.
+#[derive(Debug, Drop)]
+pub struct Driven {
+    /// How many octets of the piece it has used: all, unless the attempt ends.
+    pub used: usize,
+    /// What goes to the server.
+    pub out: Vec<u8>,
+    /// The verdicts of the places in order, where the attempt has ended.
+    pub verdicts: Option<Verdicts>,
+}
+
+/// What one reply, or a part of one, has done.
+#[derive(Drop)]
+struct Step {
+    used: usize,
+    verdicts: Option<Verdicts>,
+}
+
+/// How far an attempt is.
+#[derive(Clone, Copy, Debug)]
+enum Stage {
+    /// It waits for replies.
+    Running,
+    /// It has given its verdicts.
+    Ended,
+    /// Memory ran out.
+    Failed,
+}
+
+/// The client's end of one connection: an attempt to hand a message on for some of its places (RFC 5321, section 3.3). It
+/// holds nothing of the message, which each feed borrows.
+#[derive(Drop)]
+pub struct Attempt {
+    reader: ReplyReader,
+    talk: Conversation,
+    stage: Stage,
+}
+
+impl Attempt {
+    /// An attempt of this host that waits for the greeting of a server, for these places of a message, from 0, each at
+    /// most once. It fails where memory runs out.
+    pub fn begin(alloc: Global, host: &[u8], places: Vec<u8>) -> Result<Self, AllocError>
+        ensures { IfOk result (λ attempt. (envelope : Envelope) (text : List ℕ)
+            → Follows attempt host.now envelope text places.items [] []) }
+    {
+        Ok(Attempt {
+            reader: ReplyReader::new(alloc),
+            talk: Conversation::begin(alloc, host, places)?,
+            stage: Stage::Running,
+        })
+    }
+
+    /// Uses the next piece of what the server wrote, to the attempt's end or all of it, and writes what the replies in it
+    /// lead to. The message is the same at each call. Where octets are no reply, all places may be tried again, and the
+    /// whole piece is used. Behind its end an attempt uses and writes nothing.
+    ///
+    /// It fails where memory runs out, and from then on each call does.
+    pub fn feed(&mut self, mail: &MailObject<'_>, piece: &[u8]) -> Result<Driven, AllocError>
+        ensures follows { IfOk result (λ driven. (host places input output : List ℕ)
+            → Follows self.old host mail.now.envelope.now mail.now.stored_text.now places input output
+            → FollowsOn self.new host mail.now.envelope.now mail.now.stored_text.now places
+            (input ++ take driven.used piece.now) (output ++ driven.out.items) driven.verdicts) }
+        ensures turns { IfOk result (λ driven. Turns self.old self.new driven (length piece.now)) }
+        ensures within { IfOk result (λ driven. driven.used ≤ length piece.now) }
+        ensures failed { OnErr result (HasFailed self.new) }
+    {
+        match self.stage {
+            Stage::Running => {
+                self.stage = Stage::Failed;
+                let driven = self.drive(mail, piece)?;
+                self.stage = stage_behind(&driven);
+                Ok(driven)
+            }
+            Stage::Ended => Ok(Driven {
+                used: 0,
+                out: Vec::new(self.talk.alloc),
+                verdicts: None,
+            }),
+            Stage::Failed => Err(AllocError),
+        }
+    }
+
+    /// The verdicts where the connection is lost: each place may be tried again. It fails where memory runs out.
+    pub fn broken(&self) -> Result<Verdicts, AllocError>
+        ensures { IfOk result (λ verdicts. (host text places input output : List ℕ) (envelope : Envelope)
+            → Follows self.now host envelope text places input output
+            → IsCourse host envelope text places input true output (Some verdicts)) }
+    {
+        self.talk.all_later()
+    }
+
+    /// Uses the piece up to the attempt's end, or all of it.
+    fn drive(&mut self, mail: &MailObject<'_>, piece: &[u8]) -> Result<Driven, AllocError>
+        ensures keeps { IfOk result (λ driven. (errand : Errand) (input output : List ℕ) → IsErrandOf errand mail.now
+            → KeepsTo self.old.reader self.old.talk errand input output
+            → KeepsOn self.new.reader self.new.talk errand (input ++ take driven.used piece.now)
+            (output ++ driven.out.items) driven.verdicts) }
+        ensures whole { IfOk result (λ driven. driven.verdicts ≡ None → driven.used ≡ length piece.now) }
+        ensures within { IfOk result (λ driven. driven.used ≤ length piece.now) }
+        ensures stage { self.new.stage ≡ self.old.stage }
+    {
+        let mut out = Vec::new(self.talk.alloc);
+        let mut used = 0;
+        while used < piece.len() {
+            let step = self.step(mail, &piece[used..], &mut out)?;
+            used += step.used;
+            if let Some(verdicts) = step.verdicts {
+                return Ok(Driven {
+                    used,
+                    out,
+                    verdicts: Some(verdicts),
+                });
+            }
+        }
+        Ok(Driven {
+            used,
+            out,
+            verdicts: None,
+        })
+    }
+
+    /// Uses the octets up to the end of a reply and does what it asks for, or uses all of them.
+    fn step(
+        &mut self,
+        mail: &MailObject<'_>,
+        rest: &[u8],
+        out: &mut Vec<u8>,
+    ) -> Result<Step, AllocError>
+        requires { 0 < length rest.now }
+        ensures keeps { IfOk result (λ step. (errand : Errand) (input output : List ℕ) → IsErrandOf errand mail.now
+            → KeepsTo self.old.reader self.old.talk errand input (output ++ out.old.items)
+            → KeepsOn self.new.reader self.new.talk errand (input ++ take step.used rest.now)
+            (output ++ out.new.items) step.verdicts) }
+        ensures within { IfOk result (λ step. (0 < step.used) × (step.used ≤ length rest.now)) }
+        ensures stage { self.new.stage ≡ self.old.stage }
+    {
+        match self.reader.feed(rest) {
+            Ok(cut) => {
+                let used = cut.used;
+                if let Some(reply) = cut.reply {
+                    let verdicts = self.talk.answer(mail, reply, out)?;
+                    return Ok(Step { used, verdicts });
+                }
+                Ok(Step {
+                    used,
+                    verdicts: None,
+                })
+            }
+            Err(fault) => {
+                if is_no_memory(fault) {
+                    return Err(AllocError);
+                }
+                let verdicts = self.talk.all_later()?;
+                Ok(Step {
+                    used: rest.len(),
+                    verdicts: Some(verdicts),
+                })
+            }
+        }
+    }
+}
+
+/// The stage of an attempt that was running and has done this.
+fn stage_behind(driven: &Driven) -> Stage
+    ensures { result ≡ stage_by driven.now.verdicts }
+{
+    match &driven.verdicts {
+        Some(_) => Stage::Ended,
+        None => Stage::Running,
+    }
+}
+
+/// Whether the fault is that memory ran out.
+fn is_no_memory(fault: ReplyFault) -> bool
+    ensures { MatchBool result (fault ≡ ReplyFault.NoMemory) (¬ (fault ≡ ReplyFault.NoMemory)) }
+{
+    match fault {
+        ReplyFault::NoMemory => true,
+        ReplyFault::BadLine => false,
+        ReplyFault::MixedCodes => false,
+        ReplyFault::TooLong => false,
+    }
+}

@@ -1,0 +1,280 @@
+ghost use Rattle.std.specs.Prelude.{◌≡◌, [], map, IfOk, OnOk, None};
+ghost use Rattle.relay_course.specs.Progress.{Errand, Progress, behind_answer, behind_hello, behind_reply, ended_by, with_command};
+ghost use Rattle.relay_course.specs.VerdictTable.{all_later, content_verdict_by, kind_of, refusal};
+ghost use Rattle.relay_course.specs.WrittenLine.{ehlo_line, helo_line};
+ghost use Rattle.relay_client.specs.Conversation.{Does, Holds, IsAtGreeting, IsErrandOf, SettlesOne, verdicts_from};
+
+use crate::command::{write_dot_text, write_ehlo, write_helo, write_quit};
+use crate::mail_object::MailObject;
+use crate::settled::Settled;
+use crate::verdict::{content_verdict, rcpt_verdict, refusal};
+use crate::verdicts::Verdicts;
+use crate::waits::Waits;
+use relay_body::ends_in_line_end;
+use relay_book::Verdict;
+use relay_course::{Awaited, Extensions, ReplyKind, extensions_of, kind_of};
+use relay_lines::Reply;
+use relay_octets::Octets;
+use std::alloc::{AllocError, Global};
+
+/// An attempt without its reader: what has to be known of the replies that have come. To each reply it writes what the
+/// table says, and at the end it gives the verdicts.
+#[derive(Drop)]
+pub(crate) struct Conversation {
+    pub(crate) alloc: Global,
+    /// Our host's name.
+    pub(crate) host: Octets,
+    /// The places to try, in order.
+    pub(crate) places: Vec<u8>,
+    pub(crate) waits: Waits,
+    /// Of how many places the RCPT was written.
+    pub(crate) asked: usize,
+    /// What the server offers.
+    pub(crate) extensions: Extensions,
+    pub(crate) settled: Settled,
+}
+
+impl Conversation {
+    /// Nothing is read or written yet, and the greeting is awaited. It fails where memory runs out.
+    pub(crate) fn begin(alloc: Global, host: &[u8], places: Vec<u8>) -> Result<Self, AllocError>
+        ensures { IfOk result (IsAtGreeting host.now places.items) }
+    {
+        let mut waits = Waits::new(alloc);
+        waits.push(Awaited::Greeting)?;
+        Ok(Conversation {
+            alloc,
+            host: Octets::from_slice(alloc, host)?,
+            places,
+            waits,
+            asked: 0,
+            extensions: Extensions {
+                pipelining: false,
+                chunking: false,
+                dsn: false,
+            },
+            settled: Settled::new(alloc),
+        })
+    }
+
+    /// A reply answers what waits first. The verdicts are given where the attempt ends by it. It fails where memory runs
+    /// out.
+    pub(crate) fn answer(
+        &mut self,
+        mail: &MailObject<'_>,
+        reply: Reply,
+        out: &mut Vec<u8>,
+    ) -> Result<Option<Verdicts>, AllocError>
+        ensures { IfOk result (λ ended. (errand : Errand) (old : Progress)
+            → Holds self.old errand old → IsErrandOf errand mail.now
+            → Does errand old (behind_reply errand old reply) self.new ended out.old.items out.new.items) }
+    {
+        let Some(waited) = self.waits.take_first() else {
+            return Ok(None);
+        };
+        self.settle(waited, &reply)?;
+        let ended = self.behind_answer(mail, waited, &reply, out)?;
+        Ok(ended)
+    }
+
+    /// Keeps what a RCPT's reply says of its place.
+    fn settle(&mut self, waited: Awaited, reply: &Reply) -> Result<(), AllocError>
+        ensures { OnOk result (SettlesOne self.old self.new waited self.old.waits reply.now) }
+    {
+        match waited {
+            Awaited::Rcpt(_) => {
+                let verdict = rcpt_verdict(self.alloc, reply)?;
+                self.settled.push(verdict)?;
+                Ok(())
+            }
+            Awaited::Greeting => Ok(()),
+            Awaited::Ehlo => Ok(()),
+            Awaited::Helo => Ok(()),
+            Awaited::Mail => Ok(()),
+            Awaited::Data => Ok(()),
+            Awaited::Content => Ok(()),
+        }
+    }
+
+    /// The table: by what waited and by the reply's first digit, what is done.
+    fn behind_answer(
+        &mut self,
+        mail: &MailObject<'_>,
+        waited: Awaited,
+        reply: &Reply,
+        out: &mut Vec<u8>,
+    ) -> Result<Option<Verdicts>, AllocError>
+        ensures { IfOk result (λ ended. (errand : Errand) (old : Progress)
+            → Holds self.old errand old → IsErrandOf errand mail.now
+            → Does errand old (behind_answer errand waited (kind_of reply.now.code) reply.now old)
+            self.new ended out.old.items out.new.items) }
+    {
+        let kind = kind_of(reply.code());
+        match (waited, kind) {
+            (Awaited::Greeting, ReplyKind::Completion) => self.greet(out),
+            (Awaited::Ehlo, ReplyKind::Completion) => self.take_offer(mail, reply, out),
+            (Awaited::Ehlo, ReplyKind::Permanent) => self.greet_plainly(out),
+            (Awaited::Helo, ReplyKind::Completion) => self.behind_hello(mail, out),
+            (Awaited::Mail, ReplyKind::Completion) => self.go_on(mail, out),
+            (Awaited::Rcpt(_), _) => self.go_on(mail, out),
+            (Awaited::Data, ReplyKind::Intermediate) => self.send_text(mail, out),
+            (Awaited::Content, _) => self.end_behind_content(kind, reply, out),
+            (Awaited::Greeting, ReplyKind::Intermediate) => self.put_off(out),
+            (Awaited::Greeting, ReplyKind::Transient) => self.put_off(out),
+            (Awaited::Greeting, ReplyKind::Permanent) => self.refuse(reply, out),
+            (Awaited::Ehlo, ReplyKind::Intermediate) => self.put_off(out),
+            (Awaited::Ehlo, ReplyKind::Transient) => self.put_off(out),
+            (Awaited::Helo, ReplyKind::Intermediate) => self.put_off(out),
+            (Awaited::Helo, ReplyKind::Transient) => self.put_off(out),
+            (Awaited::Helo, ReplyKind::Permanent) => self.refuse(reply, out),
+            (Awaited::Mail, ReplyKind::Intermediate) => self.put_off(out),
+            (Awaited::Mail, ReplyKind::Transient) => self.put_off(out),
+            (Awaited::Mail, ReplyKind::Permanent) => self.refuse(reply, out),
+            (Awaited::Data, ReplyKind::Completion) => self.put_off(out),
+            (Awaited::Data, ReplyKind::Transient) => self.put_off(out),
+            (Awaited::Data, ReplyKind::Permanent) => self.refuse(reply, out),
+        }
+    }
+
+    /// EHLO.
+    fn greet(&mut self, out: &mut Vec<u8>) -> Result<Option<Verdicts>, AllocError>
+        ensures { IfOk result (λ ended. (errand : Errand) (old : Progress) → Holds self.old errand old
+            → Does errand old (with_command (ehlo_line errand.host) Awaited.Ehlo old)
+            self.new ended out.old.items out.new.items) }
+    {
+        write_ehlo(out, self.host.as_slice())?;
+        self.waits.push(Awaited::Ehlo)?;
+        Ok(None)
+    }
+
+    /// HELO, since EHLO was refused (RFC 5321, section 3.2).
+    fn greet_plainly(&mut self, out: &mut Vec<u8>) -> Result<Option<Verdicts>, AllocError>
+        ensures { IfOk result (λ ended. (errand : Errand) (old : Progress) → Holds self.old errand old
+            → Does errand old (with_command (helo_line errand.host) Awaited.Helo old)
+            self.new ended out.old.items out.new.items) }
+    {
+        write_helo(out, self.host.as_slice())?;
+        self.waits.push(Awaited::Helo)?;
+        Ok(None)
+    }
+
+    /// What the server offers is kept, and the transaction begins.
+    fn take_offer(
+        &mut self,
+        mail: &MailObject<'_>,
+        reply: &Reply,
+        out: &mut Vec<u8>,
+    ) -> Result<Option<Verdicts>, AllocError>
+        ensures { IfOk result (λ ended. (errand : Errand) (old : Progress)
+            → Holds self.old errand old → IsErrandOf errand mail.now
+            → Does errand old (behind_answer errand Awaited.Ehlo ReplyKind.Completion reply.now old)
+            self.new ended out.old.items out.new.items) }
+    {
+        self.extensions = extensions_of(reply);
+        let ended = self.behind_hello(mail, out)?;
+        Ok(ended)
+    }
+
+    /// The server is greeted: a text that doesn't end in CR LF needs CHUNKING.
+    fn behind_hello(
+        &mut self,
+        mail: &MailObject<'_>,
+        out: &mut Vec<u8>,
+    ) -> Result<Option<Verdicts>, AllocError>
+        ensures { IfOk result (λ ended. (errand : Errand) (old : Progress)
+            → Holds self.old errand old → IsErrandOf errand mail.now
+            → Does errand old (behind_hello errand old) self.new ended out.old.items out.new.items) }
+    {
+        if ends_in_line_end(mail.stored_text) || self.extensions.chunking {
+            self.ask_mail(mail, out)?;
+            Ok(None)
+        } else {
+            Ok(Some(self.end(&Verdict::CantSend, out)?))
+        }
+    }
+
+    /// The text, behind a server's leave to send it.
+    fn send_text(
+        &mut self,
+        mail: &MailObject<'_>,
+        out: &mut Vec<u8>,
+    ) -> Result<Option<Verdicts>, AllocError>
+        ensures { IfOk result (λ ended. (errand : Errand) (old : Progress)
+            → Holds self.old errand old → IsErrandOf errand mail.now
+            → Does errand old (with_command errand.dot_text Awaited.Content old)
+            self.new ended out.old.items out.new.items) }
+    {
+        write_dot_text(out, mail.stored_text)?;
+        self.waits.push(Awaited::Content)?;
+        Ok(None)
+    }
+
+    /// Ends by the reply to the content.
+    fn end_behind_content(
+        &mut self,
+        kind: ReplyKind,
+        reply: &Reply,
+        out: &mut Vec<u8>,
+    ) -> Result<Option<Verdicts>, AllocError>
+        ensures { IfOk result (λ ended. (errand : Errand) (old : Progress) → Holds self.old errand old
+            → Does errand old (ended_by errand (content_verdict_by old.extensions.dsn kind reply.now) old)
+            self.new ended out.old.items out.new.items) }
+    {
+        let last = content_verdict(self.alloc, self.extensions.dsn, kind, reply)?;
+        Ok(Some(self.end(&last, out)?))
+    }
+
+    /// Ends by a reply that refuses for good.
+    fn refuse(&mut self, reply: &Reply, out: &mut Vec<u8>) -> Result<Option<Verdicts>, AllocError>
+        ensures { IfOk result (λ ended. (errand : Errand) (old : Progress) → Holds self.old errand old
+            → Does errand old (ended_by errand (refusal reply.now) old)
+            self.new ended out.old.items out.new.items) }
+    {
+        let last = refusal(self.alloc, reply)?;
+        Ok(Some(self.end(&last, out)?))
+    }
+
+    /// Ends by a reply behind which it may be tried again.
+    fn put_off(&mut self, out: &mut Vec<u8>) -> Result<Option<Verdicts>, AllocError>
+        ensures { IfOk result (λ ended. (errand : Errand) (old : Progress) → Holds self.old errand old
+            → Does errand old (ended_by errand Verdict.Later old)
+            self.new ended out.old.items out.new.items) }
+    {
+        Ok(Some(self.end(&Verdict::Later, out)?))
+    }
+
+    /// QUIT, and the verdicts.
+    pub(crate) fn end(&mut self, last: &Verdict, out: &mut Vec<u8>) -> Result<Verdicts, AllocError>
+        ensures { IfOk result (λ verdicts. (errand : Errand) (old : Progress) → Holds self.old errand old
+            → Does errand old (ended_by errand last.now old) self.new (Some verdicts)
+            out.old.items out.new.items) }
+    {
+        write_quit(out)?;
+        let verdicts = self.verdicts(last)?;
+        Ok(verdicts)
+    }
+
+    /// The verdict of each place: what its RCPT's reply said, or the last one.
+    #[tactic(auto, using(crate::proofs::SettledLemmas::verdicts_step))]
+    fn verdicts(&self, last: &Verdict) -> Result<Verdicts, AllocError>
+        ensures { IfOk result (λ verdicts. verdicts
+            ≡ verdicts_from self.now.places.items self.now.settled last.now) }
+    {
+        let mut verdicts = Verdicts::with_capacity(self.alloc, self.places.len())?;
+        for index in 0..self.places.len() {
+            verdicts.push(self.settled.verdict_at(self.alloc, index, last)?)?;
+        }
+        Ok(verdicts)
+    }
+
+    /// Later for each place. It fails where memory runs out.
+    #[tactic(auto, using(crate::proofs::SettledLemmas::later_more))]
+    pub(crate) fn all_later(&self) -> Result<Verdicts, AllocError>
+        ensures { IfOk result (λ verdicts. verdicts ≡ all_later self.now.places.items) }
+    {
+        let mut verdicts = Verdicts::with_capacity(self.alloc, self.places.len())?;
+        for _ in self.places.as_slice() {
+            verdicts.push(Verdict::Later)?;
+        }
+        Ok(verdicts)
+    }
+}
