@@ -1,11 +1,5 @@
-<<<<<<< HEAD
--- What a crate above may cite of this one: each lemma proves a law that the crate exports.
-pub use Rattle.relay_report.proofs.ShortLemmas.{report_is_short}
-pub use Rattle.relay_report.proofs.FitLemmas.{due_report_fits}
-=======
 -- What a crate above may cite of this one: each lemma proves the law of this crate that has its name.
 pub use Rattle.relay_report.proofs.ShortLemmas.{report_is_short}
 pub use Rattle.relay_report.proofs.FitLemmas.{due_report_fits}
 pub use Rattle.relay_report.proofs.SplitLemmas.{parts_are_one}
 pub use Rattle.relay_report.proofs.ReportSplitLemmas.{report_comes_apart}
->>>>>>> fb09c456ec84895397e35fd1d9426b19406a913f
