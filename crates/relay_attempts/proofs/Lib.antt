@@ -1,6 +1,0 @@
-mod NameLemmas
-mod HopLemmas
-mod WorkLemmas
-mod KeyLemmas
-mod GatherLemmas
-mod DueLemmas

@@ -1,6 +1,0 @@
--- Names that are compared octet by octet.
-use Rattle.std.proofs.Common.{◌≡◌, ℕ, Bool, true, false, List, bytes_eq, sym, ◌∙◌}
-use Rattle.std.proofs.lemmas.Slice.Eq.{bytes_eq-Decides}
-
-pub same_name : (one other : List ℕ) → bytes_eq one other ≡ true → one ≡ other
-same_name one other is = (bytes_eq-Decides one other).0 is

@@ -1,5 +1,0 @@
-pub mod Hops
-pub mod Gathering
-pub mod Runs
-pub mod Work
-pub mod Attempts
