@@ -150,9 +150,7 @@ fn measure_file(
     } else if name == "peak" {
         open_node_and_measure(rt, path)
     } else {
-        Err(Fail::new(
-            "the measurements of a file are: open, append, syncs, accepts, node, peak",
-        ))
+        Err(Fail::new("the measurements of a file are: open, append, syncs, accepts, node, peak"))
     }
 }
 
