@@ -1,0 +1,13 @@
+mod NameLemmas
+mod HopLemmas
+mod WorkLemmas
+mod KeyLemmas
+mod GatherLemmas
+mod DueLemmas
+mod StartLemmas
+mod PlaceLemmas
+mod RunLemmas
+mod MessageLemmas
+mod StrandedLemmas
+mod OutcomeLemmas
+mod OpenLemmas

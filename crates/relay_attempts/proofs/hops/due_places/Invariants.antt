@@ -1,0 +1,9 @@
+-- the places so far, and those to come
+use Rattle.std.proofs.Common.{◌≡◌, ◌++◌, drop}
+use Rattle.relay_attempts.specs.Hops.{due_places_in, is_due_for, places_where}
+use Rattle.relay_attempts.proofs.hops.due_places.Given as goal
+
+abbrev pub invariant-loop-index : goal.invariant-loop-index
+invariant-loop-index l =
+    l.places.items ++ places_where (is_due_for l.table l.recipients l.hop l.now) l.index (drop l.index l.message.places)
+    ≡ due_places_in l.table l.hop l.now l.message

@@ -1,0 +1,6 @@
+pub mod Hops
+pub mod Gathering
+pub mod Runs
+pub mod Work
+pub mod Outcomes
+pub mod Attempts

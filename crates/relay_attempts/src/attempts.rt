@@ -1,0 +1,86 @@
+//! The attempts of a node.
+ghost use Rattle.std.specs.Prelude.{◌≡◌, ℕ, List, IfOk};
+ghost use Rattle.relay_slots.specs.Slots.{AreFree};
+ghost use Rattle.std.specs.List.{flat_map};
+ghost use Rattle.relay_attempts.specs.Attempts.{KnowsStranded, Serves};
+ghost use Rattle.relay_attempts.specs.Work.{works_of};
+
+use crate::gathering::gathered;
+use crate::runs::Run;
+use crate::stranded::stranded_among;
+use crate::work::{Finder, Work};
+use relay_disk::Disk;
+use relay_records::Records;
+use relay_routes::Table;
+use relay_slots::Slots;
+use relay_trace::Moment;
+use std::alloc::{AllocError, Global};
+use std::marker::Model;
+
+/// The attempts of a node that are running, up to 64, and the messages with a held place that has no hop.
+#[derive(Drop)]
+pub struct Attempts {
+    pub(crate) runs: Slots<Run>,
+    /// The numbers of the messages with a held place that has no hop, in order.
+    pub(crate) stranded: Vec<u64>,
+}
+
+impl Model for Attempts {
+    ghost use Rattle.std.specs.Prelude.{◌-◌, vec_capacity, vec_len};
+    ghost use Rattle.relay_attempts.specs.Attempts.{Standing};
+
+    ghost Value = { Standing };
+
+    ghost view = { λ attempts. record {
+      runs = attempts.runs;
+      stranded = attempts.stranded.items;
+      room = vec_capacity attempts.stranded - vec_len attempts.stranded;
+    } };
+}
+
+impl Attempts {
+    /// No attempt, beside the messages of these records that have a held place without a hop. It fails where memory runs out.
+    pub fn new<D: Disk>(
+        alloc: Global,
+        table: &Table,
+        records: &Records<D>,
+    ) -> Result<Self, AllocError>
+        ensures idle { IfOk result (λ attempts. AreFree attempts.runs) }
+        ensures serves { IfOk result (λ attempts. (host : List ℕ)
+            → Serves host table.now attempts records.now.queue) }
+    {
+        records.numbers_rise();
+        let marks = records.held(alloc)?;
+        let numbers = gathered(alloc, marks.as_slice(), &[])?;
+        let stranded = stranded_among(alloc, table, records, &numbers)?;
+        Ok(Attempts {
+            runs: Slots::new(alloc)?,
+            stranded,
+        })
+    }
+
+    /// What there is to do at a moment, in order of the messages' numbers: that a held place has no hop, and then each
+    /// hop with a due place for which no attempt is running, in the order of their first due places. It fails where
+    /// memory runs out.
+    pub fn due<D: Disk>(
+        &self,
+        alloc: Global,
+        table: &Table,
+        records: &Records<D>,
+        now: Moment,
+    ) -> Result<Vec<Work>, AllocError>
+        ensures { KnowsStranded self.now table.now records.now.queue
+            → IfOk result (λ works. works.items ≡ works_of table.now self.now.runs now records.now.queue) }
+    {
+        records.numbers_rise();
+        let marks = records.due(alloc, now)?;
+        let numbers = gathered(alloc, marks.as_slice(), self.stranded.as_slice())?;
+        let finder = Finder {
+            alloc,
+            table,
+            runs: &self.runs,
+            at: now,
+        };
+        finder.works(records, &numbers)
+    }
+}

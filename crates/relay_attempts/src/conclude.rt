@@ -1,0 +1,55 @@
+//! Outcomes, and what they leave of the attempts.
+ghost use Rattle.std.specs.Prelude.{◌≡◌, List, Err, IfErr, IfOk, IsTrue};
+ghost use Rattle.relay_attempts.specs.Attempts.{KnowsStranded};
+ghost use Rattle.relay_book.specs.declared.change.Change.{Change};
+ghost use Rattle.relay_outcomes.specs.Outcomes.{AddsOutcome, CutsOutcome, GrowsBy, MayCome, RefusesOutcome};
+ghost use Rattle.relay_records.specs.Records.{Keeps};
+
+use crate::attempts::Attempts;
+use relay_book::Outcome;
+use relay_disk::Disk;
+use relay_outcomes::add_outcome;
+use relay_records::{NodeFault, Records};
+use relay_routes::Config;
+use std::alloc::Global;
+
+impl Attempts {
+    /// Adds an outcome of a queued message, with the report that is due of it, in one change; then it is known which messages
+    /// are stranded by it, or by the report, and which are no more. All growths come before the append.
+    pub(crate) fn conclude<D: Disk>(
+        &mut self,
+        alloc: Global,
+        config: &Config,
+        records: &mut Records<D>,
+        outcome: Outcome,
+        used: usize,
+    ) -> Result<u64, NodeFault>
+        requires live { IsTrue records.old.spool.live }
+        requires comes { MayCome records.old.queue outcome }
+        ensures ok { (changes : List Change) → Keeps D.honest D.words records.old changes
+            → IfOk result (AddsOutcome D.honest D.words config.now.host changes outcome used records.new) }
+        ensures cut { (changes : List Change) → Keeps D.honest D.words records.old changes
+            → result ≡ Err NodeFault.Stopped
+            → CutsOutcome D.honest D.words config.now.host changes outcome used records.new }
+        ensures grows { IfOk result (GrowsBy D.words config.now.host outcome records.old records.new) }
+        ensures refused { IfErr result
+            (RefusesOutcome D.words config.now.host outcome records.old records.new) }
+        ensures runs { self.new.runs ≡ self.old.runs }
+        ensures known { KnowsStranded self.old config.now.routes records.old.queue
+            → KnowsStranded self.new config.now.routes records.new.queue }
+    {
+        let Ok(()) = self.reserve() else {
+            return Err(NodeFault::NoMemory);
+        };
+        records.numbers_rise();
+        let message = outcome.message;
+        match add_outcome(alloc, config.host.as_slice(), records, outcome, used) {
+            Ok(number) => {
+                self.forget(&config.routes, records, message);
+                self.note(&config.routes, records, number);
+                Ok(number)
+            }
+            Err(fault) => Err(fault),
+        }
+    }
+}

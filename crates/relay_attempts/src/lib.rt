@@ -1,0 +1,17 @@
+//! The attempts of a node to pass its mail on (RFC 5321, sections 4.5.4.1 and 6.1): which work there is, and the
+//! attempts that are running.
+#![tactic(auto)]
+
+mod attempts;
+mod conclude;
+mod gathering;
+mod give_up;
+mod hops;
+mod runs;
+mod start;
+mod stranded;
+mod work;
+
+pub use attempts::Attempts;
+pub use start::Started;
+pub use work::Work;
