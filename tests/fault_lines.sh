@@ -92,4 +92,4 @@ if [ "$(stat -c '%a %s' relay.spool)" != '600 18' ]; then
     echo "the spool has the mode and size $(stat -c '%a %s' relay.spool)" >&2
     exit 1
 fi
-echo "faults of init and list: 17 refused, each by its line"
+echo "faults of init and list: 16 refused, each by its line"
