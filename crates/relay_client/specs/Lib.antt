@@ -1,3 +1,4 @@
+pub mod Settled
 pub mod Conversation
 pub mod Attempt
 pub mod Laws

@@ -2,12 +2,12 @@ ghost use Rattle.std.specs.Prelude.{◌≡◌, [], map, IfOk, OnOk, None};
 ghost use Rattle.relay_course.specs.Progress.{Errand, Progress, behind_answer, behind_hello, behind_reply, ended_by, with_command};
 ghost use Rattle.relay_course.specs.VerdictTable.{all_later, content_verdict_by, kind_of, refusal};
 ghost use Rattle.relay_course.specs.WrittenLine.{ehlo_line, helo_line};
-ghost use Rattle.relay_client.specs.Conversation.{Does, Holds, IsAtGreeting, IsErrandOf, SettlesOne, verdicts_from};
+ghost use Rattle.relay_client.specs.Conversation.{Does, Holds, IsAtGreeting, IsErrandOf, SettlesOne};
 
 use crate::command::{write_dot_text, write_ehlo, write_helo, write_quit};
 use crate::mail_object::MailObject;
 use crate::settled::Settled;
-use crate::verdict::{content_verdict, rcpt_verdict, refusal};
+use crate::verdict::{content_verdict, refusal};
 use crate::verdicts::Verdicts;
 use crate::waits::Waits;
 use relay_body::ends_in_line_end;
@@ -82,8 +82,7 @@ impl Conversation {
     {
         match waited {
             Awaited::Rcpt(_) => {
-                let verdict = rcpt_verdict(self.alloc, reply)?;
-                self.settled.push(verdict)?;
+                self.settled.push(self.alloc, reply)?;
                 Ok(())
             }
             Awaited::Greeting => Ok(()),
@@ -249,20 +248,9 @@ impl Conversation {
             out.old.items out.new.items) }
     {
         write_quit(out)?;
-        let verdicts = self.verdicts(last)?;
-        Ok(verdicts)
-    }
-
-    /// The verdict of each place: what its RCPT's reply said, or the last one.
-    #[tactic(auto, using(crate::proofs::SettledLemmas::verdicts_step))]
-    fn verdicts(&self, last: &Verdict) -> Result<Verdicts, AllocError>
-        ensures { IfOk result (λ verdicts. verdicts
-            ≡ verdicts_from self.now.places.items self.now.settled last.now) }
-    {
-        let mut verdicts = Verdicts::with_capacity(self.alloc, self.places.len())?;
-        for index in 0..self.places.len() {
-            verdicts.push(self.settled.verdict_at(self.alloc, index, last)?)?;
-        }
+        let verdicts = self
+            .settled
+            .verdicts(self.alloc, self.places.as_slice(), last)?;
         Ok(verdicts)
     }
 

@@ -1,9 +1,10 @@
 //! What a reply says of a place.
-ghost use Rattle.std.specs.Prelude.{◌≡◌, map, take, IfOk};
-ghost use Rattle.relay_course.specs.VerdictTable.{content_verdict_by, rcpt_verdict, refusal, shown};
+ghost use Rattle.std.specs.Prelude.{◌≡◌, ◌≤◌, length, map, take, IfOk};
+ghost use Rattle.relay_lines.specs.Reply.{last_text};
+ghost use Rattle.relay_course.specs.VerdictTable.{content_verdict_by, refusal, shown};
 
 use relay_book::Verdict;
-use relay_course::{ReplyKind, kind_of};
+use relay_course::ReplyKind;
 use relay_lines::Reply;
 use relay_lines::word::is_printable;
 use relay_octets::Octets;
@@ -11,10 +12,6 @@ use std::alloc::{AllocError, Global};
 
 /// How many octets of a refusal's text are kept.
 const KEPT_TEXT: usize = 200;
-
-/// The reply code of a server whose storage for this mail is exceeded (RFC 5321, section 4.5.3.1.10): at a RCPT it means
-/// that there are too many of them for now.
-const STORAGE_EXCEEDED: u16 = 552;
 
 /// A copy of a verdict. It fails where memory runs out.
 pub(crate) fn copy_of(alloc: Global, verdict: &Verdict) -> Result<Verdict, AllocError>
@@ -36,11 +33,20 @@ pub(crate) fn copy_of(alloc: Global, verdict: &Verdict) -> Result<Verdict, Alloc
 pub(crate) fn refusal(alloc: Global, reply: &Reply) -> Result<Verdict, AllocError>
     ensures { IfOk result (λ verdict. verdict ≡ refusal reply.now) }
 {
-    let text = all_shown(alloc, kept_of(reply.last_text()))?;
+    let text = kept_text(alloc, reply)?;
     Ok(Verdict::Refused {
         code: reply.code(),
         text: Octets::new(text),
     })
+}
+
+/// The text of a refusal as it is kept. It fails where memory runs out.
+pub(crate) fn kept_text(alloc: Global, reply: &Reply) -> Result<Vec<u8>, AllocError>
+    ensures shown { IfOk result (λ text. text.items ≡ map shown (take 200 (last_text reply.now.lines))) }
+    ensures short { IfOk result (λ text. length text.items ≤ 200) }
+{
+    let text = all_shown(alloc, kept_of(reply.last_text()))?;
+    Ok(text)
 }
 
 /// What is kept of a text.
@@ -71,23 +77,6 @@ fn shown(octet: u8) -> u8
     ensures { result ≡ shown octet }
 {
     if is_printable(octet) { octet } else { b'?' }
-}
-
-/// What a RCPT's reply says of its place: none where the RCPT was accepted. It fails where memory runs out.
-pub(crate) fn rcpt_verdict(alloc: Global, reply: &Reply) -> Result<Option<Verdict>, AllocError>
-    ensures { IfOk result (λ verdict. verdict ≡ rcpt_verdict reply.now) }
-{
-    match kind_of(reply.code()) {
-        ReplyKind::Completion => Ok(None),
-        ReplyKind::Intermediate | ReplyKind::Transient => Ok(Some(Verdict::Later)),
-        ReplyKind::Permanent => {
-            if reply.code() == STORAGE_EXCEEDED {
-                Ok(Some(Verdict::Later))
-            } else {
-                Ok(Some(refusal(alloc, reply)?))
-            }
-        }
-    }
 }
 
 /// What the reply to the content says of the places that are left, at a server that offers DSN or doesn't. It fails where

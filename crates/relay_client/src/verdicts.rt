@@ -37,6 +37,13 @@ impl Verdicts {
         Ok(())
     }
 
+    /// The verdicts, in the order of the places.
+    pub fn as_slice(&self) -> &[Verdict]
+        ensures { result.now ≡ self.now }
+    {
+        self.items.as_slice()
+    }
+
     /// The verdicts as a `Vec`, without memory.
     pub fn into_vec(self) -> Vec<Verdict>
         ensures { result.items ≡ self }
