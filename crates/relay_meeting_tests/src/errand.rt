@@ -1,0 +1,102 @@
+use crate::row::{Row, Text};
+use relay_envelope::{Envelope, Recipient, read_mail, read_rcpt};
+use relay_routes::Config;
+use std::alloc::{AllocError, Global};
+use std::test::Fail;
+
+/// The most octets of a content that the server takes.
+const CONTENT_LIMIT: usize = 2000;
+
+/// The server: it has a hop for one domain.
+const CONFIGURATION: &str = r#"
+host = "relay.example"
+listen = "127.0.0.1:2525"
+spool = "relay.spool"
+max_content = 2000
+
+[routes]
+"example.org" = { name = "next.example", at = "127.0.0.1:2526" }
+"#;
+
+/// A text that goes by DATA. Two of its lines begin with a period.
+const LINES: &[u8] = b"Received: from a by b; c\r\n\r\n.\r\n..two\r\n\r\nend\r\n";
+
+/// A text that goes as a chunk.
+const OCTETS: &[u8] = b"Received: from a by b; c\r\n\r\n.\r\nQUIT\r\n\0\xffend";
+
+/// The configuration of the server.
+pub fn configuration(alloc: Global) -> Result<Config, Fail> {
+    match Config::read(alloc, CONFIGURATION) {
+        Ok(config) => Ok(config),
+        Err(_) => Err(Fail::new("the configuration was refused")),
+    }
+}
+
+/// The name of the client's host.
+pub const HOST: &[u8] = b"client.example";
+
+/// What a client has to do: a message, and its places.
+#[derive(Drop)]
+pub struct Errand {
+    pub envelope: Envelope,
+    pub text: Vec<u8>,
+    pub places: Vec<u8>,
+}
+
+impl Errand {
+    /// The errand of a row.
+    pub fn of_row(alloc: Global, row: Row) -> Result<Self, Fail> {
+        let Ok(mail) = read_mail(b"<sender@client.example> RET=HDRS ENVID=e+2B1") else {
+            return Err(Fail::new("MAIL was refused"));
+        };
+        let mut errand = Errand {
+            envelope: Envelope::new(alloc, mail)?,
+            text: text_of_row(alloc, row.text)?,
+            places: Vec::new(alloc),
+        };
+        for place in 0..row.recipients {
+            errand.add_place(alloc, place, row.goes(usize::from(place)))?;
+        }
+        Ok(errand)
+    }
+
+    /// Adds a recipient, whom the server has a hop for or not, and the place of it.
+    fn add_place(&mut self, alloc: Global, place: u8, goes: bool) -> Result<(), Fail> {
+        let domain = if goes { "example.org" } else { "example.net" };
+        let text = format!(in alloc; "<r{place}@{domain}> NOTIFY=FAILURE ORCPT=rfc822;r{place}")?;
+        let Ok(rcpt) = read_rcpt(text.as_bytes()) else {
+            return Err(Fail::new("RCPT was refused"));
+        };
+        self.envelope.recipients.push(Recipient::new(alloc, rcpt)?)?;
+        self.places.push(place)?;
+        Ok(())
+    }
+}
+
+/// The text of this kind.
+fn text_of_row(alloc: Global, kind: Text) -> Result<Vec<u8>, AllocError> {
+    let mut text = Vec::new(alloc);
+    match kind {
+        Text::Lines => text.extend_from_slice(LINES)?,
+        Text::Octets => text.extend_from_slice(OCTETS)?,
+        Text::TooManyLines => push_count(&mut text, b"line\r\n", CONTENT_LIMIT / 5)?,
+        Text::TooManyOctets => push_count(&mut text, b"octet", CONTENT_LIMIT / 4)?,
+        Text::Circling => {
+            push_count(&mut text, b"received:\r\n", 100)?;
+            text.extend_from_slice(b"\r\n")?;
+        }
+        Text::CirclingOctets => {
+            push_count(&mut text, b"received:\r\n", 100)?;
+            text.extend_from_slice(b"\r\nend")?;
+        }
+    }
+    Ok(text)
+}
+
+/// Adds the octets so often.
+fn push_count(text: &mut Vec<u8>, octets: &[u8], count: usize) -> Result<(), AllocError> {
+    for _ in 0..count {
+        text.extend_from_slice(octets)?;
+    }
+    Ok(())
+}
