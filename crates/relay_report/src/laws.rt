@@ -1,4 +1,5 @@
 //! What is true of reports, whoever writes them.
+ghost use Rattle.relay_report.specs.Boundary.{BoundaryIsOne, BoundaryIsThere};
 ghost use Rattle.relay_report.specs.Fits.{DueReportFits, ReportIsShort};
 ghost use Rattle.relay_report.specs.Split.{PartsAreOne, ReportComesApart};
 
@@ -10,6 +11,16 @@ pub fn report_is_short()
 /// There is a report exactly where one is due, and it is short enough for the record of an outcome.
 pub fn due_report_fits()
     ensures { DueReportFits }
+{}
+
+/// Three parts have a boundary, and its number is at most 20 for each of their octets.
+pub fn boundary_is_there()
+    ensures { BoundaryIsThere }
+{}
+
+/// Three parts have one boundary.
+pub fn boundary_is_one()
+    ensures { BoundaryIsOne }
 {}
 
 /// A text has its three parts in one way.
