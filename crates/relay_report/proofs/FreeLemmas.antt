@@ -196,8 +196,14 @@ only_in stem one two three k has = first (Contains-append_cases (excluded stem o
 
 excluded_of_few : (stem one two three : List ℕ) → length (excluded_of stem one two three) ≤ 20 * (length one + length two + length three)
 excluded_of_few stem one two three =
-    omega (arith, length-append (excluded stem one) (excluded stem two ++ excluded stem three), length-append (excluded stem two) (excluded stem three),
-    excluded_few stem one, excluded_few stem two, excluded_few stem three)
+    omega (
+      arith,
+      length-append (excluded stem one) (excluded stem two ++ excluded stem three),
+      length-append (excluded stem two) (excluded stem three),
+      excluded_few stem one,
+      excluded_few stem two,
+      excluded_few stem three,
+    )
 
 least_free : (stem one two three : List ℕ) → 20 * (length one + length two + length three) < 2 ^ 64
     → (number : ℕ) × IsLeastFree stem one two three number × (number ≤ 20 * (length one + length two + length three))
@@ -205,8 +211,7 @@ least_free stem one two three fits =
     let (number, is) = first_outside (length (excluded_of stem one two three)) 0 (excluded_of stem one two three) (omega arith) (λ lower low. absurd (omega (arith, low))) in
     let few = excluded_of_few stem one two three in
     let low : number ≤ 20 * (length one + length two + length three) = omega (arith, few, is.low) in
-    let within : number < 2 ^ 64 = omega (arith, low, fits) in
-    (
+    let within : number < 2 ^ 64 = omega (arith, low, fits) in (
       number,
       record {
         fits = within;

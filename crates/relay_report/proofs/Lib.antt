@@ -15,4 +15,5 @@ mod SplitLemmas
 mod ApartLemmas
 mod ReportSplitLemmas
 mod PlainLemmas
+mod LineLemmas
 pub mod Theorems

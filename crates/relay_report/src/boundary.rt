@@ -48,11 +48,7 @@ fn boundary_text(alloc: Global, number: u64, least: u64) -> Result<Vec<u8>, Allo
 }
 
 /// The least number whose numbered stem stands in none of the parts.
-fn boundary_number(
-    alloc: Global,
-    stem: &Finder<'_>,
-    parts: &Parts<'_>,
-) -> Result<u64, AllocError>
+fn boundary_number(alloc: Global, stem: &Finder<'_>, parts: &Parts<'_>) -> Result<u64, AllocError>
     requires { 0 < length stem.now }
     ensures { IfOk result (λ number. IsLeastFree stem.now parts.now.first.now parts.now.second.now
         parts.now.third.now number) }

@@ -1,3 +1,4 @@
+-- the law
 use Rattle.relay_report.proofs.FreeLemmas.{boundary_is_there}
 use Rattle.relay_report.proofs.laws.boundary_is_there.Goals as goal
 

@@ -13,9 +13,9 @@ returns-then-rest-lt10 c =
 pub loop-preserved : goal.loop-preserved
 loop-preserved c = (
   let one_less : 20 - (c.loop.counter + 1) ≡ 20 - c.loop.counter - 1 = omega arith in
-  ap (λ d. marked c.mark.new.words.items (beginnings d (c.loop.rest / 10))) one_less
-  ∙ ap (λ w. marked w (beginnings (20 - c.loop.counter - 1) (c.loop.rest / 10))) c.mark.ensures
-  ∙ mark_next c.loop.words.items (marked c.args.words.now.items (beginnings 20 c.args.number)) (20 - c.loop.counter) c.loop.rest (omega arith) c.if-rest-lt10.false c.loop.invariant.0,
+      ap (λ d. marked c.mark.new.words.items (beginnings d (c.loop.rest / 10))) one_less
+      ∙ ap (λ w. marked w (beginnings (20 - c.loop.counter - 1) (c.loop.rest / 10))) c.mark.ensures
+      ∙ mark_next c.loop.words.items (marked c.args.words.now.items (beginnings 20 c.args.number)) (20 - c.loop.counter) c.loop.rest (omega arith) c.if-rest-lt10.false c.loop.invariant.0,
   omega arith,
 )
 
