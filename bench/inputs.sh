@@ -103,6 +103,11 @@ header_section() {
     printf '\r\n'
 }
 
+# Lines of boundaries of report 2, with the numbers up to this one.
+boundary_lines() {
+    seq -f "--=_relay_2_%.0f"$'\r' 0 "$1"
+}
+
 # A content of lines of 76 octets, of which every fourth begins with a period.
 content_with_periods() {
     yes "$(printf '%074d\r\n%074d\r\n%074d\r\n.%073d\r' 0 0 0 0)" | head -n $((4 * $1)) || true

@@ -127,6 +127,13 @@ for ((time = 0; time < 20; time++)); do
     cat "$room/content"
 done > "$room/contents"
 
+# Stored texts of 1 MiB, one of them full of boundaries, of which a report is made 20 times, and 20 times their octets.
+mail_lines 13797 > "$room/stored"
+boundary_lines 55739 > "$room/boundaries"
+for ((time = 0; time < 20; time++)); do
+    cat "$room/stored"
+done > "$room/stored.20"
+
 measure "session: mail data that is refused" octets "$(stat -c %s "$room/refused")" "$room/refused" -l 7 "$relayd" session
 measure "session: 60 messages of 1 MiB that are kept" octets "$(stat -c %s "$room/kept")" "$room/kept" -l 243 "$relayd" session
 measure "session: 60 messages of 16 chunks that are kept" octets "$(stat -c %s "$room/chunks")" "$room/chunks" -c 1146 "$relayd" session
@@ -142,6 +149,9 @@ against=$room/headers
 measure "library: a header section, counted and cut" octets "$(stat -c %s "$room/headers")" "$room/header" -l 1 "$bench" header
 against=$room/contents
 measure "library: a dot text that is written" octets "$(stat -c %s "$room/contents")" "$room/content" -l 1 "$bench" dots
+against=$room/stored.20
+measure "library: a report that returns 1 MiB" octets "$(stat -c %s "$room/stored.20")" "$room/stored" -l 1 "$bench" reports
+measure "library: the same, full of boundaries" octets "$(stat -c %s "$room/stored.20")" "$room/boundaries" -l 1 "$bench" reports
 
 # A spool of 62,430 bodies of 4,096 octets: its head, the links, and the last gate.
 printf '\x01\x00\x00\x10\x00%04096d' 0 > "$room/link"

@@ -10,6 +10,7 @@ mod header;
 mod memory;
 mod nodes;
 mod replies;
+mod reports;
 mod routes;
 mod spools;
 mod texts;
@@ -19,6 +20,7 @@ use commands::count_commands;
 use header::look_through_header;
 use nodes::{accept_messages, open_node, open_node_and_measure};
 use replies::count_replies;
+use reports::make_reports;
 use routes::look_up;
 use spools::{append_bodies, open_spool, sync_twice};
 use std::alloc::Global;
@@ -73,7 +75,7 @@ fn main(rt: HostRuntime) -> Result<(), Fail> {
         println!(rt; "{}", line.as_str())?;
         return Ok(());
     }
-    let samples: [(&str, &[u8]); 7] = [
+    let samples: [(&str, &[u8]); 8] = [
         ("commands", COMMANDS),
         ("replies", REPLIES),
         ("header", HEADER),
@@ -81,6 +83,7 @@ fn main(rt: HostRuntime) -> Result<(), Fail> {
         ("plain", TEXTS),
         ("dots", CONTENT),
         ("decode", RECORD),
+        ("reports", CONTENT),
     ];
     for (name, mut octets) in samples {
         let line = measure(alloc, name, &mut octets)?;
@@ -170,9 +173,11 @@ fn measure<R: Read>(alloc: Global, name: &str, reader: &mut R) -> Result<String,
         write_texts(alloc, reader)
     } else if name == "decode" {
         decode_record(alloc, reader)
+    } else if name == "reports" {
+        make_reports(alloc, reader)
     } else {
         Err(Fail::new(
-            "the measurements are: commands, replies, header, texts, plain, dots, decode",
+            "the measurements are: commands, replies, header, texts, plain, dots, decode, reports",
         ))
     }
 }

@@ -3,11 +3,13 @@ use Rattle.std.proofs.Common.{◌≡◌, ◌⊎◌, inl, inr, ℕ, ◌+◌, ◌<
 use Rattle.std.proofs.lemmas.Bool.{cases_lt, cases_eq}
 use Rattle.std.proofs.lemmas.List.{take_at, drop_at, drop-drop, length-take, length-drop, take-append-drop}
 use Rattle.std.proofs.lemmas.List.Elements.{Contains-append_left, Contains-append_right, Contains-append_cases}
+use Rattle.std.proofs.lemmas.Grind.{flat_map-append}
+use Rattle.std.specs.Option.{option_to_list}
 use Rattle.memchr.specs.Find.{OccursAt, NoneBefore, FindsNeedle}
 use Rattle.memchr.proofs.lemmas.MatchLemmas.{OccursAt-split, OccursAt-from_part}
 use Rattle.relay_report.specs.Boundary.{StandsIn, numbered}
-use Rattle.relay_report.specs.Numbers.{begun, Collects, Collecting}
-use Rattle.relay_report.proofs.NumberLemmas.{begun_finds, begun_only}
+use Rattle.relay_report.specs.Numbers.{leading, beginnings, all_begun, Collects, Collecting}
+use Rattle.relay_report.proofs.BegunLemmas.{started, started_finds, started_only}
 
 -- a word behind some octets stands at their number
 pub occurs_behind : (text word before after : List ℕ) → text ≡ before ++ (word ++ after) → OccursAt text word (length before)
@@ -45,9 +47,9 @@ un_numbered : (stem text before after : List ℕ) (k : ℕ) → text ≡ before 
 un_numbered stem text before after k e = e ∙ ap (λ l. before ++ l) (append_assoc stem (decimal k) after)
 
 -- what was found behind the stem's first place stands in the text
-behind_stands : (stem rest : List ℕ) (place k : ℕ) → OccursAt rest stem place → Contains (begun (drop (place + length stem) rest)) k → StandsIn (numbered stem k) rest
+behind_stands : (stem rest : List ℕ) (place k : ℕ) → OccursAt rest stem place → Contains (started (drop (place + length stem) rest)) k → StandsIn (numbered stem k) rest
 behind_stands stem rest place k at has =
-    let (after, e, fits) = begun_only k (drop (place + length stem) rest) has in
+    let (after, e, fits) = started_only k (drop (place + length stem) rest) has in
     record {
       before = take place rest;
       after = after;
@@ -56,27 +58,27 @@ behind_stands stem rest place k at has =
 
 -- a numbered stem in the rest is found at the first place, or stands behind it
 found_or_later : (stem rest : List ℕ) (place k : ℕ) → NoneBefore (OccursAt rest stem) 0 (length rest + 1) place → k < 2 ^ 64 → StandsIn (numbered stem k) rest
-    → Contains (begun (drop (place + length stem) rest)) k ⊎ StandsIn (numbered stem k) (drop (place + 1) rest)
+    → Contains (started (drop (place + length stem) rest)) k ⊎ StandsIn (numbered stem k) (drop (place + 1) rest)
 found_or_later stem rest place k none fits stands = split (cases_lt (length stands.before) place) (cases_eq (length stands.before) place)
   where
     e : rest ≡ stands.before ++ (stem ++ (decimal k ++ stands.after))
     e = un_numbered stem rest stands.before stands.after k stands.text_is
 
-    at_place : length stands.before ≡ place → Contains (begun (drop (place + length stem) rest)) k
+    at_place : length stands.before ≡ place → Contains (started (drop (place + length stem) rest)) k
     at_place same =
         let behind : drop (place + length stem) rest ≡ decimal k ++ stands.after =
         sym (drop-drop (length stem) place rest) ∙ ap (drop (length stem)) (ap (drop place) e ∙ drop_at stands.before (stem ++ (decimal k ++ stands.after)) place same) ∙ drop_at stem (decimal k ++ stands.after) (length stem) refl in
-        subst (λ l. Contains (begun l) k) (sym behind) (begun_finds k stands.after fits)
+        subst (λ l. Contains (started l) k) (sym behind) (started_finds k stands.after fits)
 
     split : (length stands.before < place) ⊎ (place ≤ length stands.before) → (length stands.before ≡ place) ⊎ (length stands.before ≡ place → ⊥)
-        → Contains (begun (drop (place + length stem) rest)) k ⊎ StandsIn (numbered stem k) (drop (place + 1) rest)
+        → Contains (started (drop (place + length stem) rest)) k ⊎ StandsIn (numbered stem k) (drop (place + 1) rest)
     split (inl near) other = absurd (none.before (length stands.before) (omega arith) near (occurs_behind rest stem stands.before (decimal k ++ stands.after) e))
     split (inr far) (inl same) = inl (at_place same)
     split (inr far) (inr differs) = inr (stands_later (numbered stem k) rest stands.before stands.after (place + 1) stands.text_is (omega (arith, far, differs)))
 
 -- one more place of the stem
 pub collect_step : (stem text rest more old now new : List ℕ) (place : ℕ) → Collecting stem text rest old now → FindsNeedle rest stem 0 (Some place)
-    → new ≡ now ++ begun (drop (place + length stem) rest) → more ≡ drop (place + 1) rest → Collecting stem text more old new
+    → new ≡ now ++ started (drop (place + length stem) rest) → more ≡ drop (place + 1) rest → Collecting stem text more old new
 collect_step stem text rest more old now new place so found new_is more_is = record {
   keeps = λ k has. subst (λ l. Contains l k) (sym new_is) (Contains-append_left now _ k (so.keeps k has));
   finds = λ k fits stands. finds k fits (so.finds k fits stands);
@@ -85,7 +87,7 @@ collect_step stem text rest more old now new place so found new_is more_is = rec
   shorter = let less = length-drop (place + 1) rest in omega (arith, so.shorter, less, ap length more_is);
 }
   where
-    right : (k : ℕ) → Contains (begun (drop (place + length stem) rest)) k ⊎ StandsIn (numbered stem k) (drop (place + 1) rest) → Contains new k ⊎ StandsIn (numbered stem k) more
+    right : (k : ℕ) → Contains (started (drop (place + length stem) rest)) k ⊎ StandsIn (numbered stem k) (drop (place + 1) rest) → Contains new k ⊎ StandsIn (numbered stem k) more
     right k (inl has) = inl (subst (λ l. Contains l k) (sym new_is) (Contains-append_right now _ k has))
     right k (inr stands) = inr (subst (StandsIn (numbered stem k)) (sym more_is) stands)
 
@@ -93,9 +95,13 @@ collect_step stem text rest more old now new place so found new_is more_is = rec
     finds k fits (inl has) = inl (subst (λ l. Contains l k) (sym new_is) (Contains-append_left now _ k has))
     finds k fits (inr stands) = right k (found_or_later stem rest place k found.0 fits stands)
 
-    only : (k : ℕ) → Contains now k ⊎ Contains (begun (drop (place + length stem) rest)) k → Contains old k ⊎ StandsIn (numbered stem k) text
+    only : (k : ℕ) → Contains now k ⊎ Contains (started (drop (place + length stem) rest)) k → Contains old k ⊎ StandsIn (numbered stem k) text
     only k (inl has) = so.only k has
     only k (inr has) = inr (so.part k (behind_stands stem rest place k found.1 has))
+
+-- the numbers of a list with the longest one at a place behind them
+pub begun_behind : (taken : List ℕ) (more text : List ℕ) → more ≡ taken ++ option_to_list (leading text) → all_begun more ≡ all_begun taken ++ started text
+begun_behind taken more text e = ap all_begun e ∙ flat_map-append (beginnings 20) taken (option_to_list (leading text))
 
 -- where the stem isn't found any more, all is found
 pub collect_end : (stem text rest old now : List ℕ) → Collecting stem text rest old now → FindsNeedle rest stem 0 None → Collects stem text old now

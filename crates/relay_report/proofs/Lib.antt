@@ -1,8 +1,12 @@
 mod FieldLemmas
 mod JoinLemmas
 mod NumberLemmas
+mod BegunLemmas
 mod CollectLemmas
+mod RowLemmas
+mod MarkLemmas
 mod LeastLemmas
+mod FreeLemmas
 mod CutLemmas
 mod ReportLemmas
 mod ShortLemmas
@@ -10,4 +14,6 @@ mod FitLemmas
 mod SplitLemmas
 mod ApartLemmas
 mod ReportSplitLemmas
+mod PlainLemmas
+mod LineLemmas
 pub mod Theorems

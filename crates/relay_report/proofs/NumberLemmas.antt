@@ -1,5 +1,5 @@
 -- Numbers behind a stem: which the code's list has.
-use Rattle.std.proofs.Common.{◌≡◌, ◌⊎◌, inl, inr, ℕ, zero, suc, ◌+◌, ◌*◌, ◌-◌, ◌/◌, ◌%◌, ◌<◌, ◌≤◌, ◌^◌, Bool, true, false, ◌==◌, List, [], ◌∷◌, ◌++◌, length, get_or, Contains, decimal, refl, sym, ap, subst, ◌∙◌, arith, append_assoc, append-nil}
+use Rattle.std.proofs.Common.{◌≡◌, ◌⊎◌, inl, inr, ℕ, zero, suc, ◌+◌, ◌*◌, ◌-◌, ◌/◌, ◌%◌, ◌<◌, ◌≤◌, ◌^◌, Bool, true, false, ◌==◌, List, [], ◌∷◌, ◌++◌, length, get_or, Contains, decimal, refl, sym, ap, subst, ◌∙◌, arith, append_assoc, append-nil, if◌then◌else◌}
 use Rattle.std.proofs.lemmas.Bool.{eq-eqb, and_parts, eqb-true, false≢true, leb-true, le-leb}
 use Rattle.std.proofs.lemmas.Fmt.{decimal_step, decimal_digit, decimal_is_IsNumeral, decimal_nonempty, first_decimal}
 use Rattle.std.proofs.lemmas.Str.{digit_value_digit}
@@ -7,7 +7,17 @@ use Rattle.std.proofs.lemmas.Str.Parse.{digit_from_value}
 use Rattle.std.specs.Str.Parse.{AllDigits, digits_value_after}
 use Rattle.std.specs.Char.{digit_value}
 use Rattle.std.specs.Bool.{⊤}
-use Rattle.relay_report.specs.Numbers.{one_more, may_grow, grown, begun}
+use Rattle.relay_report.specs.Numbers.{one_more, may_grow, grown, leading, beginnings, all_begun}
+
+-- the numbers that the digits at the beginning of the octets make of this one
+abbrev pub growing : ℕ → List ℕ → List ℕ
+growing value [] = []
+growing value (octet ∷ octets) = if may_grow value octet then one_more value octet ∷ growing (one_more value octet) octets else []
+
+-- the numbers whose text begins the octets
+abbrev pub begun : List ℕ → List ℕ
+begun [] = []
+begun (octet ∷ octets) = if octet == 48 then 0 ∷ [] else growing 0 (octet ∷ octets)
 
 abbrev pub Digits : List ℕ → Type 0
 Digits [] = ⊤
@@ -35,7 +45,7 @@ after_le n (c ∷ cs) = omega (arith, after_le (one_more n c) cs)
 may_grow_true : (n c : ℕ) → 48 ≤ c → c ≤ 57 → one_more n c < 2 ^ 64 → may_grow n c ≡ true
 may_grow_true n c low high fits = rw (le-leb 48 c low, le-leb c 57 high, le-leb (one_more n c + 1) (2 ^ 64) (omega arith)) refl
 
-may_grow_says : (n c : ℕ) → may_grow n c ≡ true → (48 ≤ c) × (c ≤ 57) × (one_more n c < 2 ^ 64)
+pub may_grow_says : (n c : ℕ) → may_grow n c ≡ true → (48 ≤ c) × (c ≤ 57) × (one_more n c < 2 ^ 64)
 may_grow_says n c e =
     let parts = and_parts _ _ e in
     let digit = and_parts _ _ parts.0 in
@@ -64,7 +74,7 @@ pub one_of : (x y : ℕ) (xs : List ℕ) → Contains (x ∷ xs) y → (x ≡ y)
 one_of x y xs (zero, l, e) = inl e
 one_of x y xs (suc k, l, e) = inr (k, omega arith, e)
 
-none_in : (y : ℕ) → Contains [] y → ⊥
+pub none_in : (y : ℕ) → Contains [] y → ⊥
 none_in y c = omega (arith, c.1)
 
 le_zero : (k : ℕ) → (0 < k → ⊥) → k ≡ 0
@@ -74,21 +84,21 @@ le_zero (suc k) f = absurd (f (omega arith))
 eqb_refl : (a b : ℕ) → a ≡ b → (a == b) ≡ true
 eqb_refl a b e = eq-eqb a b e
 
-grown_more : (n c : ℕ) (cs : List ℕ) → may_grow n c ≡ true → grown n (c ∷ cs) ≡ one_more n c ∷ grown (one_more n c) cs
-grown_more n c cs e = rw e refl
+pub growing_more : (n c : ℕ) (cs : List ℕ) → may_grow n c ≡ true → growing n (c ∷ cs) ≡ one_more n c ∷ growing (one_more n c) cs
+growing_more n c cs e = rw e refl
 
-grown_stops : (n c : ℕ) (cs : List ℕ) → may_grow n c ≡ false → grown n (c ∷ cs) ≡ []
-grown_stops n c cs e = rw e refl
+pub growing_stops : (n c : ℕ) (cs : List ℕ) → may_grow n c ≡ false → growing n (c ∷ cs) ≡ []
+growing_stops n c cs e = rw e refl
 
-pub grown_finds : (n : ℕ) (ds rest : List ℕ) → Digits ds → 0 < length ds → after n ds < 2 ^ 64 → Contains (grown n (ds ++ rest)) (after n ds)
-grown_finds n [] rest d some fits = absurd (omega arith)
-grown_finds n (c ∷ []) rest d some fits =
+pub growing_finds : (n : ℕ) (ds rest : List ℕ) → Digits ds → 0 < length ds → after n ds < 2 ^ 64 → Contains (growing n (ds ++ rest)) (after n ds)
+growing_finds n [] rest d some fits = absurd (omega arith)
+growing_finds n (c ∷ []) rest d some fits =
     let may = may_grow_true n c d.0 d.1 fits in
-    subst (λ l. Contains l (one_more n c)) (sym (grown_more n c rest may)) (here (one_more n c) (grown (one_more n c) rest))
-grown_finds n (c ∷ (b ∷ bs)) rest d some fits =
+    subst (λ l. Contains l (one_more n c)) (sym (growing_more n c rest may)) (here (one_more n c) (growing (one_more n c) rest))
+growing_finds n (c ∷ (b ∷ bs)) rest d some fits =
     let small = after_le (one_more n c) (b ∷ bs) in
     let may = may_grow_true n c d.0 d.1 (omega (arith, small)) in
-    subst (λ l. Contains l (after n (c ∷ (b ∷ bs)))) (sym (grown_more n c ((b ∷ bs) ++ rest) may)) (later (one_more n c) (after (one_more n c) (b ∷ bs)) (grown (one_more n c) ((b ∷ bs) ++ rest)) (grown_finds (one_more n c) (b ∷ bs) rest d.2 (omega arith) fits))
+    subst (λ l. Contains l (after n (c ∷ (b ∷ bs)))) (sym (growing_more n c ((b ∷ bs) ++ rest) may)) (later (one_more n c) (after (one_more n c) (b ∷ bs)) (growing (one_more n c) ((b ∷ bs) ++ rest)) (growing_finds (one_more n c) (b ∷ bs) rest d.2 (omega arith) fits))
 
 abbrev pub Grows : ℕ → List ℕ → ℕ → Type 0
 Grows n os k = (ds : List ℕ) × (rest : List ℕ) × (os ≡ ds ++ rest) × (0 < length ds) × Digits ds × (k ≡ after n ds) × (k < 2 ^ 64)
@@ -97,17 +107,17 @@ grows_by : (n c k : ℕ) (cs : List ℕ) → (48 ≤ c) × (c ≤ 57) × (one_mo
 grows_by n c k cs is (inl e) = (c ∷ [], cs, refl, omega arith, (is.0, is.1, tt), sym e, omega (arith, e, is.2))
 grows_by n c k cs is (inr (ds, rest, os_is, some, digits, k_is, fits)) = (c ∷ ds, rest, ap (λ l. c ∷ l) os_is, omega arith, (is.0, is.1, digits), k_is, fits)
 
-pub grown_only : (n k : ℕ) (os : List ℕ) → Contains (grown n os) k → Grows n os k
-grown_only n k [] has = absurd (none_in k has)
-grown_only n k (c ∷ cs) has = by (may_grow n c) refl (grown_only (one_more n c) k cs)
+pub growing_only : (n k : ℕ) (os : List ℕ) → Contains (growing n os) k → Grows n os k
+growing_only n k [] has = absurd (none_in k has)
+growing_only n k (c ∷ cs) has = by (may_grow n c) refl (growing_only (one_more n c) k cs)
   where
-    step : (Contains (grown (one_more n c) cs) k → Grows (one_more n c) cs k) → (one_more n c ≡ k) ⊎ Contains (grown (one_more n c) cs) k → (one_more n c ≡ k) ⊎ Grows (one_more n c) cs k
+    step : (Contains (growing (one_more n c) cs) k → Grows (one_more n c) cs k) → (one_more n c ≡ k) ⊎ Contains (growing (one_more n c) cs) k → (one_more n c ≡ k) ⊎ Grows (one_more n c) cs k
     step again (inl e) = inl e
     step again (inr more) = inr (again more)
 
-    by : (b : Bool) → may_grow n c ≡ b → (Contains (grown (one_more n c) cs) k → Grows (one_more n c) cs k) → Grows n (c ∷ cs) k
-    by true e again = grows_by n c k cs (may_grow_says n c e) (step again (one_of (one_more n c) k _ (subst (λ l. Contains l k) (grown_more n c cs e) has)))
-    by false e again = absurd (none_in k (subst (λ l. Contains l k) (grown_stops n c cs e) has))
+    by : (b : Bool) → may_grow n c ≡ b → (Contains (growing (one_more n c) cs) k → Grows (one_more n c) cs k) → Grows n (c ∷ cs) k
+    by true e again = grows_by n c k cs (may_grow_says n c e) (step again (one_of (one_more n c) k _ (subst (λ l. Contains l k) (growing_more n c cs e) has)))
+    by false e again = absurd (none_in k (subst (λ l. Contains l k) (growing_stops n c cs e) has))
 
 -- a number below 2^64 is what its digits say
 decimal_says : (k : ℕ) → k < 2 ^ 64 → (after 0 (decimal k) ≡ k) × Digits (decimal k)
@@ -115,10 +125,10 @@ decimal_says k fits =
     let numeral = decimal_is_IsNumeral k fits in
     (sym (after_is 0 (decimal k) numeral.0.1) ∙ numeral.1, all_digits (decimal k) numeral.0.1)
 
-begun_zero : (c : ℕ) (cs : List ℕ) → c ≡ 48 → begun (c ∷ cs) ≡ 0 ∷ []
+pub begun_zero : (c : ℕ) (cs : List ℕ) → c ≡ 48 → begun (c ∷ cs) ≡ 0 ∷ []
 begun_zero c cs e = rw e refl
 
-begun_other : (c : ℕ) (cs : List ℕ) → (c == 48) ≡ false → begun (c ∷ cs) ≡ grown 0 (c ∷ cs)
+pub begun_other : (c : ℕ) (cs : List ℕ) → (c == 48) ≡ false → begun (c ∷ cs) ≡ growing 0 (c ∷ cs)
 begun_other c cs e = rw e refl
 
 -- a number whose text begins the octets is found
@@ -137,8 +147,8 @@ begun_finds k rest fits = by (decimal k) refl
             subst (λ n. Contains (begun (decimal k ++ rest)) n) (sym k_is) (subst (λ l. Contains (begun (l ++ rest)) 0) (sym e) (subst (λ l. Contains l 0) (sym (begun_zero c (cs ++ rest) zero_is)) (here 0 [])))
         split false is =
             let says = decimal_says k fits in
-            let has : Contains (grown 0 (decimal k ++ rest)) k = subst (λ n. Contains (grown 0 (decimal k ++ rest)) n) says.0 (grown_finds 0 (decimal k) rest says.1 (decimal_nonempty k fits) (omega (arith, says.0))) in
-            subst (λ l. Contains (begun (l ++ rest)) k) (sym e) (subst (λ l. Contains l k) (sym (begun_other c (cs ++ rest) is)) (subst (λ l. Contains (grown 0 (l ++ rest)) k) e has))
+            let has : Contains (growing 0 (decimal k ++ rest)) k = subst (λ n. Contains (growing 0 (decimal k ++ rest)) n) says.0 (growing_finds 0 (decimal k) rest says.1 (decimal_nonempty k fits) (omega (arith, says.0))) in
+            subst (λ l. Contains (begun (l ++ rest)) k) (sym e) (subst (λ l. Contains l k) (sym (begun_other c (cs ++ rest) is)) (subst (λ l. Contains (growing 0 (l ++ rest)) k) e has))
 
 -- what is found is a number whose text begins the octets
 pub begun_only : (k : ℕ) (os : List ℕ) → Contains (begun os) k → (rest : List ℕ) × (os ≡ decimal k ++ rest) × (k < 2 ^ 64)
@@ -165,5 +175,5 @@ begun_only k (c ∷ cs) has = split (c == 48) refl
     split : (b : Bool) → (c == 48) ≡ b → (rest : List ℕ) × (c ∷ cs ≡ decimal k ++ rest) × (k < 2 ^ 64)
     split true is = zero_case (eqb-true c 48 is) (one_of 0 k [] (subst (λ l. Contains l k) (begun_zero c cs (eqb-true c 48 is)) has))
     split false is =
-        let (ds, rest, e, some, d, k_is, fits) = grown_only 0 k (c ∷ cs) (subst (λ l. Contains l k) (begun_other c cs is) has) in
+        let (ds, rest, e, some, d, k_is, fits) = growing_only 0 k (c ∷ cs) (subst (λ l. Contains l k) (begun_other c cs is) has) in
         other is ds rest e some d k_is fits

@@ -19,12 +19,12 @@ use Rattle.relay_report.specs.Fits.{MayBeTold}
 use Rattle.relay_report.specs.Split.{HasParts, OpensWith, ReportComesApart}
 use Rattle.relay_report.proofs.ApartLemmas.{IsAbove, OpensParts, is_above, above_has_no_crlf, multipart_opens, returned_kind}
 
-and_false : (b : Bool) → b && false ≡ false
+pub and_false : (b : Bool) → b && false ≡ false
 and_false true = refl
 and_false false = refl
 
 -- octets above CR and LF join
-both_above : (front back : List ℕ) → IsAbove front → IsAbove back → IsAbove (front ++ back)
+pub both_above : (front back : List ℕ) → IsAbove front → IsAbove back → IsAbove (front ++ back)
 both_above front back one two = record { test = list_all-append is_above front back ∙ ap (λ b. b && list_all is_above back) one.test ∙ two.test }
 
 digits_above : (digits : List ℕ) → AllDigits 10 digits → list_all is_above digits ≡ true
@@ -33,10 +33,10 @@ digits_above (octet ∷ digits) each =
     let digit = digit_from_value octet each.0 in
     ap (λ b. b && list_all is_above digits) (le-leb 14 octet (omega (arith, digit.0))) ∙ digits_above digits each.1
 
-decimal_above : (number : ℕ) → number < 2 ^ 64 → IsAbove (decimal number)
+pub decimal_above : (number : ℕ) → number < 2 ^ 64 → IsAbove (decimal number)
 decimal_above number small = record { test = digits_above (decimal number) (decimal_is_IsNumeral number small).0.1 }
 
-boundary_above : (number least : ℕ) → number < 2 ^ 64 → least < 2 ^ 64 → IsAbove (dash_boundary (boundary_text number least))
+pub boundary_above : (number least : ℕ) → number < 2 ^ 64 → least < 2 ^ 64 → IsAbove (dash_boundary (boundary_text number least))
 boundary_above number least one two =
     both_above (codes "--") (boundary_text number least) (record { test = refl })
     (both_above (codes "=_relay_" ++ decimal number ++ codes "_") (decimal least)
@@ -48,16 +48,16 @@ free_in : (word text : List ℕ) → (StandsIn word text → ⊥) → StandsNowh
 free_in word text without = record { nowhere = λ before after e. without (record { before = before; after = after; text_is = e }) }
 
 -- a line of a word that is filled in
-headed : (front text : List ℕ) → has_crlf front ≡ false → ends_in_cr front ≡ false → HasNoCrlf text → HasNoCrlf (front ++ text)
+pub headed : (front text : List ℕ) → has_crlf front ≡ false → ends_in_cr front ≡ false → HasNoCrlf text → HasNoCrlf (front ++ text)
 headed front text plain ends none = no_crlf_joined front text (no_crlf_by_test front plain) none (ap (λ b. b && begins_with_lf text) ends)
 
-closed : (text back : List ℕ) → HasNoCrlf text → has_crlf back ≡ false → begins_with_lf back ≡ false → HasNoCrlf (text ++ back)
+pub closed : (text back : List ℕ) → HasNoCrlf text → has_crlf back ≡ false → begins_with_lf back ≡ false → HasNoCrlf (text ++ back)
 closed text back none plain begins = no_crlf_joined text back none (no_crlf_by_test back plain) (ap (λ b. ends_in_cr text && b) begins ∙ and_false (ends_in_cr text))
 
 filled : (octet : ℕ) (octets : List ℕ) → HasNoCrlf (octet ∷ octets) → IsFilledLine (octet ∷ octets)
 filled octet octets none = record { no_crlf = none; not_empty = λ e. cc }
 
-above_none : (text : List ℕ) → IsAbove text → HasNoCrlf text
+pub above_none : (text : List ℕ) → IsAbove text → HasNoCrlf text
 above_none text above = no_crlf_by_test text (above_has_no_crlf text above.test)
 
 -- the lines of a report's header section
@@ -76,13 +76,13 @@ header_lines told date boundary =
 eight_lines : (a b c d f g h i : List ℕ) → (a ++ b ++ c ++ d ++ f ++ g) ++ (h ++ i) ≡ a ++ (b ++ (c ++ (d ++ (f ++ (g ++ (h ++ (i ++ [])))))))
 eight_lines a b c d f g h i = simp (append_assoc, append-nil)
 
-header_is : (told : Told) (date boundary : List ℕ) → header_fields told date ++ field (codes "Content-Type") (report_type boundary) ≡ lines_text (header_lines told date boundary)
+pub header_is : (told : Told) (date boundary : List ℕ) → header_fields told date ++ field (codes "Content-Type") (report_type boundary) ≡ lines_text (header_lines told date boundary)
 unfolding header_fields field report_type postmaster_at message_id
 header_is told date boundary =
     eight_lines (line_text (codes "From: <postmaster@" ++ (told.host ++ codes ">"))) (line_text (codes "To: " ++ told.message.accept.envelope.reverse_path)) (line_text (codes "Subject: Delivery report")) (line_text (codes "Date: " ++ date))
     (line_text (codes "Message-ID: <" ++ ((decimal told.number ++ codes "@" ++ told.host) ++ codes ">"))) (line_text (codes "MIME-Version: 1.0")) (line_text (codes "Content-Type: multipart/report; report-type=delivery-status;")) (line_text (codes " boundary=\"" ++ (boundary ++ codes "\"")))
 
-header_filled : (told : Told) (date boundary : List ℕ) → MayBeTold told → HasNoCrlf date → IsAbove boundary → AllByRecursion IsFilledLine (header_lines told date boundary)
+pub header_filled : (told : Told) (date boundary : List ℕ) → MayBeTold told → HasNoCrlf date → IsAbove boundary → AllByRecursion IsFilledLine (header_lines told date boundary)
 header_filled told date boundary may day above =
     let host = host_word_has_no_crlf told.host (host_name_is_host_word told.host may.host) in
     let path = no_crlf_back (codes "MAIL FROM:") told.message.accept.envelope.reverse_path (mail_is_command_line told.message.accept.envelope may.accept.envelope).1.has_no_crlf in

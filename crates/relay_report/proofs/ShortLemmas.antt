@@ -26,15 +26,15 @@ use Rattle.relay_report.specs.Multipart.{Told, body_part, closing_line, due_to, 
 use Rattle.relay_report.specs.Boundary.{boundary_text}
 use Rattle.relay_report.specs.Fits.{MayBeTold, ReportIsShort}
 
-length-field : (name body : List ℕ) → length (field name body) ≡ length name + length body + 4
+pub length-field : (name body : List ℕ) → length (field name body) ≡ length name + length body + 4
 unfolding field
 length-field name body = simp length-append (omega arith)
 
-length-typed : (kind text : List ℕ) → length (typed kind text) ≡ length kind + length text + 2
+pub length-typed : (kind text : List ℕ) → length (typed kind text) ≡ length kind + length text + 2
 unfolding typed
 length-typed kind text = simp length-append (omega arith)
 
-number_short : (n : ℕ) → n < 2 ^ 64 → length (decimal n) ≤ 20
+pub number_short : (n : ℕ) → n < 2 ^ 64 → length (decimal n) ≤ 20
 number_short n fits = length-decimal-le 20 n (omega arith) (omega (arith, fits)) fits
 
 -- xtext stands for no more octets than it has
@@ -48,7 +48,7 @@ spelled_short text octets spells =
     let short = parts_short spells.parts in
     omega (arith, short, ap length spells.text_is, ap length spells.octets_are)
 
-plain_short : (text : List ℕ) → length (plain_of text) ≤ length text
+pub plain_short : (text : List ℕ) → length (plain_of text) ≤ length text
 plain_short text = by (decoded text) refl
   where
     by : (o : Option (List ℕ)) → decoded text ≡ o → length (octets_or text o) ≤ length text
@@ -63,26 +63,26 @@ path_short (Postmaster word) valid =
     omega (arith, same, length-append word (62 ∷ []))
 path_short (Mailbox route local domain) valid = valid.1
 
-written_short : (is_allowed : Path → Bool) (text : List ℕ) → IsWrittenPath is_allowed text → length text ≤ 256
+pub written_short : (is_allowed : Path → Bool) (text : List ℕ) → IsWrittenPath is_allowed text → length text ≤ 256
 written_short is_allowed text written =
     let fits = path_short written.path written.valid in
     omega (arith, fits, ap length written.text_is)
 
-orcpt_short : (orcpt : List ℕ) → is_orcpt orcpt ≡ true → length orcpt ≤ 500
+pub orcpt_short : (orcpt : List ℕ) → is_orcpt orcpt ≡ true → length orcpt ≤ 500
 unfolding is_orcpt
 orcpt_short orcpt valid =
     let parts = and_parts _ _ valid in
     let first = and_parts (nat_le (length orcpt) 500) _ parts.0 in
     leb-true (length orcpt) 500 first.0
 
-envid_short : (envid : List ℕ) → is_envid envid ≡ true → length envid ≤ 100
+pub envid_short : (envid : List ℕ) → is_envid envid ≡ true → length envid ≤ 100
 unfolding is_envid
 envid_short envid valid =
     let parts = and_parts _ _ valid in
     let range = and_parts (nat_le 1 (length envid)) (nat_le (length envid) 100) parts.0 in
     leb-true (length envid) 100 range.1
 
-hop_short : (hop : List ℕ) → MayBeHop hop → length hop ≤ 255
+pub hop_short : (hop : List ℕ) → MayBeHop hop → length hop ≤ 255
 hop_short [] valid = omega arith
 hop_short (octet ∷ octets) valid = valid.few_octets
 
@@ -117,11 +117,11 @@ original_short (Some orcpt) valid =
     let line = length-field (codes "Original-Recipient") (typed (address_type_of orcpt) (plain_of (address_of orcpt))) in
     omega (arith, short, kind, rest, plain, all, line)
 
-action_short : (due : DueReport) → length (action_of due) ≤ 7
+pub action_short : (due : DueReport) → length (action_of due) ≤ 7
 action_short OfFailure = omega arith
 action_short OfRelay = omega arith
 
-status_short : (verdict : Verdict) → length (status_of verdict) ≡ 5
+pub status_short : (verdict : Verdict) → length (status_of verdict) ≡ 5
 status_short (Taken dsn) = refl
 status_short (Refused code text) = refl
 status_short Later = refl
@@ -138,7 +138,7 @@ remote_short hop Later few = omega arith
 remote_short hop CantSend few = omega arith
 remote_short hop NoRoute few = omega arith
 
-words_short : (code : ℕ) (text : List ℕ) → code < 2 ^ 16 → length text ≤ 200 → length (reply_words code text) ≤ 221
+pub words_short : (code : ℕ) (text : List ℕ) → code < 2 ^ 16 → length text ≤ 200 → length (reply_words code text) ≤ 221
 words_short code [] fits few = let number = number_short code (omega (arith, fits)) in omega (arith, number)
 words_short code (octet ∷ octets) fits few =
     let number = number_short code (omega (arith, fits)) in
@@ -261,7 +261,7 @@ type_short : (whole : Bool) → length (returned_type whole) ≤ 19
 type_short true = omega arith
 type_short false = omega arith
 
-boundary_short : (number least : ℕ) → number < 2 ^ 64 → least < 2 ^ 64 → length (boundary_text number least) ≤ 49
+pub boundary_short : (number least : ℕ) → number < 2 ^ 64 → least < 2 ^ 64 → length (boundary_text number least) ≤ 49
 boundary_short number least one two =
     let first = number_short number one in
     let second = number_short least two in

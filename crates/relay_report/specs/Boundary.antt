@@ -1,5 +1,5 @@
 -- Boundaries (RFC 2046, section 5.1.1): a delimiter line must not stand in any of the parts.
-use Rattle.std.specs.Prelude.{◌≡◌, ◌≢◌, ◌⊎◌, ℕ, ◌<◌, ◌^◌, List, ◌++◌, codes, decimal}
+use Rattle.std.specs.Prelude.{◌≡◌, ◌≢◌, ◌⊎◌, ℕ, ◌+◌, ◌*◌, ◌<◌, ◌≤◌, ◌^◌, List, ◌++◌, codes, decimal, length}
 
 -- the word stands somewhere in the text
 pub record StandsIn (word text : List ℕ) : Type 0 where
@@ -40,3 +40,17 @@ pub record IsBoundary (number : ℕ) (one two three boundary : List ℕ) : Type 
   pub least : ℕ
   pub is_least : IsLeastFree (stem_of number) one two three least
   pub boundary_is : boundary ≡ boundary_text number least
+
+-- Three parts have a boundary: its number is at most 20 for each of their octets, since no number of 64 bits has more
+-- digits, and each octet begins one run of digits at most.
+abbrev pub BoundaryIsThere : Type 0
+BoundaryIsThere =
+    (number : ℕ) (one two three : List ℕ) → 20 * (length one + length two + length three) < 2 ^ 64
+    → (boundary : List ℕ) × (is : IsBoundary number one two three boundary)
+    × (is.least ≤ 20 * (length one + length two + length three))
+
+-- and only one
+abbrev pub BoundaryIsOne : Type 0
+BoundaryIsOne =
+    (number : ℕ) (one two three boundary other : List ℕ) → IsBoundary number one two three boundary
+    → IsBoundary number one two three other → boundary ≡ other

@@ -4,5 +4,7 @@ pub mod Boundary
 pub mod Report
 pub mod Fits
 pub mod Numbers
+pub mod Marks
 pub mod Parts
 pub mod Split
+pub mod Lines

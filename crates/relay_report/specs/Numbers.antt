@@ -1,5 +1,6 @@
 -- The numbers that stand behind a stem.
-use Rattle.std.specs.Prelude.{◌⊎◌, ℕ, ◌+◌, ◌*◌, ◌-◌, ◌<◌, ◌^◌, nat_le, ◌&&◌, Bool, ◌==◌, List, [], ◌∷◌, Option, None, Some, Contains, length, ◌≤◌, if◌then◌else◌}
+use Rattle.std.specs.Prelude.{◌⊎◌, ℕ, zero, suc, ◌+◌, ◌*◌, ◌-◌, ◌/◌, ◌<◌, ◌^◌, nat_le, nat_lt, ◌&&◌, Bool, ◌==◌, List, [], ◌∷◌, Option, None, Some, Contains, length, ◌≤◌, if◌then◌else◌}
+use Rattle.std.specs.List.{flat_map}
 use Rattle.relay_report.specs.Boundary.{StandsIn, numbered}
 
 -- the number with one digit more
@@ -13,14 +14,25 @@ may_grow value octet = (nat_le 48 octet && nat_le octet 57) && nat_le (one_more 
 abbrev pub longer : ℕ → ℕ → Option ℕ
 longer value octet = if may_grow value octet then Some (one_more value octet) else None
 
-abbrev pub grown : ℕ → List ℕ → List ℕ
-grown value [] = []
-grown value (octet ∷ octets) = if may_grow value octet then one_more value octet ∷ grown (one_more value octet) octets else []
+-- the number, with the digits at the beginning of the octets behind it, as far as it has 64 bits
+abbrev pub grown : ℕ → List ℕ → ℕ
+grown value [] = value
+grown value (octet ∷ octets) = if may_grow value octet then grown (one_more value octet) octets else value
 
--- the numbers whose text begins the octets
-abbrev pub begun : List ℕ → List ℕ
-begun [] = []
-begun (octet ∷ octets) = if octet == 48 then 0 ∷ [] else grown 0 (octet ∷ octets)
+-- the longest number whose text begins the octets
+abbrev pub leading : List ℕ → Option ℕ
+leading [] = None
+leading (octet ∷ octets) =
+    if octet == 48 then Some 0 else (if may_grow 0 octet then Some (grown (one_more 0 octet) octets) else None)
+
+-- a number, and those that its digits begin with, so many at most
+unfoldable pub beginnings : ℕ → ℕ → List ℕ
+beginnings zero value = []
+beginnings (suc digits) value = value ∷ (if nat_lt value 10 then [] else beginnings digits (value / 10))
+
+-- these numbers of 64 bits, and those that their digits begin with
+abbrev pub all_begun : List ℕ → List ℕ
+all_begun values = flat_map (beginnings 20) values
 
 -- what a pass over the text adds
 pub record Collects (stem text old new : List ℕ) : Type 0 where
@@ -28,11 +40,8 @@ pub record Collects (stem text old new : List ℕ) : Type 0 where
   pub finds : (number : ℕ) → number < 2 ^ 64 → StandsIn (numbered stem number) text → Contains new number
   pub only : (number : ℕ) → Contains new number → Contains old number ⊎ StandsIn (numbered stem number) text
 
-abbrev pub least_from : ℕ → List ℕ → ℕ
-least_from least [] = least
-least_from least (number ∷ numbers) = if number == least then least_from (least + 1) numbers else least_from least numbers
-
 pub record IsLeastOutside (numbers : List ℕ) (least : ℕ) : Type 0 where
+  pub fits : least < 2 ^ 64
   pub outside : Contains numbers least → ⊥
   pub below : (lower : ℕ) → lower < least → Contains numbers lower
 

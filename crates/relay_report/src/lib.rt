@@ -5,6 +5,8 @@ mod boundary;
 mod due;
 mod field;
 pub mod laws;
+mod marks;
+mod numbers;
 mod part_text;
 mod parts;
 mod report;

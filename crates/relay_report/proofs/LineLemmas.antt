@@ -1,0 +1,349 @@
+-- A report's header section and its first two parts are short lines.
+use Rattle.std.proofs.Common.{◌≡◌, inl, inr, ℕ, zero, suc, ◌+◌, ◌-◌, ◌<◌, ◌≤◌, ◌^◌, Bool, true, false, ◌&&◌, ◌==◌, List, [], ◌∷◌, ◌++◌, codes, decimal, length, take, drop, slice_get, Option, None, Some, refl, sym, ap, subst, ◌∙◌, arith, append_assoc, append-nil, length-append}
+use Rattle.std.proofs.lemmas.Bool.{and_parts, cases_Bool, eqb-true, leb-true}
+use Rattle.std.proofs.lemmas.Grind.{flat_map-append}
+use Rattle.std.proofs.lemmas.List.{length-take, length-drop, take-append-drop, take_at}
+use Rattle.std.specs.List.{flat_map, AllByRecursion, count_by, list_all, position_or_len}
+use Rattle.std.specs.Option.{option_map_or}
+use Rattle.relay_octets.specs.Line.{HasNoCrlf, begins_with_lf, crlf, ends_in_cr, has_crlf, line_text, lines_text}
+use Rattle.relay_octets.proofs.Theorems.{no_crlf_back, no_crlf_by_test, no_crlf_front, no_crlf_joined, no_crlf_nil}
+use Rattle.relay_trace.specs.DateTime.{IsDateText}
+use Rattle.relay_trace.specs.HeaderSection.{IsFilledLine, header_end_of, is_received, received_count_of}
+use Rattle.relay_trace.proofs.Theorems.{date_text_has_31_octets, date_text_has_no_crlf, header_ends_at_empty_line, header_goes_on}
+use Rattle.relay_envelope.specs.Parameters.{address_of, address_type_of, is_octet}
+use Rattle.relay_envelope.specs.Envelope.{IsRecipient, may_be_envid, may_be_orcpt}
+use Rattle.relay_envelope.specs.declared.envelope.Recipient.{Recipient}
+use Rattle.relay_book.specs.declared.change.Ruling.{Ruling}
+use Rattle.relay_book.specs.declared.change.Verdict.{Verdict}
+use Rattle.relay_book.specs.declared.change.Verdict.TheVariants.{Taken, Refused, Later, CantSend, NoRoute}
+use Rattle.relay_book.specs.declared.due_report.DueReport.{DueReport}
+use Rattle.relay_book.specs.declared.due_report.DueReport.TheVariants.{OfFailure, OfRelay}
+use Rattle.relay_book.specs.Record.{IsRuling, IsVerdict}
+use Rattle.relay_report.specs.StatusFields.{action_of, address_in, attempt_fields, diagnostic_code, field, last_attempt_date, message_fields, original_envelope_id, original_recipient, plain_of, recipient_fields, remote_mta, reply_words, status_of, typed}
+use Rattle.relay_report.specs.Multipart.{Told, dash_boundary, due_to, fields_of, first_part, header_fields, if_due, line_of, multipart_text, recipient_line, report_text, report_type, returned_type, returns_whole, second_part, third_part, title_line}
+use Rattle.relay_report.specs.Boundary.{boundary_text}
+use Rattle.relay_report.specs.Fits.{MayBeTold}
+use Rattle.relay_report.specs.Report.{IsReport}
+use Rattle.relay_report.specs.Lines.{BreaksNoLine, HasPlainEnvid, HasPlainOrcpt, HasShortLines, IsPlainRecipient, IsPlainRuling, IsPlainVerdict, IsShortLine, ReportHasNoReceived, ReportHasShortLines}
+use Rattle.relay_report.proofs.ApartLemmas.{IsAbove, is_above}
+use Rattle.relay_report.proofs.ReportSplitLemmas.{above_none, and_false, boundary_above, closed, decimal_above, header_filled, header_is, header_lines, headed}
+use Rattle.relay_report.proofs.ShortLemmas.{action_short, boundary_short, envid_short, hop_short, length-typed, number_short, orcpt_short, plain_short, status_short, words_short, written_short}
+use Rattle.relay_report.proofs.PlainLemmas.{told_breaks_no_line}
+
+-- lines, and texts of lines
+no_lines : HasShortLines []
+no_lines = record { lines = []; text_is = refl; each = tt }
+
+empty_line : HasShortLines crlf
+empty_line = record { lines = [] ∷ []; text_is = refl; each = (record { no_crlf = no_crlf_nil; short = omega arith }, tt) }
+
+one_line : (line : List ℕ) → HasNoCrlf line → length line ≤ 998 → HasShortLines (line ++ crlf)
+one_line line plain short = record {
+  lines = line ∷ [];
+  text_is = sym (append-nil (line ++ crlf));
+  each = (record { no_crlf = plain; short = short }, tt);
+}
+
+each_joined : (one two : List (List ℕ)) → AllByRecursion IsShortLine one → AllByRecursion IsShortLine two → AllByRecursion IsShortLine (one ++ two)
+each_joined [] two a b = b
+each_joined (line ∷ one) two a b = (a.0, each_joined one two a.1 b)
+
+joined : (one two : List ℕ) → HasShortLines one → HasShortLines two → HasShortLines (one ++ two)
+joined one two a b = record {
+  lines = a.lines ++ b.lines;
+  text_is = ap (λ t. t ++ two) a.text_is ∙ ap (λ t. lines_text a.lines ++ t) b.text_is ∙ sym (flat_map-append line_text a.lines b.lines);
+  each = each_joined a.lines b.lines a.each b.each;
+}
+
+field_line : (name body : List ℕ) → has_crlf (name ++ codes ": ") ≡ false → ends_in_cr (name ++ codes ": ") ≡ false → HasNoCrlf body
+    → length name + length body ≤ 996 → HasShortLines (field name body)
+unfolding field
+field_line name body plain ends none short =
+    one_line ((name ++ codes ": ") ++ body) (headed (name ++ codes ": ") body plain ends none)
+    (omega (arith, short, length-append (name ++ codes ": ") body, length-append name (codes ": ")))
+
+typed_none : (kind text : List ℕ) → HasNoCrlf kind → HasNoCrlf text → HasNoCrlf (typed kind text)
+unfolding typed
+typed_none kind text first second =
+    subst HasNoCrlf (sym (append_assoc kind (codes "; ") text))
+    (no_crlf_joined kind (codes "; " ++ text) first (headed (codes "; ") text refl refl second) (and_false (ends_in_cr kind)))
+
+typed_field : (name kind text : List ℕ) → has_crlf (name ++ codes ": ") ≡ false → ends_in_cr (name ++ codes ": ") ≡ false → HasNoCrlf kind → HasNoCrlf text
+    → length name + length kind + length text ≤ 994 → HasShortLines (field name (typed kind text))
+typed_field name kind text plain ends first second short =
+    field_line name (typed kind text) plain ends (typed_none kind text first second) (omega (arith, short, length-typed kind text))
+
+-- a date of a report
+pub record IsShortDate (date : List ℕ) : Type 0 where
+  pub plain : HasNoCrlf date
+  pub size : length date ≡ 31
+
+-- the fields of the message
+envelope_id_lines : (envid : Option (List ℕ)) → HasPlainEnvid envid → may_be_envid envid ≡ true → HasShortLines (original_envelope_id envid)
+envelope_id_lines None plain may = no_lines
+envelope_id_lines (Some envid) plain may =
+    field_line (codes "Original-Envelope-Id") (plain_of envid) refl refl plain (omega (arith, envid_short envid may, plain_short envid))
+
+message_lines : (host arrival : List ℕ) (envid : Option (List ℕ)) → HasNoCrlf host → length host ≤ 255 → IsShortDate arrival → HasPlainEnvid envid → may_be_envid envid ≡ true
+    → HasShortLines (message_fields host arrival envid)
+message_lines host arrival envid none few date plain may =
+    joined (original_envelope_id envid ++ field (codes "Reporting-MTA") (typed (codes "dns") host)) (field (codes "Arrival-Date") arrival)
+    (joined (original_envelope_id envid) (field (codes "Reporting-MTA") (typed (codes "dns") host)) (envelope_id_lines envid plain may)
+    (typed_field (codes "Reporting-MTA") (codes "dns") host refl refl (no_crlf_by_test (codes "dns") refl) none (omega (arith, few))))
+    (field_line (codes "Arrival-Date") arrival refl refl date.plain (omega (arith, date.size)))
+
+-- the fields of a recipient
+original_lines : (orcpt : Option (List ℕ)) → HasPlainOrcpt orcpt → may_be_orcpt orcpt ≡ true → HasShortLines (original_recipient orcpt)
+original_lines None plain may = no_lines
+original_lines (Some orcpt) plain may =
+    let short = orcpt_short orcpt may in
+    let kind : length (address_type_of orcpt) + length (address_of orcpt) ≤ length orcpt + 1 = halves orcpt in
+    typed_field (codes "Original-Recipient") (address_type_of orcpt) (plain_of (address_of orcpt)) refl refl plain.0 plain.1 (omega (arith, short, kind, plain_short (address_of orcpt)))
+  where
+    halves : (orcpt : List ℕ) → length (address_type_of orcpt) + length (address_of orcpt) ≤ length orcpt + 1
+    halves orcpt = omega (arith, length-take (position_or_len (is_octet 59) orcpt) orcpt, length-drop (position_or_len (is_octet 59) orcpt + 1) orcpt)
+
+part_none : (octets : List ℕ) (size from : ℕ) → HasNoCrlf octets → HasNoCrlf (take size (drop from octets))
+part_none octets size from none =
+    no_crlf_front (take size (drop from octets)) (drop size (drop from octets))
+    (subst HasNoCrlf (sym (take-append-drop size (drop from octets))) (no_crlf_back (take from octets) (drop from octets) (subst HasNoCrlf (sym (take-append-drop from octets)) none)))
+
+action_none : (due : DueReport) → HasNoCrlf (action_of due)
+action_none OfFailure = no_crlf_by_test (codes "failed") refl
+action_none OfRelay = no_crlf_by_test (codes "relayed") refl
+
+status_none : (verdict : Verdict) → HasNoCrlf (status_of verdict)
+status_none (Taken dsn) = no_crlf_by_test (codes "2.0.0") refl
+status_none (Refused code text) = no_crlf_by_test (codes "5.0.0") refl
+status_none Later = no_crlf_by_test (codes "4.4.7") refl
+status_none CantSend = no_crlf_by_test (codes "5.6.3") refl
+status_none NoRoute = no_crlf_by_test (codes "5.1.2") refl
+
+mta_line : (hop : List ℕ) → HasNoCrlf hop → length hop ≤ 255 → HasShortLines (field (codes "Remote-MTA") (typed (codes "dns") hop))
+mta_line hop none few = typed_field (codes "Remote-MTA") (codes "dns") hop refl refl (no_crlf_by_test (codes "dns") refl) none (omega (arith, few))
+
+remote_lines : (hop : List ℕ) (verdict : Verdict) → HasNoCrlf hop → length hop ≤ 255 → HasShortLines (remote_mta hop verdict)
+remote_lines hop (Taken dsn) none few = mta_line hop none few
+remote_lines hop (Refused code text) none few = mta_line hop none few
+remote_lines hop Later none few = no_lines
+remote_lines hop CantSend none few = no_lines
+remote_lines hop NoRoute none few = no_lines
+
+words_none : (code : ℕ) (text : List ℕ) → code < 2 ^ 64 → HasNoCrlf text → HasNoCrlf (reply_words code text)
+words_none code [] fits none = above_none (decimal code) (decimal_above code fits)
+words_none code (octet ∷ octets) fits none =
+    subst HasNoCrlf (sym (append_assoc (decimal code) (codes " ") (octet ∷ octets)))
+    (no_crlf_joined (decimal code) (codes " " ++ (octet ∷ octets)) (above_none (decimal code) (decimal_above code fits)) (headed (codes " ") (octet ∷ octets) refl refl none) (and_false (ends_in_cr (decimal code))))
+
+diagnostic_lines : (verdict : Verdict) → IsVerdict verdict → IsPlainVerdict verdict → HasShortLines (diagnostic_code verdict)
+diagnostic_lines (Taken dsn) valid plain = no_lines
+diagnostic_lines (Refused code text) valid plain =
+    typed_field (codes "Diagnostic-Code") (codes "smtp") (reply_words code text) refl refl (no_crlf_by_test (codes "smtp") refl)
+    (words_none code text (omega (arith, valid.code_fits)) plain) (omega (arith, words_short code text valid.code_fits valid.text_fits))
+diagnostic_lines Later valid plain = no_lines
+diagnostic_lines CantSend valid plain = no_lines
+diagnostic_lines NoRoute valid plain = no_lines
+
+last_line : (date : List ℕ) → IsShortDate date → HasShortLines (field (codes "Last-Attempt-Date") date)
+last_line date is = field_line (codes "Last-Attempt-Date") date refl refl is.plain (omega (arith, is.size))
+
+last_lines : (date : List ℕ) (verdict : Verdict) → IsShortDate date → HasShortLines (last_attempt_date date verdict)
+last_lines date (Taken dsn) is = last_line date is
+last_lines date (Refused code text) is = last_line date is
+last_lines date Later is = last_line date is
+last_lines date CantSend is = last_line date is
+last_lines date NoRoute is = no_lines
+
+attempt_lines : (hop date : List ℕ) (verdict : Verdict) → HasNoCrlf hop → length hop ≤ 255 → IsShortDate date → IsVerdict verdict → IsPlainVerdict verdict
+    → HasShortLines (attempt_fields hop date verdict)
+attempt_lines hop date verdict none few is valid plain =
+    joined (field (codes "Status") (status_of verdict) ++ remote_mta hop verdict ++ diagnostic_code verdict) (last_attempt_date date verdict)
+    (joined (field (codes "Status") (status_of verdict) ++ remote_mta hop verdict) (diagnostic_code verdict)
+    (joined (field (codes "Status") (status_of verdict)) (remote_mta hop verdict)
+    (field_line (codes "Status") (status_of verdict) refl refl (status_none verdict) (omega (arith, status_short verdict)))
+    (remote_lines hop verdict none few)) (diagnostic_lines verdict valid plain))
+    (last_lines date verdict is)
+
+recipient_lines : (hop date : List ℕ) (recipient : Recipient) (due : DueReport) (verdict : Verdict) → HasNoCrlf hop → length hop ≤ 255 → IsShortDate date
+    → IsRecipient recipient → IsPlainRecipient recipient → IsVerdict verdict → IsPlainVerdict verdict → HasShortLines (recipient_fields hop date recipient due verdict)
+recipient_lines hop date recipient due verdict none few is valid plain rules plainly =
+    joined (crlf ++ original_recipient recipient.orcpt ++ final ++ field (codes "Action") (action_of due)) (attempt_fields hop date verdict)
+    (joined (crlf ++ original_recipient recipient.orcpt ++ final) (field (codes "Action") (action_of due))
+    (joined (crlf ++ original_recipient recipient.orcpt) final
+    (joined crlf (original_recipient recipient.orcpt) empty_line (original_lines recipient.orcpt plain.orcpt valid.orcpt)) final_lines)
+    (field_line (codes "Action") (action_of due) refl refl (action_none due) (omega (arith, action_short due))))
+    (attempt_lines hop date verdict none few is rules plainly)
+  where
+    final : List ℕ
+    final = field (codes "Final-Recipient") (typed (codes "rfc822") (address_in recipient.path))
+
+    final_lines : HasShortLines final
+    final_lines =
+        typed_field (codes "Final-Recipient") (codes "rfc822") (address_in recipient.path) refl refl (no_crlf_by_test (codes "rfc822") refl)
+        (part_none recipient.path (length recipient.path - 2) 1 plain.path)
+        (omega (arith, written_short _ recipient.path valid.path, length-take (length recipient.path - 2) (drop 1 recipient.path)))
+
+place_line : (recipient : Recipient) (due : DueReport) → IsRecipient recipient → IsPlainRecipient recipient → HasShortLines (recipient_line recipient due)
+place_line recipient due valid plain =
+    one_line (action_of due ++ codes " " ++ recipient.path)
+    (subst HasNoCrlf (sym (append_assoc (action_of due) (codes " ") recipient.path))
+    (no_crlf_joined (action_of due) (codes " " ++ recipient.path) (action_none due) (headed (codes " ") recipient.path refl refl plain.path) (and_false (ends_in_cr (action_of due)))))
+    (omega (arith, written_short _ recipient.path valid.path, action_short due, length-append (action_of due ++ codes " ") recipient.path, length-append (action_of due) (codes " ")))
+
+-- what is written of a place, if a report is due
+at_place : (text : Recipient → DueReport → List ℕ) (due : Recipient → Option DueReport) → ((recipient : Recipient) (is : DueReport) → IsRecipient recipient → IsPlainRecipient recipient → HasShortLines (text recipient is))
+    → (recipients : List Recipient) (place : ℕ) → AllByRecursion IsRecipient recipients → AllByRecursion IsPlainRecipient recipients
+    → HasShortLines (option_map_or (λ recipient. if_due text recipient (due recipient)) (slice_get recipients place) [])
+at_place text due each recipients place valid plain = at recipients place valid plain
+  where
+    one : (recipient : Recipient) (o : Option DueReport) → IsRecipient recipient → IsPlainRecipient recipient → HasShortLines (if_due text recipient o)
+    one recipient None is free = no_lines
+    one recipient (Some word) is free = each recipient word is free
+
+    at : (rest : List Recipient) (k : ℕ) → AllByRecursion IsRecipient rest → AllByRecursion IsPlainRecipient rest
+        → HasShortLines (option_map_or (λ recipient. if_due text recipient (due recipient)) (slice_get rest k) [])
+    at [] k all free = no_lines
+    at (recipient ∷ rest) zero all free = one recipient (due recipient) all.0 free.0
+    at (recipient ∷ rest) (suc k) all free = at rest k all.1 free.1
+
+-- rows of lines are lines
+rows : (octets_of : Ruling → List ℕ) → ((ruling : Ruling) → IsRuling ruling → IsPlainRuling ruling → HasShortLines (octets_of ruling))
+    → (rulings : List Ruling) → AllByRecursion IsRuling rulings → AllByRecursion IsPlainRuling rulings → HasShortLines (flat_map octets_of rulings)
+rows octets_of each [] valid plain = no_lines
+rows octets_of each (ruling ∷ rulings) valid plain =
+    joined (octets_of ruling) (flat_map octets_of rulings) (each ruling valid.0 plain.0) (rows octets_of each rulings valid.1 plain.1)
+
+above_begins : (text : List ℕ) → IsAbove text → begins_with_lf text ≡ false
+above_begins [] above = refl
+above_begins (octet ∷ octets) above =
+    elim (cases_Bool (octet == 10)) [
+      | inl here ↦ absurd (omega (arith, leb-true 14 octet (and_parts (is_above octet) (list_all is_above octets) above.test).0, eqb-true octet 10 here))
+      | inr other ↦ other
+    ]
+
+title_lines : (host : List ℕ) (number : ℕ) → HasNoCrlf host → length host ≤ 255 → number < 2 ^ 64 → HasShortLines (title_line host number)
+unfolding title_line
+title_lines host number none few fits =
+    one_line (codes "Delivery report of " ++ host ++ codes " for message " ++ decimal number ++ codes ".")
+    (closed (codes "Delivery report of " ++ host ++ codes " for message " ++ decimal number) (codes ".")
+    (no_crlf_joined (codes "Delivery report of " ++ host ++ codes " for message ") (decimal number)
+    (closed (codes "Delivery report of " ++ host) (codes " for message ") (headed (codes "Delivery report of ") host refl refl none) refl refl)
+    (above_none (decimal number) (decimal_above number fits))
+    (ap (λ b. ends_in_cr (codes "Delivery report of " ++ host ++ codes " for message ") && b) (above_begins (decimal number) (decimal_above number fits)) ∙ and_false (ends_in_cr (codes "Delivery report of " ++ host ++ codes " for message "))))
+    refl refl)
+    (simp length-append (omega (arith, few, number_short number fits)))
+
+first_lines : (told : Told) → MayBeTold told → BreaksNoLine told → HasShortLines (first_part told)
+unfolding first_part
+first_lines told may plain =
+    joined (title_line told.host told.message.number) (flat_map (line_of told.message told.at) told.rulings)
+    (title_lines told.host told.message.number plain.host may.host.few_octets may.message)
+    (rows (line_of told.message told.at) (λ ruling is free. at_place recipient_line (due_to told.message told.at ruling.verdict) place_line told.message.accept.envelope.recipients ruling.place may.accept.envelope.recipients plain.recipients)
+    told.rulings may.rulings plain.rulings)
+
+second_lines : (told : Told) (date arrival : List ℕ) → MayBeTold told → BreaksNoLine told → IsShortDate date → IsShortDate arrival → HasShortLines (second_part told date arrival)
+unfolding second_part
+second_lines told date arrival may plain day came =
+    joined (message_fields told.host arrival told.message.accept.envelope.envid) (flat_map (fields_of told.message told.hop told.at date) told.rulings)
+    (message_lines told.host arrival told.message.accept.envelope.envid plain.host may.host.few_octets came plain.envid may.accept.envelope.envid)
+    (rows (fields_of told.message told.hop told.at date)
+    (λ ruling is free. at_place (λ recipient due. recipient_fields told.hop date recipient due ruling.verdict) (due_to told.message told.at ruling.verdict)
+    (λ recipient due valid free_of. recipient_lines told.hop date recipient due ruling.verdict plain.hop (hop_short told.hop may.hop) day valid free_of is.verdict free)
+    told.message.accept.envelope.recipients ruling.place may.accept.envelope.recipients plain.recipients)
+    told.rulings may.rulings plain.rulings)
+
+-- the header section
+header_each : (told : Told) (date boundary : List ℕ) → MayBeTold told → IsShortDate date → IsAbove boundary → length boundary ≤ 49
+    → AllByRecursion IsShortLine (header_lines told date boundary)
+header_each told date boundary may day above few =
+    let filled = header_filled told date boundary may day.plain above in
+    let host = may.host.few_octets in
+    let path = written_short _ told.message.accept.envelope.reverse_path may.accept.envelope.reverse_path in
+    let number = number_short told.number may.number in
+    let size = day.size in (
+      record { no_crlf = filled.0.no_crlf; short = simp length-append (omega (arith, host)) },
+      (
+        record { no_crlf = filled.1.0.no_crlf; short = simp length-append (omega (arith, path)) },
+        (
+          record { no_crlf = filled.1.1.0.no_crlf; short = omega arith },
+          (
+            record { no_crlf = filled.1.1.1.0.no_crlf; short = simp length-append (omega (arith, size)) },
+            (
+              record { no_crlf = filled.1.1.1.1.0.no_crlf; short = simp length-append (omega (arith, host, number)) },
+              (
+                record { no_crlf = filled.1.1.1.1.1.0.no_crlf; short = omega arith },
+                (
+                  record { no_crlf = filled.1.1.1.1.1.1.0.no_crlf; short = omega arith },
+                  (record { no_crlf = filled.1.1.1.1.1.1.1.0.no_crlf; short = simp length-append (omega (arith, few)) }, tt),
+                ),
+              ),
+            ),
+          ),
+        ),
+      ),
+    )
+
+-- a report is the lines of its header section, an empty line, and more
+pub record HasHeader (told : Told) (text date boundary : List ℕ) : Type 0 where
+  pub behind : List ℕ
+  pub text_is : text ≡ lines_text (header_lines told date boundary) ++ (crlf ++ behind)
+  pub filled : AllByRecursion IsFilledLine (header_lines told date boundary)
+  pub each : AllByRecursion IsShortLine (header_lines told date boundary)
+
+short_date : (moment : ℕ) (date : List ℕ) → IsDateText moment date → IsShortDate date
+short_date moment date is = record { plain = date_text_has_no_crlf moment date is; size = date_text_has_31_octets moment date is }
+
+has_header : (told : Told) (text : List ℕ) → MayBeTold told → (is : IsReport told text) → HasHeader told text is.date is.boundary
+unfolding report_text
+has_header told text may is = record {
+  behind = parts;
+  text_is =
+      is.text_is ∙ append_assoc (header_fields told is.date ++ field (codes "Content-Type") (report_type is.boundary)) crlf parts
+      ∙ ap (λ l. l ++ (crlf ++ parts)) (header_is told is.date is.boundary);
+  filled = header_filled told is.date is.boundary may (date_text_has_no_crlf told.at is.date is.date_is) above;
+  each =
+      header_each told is.date is.boundary may (short_date told.at is.date is.date_is) above
+      (omega (arith, boundary_short told.number is.boundary_is.least may.number is.boundary_is.is_least.fits, ap length is.boundary_is.boundary_is));
+}
+  where
+    parts : List ℕ
+    parts = multipart_text is.boundary (first_part told) (second_part told is.date is.arrival) (returned_type (returns_whole told)) (third_part told)
+
+    above : IsAbove is.boundary
+    above = record { test = (subst (λ l. IsAbove (dash_boundary l)) (sym is.boundary_is.boundary_is) (boundary_above told.number is.boundary_is.least may.number is.boundary_is.is_least.fits)).test }
+
+header_section : (told : Told) (text date boundary : List ℕ) → HasHeader told text date boundary → HasShortLines (take (header_end_of text) text)
+header_section told text date boundary has = record {
+  lines = header_lines told date boundary;
+  text_is = ap (λ l. take (header_end_of l) l) has.text_is ∙ take_at (lines_text (header_lines told date boundary)) (crlf ++ has.behind) end end_is;
+  each = has.each;
+}
+  where
+    end : ℕ
+    end = header_end_of (lines_text (header_lines told date boundary) ++ (crlf ++ has.behind))
+
+    end_is : length (lines_text (header_lines told date boundary)) ≡ end
+    end_is =
+        let goes = (header_goes_on (header_lines told date boundary) (crlf ++ has.behind) has.filled).1 in
+        let stops = (header_ends_at_empty_line has.behind).1 in
+        omega (arith, goes, stops)
+
+pub report_has_short_lines : ReportHasShortLines
+report_has_short_lines told text may is =
+    let plain = told_breaks_no_line told may in (
+      header_section told text is.date is.boundary (has_header told text may is),
+      first_lines told may plain,
+      second_lines told is.date is.arrival may plain (short_date told.at is.date is.date_is) (short_date told.message.accept.at is.arrival is.arrival_is),
+    )
+
+-- none of the header's lines begins with that name
+none_received : (told : Told) (date boundary : List ℕ) → count_by is_received (header_lines told date boundary) ≡ 0
+unfolding is_received
+none_received told date boundary = refl
+
+pub report_has_no_received : ReportHasNoReceived
+report_has_no_received told text may is =
+    let has = has_header told text may is in
+    let goes = (header_goes_on (header_lines told is.date is.boundary) (crlf ++ has.behind) has.filled).0 in
+    let stops = (header_ends_at_empty_line has.behind).0 in
+    omega (arith, ap received_count_of has.text_is, goes, stops, none_received told is.date is.boundary)

@@ -1,0 +1,6 @@
+-- the law
+use Rattle.relay_report.proofs.FreeLemmas.{boundary_is_there}
+use Rattle.relay_report.proofs.laws.boundary_is_there.Goals as goal
+
+pub returns : goal.returns
+returns c = boundary_is_there

@@ -1,0 +1,94 @@
+//! The numbers that stand behind a stem in a text.
+ghost use Rattle.std.specs.Prelude.{◌≡◌, ◌++◌, ◌+◌, ◌<◌, ◌≤◌, length, drop, OnOk, MatchOption};
+ghost use Rattle.std.specs.Option.{option_to_list};
+ghost use Rattle.memchr.specs.Find.{FindsNeedle};
+ghost use Rattle.relay_report.specs.Numbers.{all_begun, grown, leading, longer, Collects};
+
+use memchr::memmem::Finder;
+use std::alloc::AllocError;
+
+/// The number with one digit more.
+fn longer(value: u64, octet: u8) -> Option<u64>
+    ensures { result ≡ longer value octet }
+{
+    if octet < 48 || 57 < octet {
+        None
+    } else {
+        value.checked_mul(10)?.checked_add((octet - 48) as u64)
+    }
+}
+
+/// The number with the digits behind it that the text begins with, as far as it has 64 bits.
+fn grown(first: u64, text: &[u8]) -> u64
+    ensures { result ≡ grown first text.now }
+{
+    let mut value = first;
+    for octet in text {
+        match longer(value, *octet) {
+            None => return value,
+            Some(next) => value = next,
+        }
+    }
+    value
+}
+
+/// The longest number whose text begins this text.
+fn leading(text: &[u8]) -> Option<u64>
+    ensures { result ≡ leading text.now }
+{
+    match text {
+        [] => None,
+        [48, ..] => Some(0),
+        [first, rest @ ..] => match longer(0, *first) {
+            None => None,
+            Some(value) => Some(grown(value, rest)),
+        },
+    }
+}
+
+/// Adds the longest number whose text begins this text.
+fn push_leading(taken: &mut Vec<u64>, text: &[u8]) -> Result<(), AllocError>
+    ensures { OnOk result (taken.new.items ≡ taken.old.items ++ option_to_list (leading text.now)) }
+{
+    match leading(text) {
+        None => Ok(()),
+        Some(number) => {
+            taken.push(number)?;
+            Ok(())
+        }
+    }
+}
+
+/// Adds the longest number at each place where the stem stands in the text: their digits begin all the numbers
+/// that stand behind the stem somewhere.
+pub(crate) fn collect(
+    taken: &mut Vec<u64>,
+    stem: &Finder<'_>,
+    text: &[u8],
+) -> Result<(), AllocError>
+    requires { 0 < length stem.now }
+    ensures { OnOk result (Collects stem.now text.now (all_begun taken.old.items) (all_begun taken.new.items)) }
+{
+    let mut rest = text;
+    while let Some(place) = find_stem(rest, stem) {
+        push_leading(taken, behind(rest, place + stem.needle().len()))?;
+        rest = behind(rest, place + 1);
+    }
+    Ok(())
+}
+
+/// The first place of the stem, which isn't empty.
+fn find_stem(text: &[u8], stem: &Finder<'_>) -> Option<usize>
+    ensures first { FindsNeedle text.now stem.now 0 result }
+    ensures within { MatchOption result (Unit {0}) (λ place. place + length stem.now ≤ length text.now) }
+{
+    stem.find(text)
+}
+
+/// What stands from a place on.
+fn behind(text: &[u8], place: usize) -> &[u8]
+    requires { place ≤ length text.now }
+    ensures { result.now ≡ drop place text.now }
+{
+    &text[place..]
+}
