@@ -1,6 +1,6 @@
 #!/usr/bin/env python3
-"""The rows of tests/interop.sh, which gives the packages that it has: relayd with other mail programs as its clients and as
-its next hops. Behind them all stands a sink in Python.
+"""The rows of tests/interop.sh, which gives the packages that it has: relayd with other mail programs as its clients
+and as its next hops. Behind them all stands a sink in Python.
 
     tests/interop.py build/relayd build/interop postfix exim4-daemon-light opensmtpd swaks
 """
@@ -36,13 +36,19 @@ def recipients_of(domain, count):
     return [f"b{number}@{domain}" for number in range(count)]
 
 
+def ends_of(lines):
+    """The lines of a push without their numbers."""
+    return [line.split(" ", 1)[1] for line in lines]
+
+
 def body_of(content):
     return content.split(b"\r\n\r\n", 1)[1]
 
 
 def all_taken(sink, recipients, content):
-    """Waits until each of the recipients has been given what has this content's body, and nothing else comes."""
-    wanted, ends, messages = sorted(f"<{path}>".encode() for path in recipients), time.monotonic() + PATIENCE, []
+    """Waits until each of the recipients has been given what has this content's body; the messages."""
+    wanted = sorted(f"<{path}>".encode() for path in recipients)
+    ends, messages = time.monotonic() + PATIENCE, []
     while True:
         messages += sink.take_all()
         found = sorted(told.split(b" ")[0] for message in messages for told in message.recipients)
@@ -51,8 +57,9 @@ def all_taken(sink, recipients, content):
         sink.wait_for(1, 1)
     same("recipients at the sink", found, wanted)
     for message in messages:
-        if body_of(message.content) != body_of(content):
-            raise Difference(f"another body, of {len(body_of(message.content))} octets: {message.content[:400]!r}")
+        body = body_of(message.content)
+        if body != body_of(content):
+            raise Difference(f"another body, of {len(body)} octets: {message.content[:400]!r}")
     return messages
 
 
@@ -61,7 +68,8 @@ class Field:
 
     def __init__(self, program, packages, folder):
         self.packages, self.sink = packages, Sink()
-        self.relay = Relay(program, folder, {"out.example": ("sink.example", self.sink.port)}, max_content=2000000)
+        routes = {"out.example": ("sink.example", self.sink.port)}
+        self.relay = Relay(program, folder, routes, max_content=2000000)
         self.relay.run("init")
 
     def close(self):
@@ -70,8 +78,8 @@ class Field:
 
     @contextlib.contextmanager
     def serving(self):
-        """`serve` for as many connections as a client likes, until everything has gone on. A relay that is ended between the
-        sink's reply and its own record of it would send a message twice."""
+        """`serve` for as many connections as a client likes, until everything has gone on. A relay that is ended
+        between the sink's reply and its own record of it would send a message twice."""
         process = self.relay.start("--rounds", "1000")
         try:
             yield
@@ -99,18 +107,20 @@ def through_a_client(field, server):
         with field.serving():
             hand_in(server.port, recipients_of("out.example", count), content)
             messages = all_taken(field.sink, recipients_of("out.example", count), content)
+        word = f"{server.name.lower()}.example"
+        mark = f"Received: from {word} ([127.0.0.1])\r\n by relay.example with ESMTP".encode()
         for message in messages:
-            mark = f"Received: from {server.name.lower()}.example ([127.0.0.1])\r\n by relay.example with ESMTP".encode()
             same(f"{what}: the first line", message.content[: len(mark)], mark)
 
 
 def through_a_hop(field, server):
     """relayd hands a server what it was handed."""
-    field.relay.route({"in.example": ("next.example", server.port), "out.example": ("sink.example", field.sink.port)})
+    to_sink = ("sink.example", field.sink.port)
+    field.relay.route({"in.example": ("next.example", server.port), "out.example": to_sink})
     for what, count, content in SIZES:
         with field.relay.serving() as lines:
             hand_in(field.relay.port, recipients_of("in.example", count), content)
-        same(f"{what}: the lines of serve", [line.split(" ", 1)[1] for line in lines], ["next.example ended"])
+        same(f"{what}: the lines of serve", ends_of(lines), ["next.example ended"])
         messages = all_taken(field.sink, recipients_of("in.example", count), content)
         for message in messages:
             if b"\r\n by relay.example with ESMTP id " not in message.content:
@@ -122,13 +132,14 @@ def a_recipient_refused_by_a_hop(field, server):
     with field.relay.serving() as lines:
         hand_in(field.relay.port, ["b@in.example", "refused@in.example"], SMALL)
     all_taken(field.sink, ["b@in.example"], SMALL)
-    same("push", [line.split(" ", 1)[1] for line in field.relay.run("push")], ["sink.example ended"])
+    same("push", ends_of(field.relay.run("push")), ["sink.example ended"])
     field.sink.wait_for(1, PATIENCE)
     messages = field.sink.take_all()
     same("reports", [message.recipients for message in messages], [[b"<a@out.example>"]])
     report = list(email.message_from_bytes(messages[0].content, policy=email.policy.default).iter_parts())
     told = dict(report[1].get_payload()[1].items())
-    same("the recipient", (told["Final-Recipient"], told["Action"]), ("rfc822; refused@in.example", "failed"))
+    same("the recipient", told["Final-Recipient"], "rfc822; refused@in.example")
+    same("the action", told["Action"], "failed")
     if not told["Diagnostic-Code"].startswith("smtp; 550 "):
         raise Difference(f"the report says: {told}")
     same("list", field.relay.held(), [])
@@ -146,7 +157,8 @@ def parameters_through_a_hop(field, server):
 
 def chunks_of_exim(field, server):
     """Exim handed all its contents to relayd in chunks, which its log says by a K."""
-    sent = [line for line in server.said().splitlines() if "out.example R=out" in line and ("=>" in line or "->" in line)]
+    lines = [line for line in server.said().splitlines() if "out.example R=out" in line]
+    sent = [line for line in lines if "=>" in line or "->" in line]
     if not sent or not all(" K " in line for line in sent):
         raise Difference(f"Exim's log: {sent}")
 
@@ -155,11 +167,12 @@ def a_chunk_through_exim(field, server):
     """A content that doesn't end in CR LF goes to Exim in a chunk."""
     content = HEAD + b".\r\n..\r\nno end"
     with field.relay.serving() as lines:
-        with socket.create_connection(("127.0.0.1", field.relay.port), PATIENCE) as link, link.makefile("rb") as replies:
+        link = socket.create_connection(("127.0.0.1", field.relay.port), PATIENCE)
+        with link, link.makefile("rb") as replies:
             link.sendall(b"EHLO x\r\nMAIL FROM:<a@out.example>\r\nRCPT TO:<b@in.example>\r\n"
                          b"BDAT %d LAST\r\n%bQUIT\r\n" % (len(content), content))
             replies.read()
-    same("the lines of serve", [line.split(" ", 1)[1] for line in lines], ["next.example ended"])
+    same("the lines of serve", ends_of(lines), ["next.example ended"])
     # Exim ends the last line.
     all_taken(field.sink, ["b@in.example"], content + b"\r\n")
 
@@ -173,11 +186,10 @@ def swaks(field, packages):
         file = field.relay.folder / "content"
         # swaks ends the last line itself.
         file.write_bytes(content.removesuffix(b"\r\n"))
+        words = ["--server", "127.0.0.1", "--port", str(field.relay.port), "--ehlo", "swaks.example"]
+        words += ["--from", "a@out.example", "--to", ",".join(recipients), "--data", f"@{file}", "--hide-all"]
         with field.serving():
-            ended = subprocess.run(
-                [*command, "--server", "127.0.0.1", "--port", str(field.relay.port), "--ehlo", "swaks.example",
-                 "--from", "a@out.example", "--to", ",".join(recipients), "--data", f"@{file}", "--hide-all"],
-                capture_output=True, timeout=PATIENCE)
+            ended = subprocess.run([*command, *words], capture_output=True, timeout=PATIENCE)
             same(f"{what}: swaks", (ended.returncode, ended.stderr), (0, b""))
             all_taken(field.sink, recipients, content)
 
@@ -192,10 +204,13 @@ def python(field, packages):
 
 
 SERVERS = {
-    "postfix": (Postfix, [through_a_client, through_a_hop, a_recipient_refused_by_a_hop, parameters_through_a_hop]),
-    "exim4-daemon-light": (Exim, [through_a_client, chunks_of_exim, through_a_hop, a_recipient_refused_by_a_hop,
-                                  parameters_through_a_hop, a_chunk_through_exim]),
-    "opensmtpd": (OpenSmtpd, [through_a_client, through_a_hop, a_recipient_refused_by_a_hop]),
+    "postfix": (Postfix, [
+        through_a_client, through_a_hop, a_recipient_refused_by_a_hop, parameters_through_a_hop]),
+    "exim4-daemon-light": (Exim, [
+        through_a_client, chunks_of_exim, through_a_hop, a_recipient_refused_by_a_hop, parameters_through_a_hop,
+        a_chunk_through_exim]),
+    "opensmtpd": (OpenSmtpd, [
+        through_a_client, through_a_hop, a_recipient_refused_by_a_hop]),
 }
 
 

@@ -1,13 +1,13 @@
 #!/usr/bin/env bash
-# Runs relayd with other mail programs over 127.0.0.1, each as a client of it and as its next hop: Postfix, Exim and
-# OpenSMTPD, swaks and Python's smtplib as clients alone.
+# Runs relayd with other mail programs over 127.0.0.1: Postfix, Exim and OpenSMTPD, each as a client of it and as its
+# next hop, swaks and Python's smtplib as clients.
 #
 #   tests/interop.sh build/relayd
 #
-# The servers conflict as packages, so each that isn't installed is fetched with what it needs (`apt-get download`) and
-# unpacked below PACKAGES (build/interop), and each runs in a root of its own: an overlay over this machine's files that lasts
-# as long as the server, with users and a configuration of its own. That asks for the superuser. What can't be had is
-# skipped by name.
+# The servers conflict as packages, so each that isn't installed is fetched with what it needs (`apt-get download`)
+# and unpacked below PACKAGES (build/interop), and each runs in a root of its own: an overlay over this machine's
+# files that lasts as long as the server, with users and a configuration of its own. That asks for the superuser.
+# What can't be had is skipped by name.
 set -euo pipefail
 export LC_ALL=C
 cd "$(dirname "$0")/.."
@@ -23,7 +23,7 @@ missing() {
     apt-get install --simulate --no-install-recommends "$1" 2>> "$log" | awk '$1 == "Inst" { print $2 }'
 }
 
-# Where the root of this machine has links into usr/, a folder of that name in a layer above would hide the link.
+# Where the root of this machine has links into usr/, a folder of that name in a layer above would hide one.
 join_usr() {
     local name
     for name in bin sbin lib lib64; do

@@ -1,8 +1,8 @@
-"""Postfix, Exim and OpenSMTPD, each in a root of its own that ends with it: an overlay over this machine's files and an
-unpacked package, in name spaces of its own for mounts and processes.
+"""Postfix, Exim and OpenSMTPD, each in a root of its own that ends with it: an overlay of an unpacked package over
+this machine's files, in name spaces of its own for mounts and processes.
 
-Each takes mail from 127.0.0.1, sends mail for out.example to one port and mail for in.example to another, and refuses the
-recipient refused@in.example.
+Each takes mail from 127.0.0.1, sends mail for out.example to one port and mail for in.example to another, and
+refuses the recipient refused@in.example.
 """
 import pathlib
 import subprocess
@@ -11,11 +11,11 @@ import time
 
 from relay_program import Difference, PATIENCE, free_port, is_listening
 
-# Mounts the root, whose upper layer is in memory, puts the server's files there and starts it. All of it goes with the first
-# process of the name space.
+# Mounts the root, whose upper layer is in memory, puts the server's files there and starts it. All of it goes with
+# the first process of the name space.
 ROOM = """
 set -euo pipefail
-room=$1 package=$2
+room=$1 package=$2 spool=$3
 mount -t tmpfs room "$room/live"
 cd "$room/live"
 mkdir work root
@@ -24,6 +24,10 @@ mount -t overlay overlay -o lowerdir=/,upperdir=upper,workdir=work root
 cd root
 mount -t proc proc proc
 mount --rbind /dev dev
+if [ -n "$spool" ]; then
+    mkdir -p var/spool
+    mount --bind "$spool" var/spool
+fi
 cat "$room/files/passwd" >> etc/passwd
 cat "$room/files/group" >> etc/group
 rm -f etc/resolv.conf
@@ -34,24 +38,26 @@ exec chroot . /bin/bash -euo pipefail /start
 
 
 class Server:
-    """One of the three. It listens when it is made."""
+    """One of the three. It listens when it is made. Its queue is in memory, or in a folder that is given."""
 
     users = ()
 
-    def __init__(self, packages, to_out, to_in):
+    def __init__(self, packages, to_out, to_in, spool=""):
         self.room = tempfile.TemporaryDirectory()
         self.port, self.to_out, self.to_in = free_port(), to_out, to_in
         room = pathlib.Path(self.room.name)
         (room / "live").mkdir()
         (room / "files/root").mkdir(parents=True)
         numbers = dict(zip(self.users, range(60000, 60100)))
-        self.write("passwd", "".join(f"{user}:x:{number}:{number}::/nonexistent:/bin/false\n" for user, number in numbers.items()))
+        self.write("passwd", "".join(f"{user}:x:{number}:{number}::/nonexistent:/bin/false\n"
+                                     for user, number in numbers.items()))
         self.write("group", "".join(f"{user}:x:{number}:\n" for user, number in numbers.items()))
         for name, text in self.files().items():
             self.write(f"root/{name}", text)
         self.log = (room / "log").open("wb")
         self.process = subprocess.Popen(
-            ["unshare", "--mount", "--pid", "--fork", "--kill-child", "bash", "-c", ROOM, "room", room, packages / self.package],
+            ["unshare", "--mount", "--pid", "--fork", "--kill-child", "bash", "-c", ROOM, "room",
+             room, packages / self.package, spool],
             stdin=subprocess.DEVNULL, stdout=self.log, stderr=self.log)
         self.wait()
 
@@ -84,12 +90,13 @@ class Postfix(Server):
     name, package, users = "Postfix", "postfix", ("postfix", "postdrop")
 
     def files(self):
-        services = ["cleanup unix n - n - 0 cleanup", "qmgr unix n - n 300 1 qmgr", "rewrite unix - - n - - trivial-rewrite"]
+        services = ["cleanup unix n - n - 0 cleanup", "qmgr unix n - n 300 1 qmgr"]
         services += [f"{name} unix - - n - 0 bounce" for name in ("bounce", "defer", "trace")]
-        services += ["smtp unix - - n - - smtp", "error unix - - n - - error", "retry unix - - n - - error",
-                     "anvil unix - - n - 1 anvil", "scache unix - - n - 1 scache", "proxymap unix - - n - - proxymap",
-                     "tlsmgr unix - - n 1000? 1 tlsmgr", "postlog unix-dgram n - n - 1 postlogd",
-                     f"127.0.0.1:{self.port} inet n - n - - smtpd"]
+        services += [f"{name} unix - - n - - {name}" for name in ("smtp", "error", "proxymap")]
+        services += [f"{name} unix - - n - 1 {name}" for name in ("anvil", "scache")]
+        services += ["rewrite unix - - n - - trivial-rewrite", "retry unix - - n - - error"]
+        services += ["tlsmgr unix - - n 1000? 1 tlsmgr", "postlog unix-dgram n - n - 1 postlogd"]
+        services += [f"127.0.0.1:{self.port} inet n - n - - smtpd"]
         return {
             "etc/postfix/master.cf": "\n".join(services) + "\n",
             "etc/postfix/main.cf": f"""
@@ -99,8 +106,11 @@ mydestination =
 mynetworks = 127.0.0.0/8
 inet_interfaces = 127.0.0.1
 inet_protocols = ipv4
-transport_maps = inline:{{ {{ out.example = smtp:[127.0.0.1]:{self.to_out} }}, {{ in.example = smtp:[127.0.0.1]:{self.to_in} }} }}
-smtpd_recipient_restrictions = check_recipient_access inline:{{ {{ refused@in.example = 550 no such user }} }},
+transport_maps = inline:{{
+    {{ out.example = smtp:[127.0.0.1]:{self.to_out} }},
+    {{ in.example = smtp:[127.0.0.1]:{self.to_in} }} }}
+smtpd_recipient_restrictions =
+    check_recipient_access inline:{{ {{ refused@in.example = 550 no such user }} }},
     permit_mynetworks, reject
 smtpd_peername_lookup = no
 # One transaction for all recipients.
@@ -109,9 +119,14 @@ message_size_limit = 20000000
 alias_maps =
 maillog_file = /dev/stdout
 """,
-            "start": "mkdir -p /var/spool/postfix /var/lib/postfix\nchown postfix /var/lib/postfix\n"
-                     "chgrp postdrop /usr/sbin/postdrop /usr/sbin/postqueue\nchmod g+s /usr/sbin/postdrop /usr/sbin/postqueue\n"
-                     "postfix check\nexec postfix start-fg\n",
+            "start": """
+mkdir -p /var/spool/postfix /var/lib/postfix
+chown postfix /var/lib/postfix
+chgrp postdrop /usr/sbin/postdrop /usr/sbin/postqueue
+chmod g+s /usr/sbin/postdrop /usr/sbin/postqueue
+postfix check
+exec postfix start-fg
+""",
         }
 
 
@@ -155,9 +170,13 @@ send:
 begin retry
 * * F,1h,5m
 """,
-            "start": "mkdir -p /var/spool/exim4 /var/log/exim4\nchown Debian-exim: /var/spool/exim4 /var/log/exim4\n"
-                     "touch /var/log/exim4/mainlog\nchown Debian-exim: /var/log/exim4/mainlog\n"
-                     "tail -f /var/log/exim4/mainlog &\nexec exim4 -bdf -C /etc/exim4/interop.conf\n",
+            "start": """
+mkdir -p /var/spool/exim4 /var/log/exim4
+touch /var/log/exim4/mainlog
+chown -R Debian-exim: /var/spool/exim4 /var/log/exim4
+tail -f /var/log/exim4/mainlog &
+exec exim4 -bdf -C /etc/exim4/interop.conf
+""",
         }
 
 
@@ -176,5 +195,9 @@ match from any for domain "out.example" action "out"
 match from any for domain "in.example" action "in"
 """,
             "etc/mailname": "opensmtpd.example\n",
-            "start": "mkdir -p /var/lib/opensmtpd/empty /var/spool/smtpd\nchmod 711 /var/spool/smtpd\nexec smtpd -d\n",
+            "start": """
+mkdir -p /var/lib/opensmtpd/empty /var/spool/smtpd
+chmod 711 /var/spool/smtpd
+exec smtpd -d
+""",
         }

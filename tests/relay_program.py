@@ -1,4 +1,4 @@
-"""A relayd in a folder of its own, for tests: its configuration, its subcommands, and `serve` in a process beside."""
+"""A relayd in a folder of its own, for tests: its configuration, its subcommands, and `serve` beside them."""
 import contextlib
 import os
 import pathlib
@@ -40,7 +40,7 @@ def is_listening(port):
 
 
 class Relay:
-    """A relay whose spool stands in a folder. Its routes go from a domain to the name and the port of a next hop."""
+    """A relay whose spool stands in a folder. Its routes go from a domain to a next hop's name and port."""
 
     def __init__(self, program, folder, routes, host="relay.example", **limits):
         self.program, self.folder = str(pathlib.Path(program).resolve()), pathlib.Path(folder)
@@ -55,21 +55,25 @@ class Relay:
         lines = [f'host = "{self.host}"', f'listen = "127.0.0.1:{self.port}"', f'spool = "{self.spool}"']
         lines += [f"{key} = {value}" for key, value in self.limits.items()]
         lines += ["[routes]"]
-        lines += [f'"{domain}" = {{ name = "{name}", at = "127.0.0.1:{port}" }}' for domain, (name, port) in routes.items()]
+        for domain, (name, port) in routes.items():
+            lines.append(f'"{domain}" = {{ name = "{name}", at = "127.0.0.1:{port}" }}')
         self.file.write_text("\n".join(lines) + "\n")
 
     def words(self, *words):
         return [self.program, words[0], "--config", str(self.file), *words[1:]]
 
+    def ended(self, seconds, *words):
+        return subprocess.run(self.words(*words), capture_output=True, timeout=seconds, env=self.environment)
+
     def run(self, *words):
         """The lines that a subcommand prints. It has to end well, and say nothing else."""
-        ended = subprocess.run(self.words(*words), capture_output=True, timeout=120, env=self.environment)
+        ended = self.ended(120, *words)
         same(f"relayd {' '.join(words)}", (ended.returncode, ended.stderr), (0, b""))
         return ended.stdout.decode().splitlines()
 
     def refused(self, *words):
         """The status and the fault line of a subcommand, which prints nothing else."""
-        ended = subprocess.run(self.words(*words), capture_output=True, timeout=PATIENCE, env=self.environment)
+        ended = self.ended(PATIENCE, *words)
         same(f"relayd {' '.join(words)} prints", ended.stdout, b"")
         return ended.returncode, ended.stderr.decode().rstrip("\n")
 
@@ -80,8 +84,8 @@ class Relay:
 
     def start(self, *words):
         """A process of `serve` that listens."""
-        process = subprocess.Popen(self.words("serve", *words), stdout=subprocess.PIPE, stderr=subprocess.PIPE,
-                                   env=self.environment)
+        command, pipe = self.words("serve", *words), subprocess.PIPE
+        process = subprocess.Popen(command, stdout=pipe, stderr=pipe, env=self.environment)
         ends = time.monotonic() + PATIENCE
         while not is_listening(self.port):
             if process.poll() is not None or time.monotonic() > ends:
@@ -92,7 +96,7 @@ class Relay:
 
     @contextlib.contextmanager
     def serving(self, *words):
-        """`serve` beside what is done within, which has to use up its rounds; the list is filled with its lines then."""
+        """`serve` beside what is done within, which has to use up its rounds. The list has its lines then."""
         process, lines = self.start(*words), []
         try:
             yield lines

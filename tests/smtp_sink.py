@@ -1,5 +1,5 @@
-"""An SMTP server in Python that keeps what it is given, octet for octet, for tests of a client. Its manners say what it
-offers, what it refuses and where it hangs up; what a client may not do it writes down as a breach.
+"""An SMTP server in Python that keeps what it is given, octet for octet, for tests of a client. Its manners say what
+it offers, what it refuses and where it hangs up; what a client may not do it writes down as a breach.
 """
 import dataclasses
 import socketserver
@@ -22,8 +22,8 @@ class Manners:
     refusals: dict = dataclasses.field(default_factory=dict)
     # The reply to a content.
     content_reply: str = "250 taken"
-    # The unit that isn't answered, and behind which the connection is closed: "connection", "EHLO", "MAIL", "RCPT" or "DATA",
-    # "some content" (the half of a dot text) or "content" (all of it).
+    # The unit that isn't answered, and behind which the connection is closed: "connection", "EHLO", "MAIL",
+    # "RCPT", "DATA", "some content" (the beginning of a dot text) or "content" (all of it).
     hangs_up_at: str = ""
 
 

@@ -1,6 +1,7 @@
 #!/usr/bin/env python3
-"""Runs `relayd serve` and `relayd push` over 127.0.0.1 between Python's smtplib and a sink, and between two relays: what
-arrives, what is reported, what waits for another attempt, and which faults are told. It ends at the first difference.
+"""Runs `relayd serve` and `relayd push` over 127.0.0.1 between Python's smtplib and a sink, and between two relays:
+what arrives, what is reported, what waits for another attempt, and which faults are told. It ends at the first
+difference.
 
     tests/two_relays.py build/relayd
 """
@@ -26,7 +27,15 @@ from smtp_sink import Manners, Sink
 
 HERE = pathlib.Path(__file__).resolve().parent
 CONTENT = b"Subject: periods\r\n\r\n.\r\n..\r\n.a line\r\nend .\r\n...\r\n"
-MARK = re.compile(rb"Received: from (\S+) \(\[127\.0\.0\.1\]\)\r\n by (\S+) with (E?SMTP) id (\d+);\r\n (.{31})\r\n")
+MARK = re.compile(
+    rb"Received: from (\S+) \(\[127\.0\.0\.1\]\)\r\n"
+    rb" by (\S+) with (E?SMTP) id (\d+);\r\n"
+    rb" (.{31})\r\n"
+)
+
+
+# A lone LF and each octet but NUL stand in the third.
+CONTENTS = [CONTENT, b"\r\n", bytes(range(1, 256)) + b"\n.\r\n", b"x" * 5000 + b"\r\n.y\r\n" * 40000]
 
 
 def hand_in(relay, content=CONTENT, recipients=("b@example.org",), mail=(), rcpt=()):
@@ -40,7 +49,8 @@ def behind_mark(stored, host, number, word="client.example"):
     mark = MARK.match(stored)
     if not mark:
         raise Difference(f"no time stamp line begins {stored[:120]!r}")
-    same("the time stamp line", mark.groups()[:4], (word.encode(), host.encode(), b"ESMTP", str(number).encode()))
+    wanted = (word.encode(), host.encode(), b"ESMTP", str(number).encode())
+    same("the time stamp line", mark.groups()[:4], wanted)
     written = email.utils.parsedate_to_datetime(mark[5].decode()).timestamp()
     if abs(time.time() - written) > PATIENCE:
         raise Difference(f"the time stamp line is of {mark[5].decode()}")
@@ -54,9 +64,13 @@ def one_message(sink):
     return messages[0]
 
 
+def connected(relay):
+    return socket.create_connection(("127.0.0.1", relay.port), PATIENCE)
+
+
 def converse(relay, *parts):
     """Sends each part when the replies to those before have come; the last reply."""
-    with socket.create_connection(("127.0.0.1", relay.port), PATIENCE) as link, link.makefile("rb") as replies:
+    with connected(relay) as link, link.makefile("rb") as replies:
         line = replies.readline()
         for part in parts:
             link.sendall(part)
@@ -96,7 +110,7 @@ class Field:
 def a_content_arrives_octet_for_octet(field):
     number = 1
     for offers in [(), ("PIPELINING",), ("CHUNKING",), ("DSN",), ("PIPELINING", "CHUNKING", "DSN")]:
-        for content in [CONTENT, b"\r\n", bytes(range(1, 256)) + b"\n.\r\n", b"x" * 5000 + b"\r\n.y\r\n" * 40000]:
+        for content in CONTENTS:
             field.sink.manners = Manners(offers)
             with field.relay.serving() as lines:
                 same("refused", hand_in(field.relay, content), {})
@@ -113,8 +127,8 @@ def a_content_arrives_octet_for_octet(field):
 
 
 def a_content_by_chunks_goes_on_by_a_chunk_where_it_must(field):
-    parts = [b"EHLO x\r\n", b"MAIL FROM:<a@example.org>\r\n", b"RCPT TO:<b@example.org>\r\n", b"BDAT 5\r\n.\r\n\r\n",
-             b"BDAT 6 LAST\r\n.\r\nend", b"QUIT\r\n"]
+    parts = [b"EHLO x\r\n", b"MAIL FROM:<a@example.org>\r\n", b"RCPT TO:<b@example.org>\r\n"]
+    parts += [b"BDAT 5\r\n.\r\n\r\n", b"BDAT 6 LAST\r\n.\r\nend", b"QUIT\r\n"]
     with field.relay.serving() as lines:
         same("the last reply", converse(field.relay, *parts), "221 relay.example closing")
     same("the lines of serve", lines, ["1 next.example ended"])
@@ -129,8 +143,11 @@ def a_content_by_chunks_goes_on_by_a_chunk_where_it_must(field):
     same("list", [row[:3] for row in field.relay.held()], [(4, 0, "<a@example.org>")])
     same("push", field.relay.run("push"), ["4 next.example ended"])
     report = read_report(one_message(field.sink), 4, 3)
-    same("the recipient", fields(report, 1), {"Final-Recipient": "rfc822; b@example.org", "Action": "failed",
-                                              "Status": "5.6.3"})
+    same("the recipient", fields(report, 1), {**FAILED, "Status": "5.6.3"})
+
+
+# What a report says of the usual recipient, before the status.
+FAILED = {"Final-Recipient": "rfc822; b@example.org", "Action": "failed"}
 
 
 def read_report(message, number, of):
@@ -152,33 +169,39 @@ def read_report(message, number, of):
 
 
 def fields(report, place):
-    """The fields of the message (0) or of a reported place (from 1), without dates, whose form alone is looked at."""
+    """The fields of the message (0) or of a reported place (from 1), without dates, of which the zone alone is
+    looked at."""
     found = dict(report[1].get_payload()[place].items())
     for name in ("Arrival-Date", "Last-Attempt-Date"):
         if name in found:
-            same(f"zone of {name}", email.utils.parsedate_to_datetime(found.pop(name)).utcoffset().seconds, 0)
+            date = email.utils.parsedate_to_datetime(found.pop(name))
+            same(f"zone of {name}", date.utcoffset().seconds, 0)
     return found
 
 
 def a_refused_recipient_is_reported_and_another_waits(field):
-    field.sink.manners = Manners(refusals={"<r@example.org>": "550-no\r\n550 no such user", "<l@example.org>": "450 later"})
+    refusals = {"<r@example.org>": "550-no\r\n550 no such user", "<l@example.org>": "450 later"}
+    field.sink.manners = Manners(refusals=refusals)
     with field.relay.serving() as lines:
         before = int(time.time())
-        hand_in(field.relay, recipients=["b@example.org", "r@example.org", "l@example.org"], mail=["RET=HDRS", "ENVID=q+2B1"],
-                rcpt=["ORCPT=rfc822;B+2Bx@old.example"])
+        recipients = ["b@example.org", "r@example.org", "l@example.org"]
+        rcpt = ["ORCPT=rfc822;B+2Bx@old.example"]
+        hand_in(field.relay, recipients=recipients, mail=["RET=HDRS", "ENVID=q+2B1"], rcpt=rcpt)
     same("the lines of serve", lines, ["1 next.example ended"])
     message = one_message(field.sink)
     same("RCPT", message.recipients, [b"<b@example.org> ORCPT=rfc822;B+2Bx@old.example"])
     held = field.relay.held()
     same("list", [row[:3] for row in held], [(1, 2, "<l@example.org>"), (2, 0, "<a@example.org>")])
     if not before + 1800 <= held[0][3] <= int(time.time()) + 1800:
-        raise Difference(f"the place that waits is due at {held[0][3]}, and it was {before} before the attempt")
+        raise Difference(f"the place is due at {held[0][3]}, and it was {before} before the attempt")
     same("push", field.relay.run("push"), ["2 next.example ended"])
     report = read_report(one_message(field.sink), 2, 1)
-    same("of the message", fields(report, 0), {"Original-Envelope-Id": "q+1", "Reporting-MTA": "dns; relay.example"})
+    of_message = {"Original-Envelope-Id": "q+1", "Reporting-MTA": "dns; relay.example"}
+    same("of the message", fields(report, 0), of_message)
     same("of the recipient", fields(report, 1), {
-        "Original-Recipient": "rfc822; B+x@old.example", "Final-Recipient": "rfc822; r@example.org", "Action": "failed",
-        "Status": "5.0.0", "Remote-MTA": "dns; next.example", "Diagnostic-Code": "smtp; 550 no such user"})
+        "Original-Recipient": "rfc822; B+x@old.example", "Final-Recipient": "rfc822; r@example.org",
+        "Action": "failed", "Status": "5.0.0", "Remote-MTA": "dns; next.example",
+        "Diagnostic-Code": "smtp; 550 no such user"})
     same("reported places", len(report[1].get_payload()), 2)
     same("the third part", (report[2].get_content_type(), "periods" in report[2].get_payload()),
          ("text/rfc822-headers", True))
@@ -203,8 +226,8 @@ def parameters_go_on_to_a_hop_that_knows_them(field):
     same("push", field.relay.run("push"), ["4 next.example ended"])
     report = read_report(one_message(field.sink), 4, 3)
     same("of the recipient", fields(report, 1), {
-        "Original-Recipient": "rfc822; b@x.example", "Final-Recipient": "rfc822; b@example.org", "Action": "relayed",
-        "Status": "2.0.0", "Remote-MTA": "dns; next.example"})
+        "Original-Recipient": "rfc822; b@x.example", "Final-Recipient": "rfc822; b@example.org",
+        "Action": "relayed", "Status": "2.0.0", "Remote-MTA": "dns; next.example"})
 
 
 def a_hundred_recipients_are_taken_and_no_more(field):
@@ -212,7 +235,8 @@ def a_hundred_recipients_are_taken_and_no_more(field):
     for offers in [("PIPELINING",), ()]:
         field.sink.manners = Manners(offers)
         with field.relay.serving():
-            same("refused", hand_in(field.relay, recipients=recipients), {"b100@example.org": (452, b"too many recipients")})
+            refused = hand_in(field.relay, recipients=recipients)
+        same("refused", refused, {"b100@example.org": (452, b"too many recipients")})
         same("RCPT", one_message(field.sink).recipients, [f"<{path}>".encode() for path in recipients[:100]])
         same("list", field.relay.held(), [])
 
@@ -227,11 +251,13 @@ def an_attempt_that_is_cut_off_is_made_again(field):
         same(f"the lines of serve behind {point}", lines, [f"{number} next.example lost"])
     # Of the last the sink has the content, and the relay doesn't know that.
     behind_mark(one_message(field.sink).content, "relay.example", 13)
-    same("list", [row[:3] for row in field.relay.held()], [(number, 0, "<b@example.org>") for number in numbers])
+    waiting = [(number, 0, "<b@example.org>") for number in numbers]
+    same("list", [row[:3] for row in field.relay.held()], waiting)
     field.sink.manners = Manners()
     same("push before it is due", field.relay.run("push"), [])
     field.later(field.relay, 1900)
-    same("push when it is due", field.relay.run("push"), [f"{number} next.example ended" for number in numbers])
+    ended = [f"{number} next.example ended" for number in numbers]
+    same("push when it is due", field.relay.run("push"), ended)
     contents = [message.content for message in field.sink.take_all()]
     for number, content in zip(numbers, contents, strict=True):
         same("the content", behind_mark(content, "relay.example", number), CONTENT)
@@ -288,12 +314,12 @@ def mail_without_a_route_any_more_is_given_up(field):
     field.relay.route({"example.org": ("next.example", field.sink.port)})
     same("push", field.relay.run("push"), ["3 next.example ended"])
     report = read_report(one_message(field.sink), 3, 1)
-    same("of the recipient", fields(report, 1), {"Final-Recipient": "rfc822; b@example.org", "Action": "failed",
-                                                "Status": "5.1.2"})
+    same("the recipient", fields(report, 1), {**FAILED, "Status": "5.1.2"})
 
 
 def a_message_goes_over_two_relays(field):
-    second = field.new_relay("second", {"example.org": ("last.example", field.sink.port)}, host="second.example")
+    routes = {"example.org": ("last.example", field.sink.port)}
+    second = field.new_relay("second", routes, host="second.example")
     second.run("init")
     field.relay.route({"example.org": ("second.example", second.port)})
     with second.serving() as at_second:
@@ -302,11 +328,12 @@ def a_message_goes_over_two_relays(field):
     same("the lines of the first", at_first, ["1 second.example ended"])
     same("the lines of the second", at_second, ["1 last.example ended"])
     message = one_message(field.sink)
-    same("MAIL and RCPT", (message.mail, message.recipients), (b"<a@example.org> ENVID=7", [b"<b@example.org> NOTIFY=NEVER"]))
+    same("MAIL", message.mail, b"<a@example.org> ENVID=7")
+    same("RCPT", message.recipients, [b"<b@example.org> NOTIFY=NEVER"])
     passed = behind_mark(message.content, "second.example", 1, "relay.example")
     same("the content", behind_mark(passed, "relay.example", 1), CONTENT)
     same("list of both", field.relay.held() + second.held(), [])
-    # And while the second is away, the mail waits in the first, and a reply to its client comes all the same.
+    # While the second is away, the mail waits in the first, and its client has a reply all the same.
     with field.relay.serving() as lines:
         same("refused", hand_in(field.relay), {})
     same("the lines of the first", lines, ["3 second.example lost"])
@@ -329,8 +356,8 @@ def serve_takes_so_many_connections(field):
     same("messages at the sink", len(field.sink.take_all()), 2)
     # A recipient without a route is refused, and a spool that is full says so.
     with field.relay.serving():
-        same("no route", converse(field.relay, b"EHLO x\r\n", b"MAIL FROM:<>\r\n", b"RCPT TO:<b@example.com>\r\n"),
-             "550 no route")
+        parts = [b"EHLO x\r\n", b"MAIL FROM:<>\r\n", b"RCPT TO:<b@example.com>\r\n"]
+        same("no route", converse(field.relay, *parts), "550 no route")
     field.relay.limits["spool_limit"] = field.relay.spool.stat().st_size + 40
     field.relay.route({"example.org": ("next.example", field.sink.port)})
     with field.relay.serving() as lines:
@@ -346,7 +373,8 @@ def wrong_words_are_refused(field):
     for words in [["serve"], ["push"], ["serve", "--rounds", "0"], ["serve", "--rounds", "1000001"],
                   ["serve", "--rounds", "one"], ["push", "--rounds", "1"], ["serve", "more"]]:
         file = [] if len(words) == 1 else ["--config", str(field.relay.file)]
-        ended = subprocess.run([field.program, words[0], *file, *words[1:]], capture_output=True, timeout=PATIENCE)
+        command = [field.program, words[0], *file, *words[1:]]
+        ended = subprocess.run(command, capture_output=True, timeout=PATIENCE)
         same(f"{words}", (ended.returncode, ended.stdout), (2, b""))
         if not ended.stderr:
             raise Difference(f"{words}: nothing on standard error")
