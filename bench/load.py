@@ -4,8 +4,9 @@ in the same run, and beside Postfix where tests/interop.sh has unpacked it.
 
     bench/load.py build/relayd
 
-DISK (build) is the folder whose device is measured, RUNS (5) how many runs a median is of, PACKAGES (build/interop)
-where Postfix is looked for. The client is Python, and its time counts; the next hop is bench/sink.c.
+DISK (build) is the folder whose device is measured, RUNS (5) how many runs a median is of, QUEUE (10000) how many
+messages a push sends, PACKAGES (build/interop) where Postfix is looked for. The client is Python, and its time counts;
+the next hop is bench/sink.c.
 """
 import contextlib
 import os
@@ -25,6 +26,7 @@ from mail_servers import Postfix
 from relay_program import Difference, PATIENCE, Relay, same
 
 RUNS = int(os.environ.get("RUNS", 5))
+QUEUE = int(os.environ.get("QUEUE", 10000))
 # What a message of 1,024 octets adds to the spool, and what an outcome of one place does.
 ACCEPT, OUTCOME = 1196, 43
 GROUP = b"MAIL FROM:<a@out.example>\r\nRCPT TO:<b@out.example>\r\nDATA\r\n"
@@ -95,18 +97,18 @@ def bare_pairs(folder, sizes):
 
 
 class Sink:
-    """bench/sink.c, built and started."""
+    """bench/sink.c, built and started. It ends when so many contents have come."""
 
-    def __init__(self, folder):
+    def __init__(self, folder, count):
         program = folder / "sink"
-        subprocess.run(["cc", "-O2", "-o", program, HERE / "sink.c"], check=True)
-        self.process = subprocess.Popen([program], stdin=subprocess.PIPE, stdout=subprocess.PIPE)
+        if not program.exists():
+            subprocess.run(["cc", "-O2", "-pthread", "-o", program, HERE / "sink.c"], check=True)
+        self.process = subprocess.Popen([program, str(count)], stdout=subprocess.PIPE)
         self.port = int(self.process.stdout.readline())
 
-    def close(self):
-        """How many contents it has taken."""
-        out, _ = self.process.communicate(timeout=PATIENCE)
-        return int(out)
+    def wait(self):
+        same("the sink's end", self.process.wait(600), 0)
+        self.process.stdout.close()
 
 
 class HoldingPostfix(Postfix):
@@ -116,6 +118,17 @@ class HoldingPostfix(Postfix):
         files = super().files()
         files["etc/postfix/main.cf"] += "smtpd_data_restrictions = check_sender_access static:HOLD\n"
         files["etc/postfix/main.cf"] += "in_flow_delay = 0\n"
+        return files
+
+
+class ReleasingPostfix(Postfix):
+    """Postfix that takes what is on hold, and delivers it."""
+
+    def files(self):
+        files = super().files()
+        # It opens its output anew for its log, as a user who may not write this one.
+        release = "postfix check\npostsuper -H ALL > /dev/null\n"
+        files["start"] = files["start"].replace("postfix check\n", release)
         return files
 
 
@@ -148,7 +161,7 @@ class Bench:
 
     def one_a_connection(self, count, size):
         """Seconds of so many connections with a message each, and of handing each message on behind it."""
-        sink = Sink(self.folder)
+        sink = Sink(self.folder, count)
         relay = self.new_relay(sink.port)
         text = content_of(size)
         with relay.serving("--rounds", str(count)) as lines:
@@ -157,33 +170,50 @@ class Bench:
                 client = Client(relay.port)
                 client.hand_in(text, 1)
                 client.quit()
-            ended = time.perf_counter()
+        ended = time.perf_counter()
+        sink.wait()
         same("lines of serve", len(lines), count)
-        same("contents at the sink", sink.close(), count)
         return ended - begun
 
     def pushed(self, count, size):
         """Seconds of a push of so many queued messages."""
         relay = self.kept(count, size)[1]
-        sink = Sink(self.folder)
+        sink = Sink(self.folder, count)
         relay.route({"out.example": ("next.example", sink.port)})
         begun = time.perf_counter()
         lines = relay.run("push")
         ended = time.perf_counter()
+        sink.wait()
         same("lines of push", len(lines), count)
-        same("contents at the sink", sink.close(), count)
         return ended - begun
 
-    def postfix_kept(self, packages, count, size):
-        """The same for Postfix, whose queue is on the measured disk."""
-        spool = self.folder / "postfix"
-        spool.mkdir(exist_ok=True)
+    def postfix_spool(self):
+        """A folder for a queue of Postfix."""
+        self.count += 1
+        spool = self.folder / f"postfix{self.count}"
+        spool.mkdir()
+        return spool
+
+    def postfix_kept(self, packages, count, size, spool):
+        """What `kept` measures, of Postfix, whose queue is on the measured disk."""
         with contextlib.closing(HoldingPostfix(packages, 9, 9, spool)) as server:
             client = Client(server.port)
             text, begun = content_of(size), time.perf_counter()
             client.hand_in(text, count)
             ended = time.perf_counter()
             client.quit()
+        return ended - begun
+
+    def postfix_pushed(self, packages, count, size):
+        """Seconds from where Postfix listens to the end of its delivery of so many queued messages, at connections
+        side by side."""
+        spool = self.postfix_spool()
+        self.postfix_kept(packages, count, size, spool)
+        sink = Sink(self.folder, count)
+        with contextlib.closing(ReleasingPostfix(packages, sink.port, 9, spool)):
+            begun = time.perf_counter()
+            sink.wait()
+            ended = time.perf_counter()
         return ended - begun
 
 
@@ -204,7 +234,7 @@ def tell(name, figure, unit, *ratios):
 def tell_kept(bench, packages):
     measures = [lambda: bench.kept(500, 1024)[0], lambda: bare_pairs(bench.folder, [ACCEPT] * 500)]
     if packages:
-        measures.append(lambda: bench.postfix_kept(packages, 500, 1024))
+        measures.append(lambda: bench.postfix_kept(packages, 500, 1024, bench.postfix_spool()))
     ours, bare, *postfix = medians(*measures)
     ratios = [(bare / ours, "two bare syncs"), *[(theirs / ours, "Postfix") for theirs in postfix]]
     tell("serve: messages of 1 KiB at a kept session", 500 / ours, "messages/s", *ratios)
@@ -224,10 +254,13 @@ def tell_large(bench):
     tell(name, 30 * 1.048576 / ours, "MB/s", (bare / ours, "two bare syncs"))
 
 
-def tell_push(bench):
-    ours, bare = medians(lambda: bench.pushed(10000, 1024), lambda: bare_pairs(bench.folder, [OUTCOME] * 10000))
-    name = "push: 10,000 queued messages of 1 KiB"
-    tell(name, 10000 / ours, "messages/s", (bare / ours, "two bare syncs"))
+def tell_push(bench, packages):
+    measures = [lambda: bench.pushed(QUEUE, 1024), lambda: bare_pairs(bench.folder, [OUTCOME] * QUEUE)]
+    if packages:
+        measures.append(lambda: bench.postfix_pushed(packages, QUEUE, 1024))
+    ours, bare, *postfix = medians(*measures)
+    ratios = [(bare / ours, "two bare syncs"), *[(theirs / ours, "Postfix") for theirs in postfix]]
+    tell(f"push: {QUEUE:,} queued messages of 1 KiB", QUEUE / ours, "messages/s", *ratios)
 
 
 def main():
@@ -241,7 +274,7 @@ def main():
         tell_kept(bench, packages)
         tell_one_a_connection(bench)
         tell_large(bench)
-        tell_push(bench)
+        tell_push(bench, packages)
 
 
 main()

@@ -1,124 +1,137 @@
-// A next hop for measurements: takes each connection to its end, one after another, answers every command well, and
-// counts contents. It writes its port, and at the end of its input the number of contents, each as a line.
+// A next hop for measurements: answers every command well, a thread for each connection, until so many contents have
+// come. It writes its port as a line, and ends behind the last content.
+//
+//   sink COUNT
 #define _GNU_SOURCE
 #include <netinet/in.h>
 #include <netinet/tcp.h>
-#include <poll.h>
+#include <pthread.h>
+#include <stdatomic.h>
 #include <stdio.h>
 #include <stdlib.h>
 #include <string.h>
 #include <sys/socket.h>
 #include <unistd.h>
 
-static char held[1 << 21];
-static size_t size;
-static long contents;
+// What was read from a connection and isn't used yet.
+struct link {
+	int socket;
+	size_t size;
+	char held[1 << 17];
+};
+
+static atomic_long awaited;
 
 // Reads more behind what is held; whether there was some.
-static int more(int link)
+static int more(struct link *link)
 {
-	ssize_t count = read(link, held + size, sizeof held - size);
+	ssize_t count = read(link->socket, link->held + link->size, sizeof link->held - link->size);
 	if (count <= 0)
 		return 0;
-	size += (size_t)count;
+	link->size += (size_t)count;
 	return 1;
 }
 
-static void drop(size_t count)
+static void drop(struct link *link, size_t count)
 {
-	size -= count;
-	memmove(held, held + count, size);
+	link->size -= count;
+	memmove(link->held, link->held + count, link->size);
 }
 
-// Reads a dot text to its end, and forgets it.
-static int pass_content(int link)
+static int say(struct link *link, const char *text)
 {
-	size_t looked = 0;
+	size_t length = strlen(text);
+	return write(link->socket, text, length) == (ssize_t)length;
+}
+
+// Reads a dot text to its end, and forgets it. An empty one has no line before its period.
+static int pass_content(struct link *link)
+{
+	while (link->size < 3)
+		if (!more(link))
+			return 0;
+	if (memcmp(link->held, ".\r\n", 3) == 0) {
+		drop(link, 3);
+		return 1;
+	}
 	for (;;) {
-		if (size >= 3 && memcmp(held, ".\r\n", 3) == 0 && looked == 0) {
-			drop(3);
-			return 1;
-		}
-		char *end = memmem(held + looked, size - looked, "\r\n.\r\n", 5);
+		char *end = memmem(link->held, link->size, "\r\n.\r\n", 5);
 		if (end) {
-			drop((size_t)(end - held) + 5);
+			drop(link, (size_t)(end - link->held) + 5);
 			return 1;
 		}
-		looked = size > 4 ? size - 4 : 0;
-		if (size == sizeof held) {
-			drop(looked);
-			looked = 0;
-		}
+		if (link->size > 4)
+			drop(link, link->size - 4);
 		if (!more(link))
 			return 0;
 	}
 }
 
-static int say(int link, const char *text)
+// Takes a content; whether the connection goes on. The program ends behind the last one, when its reply is written.
+static int take_content(struct link *link)
 {
-	return write(link, text, strlen(text)) == (ssize_t)strlen(text);
+	if (!say(link, "354 go on\r\n") || !pass_content(link))
+		return 0;
+	int is_said = say(link, "250 taken\r\n");
+	if (atomic_fetch_sub(&awaited, 1) == 1)
+		exit(0);
+	return is_said;
 }
 
 // Answers a command; whether the connection goes on.
-static int answer(int link, const char *line)
+static int answer(struct link *link, const char *line)
 {
 	if (strncasecmp(line, "EHLO", 4) == 0)
 		return say(link, "250-sink.example\r\n250-PIPELINING\r\n250 DSN\r\n");
-	if (strncasecmp(line, "DATA", 4) == 0) {
-		if (!say(link, "354 go on\r\n") || !pass_content(link))
-			return 0;
-		contents++;
-		return say(link, "250 taken\r\n");
+	if (strncasecmp(line, "DATA", 4) == 0)
+		return take_content(link);
+	if (strncasecmp(line, "QUIT", 4) == 0) {
+		say(link, "221 closing\r\n");
+		return 0;
 	}
-	if (strncasecmp(line, "QUIT", 4) == 0)
-		return say(link, "221 closing\r\n") && 0;
 	return say(link, "250 ok\r\n");
 }
 
-static void converse(int link)
+static void *converse(void *given)
 {
-	int on = 1;
-	setsockopt(link, IPPROTO_TCP, TCP_NODELAY, &on, sizeof on);
-	size = 0;
-	if (!say(link, "220 sink.example ready\r\n"))
-		return;
-	for (;;) {
-		char *end = memmem(held, size, "\r\n", 2);
+	struct link *link = given;
+	char line[8];
+	int goes_on = say(link, "220 sink.example ready\r\n");
+	while (goes_on) {
+		char *end = memmem(link->held, link->size, "\r\n", 2);
 		if (!end) {
-			if (size == sizeof held || !more(link))
-				return;
+			goes_on = more(link);
 			continue;
 		}
-		char line[8] = "";
-		size_t length = (size_t)(end - held);
-		memcpy(line, held, length < 7 ? length : 7);
-		drop(length + 2);
-		if (!answer(link, line))
-			return;
+		snprintf(line, sizeof line, "%.*s", (int)(end - link->held), link->held);
+		drop(link, (size_t)(end - link->held) + 2);
+		goes_on = answer(link, line);
 	}
+	close(link->socket);
+	free(link);
+	return NULL;
 }
 
-int main(void)
+int main(int count, char **words)
 {
 	struct sockaddr_in place = {.sin_family = AF_INET, .sin_addr.s_addr = htonl(INADDR_LOOPBACK)};
 	socklen_t length = sizeof place;
-	int listener = socket(AF_INET, SOCK_STREAM, 0);
-	if (listener < 0 || bind(listener, (struct sockaddr *)&place, length) || listen(listener, 128)
+	int listener = socket(AF_INET, SOCK_STREAM, 0), on = 1;
+	if (count != 2 || bind(listener, (struct sockaddr *)&place, length) || listen(listener, 128)
 	    || getsockname(listener, (struct sockaddr *)&place, &length))
 		return 1;
+	awaited = atol(words[1]);
 	printf("%d\n", ntohs(place.sin_port));
 	fflush(stdout);
-	struct pollfd events[2] = {{.fd = listener, .events = POLLIN}, {.fd = 0, .events = POLLIN}};
-	while (poll(events, 2, -1) > 0) {
-		if (events[0].revents) {
-			int link = accept(listener, NULL, NULL);
-			if (link >= 0) {
-				converse(link);
-				close(link);
-			}
-		} else if (events[1].revents)
-			break;
+	for (;;) {
+		struct link *link = malloc(sizeof *link);
+		pthread_t thread;
+		if (!link || (link->socket = accept(listener, NULL, NULL)) < 0)
+			return 1;
+		link->size = 0;
+		setsockopt(link->socket, IPPROTO_TCP, TCP_NODELAY, &on, sizeof on);
+		if (pthread_create(&thread, NULL, converse, link))
+			return 1;
+		pthread_detach(thread);
 	}
-	printf("%ld\n", contents);
-	return 0;
 }

@@ -4,7 +4,9 @@ this machine's files, in name spaces of its own for mounts and processes.
 Each takes mail from 127.0.0.1, sends mail for out.example to one port and mail for in.example to another, and
 refuses the recipient refused@in.example.
 """
+import os
 import pathlib
+import signal
 import subprocess
 import tempfile
 import time
@@ -56,7 +58,7 @@ class Server:
             self.write(f"root/{name}", text)
         self.log = (room / "log").open("wb")
         self.process = subprocess.Popen(
-            ["unshare", "--mount", "--pid", "--fork", "--kill-child", "bash", "-c", ROOM, "room",
+            ["unshare", "--mount", "--pid", "--fork", "bash", "-c", ROOM, "room",
              room, packages / self.package, spool],
             stdin=subprocess.DEVNULL, stdout=self.log, stderr=self.log)
         self.wait()
@@ -79,8 +81,14 @@ class Server:
         """What the server and its log say, all of which goes to one file."""
         return (pathlib.Path(self.room.name) / "log").read_text(errors="replace")
 
+    def first(self):
+        """The first process of the name space, with which all others in it end."""
+        children = pathlib.Path(f"/proc/{self.process.pid}/task/{self.process.pid}/children")
+        return int(children.read_text().split()[0])
+
     def close(self):
-        self.process.kill()
+        if self.process.poll() is None:
+            os.kill(self.first(), signal.SIGKILL)
         self.process.wait()
         self.log.close()
         self.room.cleanup()
