@@ -95,12 +95,16 @@ class Relay:
         return process
 
     @contextlib.contextmanager
-    def serving(self, *words):
-        """`serve` beside what is done within, which has to use up its rounds. The list has its lines then."""
-        process, lines = self.start(*words), []
+    def serving(self, *words, log=None):
+        """`serve` beside what is done within, which has to use up its rounds. The list has its lines then, and
+        `log`, where that is given, those of its log."""
+        process, lines = self.start(*words, *[] if log is None else ["--log"]), []
         try:
             yield lines
             out, errors = process.communicate(timeout=PATIENCE)
+            if log is not None:
+                log += errors.decode().splitlines()
+                errors = b""
             same("relayd serve ends", (process.returncode, errors), (0, b""))
             lines += out.decode().splitlines()
         finally:

@@ -369,6 +369,21 @@ def serve_takes_so_many_connections(field):
     same("the lines of serve", lines, [])
 
 
+def a_log_says_what_was_done_and_nothing_of_a_content(field):
+    field.sink.manners = Manners(refusals={"<r@example.org>": "550 \x1b[1mno \x07such user"})
+    log = []
+    with field.relay.serving(log=log) as lines:
+        hand_in(field.relay, b"Subject: private\r\n\r\nprivate\r\n", ["b@example.org", "r@example.org"])
+    same("the lines of serve", lines, ["1 next.example ended"])
+    same("the lines of the log", len(log), 3)
+    same("the first", log[0], f"relayd: listening on 127.0.0.1:{field.relay.port}")
+    for line, words in zip(log[1:], [("client", "127.0.0.1:", "1"), ("message", "1", "next.example")]):
+        if not line.startswith("relayd: ") or any(word not in line for word in words):
+            raise Difference(f"the log says {line!r}")
+    if not all(" " <= octet <= "~" for line in log for octet in line) or "private" in "".join(log):
+        raise Difference(f"the log says {log}")
+
+
 def wrong_words_are_refused(field):
     for words in [["serve"], ["push"], ["serve", "--rounds", "0"], ["serve", "--rounds", "1000001"],
                   ["serve", "--rounds", "one"], ["push", "--rounds", "1"], ["serve", "more"]]:
@@ -427,6 +442,7 @@ ROWS = [
     mail_without_a_route_any_more_is_given_up,
     a_message_goes_over_two_relays,
     serve_takes_so_many_connections,
+    a_log_says_what_was_done_and_nothing_of_a_content,
     wrong_words_are_refused,
     faults_come_in_their_order,
 ]
