@@ -22,7 +22,7 @@ HERE = pathlib.Path(__file__).resolve().parent
 sys.path.insert(0, str(HERE.parent / "tests"))
 sys.dont_write_bytecode = True
 
-from mail_servers import Postfix
+from mail_servers import Postfix, can_make_rooms
 from relay_program import Difference, PATIENCE, Relay, same
 
 RUNS = int(os.environ.get("RUNS", 5))
@@ -266,7 +266,7 @@ def tell_push(bench, packages):
 def main():
     program = os.path.realpath(sys.argv[1])
     packages = pathlib.Path(os.environ.get("PACKAGES", "build/interop")).resolve()
-    if not (packages / "postfix.ready").exists() or os.geteuid():
+    if not (packages / "postfix.ready").exists() or not can_make_rooms():
         print("load: without Postfix, which tests/interop.sh unpacks and the superuser starts")
         packages = None
     with tempfile.TemporaryDirectory(prefix="load.", dir=os.environ.get("DISK", "build")) as folder:

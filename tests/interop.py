@@ -18,7 +18,7 @@ import time
 
 sys.dont_write_bytecode = True
 
-from mail_servers import Exim, OpenSmtpd, Postfix
+from mail_servers import Exim, OpenSmtpd, Postfix, can_make_rooms
 from relay_program import Difference, Relay, free_port, same
 from smtp_sink import Sink
 
@@ -236,12 +236,6 @@ def run_client(program, packages, client, folder):
     with contextlib.closing(Field(program, packages, folder)) as field:
         client(field, packages)
     return f"{client.__name__} as a client"
-
-
-def can_make_rooms():
-    """Whether this user may make name spaces of mounts and processes, and mount there."""
-    return subprocess.run(["unshare", "--mount", "--pid", "--fork", "mount", "-t", "tmpfs", "room", "/mnt"],
-                          capture_output=True).returncode == 0
 
 
 def main():

@@ -39,6 +39,22 @@ exec chroot . /bin/bash -euo pipefail /start
 """
 
 
+# The same mounts, for nothing.
+PROBE = """
+set -e
+mount -t tmpfs room /mnt
+cd /mnt
+mkdir upper work root
+mount -t overlay overlay -o lowerdir=/,upperdir=upper,workdir=work root
+"""
+
+
+def can_make_rooms():
+    """Whether this user may make such name spaces, and mount there."""
+    command = ["unshare", "--mount", "--pid", "--fork", "bash", "-c", PROBE]
+    return subprocess.run(command, capture_output=True).returncode == 0
+
+
 class Server:
     """One of the three. It listens when it is made. Its queue is in memory, or in a folder that is given."""
 
