@@ -6,9 +6,6 @@ difference.
     tests/two_relays.py build/relayd
 """
 import contextlib
-import email
-import email.policy
-import email.utils
 import fcntl
 import os
 import pathlib
@@ -22,62 +19,12 @@ import time
 
 sys.dont_write_bytecode = True
 
+from mail_checks import CONTENT, CONTENTS, FAILED, behind_mark, connected, converse, fields, hand_in, one_message
+from mail_checks import read_report
 from relay_program import Difference, PATIENCE, Relay, free_port, same
 from smtp_sink import Manners, Sink
 
 HERE = pathlib.Path(__file__).resolve().parent
-CONTENT = b"Subject: periods\r\n\r\n.\r\n..\r\n.a line\r\nend .\r\n...\r\n"
-MARK = re.compile(
-    rb"Received: from (\S+) \(\[127\.0\.0\.1\]\)\r\n"
-    rb" by (\S+) with (E?SMTP) id (\d+);\r\n"
-    rb" (.{31})\r\n"
-)
-
-
-# A lone LF and each octet but NUL stand in the third.
-CONTENTS = [CONTENT, b"\r\n", bytes(range(1, 256)) + b"\n.\r\n", b"x" * 5000 + b"\r\n.y\r\n" * 40000]
-
-
-def hand_in(relay, content=CONTENT, recipients=("b@example.org",), mail=(), rcpt=()):
-    """A message by smtplib, at one connection. The recipients that were refused, with their replies."""
-    with smtplib.SMTP("127.0.0.1", relay.port, local_hostname="client.example", timeout=PATIENCE) as client:
-        return client.sendmail("a@example.org", list(recipients), content, mail, rcpt)
-
-
-def behind_mark(stored, host, number, word="client.example"):
-    """What stands behind the time stamp line, which has to be of this host and number, and of now."""
-    mark = MARK.match(stored)
-    if not mark:
-        raise Difference(f"no time stamp line begins {stored[:120]!r}")
-    wanted = (word.encode(), host.encode(), b"ESMTP", str(number).encode())
-    same("the time stamp line", mark.groups()[:4], wanted)
-    written = email.utils.parsedate_to_datetime(mark[5].decode()).timestamp()
-    if abs(time.time() - written) > PATIENCE:
-        raise Difference(f"the time stamp line is of {mark[5].decode()}")
-    return stored[mark.end():]
-
-
-def one_message(sink):
-    """The only message that the sink has taken since the last look."""
-    messages = sink.take_all()
-    same("messages at the sink", len(messages), 1)
-    return messages[0]
-
-
-def connected(relay):
-    return socket.create_connection(("127.0.0.1", relay.port), PATIENCE)
-
-
-def converse(relay, *parts):
-    """Sends each part when the replies to those before have come; the last reply."""
-    with connected(relay) as link, link.makefile("rb") as replies:
-        line = replies.readline()
-        for part in parts:
-            link.sendall(part)
-            line = replies.readline()
-            while line[3:4] == b"-":
-                line = replies.readline()
-        return line.decode().rstrip("\r\n")
 
 
 class Field:
@@ -92,12 +39,16 @@ class Field:
     def new_relay(self, name, routes, **more):
         return Relay(self.program, self.folder / name, routes, **more)
 
+    def preload(self, relay, shim, **environment):
+        """Lets the relay run with a shim of this folder before the C library."""
+        built = self.folder / f"{shim}.so"
+        if not built.exists():
+            subprocess.run(["cc", "-shared", "-fPIC", "-O1", "-o", built, HERE / f"{shim}.c"], check=True)
+        relay.environment.update(LD_PRELOAD=str(built), **environment)
+
     def later(self, relay, seconds):
         """Sets the relay's clock forward; not for `list`, which knows no clock."""
-        shim = self.folder / "later_clock.so"
-        if not shim.exists():
-            subprocess.run(["cc", "-shared", "-fPIC", "-O1", "-o", shim, HERE / "later_clock.c"], check=True)
-        relay.environment.update(LD_PRELOAD=str(shim), LATER=str(seconds))
+        self.preload(relay, "later_clock", LATER=str(seconds))
 
     def close(self):
         self.sink.close()
@@ -144,39 +95,6 @@ def a_content_by_chunks_goes_on_by_a_chunk_where_it_must(field):
     same("push", field.relay.run("push"), ["4 next.example ended"])
     report = read_report(one_message(field.sink), 4, 3)
     same("the recipient", fields(report, 1), {**FAILED, "Status": "5.6.3"})
-
-
-# What a report says of the usual recipient, before the status.
-FAILED = {"Final-Recipient": "rfc822; b@example.org", "Action": "failed"}
-
-
-def read_report(message, number, of):
-    """A report's three parts as Python's email reads them; its envelope and its head have to be right."""
-    same("MAIL of a report", message.mail, b"<>")
-    same("RCPT of a report", message.recipients, [b"<a@example.org>"])
-    read = email.message_from_bytes(message.content, policy=email.policy.default)
-    same("defects of a report", [part.defects for part in read.walk() if part.defects], [])
-    same("type of a report", (read.get_content_type(), read.get_param("report-type")),
-         ("multipart/report", "delivery-status"))
-    same("From", read["From"], "postmaster@relay.example")
-    same("To", read["To"], "a@example.org")
-    same("Message-ID", read["Message-ID"], f"<{number}@relay.example>")
-    parts = list(read.iter_parts())
-    same("parts of a report", len(parts), 3)
-    first = parts[0].get_content().splitlines()[0]
-    same("first line of a report", first, f"Delivery report of relay.example for message {of}.")
-    return parts
-
-
-def fields(report, place):
-    """The fields of the message (0) or of a reported place (from 1), without dates, of which the zone alone is
-    looked at."""
-    found = dict(report[1].get_payload()[place].items())
-    for name in ("Arrival-Date", "Last-Attempt-Date"):
-        if name in found:
-            date = email.utils.parsedate_to_datetime(found.pop(name))
-            same(f"zone of {name}", date.utcoffset().seconds, 0)
-    return found
 
 
 def a_refused_recipient_is_reported_and_another_waits(field):
@@ -384,6 +302,27 @@ def a_log_says_what_was_done_and_nothing_of_a_content(field):
         raise Difference(f"the log says {log}")
 
 
+def a_silent_peer_is_given_up(field):
+    waits = field.folder / "waits"
+    field.preload(field.relay, "shorter_waits", WAITS=str(waits))
+    with field.relay.serving() as lines, connected(field.relay) as link:
+        begun = time.monotonic()
+        while link.recv(1000):
+            pass
+        waited = time.monotonic() - begun
+    same("the lines of serve", lines, [])
+    same("waits for a client", sorted(waits.read_text().splitlines()), ["read 300", "write 300"])
+    if waited < 0.9:
+        raise Difference(f"a silent client was given up after {waited} of a second")
+    # A next hop that takes the connection and doesn't greet.
+    with socket.create_server(("127.0.0.1", 0)) as silent:
+        field.relay.route({"example.org": ("next.example", silent.getsockname()[1])})
+        with field.relay.serving() as lines:
+            hand_in(field.relay)
+    same("the lines of serve", lines, ["1 next.example lost"])
+    same("waits for a hop", sorted(waits.read_text().splitlines()[-2:]), ["read 600", "write 600"])
+
+
 def wrong_words_are_refused(field):
     for words in [["serve"], ["push"], ["serve", "--rounds", "0"], ["serve", "--rounds", "1000001"],
                   ["serve", "--rounds", "one"], ["push", "--rounds", "1"], ["serve", "more"]]:
@@ -443,6 +382,7 @@ ROWS = [
     a_message_goes_over_two_relays,
     serve_takes_so_many_connections,
     a_log_says_what_was_done_and_nothing_of_a_content,
+    a_silent_peer_is_given_up,
     wrong_words_are_refused,
     faults_come_in_their_order,
 ]
