@@ -26,14 +26,14 @@ def hand_in(relay, content=CONTENT, recipients=("b@example.org",), mail=(), rcpt
 
 
 def behind_mark(stored, host, number, word="client.example"):
-    """What stands behind the time stamp line, which has to be of this host and number, and of now."""
+    """What stands behind the time stamp line, which has to be of this host and number, and of these minutes."""
     mark = MARK.match(stored)
     if not mark:
         raise Difference(f"no time stamp line begins {stored[:120]!r}")
     wanted = (word.encode(), host.encode(), b"ESMTP", str(number).encode())
     same("the time stamp line", mark.groups()[:4], wanted)
     written = email.utils.parsedate_to_datetime(mark[5].decode()).timestamp()
-    if abs(time.time() - written) > PATIENCE:
+    if abs(time.time() - written) > 300:
         raise Difference(f"the time stamp line is of {mark[5].decode()}")
     return stored[mark.end():]
 
