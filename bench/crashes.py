@@ -1,0 +1,120 @@
+#!/usr/bin/env python3
+"""Kills `relayd serve` (SIGKILL) at 30 moments of a fixed seed while messages come in and go on, and opens the spool
+again each time: every message whose 250 the client has read is in `list`, or the sink has been given it. At last a
+push takes all that is left to the sink.
+
+    bench/crashes.py build/relayd
+
+The system goes on, and keeps what was written and not synced: what a loss of power leaves isn't seen here.
+"""
+import os
+import pathlib
+import random
+import re
+import smtplib
+import subprocess
+import sys
+import tempfile
+import threading
+
+HERE = pathlib.Path(__file__).resolve().parent
+sys.path.insert(0, str(HERE.parent / "tests"))
+sys.dont_write_bytecode = True
+
+from relay_program import Difference, PATIENCE, Relay, same
+from smtp_sink import Sink
+
+MOMENTS = 30
+# The longest that a relay lives, in seconds.
+LONGEST = 0.3
+TOKEN = re.compile(rb"\r\nSubject: (\d+)\r\n")
+
+
+class Feeder:
+    """Hands in messages, each with a number of its own as its subject, and writes down which were answered 250, and
+    as which number they were queued."""
+
+    def __init__(self, port, chance):
+        self.port, self.chance = port, chance
+        self.given, self.answered = 0, {}
+
+    def feed(self):
+        """Messages until the relay is gone, up to five at a connection."""
+        try:
+            while True:
+                with smtplib.SMTP("127.0.0.1", self.port, "client.example", PATIENCE) as client:
+                    client.ehlo()
+                    for _ in range(self.chance.randint(1, 5)):
+                        self.hand_in(client)
+        except (OSError, smtplib.SMTPException):
+            pass
+
+    def hand_in(self, client):
+        self.given += 1
+        token = self.given
+        content = b"Subject: %d\r\n\r\n%b.\r\n" % (token, b"x" * self.chance.randint(0, 20000))
+        client.mail("a@example.org")
+        client.rcpt("b@example.org")
+        code, text = client.data(content)
+        if code == 250:
+            self.answered[token] = int(text.split()[-1])
+
+
+def tokens_at(sink):
+    """How often each message has come there."""
+    counts = {}
+    for message in list(sink.messages):
+        token = int(TOKEN.search(message.content)[1])
+        counts[token] = counts.get(token, 0) + 1
+    return counts
+
+
+def look(relay, sink, answered, moment):
+    """Nothing that was answered is lost."""
+    held, gone = {row[0] for row in relay.held()}, tokens_at(sink)
+    lost = [token for token, number in answered.items() if number not in held and token not in gone]
+    same(f"messages lost behind kill {moment}", lost, [])
+    same("numbers given twice", len(set(answered.values())), len(answered))
+
+
+def push_rest(relay, sink, folder):
+    """Pushes with the clock a day further on, since what was tried once is due later."""
+    shim = folder / "later_clock.so"
+    source = HERE.parent / "tests/later_clock.c"
+    subprocess.run(["cc", "-shared", "-fPIC", "-O1", "-o", shim, source], check=True)
+    relay.environment.update(LD_PRELOAD=str(shim), LATER="86400")
+    relay.run("push")
+    same("list at last", relay.held(), [])
+
+
+def run(program, folder, sink):
+    relay = Relay(program, folder, {"example.org": ("next.example", sink.port)})
+    relay.run("init")
+    chance = random.Random(24)
+    feeder = Feeder(relay.port, chance)
+    for moment in range(1, MOMENTS + 1):
+        process = relay.start("--rounds", "1000000")
+        timer = threading.Timer(chance.uniform(0, LONGEST), process.kill)
+        timer.start()
+        feeder.feed()
+        timer.join()
+        process.communicate()
+        look(relay, sink, feeder.answered, moment)
+    push_rest(relay, sink, folder)
+    counts = tokens_at(sink)
+    same("messages that never came", [token for token in feeder.answered if token not in counts], [])
+    same("breaches at the sink", sink.breaches, [])
+    more = sum(count - 1 for count in counts.values())
+    print(f"crashes: {MOMENTS} kills, {feeder.given} messages begun, {len(feeder.answered)} answered 250, none lost; "
+          f"the sink was given {len(counts)}, and {more} of them once more")
+
+
+def main():
+    with tempfile.TemporaryDirectory() as folder, Sink() as sink:
+        try:
+            run(os.path.realpath(sys.argv[1]), pathlib.Path(folder), sink)
+        except Difference as difference:
+            sys.exit(f"crashes: {difference}")
+
+
+main()

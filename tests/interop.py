@@ -1,0 +1,261 @@
+#!/usr/bin/env python3
+"""The rows of tests/interop.sh, which gives the packages that it has: relayd with other mail programs as its clients
+and as its next hops. Behind them all stands a sink in Python.
+
+    tests/interop.py build/relayd build/interop postfix exim4-daemon-light opensmtpd swaks
+"""
+import contextlib
+import email
+import email.policy
+import os
+import pathlib
+import smtplib
+import socket
+import subprocess
+import sys
+import tempfile
+import time
+
+sys.dont_write_bytecode = True
+
+from mail_servers import Exim, OpenSmtpd, Postfix, can_make_rooms
+from relay_program import Difference, Relay, free_port, same
+from smtp_sink import Sink
+
+# How long a message may take through another server, in seconds.
+PATIENCE = 60
+HEAD = (b"From: <a@out.example>\r\nTo: <b@in.example>\r\nDate: Mon, 23 Nov 2026 12:00:00 +0000\r\n"
+        b"Message-ID: <1@client.example>\r\nSubject: periods\r\n\r\n")
+SMALL = HEAD + b".\r\n..\r\n.a line\r\nend .\r\n...\r\n"
+LINE = b".".ljust(74, b"x") + b"\r\n.\r\n..y\r\nz\r\n"
+LARGE = HEAD + LINE * ((1048576 - len(HEAD)) // len(LINE))
+LARGE += b"." * (1048576 - len(LARGE) - 2) + b"\r\n"
+
+
+def recipients_of(domain, count):
+    return [f"b{number}@{domain}" for number in range(count)]
+
+
+def ends_of(lines):
+    """The lines of a push without their numbers."""
+    return [line.split(" ", 1)[1] for line in lines]
+
+
+def body_of(content):
+    return content.split(b"\r\n\r\n", 1)[1]
+
+
+def all_taken(sink, recipients, content):
+    """Waits until each of the recipients has been given what has this content's body; the messages."""
+    wanted = sorted(f"<{path}>".encode() for path in recipients)
+    ends, messages = time.monotonic() + PATIENCE, []
+    while True:
+        messages += sink.take_all()
+        found = sorted(told.split(b" ")[0] for message in messages for told in message.recipients)
+        if len(found) >= len(wanted) or time.monotonic() > ends:
+            break
+        sink.wait_for(1, 1)
+    same("recipients at the sink", found, wanted)
+    for message in messages:
+        body = body_of(message.content)
+        if body != body_of(content):
+            raise Difference(f"another body, of {len(body)} octets: {message.content[:400]!r}")
+    return messages
+
+
+class Field:
+    """A sink, and a relay that sends mail for out.example there."""
+
+    def __init__(self, program, packages, folder):
+        self.packages, self.sink = packages, Sink()
+        routes = {"out.example": ("sink.example", self.sink.port)}
+        self.relay = Relay(program, folder, routes, max_content=2000000)
+        self.relay.run("init")
+
+    def close(self):
+        self.sink.close()
+        same("breaches at the sink", self.sink.breaches, [])
+
+    @contextlib.contextmanager
+    def serving(self):
+        """`serve` for as many connections as a client likes, until everything has gone on. A relay that is ended
+        between the sink's reply and its own record of it would send a message twice."""
+        process = self.relay.start("--rounds", "1000")
+        try:
+            yield
+            ends = time.monotonic() + PATIENCE
+            while not self.is_empty() and time.monotonic() < ends:
+                time.sleep(0.1)
+        finally:
+            process.terminate()
+            out, errors = process.communicate(timeout=PATIENCE)
+        same("relayd serve says", errors, b"")
+        same("list", self.relay.held(), [])
+
+    def is_empty(self):
+        """Whether nothing waits in the spool. A `list` beside `serve` may take a record that is just being added for
+        damage (docs/relayd.8)."""
+        ended = self.relay.ended(PATIENCE, "list")
+        return ended.returncode == 0 and not ended.stdout
+
+
+def hand_in(port, recipients, content, mail=(), rcpt=()):
+    with smtplib.SMTP("127.0.0.1", port, local_hostname="client.example", timeout=PATIENCE) as client:
+        same("refused", client.sendmail("a@out.example", recipients, content, mail, rcpt), {})
+
+
+SIZES = [("one recipient", 1, SMALL), ("100 recipients", 100, SMALL), ("1 MiB", 1, LARGE)]
+
+
+def through_a_client(field, server):
+    """A server hands relayd what it was handed."""
+    for what, count, content in SIZES:
+        with field.serving():
+            hand_in(server.port, recipients_of("out.example", count), content)
+            messages = all_taken(field.sink, recipients_of("out.example", count), content)
+        word = f"{server.name.lower()}.example"
+        mark = f"Received: from {word} ([127.0.0.1])\r\n by relay.example with ESMTP".encode()
+        for message in messages:
+            same(f"{what}: the first line", message.content[: len(mark)], mark)
+
+
+def through_a_hop(field, server):
+    """relayd hands a server what it was handed."""
+    to_sink = ("sink.example", field.sink.port)
+    field.relay.route({"in.example": ("next.example", server.port), "out.example": to_sink})
+    for what, count, content in SIZES:
+        with field.relay.serving() as lines:
+            hand_in(field.relay.port, recipients_of("in.example", count), content)
+        same(f"{what}: the lines of serve", ends_of(lines), ["next.example ended"])
+        messages = all_taken(field.sink, recipients_of("in.example", count), content)
+        for message in messages:
+            if b"\r\n by relay.example with ESMTP id " not in message.content:
+                raise Difference(f"{what}: no time stamp line of the relay in {message.content[:400]!r}")
+        same(f"{what}: list", field.relay.held(), [])
+
+
+def a_recipient_refused_by_a_hop(field, server):
+    with field.relay.serving() as lines:
+        hand_in(field.relay.port, ["b@in.example", "refused@in.example"], SMALL)
+    all_taken(field.sink, ["b@in.example"], SMALL)
+    same("push", ends_of(field.relay.run("push")), ["sink.example ended"])
+    field.sink.wait_for(1, PATIENCE)
+    messages = field.sink.take_all()
+    same("reports", [message.recipients for message in messages], [[b"<a@out.example>"]])
+    report = list(email.message_from_bytes(messages[0].content, policy=email.policy.default).iter_parts())
+    told = dict(report[1].get_payload()[1].items())
+    same("the recipient", told["Final-Recipient"], "rfc822; refused@in.example")
+    same("the action", told["Action"], "failed")
+    if not told["Diagnostic-Code"].startswith("smtp; 550 "):
+        raise Difference(f"the report says: {told}")
+    same("list", field.relay.held(), [])
+
+
+def parameters_through_a_hop(field, server):
+    with field.relay.serving():
+        hand_in(field.relay.port, ["b@in.example"], SMALL, ["RET=HDRS", "ENVID=q+2B1"],
+                ["NOTIFY=SUCCESS,FAILURE", "ORCPT=rfc822;B+2Bx@old.example"])
+    message = all_taken(field.sink, ["b@in.example"], SMALL)[0]
+    same("MAIL", sorted(message.mail.split(b" ")), sorted([b"<a@out.example>", b"RET=HDRS", b"ENVID=q+2B1"]))
+    same("RCPT", sorted(message.recipients[0].split(b" ")),
+         sorted([b"<b@in.example>", b"NOTIFY=SUCCESS,FAILURE", b"ORCPT=rfc822;B+2Bx@old.example"]))
+
+
+def chunks_of_exim(field, server):
+    """Exim handed all its contents to relayd in chunks, which its log says by a K."""
+    lines = [line for line in server.said().splitlines() if "out.example R=out" in line]
+    sent = [line for line in lines if "=>" in line or "->" in line]
+    if not sent or not all(" K " in line for line in sent):
+        raise Difference(f"Exim's log: {sent}")
+
+
+def a_chunk_through_exim(field, server):
+    """A content that doesn't end in CR LF goes to Exim in a chunk."""
+    content = HEAD + b".\r\n..\r\nno end"
+    with field.relay.serving() as lines:
+        link = socket.create_connection(("127.0.0.1", field.relay.port), PATIENCE)
+        with link, link.makefile("rb") as replies:
+            link.sendall(b"EHLO x\r\nMAIL FROM:<a@out.example>\r\nRCPT TO:<b@in.example>\r\n"
+                         b"BDAT %d LAST\r\n%bQUIT\r\n" % (len(content), content))
+            replies.read()
+    same("the lines of serve", ends_of(lines), ["next.example ended"])
+    # Exim ends the last line.
+    all_taken(field.sink, ["b@in.example"], content + b"\r\n")
+
+
+def swaks(field, packages):
+    """swaks hands relayd a content from a file."""
+    unpacked = packages / "swaks/usr/bin/swaks"
+    command = ["perl", unpacked] if unpacked.exists() else ["swaks"]
+    for what, count, content in SIZES:
+        recipients = recipients_of("out.example", count)
+        file = field.relay.folder / "content"
+        # swaks ends the last line itself.
+        file.write_bytes(content.removesuffix(b"\r\n"))
+        words = ["--server", "127.0.0.1", "--port", str(field.relay.port), "--ehlo", "swaks.example"]
+        words += ["--from", "a@out.example", "--to", ",".join(recipients), "--data", f"@{file}", "--hide-all"]
+        with field.serving():
+            ended = subprocess.run([*command, *words], capture_output=True, timeout=PATIENCE)
+            same(f"{what}: swaks", (ended.returncode, ended.stderr), (0, b""))
+            all_taken(field.sink, recipients, content)
+
+
+def python(field, packages):
+    """So does Python's smtplib."""
+    for what, count, content in SIZES:
+        recipients = recipients_of("out.example", count)
+        with field.serving():
+            hand_in(field.relay.port, recipients, content)
+            all_taken(field.sink, recipients, content)
+
+
+SERVERS = {
+    "postfix": (Postfix, [
+        through_a_client, through_a_hop, a_recipient_refused_by_a_hop, parameters_through_a_hop]),
+    "exim4-daemon-light": (Exim, [
+        through_a_client, chunks_of_exim, through_a_hop, a_recipient_refused_by_a_hop, parameters_through_a_hop,
+        a_chunk_through_exim]),
+    "opensmtpd": (OpenSmtpd, [
+        through_a_client, through_a_hop, a_recipient_refused_by_a_hop]),
+}
+
+
+def run_server(program, packages, package, folder):
+    make, rows = SERVERS[package]
+    with contextlib.closing(Field(program, packages, folder)) as field:
+        with contextlib.closing(make(packages, field.relay.port, field.sink.port)) as server:
+            for row in rows:
+                try:
+                    row(field, server)
+                except (Difference, OSError, smtplib.SMTPException) as difference:
+                    raise Difference(f"{row.__name__}: {difference}\n{server.said()[-2000:]}") from None
+    return f"{make.name}: {', '.join(row.__name__ for row in rows)}"
+
+
+def run_client(program, packages, client, folder):
+    with contextlib.closing(Field(program, packages, folder)) as field:
+        client(field, packages)
+    return f"{client.__name__} as a client"
+
+
+def main():
+    program, packages, had = os.path.realpath(sys.argv[1]), pathlib.Path(sys.argv[2]).resolve(), sys.argv[3:]
+    runs = [(run_client, python)]
+    if "swaks" in had:
+        runs.append((run_client, swaks))
+    servers = [package for package in SERVERS if package in had]
+    if servers and not can_make_rooms():
+        print(f"interop: skipped: {', '.join(servers)}: no roots of their own can be mounted by this user")
+        servers = []
+    runs += [(run_server, package) for package in servers]
+    for run, what in runs:
+        with tempfile.TemporaryDirectory() as folder:
+            try:
+                print(f"interop: {run(program, packages, what, folder)}", flush=True)
+            except (Difference, OSError, smtplib.SMTPException, subprocess.SubprocessError) as difference:
+                name = what if isinstance(what, str) else what.__name__
+                sys.exit(f"interop: {name}: {difference}")
+    print(f"interop: {len(runs)} programs, each as it has to be")
+
+
+main()

@@ -1,0 +1,114 @@
+"""A relayd in a folder of its own, for tests: its configuration, its subcommands, and `serve` beside them."""
+import contextlib
+import os
+import pathlib
+import socket
+import subprocess
+import time
+
+# How long anything may take that ought to be over at once, in seconds.
+PATIENCE = 20
+
+
+class Difference(Exception):
+    """Something is otherwise than it has to be."""
+
+
+def shown(value):
+    """A value, with the middle left out where it is long."""
+    text = repr(value)
+    return text if len(text) < 1000 else f"{text[:500]} [...] {text[-400:]}"
+
+
+def same(what, found, wanted):
+    if found != wanted:
+        raise Difference(f"{what}: {shown(found)}, and not {shown(wanted)}")
+
+
+def free_port():
+    """A port of 127.0.0.1 that nobody listened on a moment ago."""
+    with socket.socket() as probe:
+        probe.bind(("127.0.0.1", 0))
+        return probe.getsockname()[1]
+
+
+def is_listening(port):
+    """Whether somebody listens there. No connection is made: a round of `serve` would be used up by it."""
+    wanted = f"0100007F:{port:04X}"
+    lines = pathlib.Path("/proc/net/tcp").read_text().splitlines()[1:]
+    return any(line.split()[1] == wanted and line.split()[3] == "0A" for line in lines)
+
+
+class Relay:
+    """A relay whose spool stands in a folder. Its routes go from a domain to a next hop's name and port."""
+
+    def __init__(self, program, folder, routes, host="relay.example", **limits):
+        self.program, self.folder = str(pathlib.Path(program).resolve()), pathlib.Path(folder)
+        self.host, self.limits, self.port = host, limits, free_port()
+        self.folder.mkdir(exist_ok=True)
+        self.file, self.spool = self.folder / "relayd.toml", self.folder / "relay.spool"
+        self.environment = dict(os.environ)
+        self.route(routes)
+
+    def route(self, routes):
+        """Writes the configuration with these routes."""
+        lines = [f'host = "{self.host}"', f'listen = "127.0.0.1:{self.port}"', f'spool = "{self.spool}"']
+        lines += [f"{key} = {value}" for key, value in self.limits.items()]
+        lines += ["[routes]"]
+        for domain, (name, port) in routes.items():
+            lines.append(f'"{domain}" = {{ name = "{name}", at = "127.0.0.1:{port}" }}')
+        self.file.write_text("\n".join(lines) + "\n")
+
+    def words(self, *words):
+        return [self.program, words[0], "--config", str(self.file), *words[1:]]
+
+    def ended(self, seconds, *words):
+        return subprocess.run(self.words(*words), capture_output=True, timeout=seconds, env=self.environment)
+
+    def run(self, *words):
+        """The lines that a subcommand prints. It has to end well, and say nothing else."""
+        ended = self.ended(120, *words)
+        same(f"relayd {' '.join(words)}", (ended.returncode, ended.stderr), (0, b""))
+        return ended.stdout.decode().splitlines()
+
+    def refused(self, *words):
+        """The status and the fault line of a subcommand, which prints nothing else."""
+        ended = self.ended(PATIENCE, *words)
+        same(f"relayd {' '.join(words)} prints", ended.stdout, b"")
+        return ended.returncode, ended.stderr.decode().rstrip("\n")
+
+    def held(self):
+        """What `list` prints, as tuples of number, place, path and due moment."""
+        rows = [line.split(" ") for line in self.run("list")]
+        return [(int(row[0]), int(row[1]), " ".join(row[2:-1]), int(row[-1])) for row in rows]
+
+    def start(self, *words):
+        """A process of `serve` that listens."""
+        command, pipe = self.words("serve", *words), subprocess.PIPE
+        process = subprocess.Popen(command, stdout=pipe, stderr=pipe, env=self.environment)
+        ends = time.monotonic() + PATIENCE
+        while not is_listening(self.port):
+            if process.poll() is not None or time.monotonic() > ends:
+                process.kill()
+                raise Difference(f"relayd serve doesn't listen: {process.communicate()}")
+            time.sleep(0.002)
+        return process
+
+    @contextlib.contextmanager
+    def serving(self, *words, log=None):
+        """`serve` beside what is done within, which has to use up its rounds. The list has its lines then, and
+        `log`, where that is given, those of its log."""
+        process, lines = self.start(*words, *[] if log is None else ["--log"]), []
+        try:
+            yield lines
+            out, errors = process.communicate(timeout=PATIENCE)
+            if log is not None:
+                log += errors.decode().splitlines()
+                errors = b""
+            same("relayd serve ends", (process.returncode, errors), (0, b""))
+            lines += out.decode().splitlines()
+        finally:
+            process.kill()
+            process.wait()
+            process.stdout.close()
+            process.stderr.close()
