@@ -51,13 +51,15 @@ settled_stays (Rejected code size) texts more le =
 
 -- one more refusal, with its text behind the others
 pub rejected_more : (said : List Said) (texts text : List ℕ) (code : ℕ) → length texts ≡ text_sizes said
-    → settled_of (said ++ Rejected code (length text) ∷ []) (texts ++ text) ≡ settled_of said texts ++ Some (Refused code text) ∷ []
+    → settled_of (said ++ Rejected code (length text) ∷ []) (texts ++ text)
+    ≡ settled_of said texts ++ Some (Refused code text) ∷ []
 rejected_more [] [] text code e = ap (λ (t : List ℕ). Some (Refused code t) ∷ []) (take_all (length text) text (omega arith))
 rejected_more [] (octet ∷ texts) text code e = absurd (omega (arith, e))
 rejected_more (one ∷ said) texts text code e =
     let le : text_size one ≤ length texts = omega (arith, e) in
     let size : length (drop (text_size one) texts) ≡ text_sizes said = omega (arith, e, length-drop (text_size one) texts) in
-    ap (λ (v : Option Verdict). v ∷ settled_of (said ++ Rejected code (length text) ∷ []) (drop (text_size one) (texts ++ text)))
+    ap (λ (v : Option Verdict). v
+    ∷ settled_of (said ++ Rejected code (length text) ∷ []) (drop (text_size one) (texts ++ text)))
     (settled_stays one texts text le)
     ∙ ap (λ (t : List ℕ). settled_by one texts ∷ settled_of (said ++ Rejected code (length text) ∷ []) t)
     (drop-append-le (text_size one) texts text le)
@@ -129,12 +131,16 @@ pub verdicts_step : (verdicts : List Verdict) (verdict : Verdict) (places : List
     → one ≡ slice_get said i
     → verdict ≡ verdict_by one texts last
     → verdicts ++ verdicts_from (drop i places) (settled_of (drop i said) texts) last ≡ whole
-    → (verdicts ++ verdict ∷ []) ++ verdicts_from (drop (i + 1) places) (settled_of (drop (i + 1) said) (drop (size_by one) texts)) last ≡ whole
+    → (verdicts ++ verdict ∷ [])
+    ++ verdicts_from (drop (i + 1) places) (settled_of (drop (i + 1) said) (drop (size_by one) texts)) last ≡ whole
 verdicts_step verdicts verdict places said texts one last whole i lt is e f =
     let on : i + 1 ≡ suc i = omega arith in
-    append_assoc verdicts (verdict ∷ []) (verdicts_from (drop (i + 1) places) (settled_of (drop (i + 1) said) (drop (size_by one) texts)) last)
-    ∙ ap (λ (n : ℕ). verdicts ++ verdict ∷ verdicts_from (drop n places) (settled_of (drop n said) (drop (size_by one) texts)) last) on
-    ∙ ap (λ (v : Verdict). verdicts ++ v ∷ verdicts_from (drop (suc i) places) (settled_of (drop (suc i) said) (drop (size_by one) texts)) last) e
+    append_assoc verdicts (verdict ∷ [])
+    (verdicts_from (drop (i + 1) places) (settled_of (drop (i + 1) said) (drop (size_by one) texts)) last)
+    ∙ ap (λ (n : ℕ). verdicts ++ verdict
+    ∷ verdicts_from (drop n places) (settled_of (drop n said) (drop (size_by one) texts)) last) on
+    ∙ ap (λ (v : Verdict). verdicts ++ v
+    ∷ verdicts_from (drop (suc i) places) (settled_of (drop (suc i) said) (drop (size_by one) texts)) last) e
     ∙ ap (λ (o : Option Said). verdicts ++ verdict_by o texts last
     ∷ verdicts_from (drop (suc i) places) (settled_of (drop (suc i) said) (drop (size_by o) texts)) last) is
     ∙ ap (λ (v : List Verdict). verdicts ++ v) (sym (verdicts-suc places said texts last i lt)) ∙ f
