@@ -91,17 +91,19 @@ among() {
             printf "%-52s %12.0f %s/s   %.2f of %s\n", name, count / ours * 1000000, unit, theirs / ours, label }'
 }
 
-# How much memory a program has that holds so many messages of 1 KiB, in octets: the median of RUNS runs.
+# resident WORD COUNT: how much memory a program has that holds COUNT of what the measurement WORD makes, in octets: the
+# median of RUNS runs.
 resident() {
     for ((run = 0; run < runs; run++)); do
-        "$bench" hold "$1" | awk '{ print $(NF - 1) * 1024 }'
+        "$bench" "$1" "$2" | awk '{ print $(NF - 1) * 1024 }'
     done | median
 }
 
-# held NAME COUNT: what each of COUNT held messages takes beside its text, by the memory of a program that has none.
+# held NAME WORD COUNT OFF LABEL: what each of COUNT takes that the measurement WORD holds, without OFF octets, by the memory
+# of a program that holds none.
 held() {
-    awk -v name="$1" -v count="$2" -v ours="$(resident "$2")" -v none="$(resident 0)" 'BEGIN {
-        printf "%-52s %12.0f octets a message, beside 1,024 of text\n", name, (ours - none) / count - 1024 }'
+    awk -v name="$1" -v count="$3" -v off="$4" -v label="$5" -v ours="$(resident "$2" "$3")" -v none="$(resident "$2" 0)" 'BEGIN {
+        printf "%-52s %12.0f octets %s\n", name, (ours - none) / count - off, label }'
 }
 
 message_of 2631579 > "$room/refused"
@@ -142,6 +144,11 @@ against=$room/headers
 measure "library: a header section, counted and cut" octets "$(stat -c %s "$room/headers")" "$room/header" -l 1 "$bench" header
 against=$room/contents
 measure "library: a dot text that is written" octets "$(stat -c %s "$room/contents")" "$room/content" -l 1 "$bench" dots
+measure "library: an attempt that hands a text on by DATA" octets "$(stat -c %s "$room/contents")" "$room/content" -l 1 "$bench" attempts
+# A text that doesn't end in CR LF.
+head -c -1 "$room/content" > "$room/chunk"
+measure "library: an attempt that hands a text on by BDAT" octets "$(stat -c %s "$room/contents")" "$room/chunk" -c 1 "$bench" attempts
+runs=3 compare "library: 100,000 attempts of one recipient" attempts 100000 "$bench conversations 100000" "sleep 2" "two seconds"
 
 # A spool of 62,430 bodies of 4,096 octets: its head, the links, and the last gate.
 printf '\x01\x00\x00\x10\x00%04096d' 0 > "$room/link"
@@ -163,7 +170,8 @@ runs=31 compare "library: appends to a spool on a file" appends 500 \
 among "library: look-ups in a table of 100,000 routes" look-ups 1000000 routes 100000 100 "a table of 100"
 compare "library: 100,000 messages into a book, and out" messages 100000 "$bench drain 100000" "$bench fill 100000" "filling alone"
 among "library: what is due, 10 of 100,000 held messages" answers 200000 due 100000 100 "10 of 100 held"
-held "library: 100,000 messages held in a book" 100000
+held "library: 100,000 messages held in a book" hold 100000 1024 "a message, beside 1,024 of text"
+held "library: 10,000 attempts that wait, of 100 places" waiting 10000 0 "an attempt"
 
 # A record of 1 MiB, which is decoded 200 times, and as many octets for `cat`.
 record_of 1048542 > "$room/record"

@@ -3,6 +3,7 @@
 //! fixed.
 #![tactic(auto)]
 
+mod attempts;
 mod blocks;
 mod books;
 mod commands;
@@ -14,6 +15,7 @@ mod routes;
 mod spools;
 mod texts;
 
+use attempts::{hand_texts_on, hold_attempts, hold_conversations};
 use books::{ask_what_is_due, decode_record, drain_book, fill_book, hold_book};
 use commands::count_commands;
 use header::look_through_header;
@@ -39,11 +41,22 @@ const HEADER: &[u8] = b"Received: x\r\nSubject: y\r\n\r\n";
 /// A content of two lines for the run without a word.
 const CONTENT: &[u8] = b"a\r\n.\r\n";
 
+/// A content that doesn't end in CR LF for the run without a word.
+const CHUNK: &[u8] = b"x";
+
 /// A record of a message with one octet of text for the run without a word.
 const RECORD: &[u8] = b"\x01\0\0\0\0\0\0\0\0\0\x05<a@b>\0\0\0\x01\0\x05<c@d>\0\0\0\0\0\0\x01x";
 
 /// The measurements that read nothing.
-const IN_MEMORY: [&str; 5] = ["routes", "fill", "drain", "due", "hold"];
+const IN_MEMORY: [&str; 7] = [
+    "routes",
+    "fill",
+    "drain",
+    "due",
+    "hold",
+    "conversations",
+    "waiting",
+];
 
 /// Two dot texts for the run without a word.
 const TEXTS: &[u8] = b"..\r\na\r\n.\r\n.\r\n";
@@ -73,7 +86,7 @@ fn main(rt: HostRuntime) -> Result<(), Fail> {
         println!(rt; "{}", line.as_str())?;
         return Ok(());
     }
-    let samples: [(&str, &[u8]); 7] = [
+    let samples: [(&str, &[u8]); 9] = [
         ("commands", COMMANDS),
         ("replies", REPLIES),
         ("header", HEADER),
@@ -81,12 +94,20 @@ fn main(rt: HostRuntime) -> Result<(), Fail> {
         ("plain", TEXTS),
         ("dots", CONTENT),
         ("decode", RECORD),
+        ("attempts", CONTENT),
+        ("attempts", CHUNK),
     ];
     for (name, mut octets) in samples {
         let line = measure(alloc, name, &mut octets)?;
         println!(rt; "{}", line.as_str())?;
     }
-    for (name, count) in [("routes", 2), ("fill", 3), ("drain", 3), ("due", 12)] {
+    for (name, count) in [
+        ("routes", 2),
+        ("fill", 3),
+        ("drain", 3),
+        ("due", 12),
+        ("conversations", 2),
+    ] {
         let line = measure_in_memory(&rt, name, count, 3)?;
         println!(rt; "{}", line.as_str())?;
     }
@@ -124,6 +145,10 @@ fn measure_in_memory(rt: &HostRuntime, name: &str, count: u64, times: u64) -> Re
         drain_book(rt.alloc(), count)
     } else if name == "due" {
         ask_what_is_due(rt.alloc(), count, times)
+    } else if name == "conversations" {
+        hold_conversations(rt.alloc(), count)
+    } else if name == "waiting" {
+        hold_attempts(rt, count)
     } else {
         hold_book(rt, count)
     }
@@ -170,9 +195,11 @@ fn measure<R: Read>(alloc: Global, name: &str, reader: &mut R) -> Result<String,
         write_texts(alloc, reader)
     } else if name == "decode" {
         decode_record(alloc, reader)
+    } else if name == "attempts" {
+        hand_texts_on(alloc, reader)
     } else {
         Err(Fail::new(
-            "the measurements are: commands, replies, header, texts, plain, dots, decode",
+            "the measurements are: commands, replies, header, texts, plain, dots, decode, attempts",
         ))
     }
 }
