@@ -11,3 +11,6 @@ mod MessageLemmas
 mod StrandedLemmas
 mod OutcomeLemmas
 mod OpenLemmas
+mod ReplyLemmas
+mod AmongLemmas
+mod ToldLemmas
