@@ -1,0 +1,9 @@
+use Rattle.std.proofs.Common.{List, ℕ, sym, ap}
+use Rattle.relay_book.specs.declared.message.Message.{Message}
+use Rattle.relay_attempts.specs.Hops.{stranded_of}
+use Rattle.relay_attempts.proofs.OpenLemmas.{idle_serves}
+use Rattle.relay_attempts.proofs.attempts.Attempts.idle.Goals as goal
+
+pub returns-clause-serves : goal.returns-clause-serves
+returns-clause-serves c = λ host table queue none.
+    idle_serves host table _ queue c.in_ok-new.ensures (sym (ap (λ (l : List (ℕ × Message)). stranded_of table l) none))
