@@ -149,6 +149,7 @@ heard_there {D = D} words host now number len before after old new (Ok replied) 
   where
     some_there : (run : Run) → slot_at before number ≡ Some run → slot_at before number ≢ None
     some_there run is none = absurd (cc)
+
     by : (change : Option ℕ) → Makes words host now number before after old new change → slot_at before number ≢ None
     by None made = made.1
     by (Some change) made = some_there made.run made.was

@@ -34,21 +34,17 @@ impl<D: Disk> Node<D> {
         if !self.records.is_live() {
             return Err(NodeFault::Stopped);
         }
-        Ok(self
-            .attempts
-            .due(alloc, &self.config.routes, &self.records, now)?)
+        Ok(
+            self.attempts
+                .due(alloc, &self.config.routes, &self.records, now)?,
+        )
     }
 
     /// Begins an attempt for the places of a message that are due and go to this hop, under the least free
     /// number. The first fault in this order is answered, and nothing is changed then: `Stopped`, `Unknown`
     /// where no place of such a message is held, `TooMany` where 64 attempts are running, `Busy` where one
     /// for this message and hop is, `NotDue` where no place is due that goes there; then want of memory.
-    pub fn start(
-        &mut self,
-        message: u64,
-        hop: &HostName,
-        now: Moment,
-    ) -> Result<Started, NodeFault>
+    pub fn start(&mut self, message: u64, hop: &HostName, now: Moment) -> Result<Started, NodeFault>
         ensures starts { IfOk result (Starts self.old.config.host self.old.config.routes message hop.now now
             self.old.records.queue self.old.attempts self.new.attempts) }
         ensures begins { (changes : List Change) → Keeps D.honest D.words self.old.records changes
@@ -61,14 +57,8 @@ impl<D: Disk> Node<D> {
         ensures unchanged { IfErr result (λ _. self.new ≡ self.old) }
         ensures stopped { (result ≡ Err NodeFault.Stopped) ↔ (self.old.records.spool.live ≡ false) }
     {
-        self.attempts.start(
-            self.alloc,
-            &self.config,
-            &self.records,
-            message,
-            hop,
-            now,
-        )
+        self.attempts
+            .start(self.alloc, &self.config, &self.records, message, hop, now)
     }
 
     /// Ends the held places of a message that have no hop (RFC 5321, section 6.1), all in one change with the
@@ -93,13 +83,8 @@ impl<D: Disk> Node<D> {
         if !self.records.is_live() {
             return Err(NodeFault::Stopped);
         }
-        self.attempts.give_up_unroutable(
-            self.alloc,
-            &self.config,
-            &mut self.records,
-            message,
-            now,
-        )
+        self.attempts
+            .give_up_unroutable(self.alloc, &self.config, &mut self.records, message, now)
     }
 }
 
