@@ -11,6 +11,7 @@ ghost use Rattle.relay_node.specs.Node.{TakesIn};
 ghost use Rattle.relay_records.specs.Records.{Keeps};
 
 use crate::node::Node;
+use crate::receive::Received;
 use relay_attempts::{Attempts, Started, Work};
 use relay_disk::Disk;
 use relay_records::{NodeFault, Records};
@@ -88,20 +89,20 @@ impl<D: Disk> Node<D> {
     }
 }
 
-/// Tells the attempts of the mail that was accepted under this number, if some was. It takes no memory.
+/// Tells the attempts of the mail that a call has accepted, if it accepted any. It takes no memory.
 pub(crate) fn note<D: Disk>(
     attempts: &mut Attempts,
     table: &Table,
     records: &Records<D>,
-    change: Option<u64>,
+    received: &Received,
 )
     requires { 0 < attempts.old.room }
     ensures serves { (host : List ℕ) (queue : Queue) → Rise 0 queue.next queue.messages
-        → TakesIn queue change records.now.queue
+        → TakesIn queue received.now.change records.now.queue
         → Serves host table.now attempts.old queue → Serves host table.now attempts.new records.now.queue }
     ensures runs { attempts.new.runs ≡ attempts.old.runs }
 {
-    if let Some(number) = change {
+    if let Some(number) = received.change {
         attempts.accepted(table, records, number);
     }
 }
