@@ -20,8 +20,8 @@ use Rattle.relay_attempts.specs.declared.reply.Replied.{Replied}
 use Rattle.relay_attempts.specs.Attempts.{Standing}
 use Rattle.relay_attempts.specs.Outcomes.{outcome_of, rulings_of}
 
--- of an attempt: its message, hop and places, the envelope and stored text that it hands on, and what it has read and
--- written
+-- of an attempt: its message, hop and places, the envelope and stored text that it hands on, and what it has
+-- read and written
 pub record Told : Type 0 where
   pub message : ℕ
   pub hop : List ℕ
@@ -65,8 +65,8 @@ pub record ReadsToEnd (host : List ℕ) (told : Told) (piece : List ℕ) : Type 
   pub verdicts : List Verdict
   pub course : IsItsCourse host (told_more told (take used piece) out) false verdicts
 
--- The words below are of a call at a moment, for the attempt of a number, of which this is told; the records keep these
--- changes.
+-- The words below are of a call at a moment, for the attempt of a number, of which this is told; the records
+-- keep these changes.
 module _ {D : Type 0} (honest : Type 0) (words : DiskWords D) (host : List ℕ) (now : ℕ) (changes : List Change)
     (number : ℕ) (told : Told) where
   -- it goes on behind the whole piece, and nothing was added

@@ -68,8 +68,8 @@ impl Run {
         }
     }
 
-    /// The outcome of the attempt where it has ended with these verdicts; its report isn't written yet. It fails where memory
-    /// runs out.
+    /// The outcome of the attempt where it has ended with these verdicts; its report isn't written yet. It fails
+    /// where memory runs out.
     pub(crate) fn outcome(
         self,
         alloc: Global,
