@@ -12,5 +12,6 @@ mod StrandedLemmas
 mod OutcomeLemmas
 mod OpenLemmas
 mod ReplyLemmas
+mod RefusalLemmas
 mod AmongLemmas
 mod ToldLemmas

@@ -1,7 +1,7 @@
 //! Replies to attempts, and connections that are lost.
 ghost use Rattle.std.specs.Prelude.{◌≡◌, List, Err, IfErr, IfOk, length};
 ghost use Rattle.relay_attempts.specs.Attempts.{Serves};
-ghost use Rattle.relay_attempts.specs.Reply.{CutsLoss, CutsReply, EndsBy, HasHeard, HasNoRoomFor, IsLost, RefusesToHear, Replies, TellsAt, Told, outcome_at};
+ghost use Rattle.relay_attempts.specs.Reply.{CutsLoss, CutsReply, EndsBy, HasHeard, HasNoRoomAtEnd, IsLost, RefusesToHear, Replies, TellsAt, Told, outcome_at};
 ghost use Rattle.relay_book.specs.declared.change.Change.{Change};
 ghost use Rattle.relay_course.specs.VerdictTable.{all_later};
 ghost use Rattle.relay_outcomes.specs.Outcomes.{HasNoRoom};
@@ -54,7 +54,7 @@ impl Attempts {
             → result ≡ Err NodeFault.Stopped
             → CutsReply D.honest D.words config.now.host now changes attempt told piece.now records.new }
         ensures full { (told : Told) → TellsAt config.now.host records.old.queue self.old.runs attempt told
-            → result ≡ Err NodeFault.Full → HasNoRoomFor config.now.host now told piece.now records.old }
+            → result ≡ Err NodeFault.Full → HasNoRoomAtEnd config.now.host now told piece.now records.old }
         ensures heard { IfOk result (HasHeard D.words config.now.host now attempt (length piece.now)
             self.old.runs self.new.runs records.old records.new) }
         ensures refused { IfErr result (RefusesToHear D.words attempt self.old self.new
