@@ -11,6 +11,7 @@ mod MessageLemmas
 mod StrandedLemmas
 mod OutcomeLemmas
 mod OpenLemmas
+mod RulingLemmas
 mod ReplyLemmas
 mod RefusalLemmas
 mod AmongLemmas

@@ -15,8 +15,15 @@ pub some_there : {A : Type 0} (found : Option A) (x : A) → found ≡ Some x �
 some_there found x is none = absurd (cc)
 
 -- one refusal is another's, whatever the answers' types
-pub same_fault : {A B : Type 0} (fault other : NodeFault) → Err {A} {NodeFault} fault ≡ Err other → Err {B} {NodeFault} fault ≡ Err other
-same_fault {A = A} {B = B} fault other is = let e : fault ≡ other = cc in ap (λ f. Err {B} {NodeFault} f) e
+abbrev pub refused_with : (A : Type 0) → NodeFault → Result A NodeFault
+refused_with A fault = Err fault
+
+pub fault_is : (A : Type 0) (fault other : NodeFault) → refused_with A fault ≡ refused_with A other → fault ≡ other
+fault_is A fault other is = cc
+
+pub same_fault : (A B : Type 0) (fault other : NodeFault) → refused_with A fault ≡ refused_with A other
+    → refused_with B fault ≡ refused_with B other
+same_fault A B fault other is = ap (refused_with B) (fault_is A fault other is)
 
 -- attempts are the same where all that callers see of them is
 pub same_standing : (before after : Standing) → after.runs ≡ before.runs → after.stranded ≡ before.stranded
@@ -34,6 +41,17 @@ module _ {D : Type 0} (words : DiskWords D) (host : List ℕ) (outcome : Outcome
       let at_full : RefusesOutcome words host outcome old new Full =
       subst (λ (f : NodeFault). RefusesOutcome words host outcome old new f) is refused in
       at_full.1
+
+  -- the queue is the same where its outcome isn't added
+  pub queue_stays : (fault : NodeFault) → RefusesOutcome words host outcome old new fault → new.queue ≡ old.queue
+  queue_stays NoMemory refused = ap (λ (r : Kept D). r.queue) refused
+  queue_stays Stopped refused = refused.queue
+  queue_stays Unknown refused = absurd refused
+  queue_stays TooMany refused = absurd refused
+  queue_stays NotDue refused = absurd refused
+  queue_stays Busy refused = absurd refused
+  queue_stays (Open cause) refused = absurd refused
+  queue_stays Full refused = ap (λ (r : Kept D). r.queue) refused.0
 
   -- the attempt is gone where its outcome isn't added
   pub refused_to_hear : (number : ℕ) (before after : Standing) (fault : NodeFault) → IsGone number before after old
