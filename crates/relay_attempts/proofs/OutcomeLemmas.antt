@@ -27,13 +27,13 @@ use Rattle.relay_attempts.proofs.PlaceLemmas.{each_passes, stranded_are_held}
 use Rattle.relay_attempts.proofs.StrandedLemmas.{held_any}
 
 -- held places are places
-holds_within : (places : List Place) (n : ℕ) → holds_at places n ≡ true → n < length places
+pub holds_within : (places : List Place) (n : ℕ) → holds_at places n ≡ true → n < length places
 holds_within [] n held = absurd (false≢true held)
 holds_within (place ∷ places) zero held = omega arith
 holds_within (place ∷ places) (suc n) held = let rest = holds_within places n held in omega (arith, rest)
 
 -- there are no more of them than places
-held_are_few : (places : List Place) (least : ℕ) (numbers : List ℕ) → AreHeld places least numbers → length numbers ≤ length places - least
+pub held_are_few : (places : List Place) (least : ℕ) (numbers : List ℕ) → AreHeld places least numbers → length numbers ≤ length places - least
 held_are_few places least [] held = omega arith
 held_are_few places least (n ∷ numbers) held =
     let rest = held_are_few places (n + 1) numbers held.2 in
@@ -113,7 +113,7 @@ module _ (host : List ℕ) (table : RouteTable) (queue : Queue) (outcome : Outco
   behind = step queue (change.Outcome outcome)
 
   -- an attempt none of whose places is ruled on goes on
-  run_goes_on : (run : Run) (runs : RunsFor host table queue run) → (run.message ≡ outcome.message → AreApart outcome.rulings run.places.items) → RunsFor host table behind run
+  pub run_goes_on : (run : Run) (runs : RunsFor host table queue run) → (run.message ≡ outcome.message → AreApart outcome.rulings run.places.items) → RunsFor host table behind run
   run_goes_on run runs apart = by (cases_eq run.message outcome.message)
     where
       more : List (ℕ × Message)

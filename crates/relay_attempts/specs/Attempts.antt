@@ -1,6 +1,6 @@
 -- What callers see of the attempts of a node, and what they have to do with its queue.
 use Rattle.std.specs.Prelude.{◌≡◌, ◌≢◌, ℕ, true, false, List, [], Option, Some, None, slice_set}
-use Rattle.relay_slots.specs.Slots.{IsFull, IsLeastFree}
+use Rattle.relay_slots.specs.Slots.{IsFull, IsLeastFree, slot_at}
 use Rattle.relay_envelope.specs.declared.envelope.Envelope.{Envelope}
 use Rattle.relay_routes.specs.Routes.{RouteTable}
 use Rattle.relay_book.specs.declared.message.Message.{Message}
@@ -51,6 +51,7 @@ module _ (host : List ℕ) (table : RouteTable) (number : ℕ) (hop : List ℕ) 
     pub some : started.places.items ≢ []
     pub run : Run
     pub put : new ≡ slice_set old started.attempt (Some run)
+    pub at : slot_at new started.attempt ≡ Some run
     pub begun : Begun host number hop started.places.items run
 
   -- the message is queued, and not all numbers are taken

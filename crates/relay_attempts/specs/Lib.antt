@@ -4,3 +4,4 @@ pub mod Runs
 pub mod Work
 pub mod Outcomes
 pub mod Attempts
+pub mod Reply

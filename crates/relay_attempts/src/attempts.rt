@@ -1,5 +1,7 @@
 //! The attempts of a node.
-ghost use Rattle.std.specs.Prelude.{◌≡◌, ℕ, List, IfOk};
+ghost use Rattle.std.specs.Prelude.{◌≡◌, [], ℕ, List, IfOk};
+ghost use Rattle.relay_book.specs.Queue.{Queue};
+ghost use Rattle.relay_routes.specs.Routes.{RouteTable};
 ghost use Rattle.relay_slots.specs.Slots.{AreFree};
 ghost use Rattle.std.specs.List.{flat_map};
 ghost use Rattle.relay_attempts.specs.Attempts.{KnowsStranded, Serves};
@@ -39,6 +41,18 @@ impl Model for Attempts {
 }
 
 impl Attempts {
+    /// No attempt, for a node without messages. It fails where memory runs out.
+    pub fn idle(alloc: Global) -> Result<Self, AllocError>
+        ensures idle { IfOk result (λ attempts. AreFree attempts.runs) }
+        ensures serves { IfOk result (λ attempts. (host : List ℕ) (table : RouteTable) (queue : Queue)
+            → queue.messages ≡ [] → Serves host table attempts queue) }
+    {
+        Ok(Attempts {
+            runs: Slots::new(alloc)?,
+            stranded: Vec::new(alloc),
+        })
+    }
+
     /// No attempt, beside the messages of these records that have a held place without a hop. It fails where memory runs out.
     pub fn new<D: Disk>(
         alloc: Global,

@@ -7,11 +7,13 @@ mod conclude;
 mod gathering;
 mod give_up;
 mod hops;
+mod reply;
 mod runs;
 mod start;
 mod stranded;
 mod work;
 
 pub use attempts::Attempts;
+pub use reply::Replied;
 pub use start::Started;
 pub use work::Work;

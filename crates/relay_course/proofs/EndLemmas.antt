@@ -129,7 +129,7 @@ verdicts_of-length (place ∷ places) [] last = ap suc (verdicts_of-length place
 verdicts_of-length (place ∷ places) (reply ∷ replies) last = ap suc (verdicts_of-length places replies last)
 
 -- verdicts come of the replies, or of a loss
-concluded : (places : List ℕ) (told : Bool) (rest : List ℕ) (ended : Option (List Verdict)) (all : List Verdict)
+pub concluded : (places : List ℕ) (told : Bool) (rest : List ℕ) (ended : Option (List Verdict)) (all : List Verdict)
     → Concludes places told rest ended (Some all) → (ended ≡ Some all) ⊎ (all ≡ all_later places)
 concluded places told rest (Some other) all so = let same = so.2 in inl (sym same)
 concluded places told rest None all (inl so) = let none = so.2 in absurd (cc)

@@ -6,3 +6,4 @@ pub use Rattle.relay_course.proofs.OneLemmas.{course_is_one}
 pub use Rattle.relay_course.proofs.TakenLemmas.{taken_where_answered}
 pub use Rattle.relay_course.proofs.WrittenLemmas.{each_command_is_read}
 pub use Rattle.relay_course.proofs.RelayLemmas.{all_rcpts_answered, commands_to_a_relay, nothing_before_all_rcpts}
+pub use Rattle.relay_course.proofs.HopLemmas.{verdicts_are_of_a_hop}

@@ -1,5 +1,5 @@
 //! What is true of every attempt, whatever the replies.
-ghost use Rattle.relay_course.specs.Laws.{AnsweredAreFirst, AnswersStay, CommandsKeepUp, CommandsStay, CourseIsOne, CourseMayBeLost, EachCommandIsRead, EachCommandWaits, EachReplyAnswers, EndIsEnd, EndWaitsForNothing, RcptsAreInOrder, ReplyLeadsOn, TakenWhereAnswered, VerdictForEachPlace, VerdictsMayBeStored};
+ghost use Rattle.relay_course.specs.Laws.{AnsweredAreFirst, AnswersStay, CommandsKeepUp, CommandsStay, CourseIsOne, CourseMayBeLost, EachCommandIsRead, EachCommandWaits, EachReplyAnswers, EndIsEnd, EndWaitsForNothing, RcptsAreInOrder, ReplyLeadsOn, TakenWhereAnswered, VerdictForEachPlace, VerdictsAreOfAHop, VerdictsMayBeStored};
 ghost use Rattle.relay_course.specs.RelayLaws.{AllRcptsAnswered, CommandsToARelay, NothingBeforeAllRcpts};
 
 /// A further reply leads on from where the others led.
@@ -70,6 +70,11 @@ pub fn verdict_for_each_place()
 /// The verdicts of a course may be stored: the text of a refusal is short, and printable.
 pub fn verdicts_may_be_stored()
     ensures { VerdictsMayBeStored }
+{}
+
+/// No verdict of a course says that there was no hop.
+pub fn verdicts_are_of_a_hop()
+    ensures { VerdictsAreOfAHop }
 {}
 
 /// A course that goes on may be lost: then each place may be tried again, and nothing more is written.

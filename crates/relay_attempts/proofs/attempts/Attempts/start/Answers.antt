@@ -1,4 +1,8 @@
-use Rattle.std.proofs.Common.{◌≡◌, true, false, sym, ◌∙◌, rules, refl}
+use Rattle.std.proofs.Common.{◌≡◌, List, Option, None, Some, true, false, sym, ap, ◌∙◌, rules, refl}
+use Rattle.std.specs.Prelude.{slice_set}
+use Rattle.std.proofs.lemmas.List.{get_or-set_same}
+use Rattle.relay_slots.specs.Slots.{slot_at}
+use Rattle.relay_attempts.specs.declared.runs.Run.{Run}
 use Rattle.relay_attempts.specs.Hops.{due_places_in, is_any}
 use Rattle.relay_attempts.proofs.RunLemmas.{start_serves}
 use Rattle.relay_attempts.proofs.StartLemmas.{none_there, some_there}
@@ -22,6 +26,7 @@ returns-in_default-begun-clause-refused g c =
 pub returns-clause-starts : goal.returns-clause-starts
 returns-clause-starts g c =
     let some : is_any (due_places_in c.args.config.now.routes c.args.hop.now c.args.now c.in-Some.queued.now) ≡ true = search rules in
+    let put : c.put.new.self ≡ slice_set c.args.self.now.runs c.in-Some-free.attempt (Some c.in-Ok-begun.begun) = search rules in
     let due : c.in-Ok.places.items ≡ due_places_in c.args.config.now.routes c.args.hop.now c.args.now c.in-Some.queued.now = search rules in
     record {
       least = search rules;
@@ -31,7 +36,8 @@ returns-clause-starts g c =
       places = due;
       some = λ none. some_there (due_places_in c.args.config.now.routes c.args.hop.now c.args.now c.in-Some.queued.now) some (sym due ∙ none);
       run = c.in-Ok-begun.begun;
-      put = search rules;
+      put = put;
+      at = ap (λ (l : List (Option Run)). slot_at l c.in-Some-free.attempt) put ∙ get_or-set_same c.args.self.now.runs c.in-Some-free.attempt (Some c.in-Ok-begun.begun) None (search rules);
       begun = search rules;
     }
 

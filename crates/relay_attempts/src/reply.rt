@@ -1,0 +1,151 @@
+//! Replies to attempts, and connections that are lost.
+ghost use Rattle.std.specs.Prelude.{◌≡◌, List, Err, IfErr, IfOk, length};
+ghost use Rattle.relay_attempts.specs.Attempts.{Serves};
+ghost use Rattle.relay_attempts.specs.Reply.{CutsReply, HasHeard, HasNoRoomAtEnd, RefusesToHear, Replies, TellsAt, Told};
+ghost use Rattle.relay_attempts.specs.Reply.{CutsLoss, EndsBy, IsLost, outcome_at};
+ghost use Rattle.relay_book.specs.declared.change.Change.{Change};
+ghost use Rattle.relay_course.specs.VerdictTable.{all_later};
+ghost use Rattle.relay_outcomes.specs.Outcomes.{HasNoRoom};
+ghost use Rattle.relay_records.specs.Records.{Keeps};
+ghost use Rattle.relay_slots.specs.Slots.{OthersStay};
+
+use crate::attempts::Attempts;
+use relay_client::Driven;
+use relay_disk::Disk;
+use relay_records::{NodeFault, Records};
+use relay_routes::Config;
+use relay_trace::Moment;
+use std::alloc::Global;
+
+/// What a reply to an attempt has done.
+#[derive(Debug, Drop)]
+pub struct Replied {
+    /// How many octets of the piece were used: all, unless the attempt has ended.
+    pub used: usize,
+    /// What goes to the server.
+    pub out: Vec<u8>,
+    /// The number of the change that was made, where the attempt has ended.
+    pub change: Option<u64>,
+}
+
+impl Attempts {
+    /// Uses octets that the server of an attempt wrote, all of them or up to the attempt's end. At its end
+    /// one outcome is added, of exactly its places, each with its verdict, in one change with the report that
+    /// is due of it.
+    ///
+    /// `Stopped` is answered first, and then `Unknown`, where there is no such attempt; nothing is changed
+    /// then. At `NoMemory` and `Full` the attempt is gone, and the records are as they were. It is gone too
+    /// where the device fails now: then a stop leaves the changes as they were, or with the outcome.
+    pub fn reply<D: Disk>(
+        &mut self,
+        alloc: Global,
+        config: &Config,
+        records: &mut Records<D>,
+        attempt: usize,
+        piece: &[u8],
+        now: Moment,
+    ) -> Result<Replied, NodeFault>
+        requires serves { Serves config.now.host config.now.routes self.old records.old.queue }
+        ensures replies { (changes : List Change) (told : Told) → Keeps D.honest D.words records.old changes
+            → TellsAt config.now.host records.old.queue self.old.runs attempt told
+            → IfOk result (λ replied. Replies D.honest D.words config.now.host now changes attempt told
+            piece.now records.old records.new self.new.runs replied replied.change) }
+        ensures cut { (changes : List Change) (told : Told) → Keeps D.honest D.words records.old changes
+            → TellsAt config.now.host records.old.queue self.old.runs attempt told
+            → result ≡ Err NodeFault.Stopped
+            → CutsReply D.honest D.words config.now.host now changes attempt told piece.now records.new }
+        ensures full { (told : Told) → TellsAt config.now.host records.old.queue self.old.runs attempt told
+            → result ≡ Err NodeFault.Full → HasNoRoomAtEnd config.now.host now told piece.now records.old }
+        ensures heard { IfOk result (HasHeard D.words config.now.host now attempt (length piece.now)
+            self.old.runs self.new.runs records.old records.new) }
+        ensures refused { IfErr result (RefusesToHear D.words attempt self.old self.new
+            records.old records.new) }
+        ensures others { OthersStay self.old.runs self.new.runs attempt }
+        ensures serves { Serves config.now.host config.now.routes self.new records.new.queue }
+    {
+        if !records.is_live() {
+            return Err(NodeFault::Stopped);
+        }
+        let Some(run) = self.runs.take(attempt) else {
+            return Err(NodeFault::Unknown);
+        };
+        let mut run = run;
+        let Ok(driven) = run.hear(records, piece) else {
+            return Err(NodeFault::NoMemory);
+        };
+        let Driven {
+            used,
+            out,
+            verdicts,
+        } = driven;
+        let Some(verdicts) = verdicts else {
+            self.runs.put(attempt, run);
+            return Ok(Replied {
+                used,
+                out,
+                change: None,
+            });
+        };
+        run.has_few_places(records);
+        let Ok(outcome) = run.outcome(alloc, verdicts, now) else {
+            return Err(NodeFault::NoMemory);
+        };
+        match self.conclude(alloc, config, records, outcome, used) {
+            Ok(number) => Ok(Replied {
+                used,
+                out,
+                change: Some(number),
+            }),
+            Err(fault) => Err(fault),
+        }
+    }
+
+    /// Ends an attempt whose connection is lost: each of its places may be tried again, or has failed where it
+    /// was tried for too long. One outcome says so, in one change with the report that is due of it, whose
+    /// number is the answer. The faults are those of [`Attempts::reply`], and leave the same.
+    pub fn lost<D: Disk>(
+        &mut self,
+        alloc: Global,
+        config: &Config,
+        records: &mut Records<D>,
+        attempt: usize,
+        now: Moment,
+    ) -> Result<u64, NodeFault>
+        requires serves { Serves config.now.host config.now.routes self.old records.old.queue }
+        ensures lost { (changes : List Change) (told : Told) → Keeps D.honest D.words records.old changes
+            → TellsAt config.now.host records.old.queue self.old.runs attempt told
+            → IfOk result (IsLost D.honest D.words config.now.host now changes attempt told records.new
+            self.new.runs) }
+        ensures cut { (changes : List Change) (told : Told) → Keeps D.honest D.words records.old changes
+            → TellsAt config.now.host records.old.queue self.old.runs attempt told
+            → result ≡ Err NodeFault.Stopped
+            → CutsLoss D.honest D.words config.now.host now changes attempt told records.new }
+        ensures full { (told : Told) → TellsAt config.now.host records.old.queue self.old.runs attempt told
+            → result ≡ Err NodeFault.Full
+            → HasNoRoom config.now.host (outcome_at now told (all_later told.places)) records.old }
+        ensures ends { IfOk result (EndsBy D.words config.now.host now attempt self.old.runs self.new.runs
+            records.old records.new) }
+        ensures refused { IfErr result (RefusesToHear D.words attempt self.old self.new
+            records.old records.new) }
+        ensures others { OthersStay self.old.runs self.new.runs attempt }
+        ensures serves { Serves config.now.host config.now.routes self.new records.new.queue }
+    {
+        if !records.is_live() {
+            return Err(NodeFault::Stopped);
+        }
+        let Some(run) = self.runs.take(attempt) else {
+            return Err(NodeFault::Unknown);
+        };
+        let Ok(verdicts) = run.client.broken() else {
+            return Err(NodeFault::NoMemory);
+        };
+        run.has_few_places(records);
+        let Ok(outcome) = run.outcome(alloc, verdicts, now) else {
+            return Err(NodeFault::NoMemory);
+        };
+        match self.conclude(alloc, config, records, outcome, 0) {
+            Ok(number) => Ok(number),
+            Err(fault) => Err(fault),
+        }
+    }
+}
