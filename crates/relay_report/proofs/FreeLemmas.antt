@@ -6,7 +6,7 @@ use Rattle.std.proofs.lemmas.Bool.{cases_eq, cases_lt, eqb-true, eq-eqb, falseâ‰
 use Rattle.std.proofs.lemmas.List.{take_at, drop_at, take-append-drop, length-append}
 use Rattle.std.proofs.lemmas.List.Elements.{Contains-append_left, Contains-append_right, Contains-append_cases}
 use Rattle.std.proofs.lemmas.Fmt.{decimal_nonempty}
-use Rattle.relay_report.specs.Boundary.{StandsIn, numbered, IsTaken, IsBoundary, IsLeastFree, boundary_text, stem_of, BoundaryIsThere, BoundaryIsOne}
+use Rattle.relay_report.specs.Boundary.{StandsIn, numbered, IsTaken, IsLeastFree, boundary_text, stem_of, BoundaryIsThere, BoundaryIsOne}
 use Rattle.relay_report.specs.Numbers.{one_more, may_grow}
 use Rattle.relay_report.proofs.NumberLemmas.{growing, growing_more, growing_stops, begun, begun_zero, begun_other, begun_finds, begun_only, may_grow_says, none_in, one_of, here, later}
 use Rattle.relay_report.proofs.RowLemmas.{all_below_are_many}

@@ -1,5 +1,5 @@
 -- The least number outside what three passes found.
-use Rattle.std.proofs.Common.{◌≡◌, ◌⊎◌, inl, inr, ℕ, ◌<◌, List, [], Contains, ap, subst}
+use Rattle.std.proofs.Common.{◌≡◌, ◌⊎◌, inl, inr, ℕ, List, [], Contains, ap, subst}
 use Rattle.relay_report.specs.Boundary.{StandsIn, numbered, IsTaken, IsBoundary, IsLeastFree, boundary_text, stem_of}
 use Rattle.relay_report.specs.Numbers.{Collects, IsLeastOutside, all_begun}
 use Rattle.relay_report.proofs.NumberLemmas.{none_in}

@@ -1,5 +1,5 @@
 -- A report's header section and its first two parts are short lines.
-use Rattle.std.proofs.Common.{◌≡◌, inl, inr, ℕ, zero, suc, ◌+◌, ◌-◌, ◌<◌, ◌≤◌, ◌^◌, Bool, true, false, ◌&&◌, ◌==◌, List, [], ◌∷◌, ◌++◌, codes, decimal, length, take, drop, slice_get, Option, None, Some, refl, sym, ap, subst, ◌∙◌, arith, append_assoc, append-nil, length-append}
+use Rattle.std.proofs.Common.{◌≡◌, inl, inr, ℕ, zero, suc, ◌+◌, ◌-◌, ◌<◌, ◌≤◌, ◌^◌, true, false, ◌&&◌, ◌==◌, List, [], ◌∷◌, ◌++◌, codes, decimal, length, take, drop, slice_get, Option, None, Some, refl, sym, ap, subst, ◌∙◌, arith, append_assoc, append-nil, length-append}
 use Rattle.std.proofs.lemmas.Bool.{and_parts, cases_Bool, eqb-true, leb-true}
 use Rattle.std.proofs.lemmas.Grind.{flat_map-append}
 use Rattle.std.proofs.lemmas.List.{length-take, length-drop, take-append-drop, take_at}
@@ -21,7 +21,6 @@ use Rattle.relay_book.specs.declared.due_report.DueReport.TheVariants.{OfFailure
 use Rattle.relay_book.specs.Record.{IsRuling, IsVerdict}
 use Rattle.relay_report.specs.StatusFields.{action_of, address_in, attempt_fields, diagnostic_code, field, last_attempt_date, message_fields, original_envelope_id, original_recipient, plain_of, recipient_fields, remote_mta, reply_words, status_of, typed}
 use Rattle.relay_report.specs.Multipart.{Told, dash_boundary, due_to, fields_of, first_part, header_fields, if_due, line_of, multipart_text, recipient_line, report_text, report_type, returned_type, returns_whole, second_part, third_part, title_line}
-use Rattle.relay_report.specs.Boundary.{boundary_text}
 use Rattle.relay_report.specs.Fits.{MayBeTold}
 use Rattle.relay_report.specs.Report.{IsReport}
 use Rattle.relay_report.specs.Lines.{BreaksNoLine, HasPlainEnvid, HasPlainOrcpt, HasShortLines, IsPlainRecipient, IsPlainRuling, IsPlainVerdict, IsShortLine, ReportHasNoReceived, ReportHasShortLines}

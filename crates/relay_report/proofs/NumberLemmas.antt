@@ -7,7 +7,7 @@ use Rattle.std.proofs.lemmas.Str.Parse.{digit_from_value}
 use Rattle.std.specs.Str.Parse.{AllDigits, digits_value_after}
 use Rattle.std.specs.Char.{digit_value}
 use Rattle.std.specs.Bool.{⊤}
-use Rattle.relay_report.specs.Numbers.{one_more, may_grow, grown, leading, beginnings, all_begun}
+use Rattle.relay_report.specs.Numbers.{one_more, may_grow}
 
 -- the numbers that the digits at the beginning of the octets make of this one
 abbrev pub growing : ℕ → List ℕ → List ℕ

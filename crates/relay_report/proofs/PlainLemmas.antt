@@ -1,5 +1,5 @@
 -- Nothing that is filled into a report breaks a line.
-use Rattle.std.proofs.Common.{◌≡◌, ℕ, ◌<◌, nat_le, nat_lt, Bool, true, false, ◌&&◌, List, [], ◌∷◌, ◌++◌, codes, length, Option, None, Some, refl}
+use Rattle.std.proofs.Common.{◌≡◌, ℕ, nat_le, nat_lt, true, ◌&&◌, List, [], ◌∷◌, codes, length, Option, None, Some, refl}
 use Rattle.std.proofs.lemmas.Bool.{and_parts}
 use Rattle.std.proofs.lemmas.List.Sums.{AllPass-from_list_all}
 use Rattle.std.specs.List.{list_all, AllByRecursion}
@@ -16,7 +16,6 @@ use Rattle.relay_book.specs.declared.change.Verdict.{Verdict}
 use Rattle.relay_book.specs.declared.change.Verdict.TheVariants.{Taken, Refused, Later, CantSend, NoRoute}
 use Rattle.relay_book.specs.Record.{IsRuling, IsVerdict, MayBeHop}
 use Rattle.relay_report.specs.StatusFields.{octets_or, plain_of}
-use Rattle.relay_report.specs.Fits.{MayBeTold}
 use Rattle.relay_report.specs.Lines.{HasPlainEnvid, HasPlainOrcpt, IsPlainRecipient, IsPlainRuling, IsPlainVerdict, ToldBreaksNoLine}
 
 printable_none : (text : List ℕ) → list_all (is_in_range 32 126) text ≡ true → HasNoCrlf text

@@ -1,5 +1,5 @@
 -- The lines of a report (RFC 5322, sections 2.1.1 and 2.2): nothing that is filled in breaks one, and none is too long.
-use Rattle.std.specs.Prelude.{◌≡◌, ℕ, ◌≤◌, List, ◌++◌, length, take, Option, None, Some}
+use Rattle.std.specs.Prelude.{◌≡◌, ℕ, ◌≤◌, List, length, take, Option, None, Some}
 use Rattle.std.specs.List.{AllByRecursion}
 use Rattle.relay_octets.specs.Line.{HasNoCrlf, lines_text}
 use Rattle.relay_trace.specs.HeaderSection.{header_end_of, received_count_of}
@@ -47,6 +47,7 @@ IsPlainVerdict Later = Unit {0}
 IsPlainVerdict CantSend = Unit {0}
 IsPlainVerdict NoRoute = Unit {0}
 
+-- nor what was said of a place
 abbrev pub IsPlainRuling : Ruling → Type 0
 IsPlainRuling ruling = IsPlainVerdict ruling.verdict
 

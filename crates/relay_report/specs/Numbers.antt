@@ -11,6 +11,7 @@ one_more value octet = value * 10 + (octet - 48)
 abbrev pub may_grow : ℕ → ℕ → Bool
 may_grow value octet = (nat_le 48 octet && nat_le octet 57) && nat_le (one_more value octet + 1) (2 ^ 64)
 
+-- that number, if it may be
 abbrev pub longer : ℕ → ℕ → Option ℕ
 longer value octet = if may_grow value octet then Some (one_more value octet) else None
 
@@ -40,6 +41,7 @@ pub record Collects (stem text old new : List ℕ) : Type 0 where
   pub finds : (number : ℕ) → number < 2 ^ 64 → StandsIn (numbered stem number) text → Contains new number
   pub only : (number : ℕ) → Contains new number → Contains old number ⊎ StandsIn (numbered stem number) text
 
+-- the least number that is not in a list
 pub record IsLeastOutside (numbers : List ℕ) (least : ℕ) : Type 0 where
   pub fits : least < 2 ^ 64
   pub outside : Contains numbers least → ⊥

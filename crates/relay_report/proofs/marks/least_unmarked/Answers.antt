@@ -1,6 +1,5 @@
 -- the first word that isn't all ones
-use Rattle.std.proofs.Common.{◌≡◌, ◌∙◌, ap, subst, sym, arith, ◌+◌}
-use Rattle.relay_report.specs.Marks.{IsLeastUnmarked}
+use Rattle.std.proofs.Common.{◌∙◌, arith}
 use Rattle.relay_report.proofs.MarkLemmas.{full_word, in_word}
 use Rattle.relay_report.proofs.marks.least_unmarked.Goals as goal
 

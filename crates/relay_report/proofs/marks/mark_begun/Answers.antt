@@ -1,7 +1,7 @@
 -- the number is marked, and a digit less is to come
-use Rattle.std.proofs.Common.{◌≡◌, ◌≤◌, ◌<◌, ◌∙◌, ap, sym, subst, arith, ◌-◌, ◌+◌, ◌/◌, ℕ}
+use Rattle.std.proofs.Common.{◌≡◌, ◌∙◌, ap, sym, arith, ◌-◌, ◌+◌, ◌/◌}
 use Rattle.relay_report.specs.Numbers.{beginnings}
-use Rattle.relay_report.specs.Marks.{marked, marked_one}
+use Rattle.relay_report.specs.Marks.{marked}
 use Rattle.relay_report.proofs.BegunLemmas.{beginnings_none}
 use Rattle.relay_report.proofs.MarkLemmas.{mark_next, mark_last}
 use Rattle.relay_report.proofs.marks.mark_begun.Goals as goal

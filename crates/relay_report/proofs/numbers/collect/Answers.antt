@@ -1,5 +1,5 @@
 -- each step leaves what stands behind the stem's first place
-use Rattle.std.proofs.Common.{◌≡◌, ◌++◌, ◌+◌, drop, length, ap, ◌∙◌}
+use Rattle.std.proofs.Common.{◌++◌, ◌+◌, drop, length, ap, ◌∙◌}
 use Rattle.relay_report.specs.Numbers.{all_begun}
 use Rattle.relay_report.proofs.BegunLemmas.{started}
 use Rattle.relay_report.proofs.CollectLemmas.{begun_behind, collect_step, collect_end}
