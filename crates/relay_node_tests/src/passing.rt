@@ -59,14 +59,13 @@ C QUIT
         return Err(Fail::new("no marks"));
     };
     assert!(rt; marks.is_empty());
-    let disk = node.into_disk();
-    let image = disk.image();
-    assert_eq!(rt; image.len(), 221);
-    assert_eq!(rt; &image[..177], &IMAGE[..177]);
-    assert_eq!(rt;
-        &image[177..],
-        b"\x01\0\0\0\x26\x02\0\0\0\0\0\0\0\x01\0\0\0\0\0\0\0\0\0\x0cnext.example\x01\0\x02\0\0\0\0\0".as_slice()
-    );
+    let mut wanted = Vec::from_slice(alloc, IMAGE)?;
+    wanted.truncate(177);
+    wanted.extend_from_slice(
+        b"\x01\0\0\0\x26\x02\0\0\0\0\0\0\0\x01\0\0\0\0\0\0\0\0\0\x0cnext.example\x01\0\x02\0\0\0\0\0",
+    )?;
+    assert_eq!(rt; wanted.len(), 221);
+    assert_eq!(rt; node.into_disk().image(), wanted.as_slice());
     Ok(())
 }
 
