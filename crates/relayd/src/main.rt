@@ -2,8 +2,6 @@
 #![tactic(auto)]
 
 mod dispatch;
-mod fault;
-mod listing;
 mod setup;
 mod streams;
 #[cfg(test)]

@@ -1,8 +1,8 @@
 //! The spool that a configuration names: made, and listed.
 use crate::fault::Fault;
+use crate::settings::{configuration, spool_file};
 use relay_disk::FileDisk;
 use relay_node::Node;
-use relay_routes::Config;
 use std::alloc::Global;
 use std::fs::File;
 use std::io::{self, Write};
@@ -68,28 +68,4 @@ fn write_fields<W: Write>(
     write!(writer, "{number} {place} ")?;
     writer.write_all(path)?;
     writeln!(writer, " {due}")
-}
-
-/// The configuration in the file at this path.
-fn configuration<F: Files<File = File>>(
-    alloc: Global,
-    files: &F,
-    path: &str,
-) -> Result<Config, Fault> {
-    match text_of(alloc, files, path) {
-        Ok(text) => Ok(Config::read(alloc, text.as_str())?),
-        Err(error) => Err(Fault::of_input(&error)),
-    }
-}
-
-fn text_of<F: Files<File = File>>(alloc: Global, files: &F, path: &str) -> io::Result<String> {
-    io::read_to_string(alloc, File::open(files, path)?)
-}
-
-/// The file of the spool that the configuration names.
-fn spool_file<F: Files<File = File>>(files: &F, config: &Config) -> Result<FileDisk, Fault> {
-    match FileDisk::open(files, config.spool.as_str()) {
-        Ok(disk) => Ok(disk),
-        Err(error) => Err(Fault::of_device(&error)),
-    }
 }
