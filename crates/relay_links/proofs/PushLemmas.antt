@@ -208,28 +208,41 @@ module _ {D : Type 0} (honest : Type 0) (words : DiskWords D) (start : PushStart
   refuses_loss left held waiting unwritten old new fault h refused cut unknown =
       refuses left held waiting unwritten old new fault h refused
       (λ stopped.
-          let here = subst (λ host. CutsLoss honest words host at start.changes number (told_more start.told h.input (h.written ++ unwritten)) new.records) h.host (cut stopped) in
-          record {
-            unwritten = unwritten;
-            lost = true;
-            verdicts = all_later start.told.places;
-            goes = record {
-              input = h.input;
-              unused = waiting;
-              written = h.written;
-              reads = h.reads;
-              writes = h.writes;
-              course = here.course;
-            };
-            cut = record { used = 0; cuts = here.cuts };
-          })
+      let here = subst (λ host. CutsLoss honest words host at start.changes number (told_more start.told h.input (h.written ++ unwritten)) new.records) h.host (cut stopped) in
+      record {
+        unwritten = unwritten;
+        lost = true;
+        verdicts = all_later start.told.places;
+        goes = record {
+          input = h.input;
+          unused = waiting;
+          written = h.written;
+          reads = h.reads;
+          writes = h.writes;
+          course = here.course;
+        };
+        cut = record { used = 0; cuts = here.cuts };
+      })
       unknown
 
-  -- octets that the node took, of which it wrote all
-  pub took : (left held new_held : Option (List ℕ)) (waiting : List ℕ) (old new : Standing D) (replied : Replied) (h : IsAt honest words start at number left held waiting [] old)
-      → Replies honest words old.config.host at start.changes number (told_more start.told h.input (h.written ++ [])) waiting old new replied → Replies honest words start.host at start.changes number (told_more start.told h.input (h.written ++ [])) waiting old new replied
-  took left held new_held waiting old new replied h r =
-      subst (λ host. Replies honest words host at start.changes number (told_more start.told h.input (h.written ++ [])) waiting old new replied) h.host r
+  -- What the node made of octets that waited. A beginning of what it wrote then was written.
+  module _ (left held new_held : Option (List ℕ)) (waiting : List ℕ) (old new : Standing D) (replied : Replied)
+      (h : IsAt honest words start at number left held waiting [] old)
+      (r : Replies honest words old.config.host at start.changes number (told_more start.told h.input (h.written ++ [])) waiting old new replied)
+      (front rest : List ℕ) (parts : replied.out.items ≡ front ++ rest) (wrote : Appends held new_held front) where
+    here : Replies honest words start.host at start.changes number (told_more start.told h.input (h.written ++ [])) waiting old new replied
+    here = subst (λ host. Replies honest words host at start.changes number (told_more start.told h.input (h.written ++ [])) waiting old new replied) h.host r
+
+    by_change : (change : Option ℕ) → replied.change ≡ change → RepliesBy honest words start.host at start.changes number (told_more start.told h.input (h.written ++ [])) waiting old new replied change
+    by_change change is = subst (RepliesBy honest words start.host at start.changes number (told_more start.told h.input (h.written ++ [])) waiting old new replied) is here
+
+    -- it has ended
+    pub answered_end : (change : ℕ) → replied.change ≡ Some change → HasEnded honest words start at left new_held rest new.records
+    answered_end change is = has_ended left held new_held waiting old new replied h front rest parts wrote change (by_change (Some change) is)
+
+    -- it goes on
+    pub answered_on : replied.change ≡ None → new.config ≡ old.config → IsAt honest words start at number left new_held [] rest new
+    answered_on none same = goes_on left held new_held waiting old new replied h front rest parts wrote same (by_change None none)
 
 -- before the first read nothing was read or written
 pub begins : {D : Type 0} (honest : Type 0) (words : DiskWords D) (at number : ℕ) (left held : Option (List ℕ)) (node : Standing D) (changes : List Change) (told : Told) → Keeps honest words node.records changes → Tells node.config.host changes node.attempts number told

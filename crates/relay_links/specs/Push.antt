@@ -19,8 +19,8 @@ use Rattle.relay_links.specs.declared.push.Pushed.TheVariants.{Ended, Unwritten,
 use Rattle.relay_links.specs.declared.push.Way.{Way}
 use Rattle.relay_links.specs.declared.push.Way.TheVariants as way
 
--- where a link of an attempt begins: what its reader still has and its writer holds, the host's name, the changes that the
--- node keeps, and what is told of the attempt
+-- where a link of an attempt begins: what its reader still has and its writer holds, the host's name, the changes
+-- that the node keeps, and what is told of the attempt
 pub record PushStart : Type 0 where
   pub left : Option (List ℕ)
   pub held : Option (List ℕ)
@@ -35,8 +35,8 @@ push_start_at left held node changes told =
 
 -- The words below are of a link from its start on, at a moment.
 module _ {D : Type 0} (honest : Type 0) (words : DiskWords D) (start : PushStart) (at : ℕ) where
-  -- The attempt of this number has read what was read but for these octets, which wait, and has written what was written
-  -- and these octets, which aren't; the node keeps the changes of before.
+  -- The attempt of this number has read what was read but for these octets, which wait, and it wrote what was written
+  -- and these octets behind that, which weren't; the node keeps the changes of before.
   pub record IsAt (number : ℕ) (left held : Option (List ℕ)) (waiting unwritten : List ℕ) (node : Standing D) : Type 0 where
     pub input : List ℕ
     pub written : List ℕ
@@ -46,8 +46,8 @@ module _ {D : Type 0} (honest : Type 0) (words : DiskWords D) (start : PushStart
     pub keeps : Keeps honest words node.records start.changes
     pub tells : Tells start.host start.changes node.attempts number (told_more start.told input (written ++ unwritten))
 
-  -- What was read and written is the attempt's course, told of a loss or not, with these verdicts or none yet: but for octets
-  -- that were read and not used, and octets that were to be written.
+  -- What was read and written is the attempt's course, told of a loss or not, with these verdicts or none yet: but for
+  -- octets that were read and not used, and these octets, which weren't written any more.
   pub record Goes (left held : Option (List ℕ)) (unwritten : List ℕ) (lost : Bool) (verdicts : Option (List Verdict)) : Type 0 where
     pub input : List ℕ
     pub unused : List ℕ

@@ -1,4 +1,4 @@
-ghost use Rattle.std.specs.Prelude.{◌≡◌, [], ℕ, true, List, Option, None, length};
+ghost use Rattle.std.specs.Prelude.{◌≡◌, [], ℕ, true, List, Option, None};
 ghost use Rattle.relay_attempts.specs.Reply.{Told};
 ghost use Rattle.relay_book.specs.declared.change.Change.{Change};
 ghost use Rattle.relay_node.specs.Attempts.{Tells};
@@ -70,7 +70,8 @@ pub fn push_link<D: Disk, R: Read, W: Write>(
     match converse(alloc, node, attempt, reader, writer, now) {
         Ok(Way::Ended) => Ok(Pushed::Ended),
         Ok(Way::Unwritten) => Ok(Pushed::Unwritten),
-        Ok(Way::On | Way::Broken) => lose_link(node, attempt, now),
+        Ok(Way::On) => lose_link(node, attempt, now),
+        Ok(Way::Broken) => lose_link(node, attempt, now),
         Err(fault) => Err(fault),
     }
 }
@@ -123,7 +124,6 @@ fn exchange_block<D: Disk, R: Read, W: Write>(
         → WaysTo D.honest D.words start now attempt (R.remaining reader.new) (W.contents writer.new)
         node.new result }
     ensures gone { IsGoneBy attempt node.new result }
-    ensures block { length block.new ≡ length block.old }
     ensures rest { OthersStay node.old.attempts node.new.attempts attempt
         × (node.new.config ≡ node.old.config) × (node.new.seats ≡ node.old.seats) }
 {
@@ -172,7 +172,11 @@ fn answer<D: Disk, W: Write>(
 }
 
 /// Tells the node that the connection is lost.
-pub fn lose_link<D: Disk>(node: &mut Node<D>, attempt: usize, now: Moment) -> Result<Pushed, LinkFault>
+pub fn lose_link<D: Disk>(
+    node: &mut Node<D>,
+    attempt: usize,
+    now: Moment,
+) -> Result<Pushed, LinkFault>
     ensures pushed { (start : PushStart) (left held : Option (List ℕ)) (waiting unwritten : List ℕ)
         → IsAt D.honest D.words start now attempt left held waiting unwritten node.old
         → PushesTo D.honest D.words start now left held node.new.records result }

@@ -1,4 +1,6 @@
 //! Mail that is handed on to its next hops.
+ghost use Rattle.std.specs.Prelude.{◌≡◌, ◌≢◌, MatchResult};
+
 use crate::clock::clock_moment;
 use crate::fault::Fault;
 use crate::log::Log;
@@ -85,7 +87,10 @@ fn try_hop<R: Clock + Net<Stream = TcpStream>, W: Write, E: Write>(
         Ok(Pushed::Ended | Pushed::Unwritten) => "ended",
         Ok(Pushed::Lost) => "lost",
         Err(LinkFault::Device) => return Err(Fault::Device),
-        Err(_) => return Ok(()),
+        Err(_) => {
+            log.attempt(number, hop.as_slice(), "without an outcome", None);
+            return Ok(());
+        }
     };
     log.attempt(number, hop.as_slice(), end, node.take_noted());
     said(write_end(writer, number, hop.as_slice(), end))
@@ -128,7 +133,10 @@ fn said(written: io::Result<()>) -> Result<(), Fault> {
 }
 
 /// What a fault of a work is to the others: it stays due, and only a device that failed ends them.
-fn left_over(fault: NodeFault) -> Result<(), Fault> {
+fn left_over(fault: NodeFault) -> Result<(), Fault>
+    ensures { MatchResult result (λ _. fault ≢ NodeFault.Stopped) (λ ended. (fault ≡ NodeFault.Stopped)
+        × (ended ≡ Fault.Device)) }
+{
     match fault {
         NodeFault::Stopped => Err(Fault::Device),
         _ => Ok(()),

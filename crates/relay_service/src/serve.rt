@@ -1,4 +1,9 @@
 //! A relay that serves its clients one after another, and hands on what they brought.
+ghost use Rattle.std.specs.Prelude.{◌≡◌, List};
+ghost use Rattle.relay_book.specs.declared.change.Change.{Change};
+ghost use Rattle.relay_links.specs.Link.{HasEnded, start_at};
+ghost use Rattle.relay_records.specs.Records.{Keeps};
+
 use crate::clock::clock_moment;
 use crate::fault::Fault;
 use crate::log::Log;
@@ -72,7 +77,14 @@ fn serve_stream<C: Clock, E: Write>(
 ) -> Result<(), Fault> {
     let first = node.next_number();
     let now = clock_moment(clock);
-    let end = serve_client(alloc, node, peer.ip().octets(), &mut &stream, &mut &stream, now);
+    let end = serve_client(
+        alloc,
+        node,
+        peer.ip().octets(),
+        &mut &stream,
+        &mut &stream,
+        now,
+    );
     log.client(peer, end, first, node.next_number());
     match end {
         Err(LinkFault::Device) => Err(Fault::Device),
@@ -88,7 +100,13 @@ fn serve_client<D: Disk, R: Read, W: Write>(
     reader: &mut R,
     writer: &mut W,
     now: Moment,
-) -> Result<(), LinkFault> {
+) -> Result<(), LinkFault>
+    ensures served { (changes : List Change) → Keeps D.honest D.words node.old.records changes
+        → HasEnded D.honest D.words
+        (start_at (R.remaining reader.old) (W.contents writer.old) peer node.old changes) now
+        (R.remaining reader.new) (W.contents writer.new) node.new.records result }
+    ensures config { node.new.config ≡ node.old.config }
+{
     match node.connect(peer) {
         Ok(connected) => serve_link(alloc, node, connected, reader, writer, now),
         Err(NodeFault::Stopped) => Err(LinkFault::Device),

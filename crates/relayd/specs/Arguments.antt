@@ -3,11 +3,13 @@ use Rattle.std.specs.Prelude.{◌≡◌, ◌≢◌, ℕ, Bool, List, [], ◌∷�
 use Rattle.std.specs.Option.{option_map_or}
 use Rattle.std.specs.Str.{bytes_eq}
 use Rattle.std.specs.Str.Parse.{digits_value, without_leading_plus}
-use Rattle.clap.specs.Words.{App, IsAmong, Kinds, Row, Rule, Text, fault_of, first_of, new_app, new_rule, subcommand_of, with_rule, with_subcommand}
+use Rattle.clap.specs.Words.{App, IsAmong, Kinds, Row, Rule, Text, fault_of, first_of, new_app, new_rule}
+use Rattle.clap.specs.Words.{subcommand_of, with_rule, with_subcommand}
 use Rattle.clap.specs.ValueTests.{is_unsigned_in}
 use Rattle.clap.specs.declared.builder.action.ArgAction.TheVariants.{Set, SetTrue}
 use Rattle.clap.specs.declared.builder.value_parser.ValueParser.TheVariants.{Unsigned}
-use Rattle.clap.specs.declared.error.kind.ErrorKind.TheVariants.{DisplayHelp, MissingRequiredArgument, MissingSubcommand, UnknownArgument, ValueValidation}
+use Rattle.clap.specs.declared.error.kind.ErrorKind.TheVariants.{DisplayHelp, MissingRequiredArgument}
+use Rattle.clap.specs.declared.error.kind.ErrorKind.TheVariants.{MissingSubcommand, UnknownArgument, ValueValidation}
 use Rattle.relayd.specs.declared.words.Subcommand.{Subcommand}
 use Rattle.relayd.specs.declared.words.Subcommand.TheVariants.{Session, Init, List as ListHeld, Serve, Push}
 
@@ -104,17 +106,23 @@ asked (ListHeld file) = AskedList file.now
 asked (Serve file rounds log) = AskedServe file.now rounds log
 asked (Push file log) = AskedPush file.now log
 
--- `serve` and `push` are taken with a file. A number of rounds is one from 1 to 1,000,000, and 1 where none is said; `push` has none
+-- the words of a subcommand with the file `c`, and more
+abbrev pub words_of : Text → Text → List Text → List Text
+words_of name subcommand more = name ∷ subcommand ∷ codes "--config" ∷ codes "c" ∷ more
+
+-- `serve` and `push` are taken with a file. A number of rounds is one from 1 to 1,000,000, and 1 where none is said; `push`
+-- has none.
 abbrev pub ServesAndPushes : Text → Type 0
 ServesAndPushes name =
-    (faults_in (name ∷ codes "serve" ∷ codes "--config" ∷ codes "c" ∷ codes "--rounds" ∷ codes "1000000" ∷ []) ≡ [])
-    × (faults_in (name ∷ codes "serve" ∷ codes "--config" ∷ codes "c" ∷ codes "--rounds" ∷ codes "1000001" ∷ []) ≡ ValueValidation ∷ [])
-    × (faults_in (name ∷ codes "serve" ∷ codes "--config" ∷ codes "c" ∷ codes "--rounds" ∷ codes "0" ∷ []) ≡ ValueValidation ∷ [])
+    (faults_in (words_of name (codes "serve") (codes "--rounds" ∷ codes "1000000" ∷ [])) ≡ [])
+    × (faults_in (words_of name (codes "serve") (codes "--rounds" ∷ codes "1000001" ∷ [])) ≡ ValueValidation ∷ [])
+    × (faults_in (words_of name (codes "serve") (codes "--rounds" ∷ codes "0" ∷ [])) ≡ ValueValidation ∷ [])
     × (faults_in (name ∷ codes "serve" ∷ []) ≡ MissingRequiredArgument ∷ [])
-    × (faults_in (name ∷ codes "push" ∷ codes "--config" ∷ codes "c" ∷ codes "--rounds" ∷ codes "1" ∷ []) ≡ UnknownArgument ∷ [])
-    × (asked_in (name ∷ codes "serve" ∷ codes "--config" ∷ codes "c" ∷ []) ≡ AskedServe (codes "c") 1 false)
-    × (asked_in (name ∷ codes "serve" ∷ codes "--log" ∷ codes "--rounds" ∷ codes "25" ∷ codes "--config" ∷ codes "c" ∷ []) ≡ AskedServe (codes "c") 25 true)
-    × (asked_in (name ∷ codes "push" ∷ codes "--config=c" ∷ []) ≡ AskedPush (codes "c") false)
+    × (faults_in (words_of name (codes "push") (codes "--rounds" ∷ codes "1" ∷ [])) ≡ UnknownArgument ∷ [])
+    × (asked_in (words_of name (codes "serve") []) ≡ AskedServe (codes "c") 1 false)
+    × (asked_in (words_of name (codes "serve") (codes "--log" ∷ codes "--rounds" ∷ codes "25" ∷ []))
+    ≡ AskedServe (codes "c") 25 true)
+    × (asked_in (words_of name (codes "push") []) ≡ AskedPush (codes "c") false)
 
 -- `session` alone is taken, and so are `init` and `list` with a file; without a subcommand, without the file and with a
 -- further word they aren't; `--help` asks for help
@@ -131,7 +139,6 @@ WordsAreTaken =
     × (asked_in (name ∷ codes "list" ∷ codes "--config=relayd.toml" ∷ []) ≡ AskedList (codes "relayd.toml"))
     × (asked_in (name ∷ codes "session" ∷ []) ≡ AskedSession)
     × ServesAndPushes name
-
 
 -- the argument reader finds no fault in the words, and they ask for a session
 abbrev pub AskForSession : List Text → Type 0

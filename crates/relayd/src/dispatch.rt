@@ -34,14 +34,7 @@ pub fn command<
     R: Read,
     W: Write,
     E: Write,
->(
-    alloc: Global,
-    system: &F,
-    words: &[S],
-    reader: &mut R,
-    writer: &mut W,
-    errors: &mut E,
-) -> u8
+>(alloc: Global, system: &F, words: &[S], reader: &mut R, writer: &mut W, errors: &mut E) -> u8
     ensures served { AskForSession (map S.text words.now) → result ≡ 0
         → IsServed (R.remaining reader.old) (R.remaining reader.new) (W.contents writer.old)
         (W.contents writer.new) }
@@ -61,11 +54,24 @@ pub fn command<
         Ok(Subcommand::Init(file)) => ended(init(alloc, system, file), errors),
         Ok(Subcommand::List(file)) => ended(list(alloc, system, file, writer), errors),
         Ok(Subcommand::Serve { file, rounds, log }) => {
-            let end = serve(alloc, system, file, rounds, writer, &mut Log::new(alloc, errors, log));
+            let end = serve(
+                alloc,
+                system,
+                file,
+                rounds,
+                writer,
+                &mut Log::new(alloc, errors, log),
+            );
             ended(end, errors)
         }
         Ok(Subcommand::Push { file, log }) => {
-            let end = push(alloc, system, file, writer, &mut Log::new(alloc, errors, log));
+            let end = push(
+                alloc,
+                system,
+                file,
+                writer,
+                &mut Log::new(alloc, errors, log),
+            );
             ended(end, errors)
         }
         Err(error) => explain(&error, writer, errors),

@@ -3,6 +3,8 @@
 
 mod dispatch;
 mod setup;
+#[cfg(test)]
+mod socket_tests;
 mod streams;
 #[cfg(test)]
 mod tests;

@@ -161,8 +161,9 @@ fn program<'a>(alloc: Global) -> Result<Command<'a>, AllocError>
 fn session<'a>(alloc: Global) -> Command<'a>
     ensures { app_of result ≡ new_app (codes "session") }
 {
-    Command::new(alloc, "session")
-        .about("Holds one SMTP session from standard input to standard output")
+    Command::new(alloc, "session").about(
+        "Holds one SMTP session from standard input to standard output",
+    )
 }
 
 /// A subcommand of this name with a configuration file. It fails where memory runs out.
