@@ -1,5 +1,5 @@
 -- What a link of an attempt has done, call by call.
-use Rattle.std.proofs.Common.{◌≡◌, ℕ, List, [], ◌∷◌, ◌++◌, length, Bool, true, false, Option, None, Some, refl, sym, ap, ap₂, ◌∙◌, subst, append_assoc, append-nil, take, drop, take-append-drop, arith}
+use Rattle.std.proofs.Common.{◌≡◌, ℕ, List, [], ◌∷◌, ◌++◌, length, Bool, true, false, true≢false, Option, None, Some, refl, sym, ap, ap₂, ◌∙◌, subst, append_assoc, append-nil, take, drop, take-append-drop, arith}
 use Rattle.std.proofs.lemmas.List.{take_all}
 use Rattle.std.specs.Io.KnownBytes.{Appends, Consumes}
 use Rattle.std.proofs.KnownBytes.{Appends-nil, Appends-trans, Consumes-nil, Consumes-trans}
@@ -41,6 +41,32 @@ RestStays old new number = OthersStay old.attempts new.attempts number × (new.c
 
 pub rest_stays : {D : Type 0} (old mid new : Standing D) (number : ℕ) → RestStays old mid number → RestStays mid new number → RestStays old new number
 rest_stays old mid new number before now = (λ other differs. now.0 other differs ∙ before.0 other differs, now.1 ∙ before.1, now.2 ∙ before.2)
+
+-- an attempt is gone behind a fault of a node that lives on
+pub gone_by_fault : {D : Type 0} (words : DiskWords D) (number : ℕ) (old new : Standing D) (fault : NodeFault) → (old.records.spool.live ≡ true → RefusesToReply words number old new fault) → (old.records.spool.live ≡ false → new ≡ old)
+    → (fault ≡ node_fault.Unknown → slot_at old.attempts number ≡ None) → new.records.spool.live ≡ true → slot_at new.attempts number ≡ None
+gone_by_fault {D} words number old new fault refused stopped unknown live = by_live old.records.spool.live refl
+  where
+    by_fault : (fault : NodeFault) → RefusesToReply words number old new fault → (fault ≡ node_fault.Unknown → slot_at old.attempts number ≡ None) → slot_at new.attempts number ≡ None
+    by_fault node_fault.NoMemory gone unknown = gone.attempt
+    by_fault node_fault.Stopped halted unknown = absurd (true≢false (sym live ∙ halted.live))
+    by_fault node_fault.Unknown same unknown = ap (λ (node : Standing D). slot_at node.attempts number) same ∙ unknown refl
+    by_fault node_fault.TooMany never unknown = absurd never
+    by_fault node_fault.NotDue never unknown = absurd never
+    by_fault node_fault.Busy never unknown = absurd never
+    by_fault (node_fault.Open cause) never unknown = absurd never
+    by_fault node_fault.Full gone unknown = gone.attempt
+
+    by_live : (is_live : Bool) → old.records.spool.live ≡ is_live → slot_at new.attempts number ≡ None
+    by_live true e = by_fault fault (refused e) unknown
+    by_live false e = absurd (true≢false (sym live ∙ (ap (λ (node : Standing D). node.records.spool.live) (stopped e) ∙ e)))
+
+-- a number is some number
+pub some_number : (change : Option ℕ) (number : ℕ) → change ≡ Some number → change ≡ None → ⊥
+some_number change number is none = not_both (sym is ∙ none)
+  where
+    not_both : Some number ≡ None → ⊥
+    not_both e = cc
 
 module _ {D : Type 0} (honest : Type 0) (words : DiskWords D) (start : PushStart) (at number : ℕ) where
   -- octets were read, which wait

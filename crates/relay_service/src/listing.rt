@@ -1,7 +1,7 @@
 //! The spool that a configuration names: made, and listed.
 use crate::fault::Fault;
 use crate::settings::{configuration, spool_file};
-use relay_disk::FileDisk;
+use relay_disk::{Disk, FileDisk};
 use relay_node::Node;
 use std::alloc::Global;
 use std::fs::File;
@@ -18,6 +18,9 @@ pub fn init<F: Files<File = File>>(alloc: Global, files: &F, path: &str) -> Resu
     }
 }
 
+/// How often `list` opens a spool that grows while it is read.
+const OPENINGS: u32 = 1_000;
+
 /// Writes a line for each recipient that the spool holds, in order: the number of its message, its
 /// place in that, its path, and the moment when it is due, in seconds from 1970.
 pub fn list<F: Files<File = File>, W: Write>(
@@ -26,11 +29,34 @@ pub fn list<F: Files<File = File>, W: Write>(
     path: &str,
     writer: &mut W,
 ) -> Result<(), Fault> {
+    for _ in 0..OPENINGS {
+        if let Some(node) = open_unless_it_grew(alloc, files, path)? {
+            return write_held(alloc, &node, writer);
+        }
+    }
+    Err(Fault::Device)
+}
+
+/// The node of the spool that the configuration names; none where the spool seemed damaged and has grown while it
+/// was read. A process that serves adds to the file beside this one, and what it adds then may pass the end that
+/// the file had before.
+fn open_unless_it_grew<F: Files<File = File>>(
+    alloc: Global,
+    files: &F,
+    path: &str,
+) -> Result<Option<Node<FileDisk>>, Fault> {
     let config = configuration(alloc, files, path)?;
-    let disk = spool_file(files, &config)?;
+    let mut disk = spool_file(files, &config)?;
+    let size = disk.size();
     match Node::open(alloc, config, disk) {
-        Ok(node) => write_held(alloc, &node, writer),
-        Err(refused) => Err(Fault::from(refused.cause)),
+        Ok(node) => Ok(Some(node)),
+        Err(refused) => {
+            let mut disk = refused.disk;
+            match Fault::from(refused.cause) {
+                Fault::Damaged(_) if disk.size() != size => Ok(None),
+                fault => Err(fault),
+            }
+        }
     }
 }
 

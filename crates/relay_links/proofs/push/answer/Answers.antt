@@ -1,7 +1,7 @@
 -- What a call of the node does to the link of an attempt.
 use Rattle.std.proofs.Common.{rules, ◌≡◌, Err, append-nil, sym, ap, subst, []}
 use Rattle.relay_links.specs.Push.{HasFailed}
-use Rattle.relay_links.proofs.PushLemmas.{answered_end, answered_on, refuses_octets, tells_here}
+use Rattle.relay_links.proofs.PushLemmas.{answered_end, answered_on, gone_by_fault, refuses_octets, some_number, tells_here}
 use Rattle.relay_links.proofs.push.answer.Goals as goal
 
 pub returns-in-Err-clause-goes : goal.returns-in-Err-clause-goes
@@ -12,5 +12,7 @@ returns-in-Err-clause-goes g c = λ start left h.
     (λ e. c.in-Err.ensures.cut start.changes _ h.keeps tells (ap (λ fault. Err fault) e))
     (λ e. (c.in-Err.ensures.unknown.0 (ap (λ fault. Err fault) e)).1))
 
-pub returns-in-Some-in-Ok-clause-goes : goal.returns-in-Some-in-Ok-clause-goes
-returns-in-Some-in-Ok-clause-goes g c = ?
+pub returns-in-Err-clause-gone : goal.returns-in-Err-clause-gone
+returns-in-Err-clause-gone g c =
+    gone_by_fault g.D.Disk.words c.args.attempt c.args.node.now c.reply.new.self c.in-Err.fault c.in-Err.ensures.refused (λ e. (c.in-Err.ensures.stopped e).1)
+    (λ e. (c.in-Err.ensures.unknown.0 (ap (λ fault. Err fault) e)).1)
