@@ -113,6 +113,13 @@ module _ (host : List ℕ) (table : RouteTable) (queue : Queue) (number : ℕ) (
     once = once_behind;
   }
 
+  -- its outcome was refused, and the queue is the same
+  pub refused_serves : (new : Queue) → new ≡ queue → after.stranded ≡ stranded_of table new.messages
+      → Serves host table after new
+  refused_serves new same known =
+      subst (λ (q : Queue). Serves host table after q) (sym same)
+      (dropped_serves (known ∙ ap (λ (q : Queue). stranded_of table q.messages) same ∙ sym serves.stranded))
+
   -- its outcome was added
   pub ended_serves : (outcome : Outcome) (report : List ℕ) (now : ℕ) (verdicts : List Verdict) (new : Queue)
       → outcome ≡ outcome_of run.message now run.hop (rulings_of run.places.items verdicts)

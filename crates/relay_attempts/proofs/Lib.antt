@@ -11,6 +11,8 @@ mod MessageLemmas
 mod StrandedLemmas
 mod OutcomeLemmas
 mod OpenLemmas
+mod RulingLemmas
 mod ReplyLemmas
+mod RefusalLemmas
 mod AmongLemmas
 mod ToldLemmas

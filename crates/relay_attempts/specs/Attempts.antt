@@ -51,7 +51,7 @@ module _ (host : List ℕ) (table : RouteTable) (number : ℕ) (hop : List ℕ) 
     pub some : started.places.items ≢ []
     pub run : Run
     pub put : new ≡ slice_set old started.attempt (Some run)
-  pub at : slot_at new started.attempt ≡ Some run
+    pub at : slot_at new started.attempt ≡ Some run
     pub begun : Begun host number hop started.places.items run
 
   -- the message is queued, and not all numbers are taken

@@ -20,8 +20,8 @@ use Rattle.relay_attempts.specs.declared.reply.Replied.{Replied}
 use Rattle.relay_attempts.specs.Attempts.{Standing}
 use Rattle.relay_attempts.specs.Outcomes.{outcome_of, rulings_of}
 
--- of an attempt: its message, hop and places, the envelope and stored text that it hands on, and what it has read and
--- written
+-- of an attempt: its message, hop and places, the envelope and stored text that it hands on, and what it has
+-- read and written
 pub record Told : Type 0 where
   pub message : ℕ
   pub hop : List ℕ
@@ -65,8 +65,8 @@ pub record ReadsToEnd (host : List ℕ) (told : Told) (piece : List ℕ) : Type 
   pub verdicts : List Verdict
   pub course : IsItsCourse host (told_more told (take used piece) out) false verdicts
 
--- The words below are of a call at a moment, for the attempt of a number, of which this is told; the records keep these
--- changes.
+-- The words below are of a call at a moment, for the attempt of a number, of which this is told; the records
+-- keep these changes.
 module _ {D : Type 0} (honest : Type 0) (words : DiskWords D) (host : List ℕ) (now : ℕ) (changes : List Change)
     (number : ℕ) (told : Told) where
   -- it goes on behind the whole piece, and nothing was added
@@ -104,7 +104,7 @@ module _ {D : Type 0} (honest : Type 0) (words : DiskWords D) (host : List ℕ) 
     pub cuts : CutsOutcome honest words host changes (outcome_at now told (all_later told.places)) 0 new
 
 -- there is no room for the outcome with which it ends
-pub record HasNoRoomFor {D : Type 0} (host : List ℕ) (now : ℕ) (told : Told) (piece : List ℕ) (old : Kept D)
+pub record HasNoRoomAtEnd {D : Type 0} (host : List ℕ) (now : ℕ) (told : Told) (piece : List ℕ) (old : Kept D)
     : Type 0 where
   pub ends : ReadsToEnd host told piece
   pub room : HasNoRoom host (outcome_at now told ends.verdicts) old
@@ -134,23 +134,23 @@ module _ {D : Type 0} (words : DiskWords D) (host : List ℕ) (now number : ℕ)
       pub whole : replied.change ≡ None → replied.used ≡ len
       pub makes : Makes before after old new replied.change
 
--- What is left where a reply to the attempt of a number is refused, or its loss.
-module _ {D : Type 0} (words : DiskWords D) (number : ℕ) where
-  -- it ran on live records, and runs no more
-  pub record IsGone (before after : Standing) (old : Kept D) : Type 0 where
-    pub live : old.spool.live ≡ true
-    pub was : slot_at before.runs number ≢ None
-    pub gone : slot_at after.runs number ≡ None
+-- the attempt ran beside live records, and runs no more
+pub record IsGone {D : Type 0} (number : ℕ) (before after : Standing) (old : Kept D) : Type 0 where
+  pub live : old.spool.live ≡ true
+  pub was : slot_at before.runs number ≢ None
+  pub gone : slot_at after.runs number ≡ None
 
-  abbrev pub RefusesToHear : Standing → Standing → Kept D → Kept D → NodeFault → Type 0
-  RefusesToHear before after old new NoMemory = IsGone before after old × (new ≡ old)
-  RefusesToHear before after old new Stopped =
-      ((old.spool.live ≡ false) × (after ≡ before) × (new ≡ old))
-      ⊎ (IsGone before after old × IsStopped words old new)
-  RefusesToHear before after old new Unknown =
-      (old.spool.live ≡ true) × (slot_at before.runs number ≡ None) × (after ≡ before) × (new ≡ old)
-  RefusesToHear before after old new TooMany = ⊥
-  RefusesToHear before after old new NotDue = ⊥
-  RefusesToHear before after old new Busy = ⊥
-  RefusesToHear before after old new (Open cause) = ⊥
-  RefusesToHear before after old new Full = IsGone before after old × (new ≡ old)
+-- what is left where a reply to the attempt of a number is refused, or its loss
+abbrev pub RefusesToHear
+    : {D : Type 0} → DiskWords D → ℕ → Standing → Standing → Kept D → Kept D → NodeFault → Type 0
+RefusesToHear words number before after old new NoMemory = IsGone number before after old × (new ≡ old)
+RefusesToHear words number before after old new Stopped =
+    ((old.spool.live ≡ false) × (after ≡ before) × (new ≡ old))
+    ⊎ (IsGone number before after old × IsStopped words old new)
+RefusesToHear words number before after old new Unknown =
+    (old.spool.live ≡ true) × (slot_at before.runs number ≡ None) × (after ≡ before) × (new ≡ old)
+RefusesToHear words number before after old new TooMany = ⊥
+RefusesToHear words number before after old new NotDue = ⊥
+RefusesToHear words number before after old new Busy = ⊥
+RefusesToHear words number before after old new (Open cause) = ⊥
+RefusesToHear words number before after old new Full = IsGone number before after old × (new ≡ old)

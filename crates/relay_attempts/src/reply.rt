@@ -1,7 +1,7 @@
 //! Replies to attempts, and connections that are lost.
 ghost use Rattle.std.specs.Prelude.{◌≡◌, List, Err, IfErr, IfOk, length};
 ghost use Rattle.relay_attempts.specs.Attempts.{Serves};
-ghost use Rattle.relay_attempts.specs.Reply.{CutsLoss, CutsReply, EndsBy, HasHeard, HasNoRoomFor, IsLost, RefusesToHear, Replies, TellsAt, Told, outcome_at};
+ghost use Rattle.relay_attempts.specs.Reply.{CutsLoss, CutsReply, EndsBy, HasHeard, HasNoRoomAtEnd, IsLost, RefusesToHear, Replies, TellsAt, Told, outcome_at};
 ghost use Rattle.relay_book.specs.declared.change.Change.{Change};
 ghost use Rattle.relay_course.specs.VerdictTable.{all_later};
 ghost use Rattle.relay_outcomes.specs.Outcomes.{HasNoRoom};
@@ -28,12 +28,13 @@ pub struct Replied {
 }
 
 impl Attempts {
-    /// Uses octets that the server of an attempt wrote, all of them or up to the attempt's end. At its end one outcome is
-    /// added, of exactly its places, each with its verdict, in one change with the report that is due of it.
+    /// Uses octets that the server of an attempt wrote, all of them or up to the attempt's end. At its end one
+    /// outcome is added, of exactly its places, each with its verdict, in one change with the report that is due
+    /// of it.
     ///
-    /// `Stopped` is answered first, and then `Unknown`, where there is no such attempt; nothing is changed then. At
-    /// `NoMemory` and `Full` the attempt is gone, and the records are as they were. So it is where the device fails now:
-    /// then a stop leaves the changes as they were or with the outcome.
+    /// `Stopped` is answered first, and then `Unknown`, where there is no such attempt; nothing is changed then.
+    /// At `NoMemory` and `Full` the attempt is gone, and the records are as they were. It is gone too where the
+    /// device fails now: then a stop leaves the changes as they were, or with the outcome.
     pub fn reply<D: Disk>(
         &mut self,
         alloc: Global,
@@ -46,17 +47,18 @@ impl Attempts {
         requires serves { Serves config.now.host config.now.routes self.old records.old.queue }
         ensures replies { (changes : List Change) (told : Told) → Keeps D.honest D.words records.old changes
             → TellsAt config.now.host records.old.queue self.old.runs attempt told
-            → IfOk result (λ replied. Replies D.honest D.words config.now.host now changes attempt told piece.now
-            records.old records.new self.new.runs replied replied.change) }
+            → IfOk result (λ replied. Replies D.honest D.words config.now.host now changes attempt told
+            piece.now records.old records.new self.new.runs replied replied.change) }
         ensures cut { (changes : List Change) (told : Told) → Keeps D.honest D.words records.old changes
             → TellsAt config.now.host records.old.queue self.old.runs attempt told
             → result ≡ Err NodeFault.Stopped
             → CutsReply D.honest D.words config.now.host now changes attempt told piece.now records.new }
         ensures full { (told : Told) → TellsAt config.now.host records.old.queue self.old.runs attempt told
-            → result ≡ Err NodeFault.Full → HasNoRoomFor config.now.host now told piece.now records.old }
+            → result ≡ Err NodeFault.Full → HasNoRoomAtEnd config.now.host now told piece.now records.old }
         ensures heard { IfOk result (HasHeard D.words config.now.host now attempt (length piece.now)
             self.old.runs self.new.runs records.old records.new) }
-        ensures refused { IfErr result (RefusesToHear D.words attempt self.old self.new records.old records.new) }
+        ensures refused { IfErr result (RefusesToHear D.words attempt self.old self.new
+            records.old records.new) }
         ensures others { OthersStay self.old.runs self.new.runs attempt }
         ensures serves { Serves config.now.host config.now.routes self.new records.new.queue }
     {
@@ -97,9 +99,9 @@ impl Attempts {
         }
     }
 
-    /// Ends an attempt whose connection is lost: each of its places may be tried again, or has failed where it was tried for
-    /// too long. One outcome says so, in one change with the report that is due of it, whose number is the answer. The
-    /// faults are those of [`Attempts::reply`], and leave the same.
+    /// Ends an attempt whose connection is lost: each of its places may be tried again, or has failed where it was
+    /// tried for too long. One outcome says so, in one change with the report that is due of it, whose number is
+    /// the answer. The faults are those of [`Attempts::reply`], and leave the same.
     pub fn lost<D: Disk>(
         &mut self,
         alloc: Global,
@@ -122,7 +124,8 @@ impl Attempts {
             → HasNoRoom config.now.host (outcome_at now told (all_later told.places)) records.old }
         ensures ends { IfOk result (EndsBy D.words config.now.host now attempt self.old.runs self.new.runs
             records.old records.new) }
-        ensures refused { IfErr result (RefusesToHear D.words attempt self.old self.new records.old records.new) }
+        ensures refused { IfErr result (RefusesToHear D.words attempt self.old self.new
+            records.old records.new) }
         ensures others { OthersStay self.old.runs self.new.runs attempt }
         ensures serves { Serves config.now.host config.now.routes self.new records.new.queue }
     {

@@ -68,8 +68,8 @@ impl Run {
         }
     }
 
-    /// The outcome of the attempt where it has ended with these verdicts; its report isn't written yet. It fails where memory
-    /// runs out.
+    /// The outcome of the attempt where it has ended with these verdicts; its report isn't written yet. It fails
+    /// where memory runs out.
     pub(crate) fn outcome(
         self,
         alloc: Global,
@@ -96,11 +96,15 @@ fn rulings_of(alloc: Global, places: &[u8], verdicts: Verdicts) -> Result<Ruling
     ensures { IfOk result (λ rulings. rulings ≡ rulings_of places.now verdicts) }
 {
     let mut rulings = Rulings::new(alloc);
-    for (place, verdict) in places.iter().zip(verdicts.into_vec()) {
-        rulings.push(Ruling {
-            place: *place,
-            verdict,
-        })?;
+    let mut index = 0;
+    for verdict in verdicts.into_vec() {
+        if index < places.len() {
+            rulings.push(Ruling {
+                place: places[index],
+                verdict,
+            })?;
+            index += 1;
+        }
     }
     Ok(rulings)
 }

@@ -1,5 +1,5 @@
 -- The attempts of a node, and what is told of them, by the queue and by the list of changes.
-use Rattle.std.proofs.Common.{◌≡◌, ℕ, List, [], ◌∷◌, ◌++◌, Option, Some, None, refl, sym, ap, ◌∙◌, subst}
+use Rattle.std.proofs.Common.{◌≡◌, ℕ, List, [], ◌∷◌, ◌++◌, Option, Some, None, Result, Ok, Err, IfOk, refl, sym, ap, ◌∙◌, subst}
 use Rattle.relay_disk.specs.Device.{DiskWords}
 use Rattle.relay_slots.specs.Slots.{slot_at}
 use Rattle.relay_slots.proofs.Theorems.{others_of_set}
@@ -42,7 +42,7 @@ refused_queue words old new (Open cause) refused = absurd refused
 refused_queue {D = D} words old new Full refused = ap (λ (k : Kept D). k.queue) refused.0
 
 -- what has begun by the queue has begun by the list
-pub begins : (config : Config) (changes : List Change) (number : ℕ) (hop : List ℕ) (now : ℕ) (queue : Queue) (old new : List (Option Run)) (started : Started) → Fitting changes → queue ≡ queue_of changes
+begins : (config : Config) (changes : List Change) (number : ℕ) (hop : List ℕ) (now : ℕ) (queue : Queue) (old new : List (Option Run)) (started : Started) → Fitting changes → queue ≡ queue_of changes
     → Starts config.host config.routes number hop now queue old new started → Begins config changes number hop now old new started
 begins config changes number hop now queue old new started fitting queue_is s =
     let found : message_of (queue_of changes).messages number ≡ Some s.message = subst (λ (q : Queue). message_of q.messages number ≡ Some s.message) queue_is s.found in
@@ -67,6 +67,11 @@ begins config changes number hop now queue old new started fitting queue_is s =
       };
       others = others_of_set old new started.attempt (Some s.run) s.put;
     }
+
+pub begins_if : (config : Config) (changes : List Change) (number : ℕ) (hop : List ℕ) (now : ℕ) (queue : Queue) (old new : List (Option Run)) (result : Result Started NodeFault) → Fitting changes → queue ≡ queue_of changes
+    → IfOk result (Starts config.host config.routes number hop now queue old new) → IfOk result (Begins config changes number hop now old new)
+begins_if config changes number hop now queue old new (Ok started) fitting queue_is s = begins config changes number hop now queue old new started fitting queue_is s
+begins_if config changes number hop now queue old new (Err fault) fitting queue_is s = tt
 
 pub told_stays : ToldStays
 told_stays host changes change old new number told fitting same t = record {

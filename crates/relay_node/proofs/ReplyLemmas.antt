@@ -16,6 +16,7 @@ use Rattle.relay_attempts.specs.declared.runs.Run.{Run}
 use Rattle.relay_attempts.specs.Attempts.{Serves, Standing as Attempting}
 use Rattle.relay_attempts.specs.Reply.{EndsBy, HasHeard, Makes, RefusesToHear, TellsAt, Told, told_more, Replies as RepliesOfQueue}
 use Rattle.relay_node.specs.Attempts.{RefusesToReply, Replies, RepliesBy, Tells, UsesReply}
+use Rattle.relay_node.specs.declared.seat.Seat.{Seat}
 use Rattle.relay_node.specs.Node.{Standing}
 
 one_some : (first second : Accept) → Some first ≡ Some second → first ≡ second
@@ -104,8 +105,15 @@ module _ {D : Type 0} (words : DiskWords D) (number : ℕ) (before after : Attem
   refuses Stopped (inr stopped) = stopped.1
   refuses Unknown r = same_node (is ∙ ap (λ (s : Attempting). s.runs) r.2 ∙ sym was) r.3
     where
+      parts : Config → List (Option Seat) → List (Option Run) → Kept D → Standing D
+      parts config seats attempts records = record { config = config; seats = seats; attempts = attempts; records = records }
+
       same_node : new.attempts ≡ old.attempts → new.records ≡ old.records → new ≡ old
-      same_node attempts records = cc
+      same_node attempts records =
+          ap (λ (c : Config). parts c new.seats new.attempts new.records) config
+          ∙ ap (λ (s : List (Option Seat)). parts old.config s new.attempts new.records) seats
+          ∙ ap (λ (a : List (Option Run)). parts old.config old.seats a new.records) attempts
+          ∙ ap (λ (r : Kept D). parts old.config old.seats old.attempts r) records
   refuses TooMany r = absurd r
   refuses NotDue r = absurd r
   refuses Busy r = absurd r
@@ -149,6 +157,7 @@ heard_there {D = D} words host now number len before after old new (Ok replied) 
   where
     some_there : (run : Run) → slot_at before number ≡ Some run → slot_at before number ≢ None
     some_there run is none = absurd (cc)
+
     by : (change : Option ℕ) → Makes words host now number before after old new change → slot_at before number ≢ None
     by None made = made.1
     by (Some change) made = some_there made.run made.was

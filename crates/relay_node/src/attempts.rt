@@ -11,6 +11,7 @@ ghost use Rattle.relay_node.specs.Node.{TakesIn};
 ghost use Rattle.relay_records.specs.Records.{Keeps};
 
 use crate::node::Node;
+use crate::receive::Received;
 use relay_attempts::{Attempts, Started, Work};
 use relay_disk::Disk;
 use relay_records::{NodeFault, Records};
@@ -34,21 +35,17 @@ impl<D: Disk> Node<D> {
         if !self.records.is_live() {
             return Err(NodeFault::Stopped);
         }
-        Ok(self
-            .attempts
-            .due(alloc, &self.config.routes, &self.records, now)?)
+        Ok(
+            self.attempts
+                .due(alloc, &self.config.routes, &self.records, now)?,
+        )
     }
 
     /// Begins an attempt for the places of a message that are due and go to this hop, under the least free
     /// number. The first fault in this order is answered, and nothing is changed then: `Stopped`, `Unknown`
     /// where no place of such a message is held, `TooMany` where 64 attempts are running, `Busy` where one
     /// for this message and hop is, `NotDue` where no place is due that goes there; then want of memory.
-    pub fn start(
-        &mut self,
-        message: u64,
-        hop: &HostName,
-        now: Moment,
-    ) -> Result<Started, NodeFault>
+    pub fn start(&mut self, message: u64, hop: &HostName, now: Moment) -> Result<Started, NodeFault>
         ensures starts { IfOk result (Starts self.old.config.host self.old.config.routes message hop.now now
             self.old.records.queue self.old.attempts self.new.attempts) }
         ensures begins { (changes : List Change) → Keeps D.honest D.words self.old.records changes
@@ -61,14 +58,8 @@ impl<D: Disk> Node<D> {
         ensures unchanged { IfErr result (λ _. self.new ≡ self.old) }
         ensures stopped { (result ≡ Err NodeFault.Stopped) ↔ (self.old.records.spool.live ≡ false) }
     {
-        self.attempts.start(
-            self.alloc,
-            &self.config,
-            &self.records,
-            message,
-            hop,
-            now,
-        )
+        self.attempts
+            .start(self.alloc, &self.config, &self.records, message, hop, now)
     }
 
     /// Ends the held places of a message that have no hop (RFC 5321, section 6.1), all in one change with the
@@ -93,30 +84,25 @@ impl<D: Disk> Node<D> {
         if !self.records.is_live() {
             return Err(NodeFault::Stopped);
         }
-        self.attempts.give_up_unroutable(
-            self.alloc,
-            &self.config,
-            &mut self.records,
-            message,
-            now,
-        )
+        self.attempts
+            .give_up_unroutable(self.alloc, &self.config, &mut self.records, message, now)
     }
 }
 
-/// Tells the attempts of the mail that was accepted under this number, if some was. It takes no memory.
+/// Tells the attempts of the mail that a call has accepted, if it accepted any. It takes no memory.
 pub(crate) fn note<D: Disk>(
     attempts: &mut Attempts,
     table: &Table,
     records: &Records<D>,
-    change: Option<u64>,
+    received: &Received,
 )
     requires { 0 < attempts.old.room }
     ensures serves { (host : List ℕ) (queue : Queue) → Rise 0 queue.next queue.messages
-        → TakesIn queue change records.now.queue
+        → TakesIn queue received.now.change records.now.queue
         → Serves host table.now attempts.old queue → Serves host table.now attempts.new records.now.queue }
     ensures runs { attempts.new.runs ≡ attempts.old.runs }
 {
-    if let Some(number) = change {
+    if let Some(number) = received.change {
         attempts.accepted(table, records, number);
     }
 }

@@ -13,6 +13,6 @@ mod reply;
 mod seat;
 
 pub use node::{Connected, Node};
-pub use relay_attempts::{Replied, Started, Work};
 pub use receive::Received;
+pub use relay_attempts::{Replied, Started, Work};
 pub use relay_records::{Cause, HeldPlace, NodeFault, NotOpened, Noted};

@@ -285,7 +285,7 @@ impl<D: Disk> Node<D> {
             &mut self.attempts,
             &self.config.routes,
             &self.records,
-            received.change,
+            &received,
         );
         if received.close {
             return Ok(received);

@@ -20,12 +20,7 @@ impl<D: Disk> Node<D> {
     /// that is due of it: from then on every stop leaves it. `Stopped` is answered first, and then `Unknown`
     /// where there is no such attempt. At `NoMemory` and `Full` the attempt is gone without another octet,
     /// and the records are unchanged.
-    pub fn reply(
-        &mut self,
-        attempt: usize,
-        piece: &[u8],
-        now: Moment,
-    ) -> Result<Replied, NodeFault>
+    pub fn reply(&mut self, attempt: usize, piece: &[u8], now: Moment) -> Result<Replied, NodeFault>
         ensures replies { (changes : List Change) (told : Told)
             → Keeps D.honest D.words self.old.records changes
             → Tells self.old.config.host changes self.old.attempts attempt told
@@ -92,12 +87,7 @@ impl<D: Disk> Node<D> {
         if !self.records.is_live() {
             return Err(NodeFault::Stopped);
         }
-        self.attempts.lost(
-            self.alloc,
-            &self.config,
-            &mut self.records,
-            attempt,
-            now,
-        )
+        self.attempts
+            .lost(self.alloc, &self.config, &mut self.records, attempt, now)
     }
 }
