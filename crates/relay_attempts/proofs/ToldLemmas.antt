@@ -1,14 +1,12 @@
 -- What is told of an attempt, and what its client follows.
-use Rattle.std.proofs.Common.{◌≡◌, ◌≢◌, ℕ, zero, suc, ◌<◌, Bool, true, false, List, [], ◌∷◌, ◌++◌, length, take, Option, None, Some, Result, Ok, Err, IfOk, refl, sym, ap, ◌∙◌, subst}
+use Rattle.std.proofs.Common.{◌≡◌, ℕ, zero, suc, ◌<◌, true, false, List, [], ◌∷◌, ◌++◌, length, take, Option, None, Some, Result, Ok, Err, IfOk, refl, sym, ap, ◌∙◌, subst}
 use Rattle.std.specs.Prelude.{slice_set}
 use Rattle.std.specs.declared.alloc.AllocError.{AllocError}
 use Rattle.std.proofs.lemmas.List.{length-set}
-use Rattle.relay_disk.specs.Device.{DiskWords}
 use Rattle.relay_slots.specs.Slots.{slot_at}
 use Rattle.relay_slots.proofs.Theorems.{has_slot}
 use Rattle.relay_envelope.specs.declared.envelope.Envelope.{Envelope}
 use Rattle.relay_routes.specs.Routes.{RouteTable}
-use Rattle.relay_book.specs.declared.change.Change.{Change}
 use Rattle.relay_book.specs.declared.change.Outcome.{Outcome}
 use Rattle.relay_book.specs.declared.change.Verdict.{Verdict}
 use Rattle.relay_book.specs.declared.message.Message.{Message}
@@ -67,18 +65,18 @@ pub hears_queued : (queue : Queue) (run : Run) (after : Attempt) (piece : List �
 hears_queued queue run after piece (Err fault) fed text found text_is fed_is = tt
 hears_queued queue run after piece (Ok driven) fed text found text_is fed_is =
     λ message host places input output its follows.
-        let one : fed ≡ message = some_is fed message (sym found ∙ its) in
-        let same : text ≡ message.accept.stored_text = text_is ∙ ap (λ (m : Message). m.accept.stored_text) one in
-        let envelope : fed.accept.envelope ≡ message.accept.envelope = ap (λ (m : Message). m.accept.envelope) one in
-        let more : List ℕ = input ++ take driven.used piece in
-        let written : List ℕ = output ++ driven.out.items in
-        subst (λ (e : Envelope). FollowsOn after host e message.accept.stored_text places more written driven.verdicts)
-        envelope
-        (subst (λ (t : List ℕ). FollowsOn after host fed.accept.envelope t places more written driven.verdicts) same
-        (fed_is host places input output
-        (subst (λ (e : Envelope). Follows run.client host e text places input output) (sym envelope)
-        (subst (λ (t : List ℕ). Follows run.client host message.accept.envelope t places input output) (sym same)
-        follows))))
+    let one : fed ≡ message = some_is fed message (sym found ∙ its) in
+    let same : text ≡ message.accept.stored_text = text_is ∙ ap (λ (m : Message). m.accept.stored_text) one in
+    let envelope : fed.accept.envelope ≡ message.accept.envelope = ap (λ (m : Message). m.accept.envelope) one in
+    let more : List ℕ = input ++ take driven.used piece in
+    let written : List ℕ = output ++ driven.out.items in
+    subst (λ (e : Envelope). FollowsOn after host e message.accept.stored_text places more written driven.verdicts)
+    envelope
+    (subst (λ (t : List ℕ). FollowsOn after host fed.accept.envelope t places more written driven.verdicts) same
+    (fed_is host places input output
+    (subst (λ (e : Envelope). Follows run.client host e text places input output) (sym envelope)
+    (subst (λ (t : List ℕ). Follows run.client host message.accept.envelope t places input output) (sym same)
+    follows))))
 
 -- a run for the same message, hop and places has the same outcome
 pub same_outcome : (run new : Run) (now : ℕ) (verdicts : List Verdict) → new.message ≡ run.message → new.hop ≡ run.hop

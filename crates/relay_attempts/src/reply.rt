@@ -1,7 +1,8 @@
 //! Replies to attempts, and connections that are lost.
 ghost use Rattle.std.specs.Prelude.{◌≡◌, List, Err, IfErr, IfOk, length};
 ghost use Rattle.relay_attempts.specs.Attempts.{Serves};
-ghost use Rattle.relay_attempts.specs.Reply.{CutsLoss, CutsReply, EndsBy, HasHeard, HasNoRoomAtEnd, IsLost, RefusesToHear, Replies, TellsAt, Told, outcome_at};
+ghost use Rattle.relay_attempts.specs.Reply.{CutsReply, HasHeard, HasNoRoomAtEnd, RefusesToHear, Replies, TellsAt, Told};
+ghost use Rattle.relay_attempts.specs.Reply.{CutsLoss, EndsBy, IsLost, outcome_at};
 ghost use Rattle.relay_book.specs.declared.change.Change.{Change};
 ghost use Rattle.relay_course.specs.VerdictTable.{all_later};
 ghost use Rattle.relay_outcomes.specs.Outcomes.{HasNoRoom};
@@ -28,13 +29,13 @@ pub struct Replied {
 }
 
 impl Attempts {
-    /// Uses octets that the server of an attempt wrote, all of them or up to the attempt's end. At its end one
-    /// outcome is added, of exactly its places, each with its verdict, in one change with the report that is due
-    /// of it.
+    /// Uses octets that the server of an attempt wrote, all of them or up to the attempt's end. At its end
+    /// one outcome is added, of exactly its places, each with its verdict, in one change with the report that
+    /// is due of it.
     ///
-    /// `Stopped` is answered first, and then `Unknown`, where there is no such attempt; nothing is changed then.
-    /// At `NoMemory` and `Full` the attempt is gone, and the records are as they were. It is gone too where the
-    /// device fails now: then a stop leaves the changes as they were, or with the outcome.
+    /// `Stopped` is answered first, and then `Unknown`, where there is no such attempt; nothing is changed
+    /// then. At `NoMemory` and `Full` the attempt is gone, and the records are as they were. It is gone too
+    /// where the device fails now: then a stop leaves the changes as they were, or with the outcome.
     pub fn reply<D: Disk>(
         &mut self,
         alloc: Global,
@@ -99,9 +100,9 @@ impl Attempts {
         }
     }
 
-    /// Ends an attempt whose connection is lost: each of its places may be tried again, or has failed where it was
-    /// tried for too long. One outcome says so, in one change with the report that is due of it, whose number is
-    /// the answer. The faults are those of [`Attempts::reply`], and leave the same.
+    /// Ends an attempt whose connection is lost: each of its places may be tried again, or has failed where it
+    /// was tried for too long. One outcome says so, in one change with the report that is due of it, whose
+    /// number is the answer. The faults are those of [`Attempts::reply`], and leave the same.
     pub fn lost<D: Disk>(
         &mut self,
         alloc: Global,

@@ -42,7 +42,8 @@ impl Run {
             × (self.new.places ≡ self.old.places) }
         ensures follows { IfOk result (λ driven. (message : Message) (host places input output : List ℕ)
             → message_of records.now.queue.messages self.old.message ≡ Some message
-            → Follows self.old.client host message.accept.envelope message.accept.stored_text places input output
+            → Follows self.old.client host message.accept.envelope message.accept.stored_text places input
+            output
             → FollowsOn self.new.client host message.accept.envelope message.accept.stored_text places
             (input ++ take driven.used piece.now) (output ++ driven.out.items) driven.verdicts) }
         ensures turns { IfOk result (λ driven. Turns self.old.client self.new.client driven (length piece.now)) }
@@ -68,8 +69,8 @@ impl Run {
         }
     }
 
-    /// The outcome of the attempt where it has ended with these verdicts; its report isn't written yet. It fails
-    /// where memory runs out.
+    /// The outcome of the attempt where it has ended with these verdicts; its report isn't written yet. It
+    /// fails where memory runs out.
     pub(crate) fn outcome(
         self,
         alloc: Global,

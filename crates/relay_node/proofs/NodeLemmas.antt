@@ -67,7 +67,7 @@ module _ (config : Config) where
   }
 
 -- a node of these parts
-abbrev standing_of : {D : Type 0} → Config → List (Option Seat) → List (Option Run) → Kept D → Standing D
+abbrev pub standing_of : {D : Type 0} → Config → List (Option Seat) → List (Option Run) → Kept D → Standing D
 standing_of config seats attempts records = record { config = config; seats = seats; attempts = attempts; records = records }
 
 -- a session that tells its caller to close has closed

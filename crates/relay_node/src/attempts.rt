@@ -15,7 +15,7 @@ use crate::receive::Received;
 use relay_attempts::{Attempts, Started, Work};
 use relay_disk::Disk;
 use relay_records::{NodeFault, Records};
-use relay_routes::{HostName, Table};
+use relay_routes::{Config, HostName};
 use relay_trace::Moment;
 use std::alloc::Global;
 
@@ -92,17 +92,18 @@ impl<D: Disk> Node<D> {
 /// Tells the attempts of the mail that a call has accepted, if it accepted any. It takes no memory.
 pub(crate) fn note<D: Disk>(
     attempts: &mut Attempts,
-    table: &Table,
+    config: &Config,
     records: &Records<D>,
     received: &Received,
 )
     requires { 0 < attempts.old.room }
     ensures serves { (host : List ℕ) (queue : Queue) → Rise 0 queue.next queue.messages
         → TakesIn queue received.now.change records.now.queue
-        → Serves host table.now attempts.old queue → Serves host table.now attempts.new records.now.queue }
+        → Serves host config.now.routes attempts.old queue
+        → Serves host config.now.routes attempts.new records.now.queue }
     ensures runs { attempts.new.runs ≡ attempts.old.runs }
 {
     if let Some(number) = received.change {
-        attempts.accepted(table, records, number);
+        attempts.accepted(&config.routes, records, number);
     }
 }

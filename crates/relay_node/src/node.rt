@@ -281,12 +281,7 @@ impl<D: Disk> Node<D> {
             piece,
             now,
         )?;
-        note(
-            &mut self.attempts,
-            &self.config.routes,
-            &self.records,
-            &received,
-        );
+        note(&mut self.attempts, &self.config, &self.records, &received);
         if received.close {
             return Ok(received);
         }

@@ -1,6 +1,6 @@
 //! What next hops answer to attempts, and connections that are lost.
 ghost use Rattle.std.specs.Prelude.{◌≡◌, ◌↔◌, ℕ, None, true, false, List, length, Err, IfErr, IfOk, OnOk};
-ghost use Rattle.relay_attempts.specs.Reply.{CutsLoss, CutsReply, HasNoRoomFor, IsLost, Told, outcome_at};
+ghost use Rattle.relay_attempts.specs.Reply.{CutsLoss, CutsReply, HasNoRoomAtEnd, IsLost, Told, outcome_at};
 ghost use Rattle.relay_book.specs.declared.change.Change.{Change};
 ghost use Rattle.relay_course.specs.VerdictTable.{all_later};
 ghost use Rattle.relay_node.specs.Attempts.{RefusesToReply, Replies, Tells, UsesReply};
@@ -34,7 +34,7 @@ impl<D: Disk> Node<D> {
         ensures full { (changes : List Change) (told : Told) → Keeps D.honest D.words self.old.records changes
             → Tells self.old.config.host changes self.old.attempts attempt told
             → result ≡ Err NodeFault.Full
-            → HasNoRoomFor self.old.config.host now told piece.now self.old.records }
+            → HasNoRoomAtEnd self.old.config.host now told piece.now self.old.records }
         ensures used { IfOk result (UsesReply attempt (length piece.now) self.new.attempts) }
         ensures rest { OthersStay self.old.attempts self.new.attempts attempt
             × (self.new.config ≡ self.old.config) × (self.new.seats ≡ self.old.seats) }

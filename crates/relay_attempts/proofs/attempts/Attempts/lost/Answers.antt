@@ -1,4 +1,4 @@
-use Rattle.std.proofs.Common.{◌≡◌, ◌∙◌, ap, sym, refl, subst, true, List, None, Some, rules}
+use Rattle.std.proofs.Common.{◌≡◌, ◌∙◌, ap, refl, subst, true, List, None, Some, rules}
 use Rattle.std.specs.Prelude.{slice_set}
 use Rattle.relay_slots.specs.Slots.{slot_at}
 use Rattle.relay_slots.proofs.Theorems.{taken_is_none}

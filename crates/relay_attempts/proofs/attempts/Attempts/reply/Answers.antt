@@ -1,16 +1,15 @@
-use Rattle.std.proofs.Common.{◌≡◌, ◌∙◌, ◌<◌, ◌^◌, ℕ, ap, sym, refl, subst, true, false, length, take, List, None, Some, rules}
+use Rattle.std.proofs.Common.{◌≡◌, ◌∙◌, ◌<◌, ◌^◌, ℕ, ap, refl, subst, false, length, take, List, None, Some, rules}
 use Rattle.std.specs.Prelude.{slice_set}
 use Rattle.relay_slots.specs.Slots.{slot_at}
 use Rattle.relay_slots.proofs.Theorems.{taken_is_none}
 use Rattle.relay_envelope.specs.HostName.{IsHostName}
 use Rattle.relay_book.specs.Queue.{message_of}
 use Rattle.relay_book.specs.declared.change.Outcome.{Outcome}
-use Rattle.relay_book.specs.declared.change.Verdict.{Verdict}
 use Rattle.relay_records.specs.declared.fault.NodeFault.TheVariants.{Full, Stopped}
 use Rattle.relay_outcomes.specs.Outcomes.{AddsOutcome, CutsOutcome, GrowsBy, HasNoRoom}
 use Rattle.relay_course.proofs.Theorems.{verdict_for_each_place}
 use Rattle.relay_attempts.specs.Hops.{stranded_of}
-use Rattle.relay_attempts.specs.Reply.{IsItsCourse, outcome_at, told_more}
+use Rattle.relay_attempts.specs.Reply.{IsItsCourse, told_more}
 use Rattle.relay_attempts.proofs.AmongLemmas.{dropped_serves, ended_serves, heard_serves, refused_serves}
 use Rattle.relay_attempts.proofs.RefusalLemmas.{fault_is, full_for_outcome, queue_stays, refused_to_hear, same_fault, some_there}
 use Rattle.relay_attempts.proofs.ReplyLemmas.{ended_may_come}
