@@ -23,7 +23,7 @@ pub returns-in-Ok-Broken-clause-pushed : goal.returns-in-Ok-Broken-clause-pushed
 returns-in-Ok-Broken-clause-pushed g c = λ changes told keeps tells.
     let goes = c.in-Ok-Broken.ensures.goes _ (begins g.D.Disk.honest g.D.Disk.words c.args.now c.args.attempt (g.R.Read.remaining c.args.reader.now) (g.W.Write.contents c.args.writer.now) c.args.node.now changes told keeps tells) in
     let here = rw c.in-Ok-Broken.field-0-is at goes in
-    c.lose_link-2.ensures.pushed _ _ _ here.0 here.1 here.2
+    c.lose_link-in-Ok-Broken.ensures.pushed _ _ _ here.0 here.1 here.2
 
 pub returns-in-Err-clause-pushed : goal.returns-in-Err-clause-pushed
 returns-in-Err-clause-pushed g c = λ changes told keeps tells.
