@@ -1,4 +1,5 @@
 mod AcceptedLemmas
 mod LinkLemmas
+mod PushLemmas
 mod WholeLemmas
 pub mod Theorems

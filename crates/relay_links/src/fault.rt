@@ -1,3 +1,6 @@
+ghost use Rattle.std.specs.Prelude.{◌≡◌};
+ghost use Rattle.relay_links.specs.Link.{link_fault_of};
+
 use relay_node::NodeFault;
 use std::alloc::AllocError;
 
@@ -29,5 +32,21 @@ impl From<AllocError> for LinkFault {
 
     fn from(_fault: AllocError) -> LinkFault {
         LinkFault::NoMemory
+    }
+}
+
+/// What a fault of the node is to its link. A session or an attempt that the node doesn't have reads nothing.
+pub(crate) fn link_fault(fault: NodeFault) -> LinkFault
+    ensures { result ≡ link_fault_of fault }
+{
+    match fault {
+        NodeFault::NoMemory => LinkFault::NoMemory,
+        NodeFault::Stopped => LinkFault::Device,
+        NodeFault::Full => LinkFault::Full,
+        NodeFault::Unknown => LinkFault::Input,
+        NodeFault::TooMany => LinkFault::Input,
+        NodeFault::NotDue => LinkFault::Input,
+        NodeFault::Busy => LinkFault::Input,
+        NodeFault::Open(_) => LinkFault::Input,
     }
 }

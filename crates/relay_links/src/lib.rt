@@ -1,11 +1,13 @@
-//! Links of a node: one session over a reader and a writer.
+//! Links of a node: one session, or one attempt, over a reader and a writer.
 #![tactic(auto)]
 
 mod fault;
+mod push;
 mod send;
 mod serve;
 mod whole;
 
 pub use fault::LinkFault;
+pub use push::{Pushed, lose_link, push_link};
 pub use serve::serve_link;
 pub use whole::write_whole;

@@ -3,12 +3,12 @@ ghost use Rattle.relay_book.specs.declared.change.Change.{Change};
 ghost use Rattle.relay_node.specs.Node.{SaysAt, greeted_by};
 ghost use Rattle.relay_slots.specs.Slots.{OthersStay, slot_at};
 ghost use Rattle.relay_records.specs.Records.{Keeps};
-ghost use Rattle.relay_links.specs.Link.{HasEnded, HasGone, HasSaid, Start, link_fault_of, start_at};
+ghost use Rattle.relay_links.specs.Link.{HasEnded, HasGone, HasSaid, Start, start_at};
 
-use crate::fault::LinkFault;
+use crate::fault::{LinkFault, link_fault};
 use crate::send::send;
 use relay_disk::Disk;
-use relay_node::{Connected, Node, NodeFault};
+use relay_node::{Connected, Node};
 use relay_trace::Moment;
 use std::alloc::Global;
 use std::io::{ErrorKind, Read, Write};
@@ -182,22 +182,6 @@ fn answer<D: Disk, W: Write>(
     match send(writer, received.out.as_slice()) {
         Ok(()) => Ok(received.close),
         Err(fault) => Err(fault),
-    }
-}
-
-/// What a fault of the node is to its link. A session that the node doesn't have reads nothing.
-fn link_fault(fault: NodeFault) -> LinkFault
-    ensures { result ≡ link_fault_of fault }
-{
-    match fault {
-        NodeFault::NoMemory => LinkFault::NoMemory,
-        NodeFault::Stopped => LinkFault::Device,
-        NodeFault::Full => LinkFault::Full,
-        NodeFault::Unknown => LinkFault::Input,
-        NodeFault::TooMany => LinkFault::Input,
-        NodeFault::NotDue => LinkFault::Input,
-        NodeFault::Busy => LinkFault::Input,
-        NodeFault::Open(_) => LinkFault::Input,
     }
 }
 

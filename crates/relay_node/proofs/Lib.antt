@@ -3,4 +3,6 @@ mod ListenLemmas
 mod ReceiveLemmas
 mod QueuedLemmas
 mod NodeLemmas
+mod AttemptLemmas
+mod ReplyLemmas
 pub mod Theorems

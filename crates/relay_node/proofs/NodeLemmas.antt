@@ -12,6 +12,7 @@ use Rattle.relay_server.specs.Setup.{Setup, setup_of_config}
 use Rattle.relay_server.proofs.Theorems.{close_is_closed, closed_is_a_dialogue, what_stands_is_a_dialogue}
 use Rattle.relay_book.specs.declared.change.Change.{Change}
 use Rattle.relay_records.specs.Records.{Kept}
+use Rattle.relay_attempts.specs.declared.runs.Run.{Run}
 use Rattle.relay_node.specs.declared.receive.Received.{Received}
 use Rattle.relay_node.specs.declared.seat.Seat.{Seat}
 use Rattle.relay_node.specs.Node.{GoesOn, HasClosed, HasHistory, HaveHistories, Hears, Receives, Says, SaysAt, Standing}
@@ -66,8 +67,8 @@ module _ (config : Config) where
   }
 
 -- a node of these parts
-abbrev standing_of : {D : Type 0} → Config → List (Option Seat) → Kept D → Standing D
-standing_of config seats records = record { config = config; seats = seats; records = records }
+abbrev pub standing_of : {D : Type 0} → Config → List (Option Seat) → List (Option Run) → Kept D → Standing D
+standing_of config seats attempts records = record { config = config; seats = seats; attempts = attempts; records = records }
 
 -- a session that tells its caller to close has closed
 has_closed : (setup : Setup) (session : Session) (said : Said) → Stands setup session said → next_of session ≡ next.Close → HasClosed setup said
@@ -81,7 +82,7 @@ one_some : (seat other : Seat) → Some seat ≡ Some other → seat ≡ other
 one_some seat other e = cc
 
 module _ {D : Type 0} (honest : Type 0) (words : DiskWords D) (config : Config) (changes : List Change) (peer : List ℕ) (at number : ℕ) (said : Said) (piece : List ℕ)
-    (old : List (Option Seat)) (taken : Seat) (is : SaysAt config old number peer said) (was : Some taken ≡ slot_at old number) where
+    (old : List (Option Seat)) (taken : Seat) (runs more : List (Option Run)) (is : SaysAt config old number peer said) (was : Some taken ≡ slot_at old number) where
   pub peer_of_taken : taken.peer ≡ peer
   peer_of_taken = ap (λ (s : Seat). s.peer) (one_some taken is.seat (was ∙ is.at)) ∙ is.peer_is
 
@@ -95,7 +96,7 @@ module _ {D : Type 0} (honest : Type 0) (words : DiskWords D) (config : Config) 
 
     -- the session was put back
     pub receives_on : (mid all : List (Option Seat)) → received.close ≡ false → number < length mid → all ≡ slice_set mid number (Some new)
-        → Receives honest words config changes peer at number said piece (standing_of config old before) (standing_of config all after) received
+        → Receives honest words config changes peer at number said piece (standing_of config old runs before) (standing_of config all more after) received
     receives_on mid all going within set = record {
       later = heard.later;
       goes_on = subst (GoesOn config all number peer heard.later) (sym going) (says_at config mid all number new peer heard.later within set (peer_kept ∙ peer_of_taken) heard.says);
@@ -104,7 +105,7 @@ module _ {D : Type 0} (honest : Type 0) (words : DiskWords D) (config : Config) 
 
     -- the session has closed
     pub receives_last : (rest : List (Option Seat)) → received.close ≡ true → rest ≡ slice_set old number None
-        → Receives honest words config changes peer at number said piece (standing_of config old before) (standing_of config rest after) received
+        → Receives honest words config changes peer at number said piece (standing_of config old runs before) (standing_of config rest more after) received
     receives_last rest is_last set = record {
       later = heard.later;
       goes_on =

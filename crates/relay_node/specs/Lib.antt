@@ -3,3 +3,4 @@ pub mod Room
 pub mod Queued
 pub mod Listening
 pub mod Node
+pub mod Attempts

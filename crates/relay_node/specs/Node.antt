@@ -14,12 +14,14 @@ use Rattle.relay_server.specs.State.{Closed}
 use Rattle.relay_book.specs.declared.change.Accept.{Accept}
 use Rattle.relay_book.specs.declared.change.Change.{Change}
 use Rattle.relay_book.specs.declared.change.Change.TheVariants as change
+use Rattle.relay_book.specs.Queue.{Queue, step}
 use Rattle.relay_records.specs.declared.fault.Cause.{Cause}
 use Rattle.relay_records.specs.declared.fault.Cause.TheVariants.{Spool}
 use Rattle.relay_records.specs.declared.fault.NodeFault.{NodeFault}
 use Rattle.relay_records.specs.declared.fault.NodeFault.TheVariants.{NoMemory, Stopped, Unknown, TooMany, NotDue, Busy, Open, Full}
 use Rattle.relay_records.specs.Open.{RefusesDisk}
 use Rattle.relay_records.specs.Records.{Adds, Cuts, IsStopped, Kept}
+use Rattle.relay_attempts.specs.declared.runs.Run.{Run}
 use Rattle.relay_node.specs.declared.node.Connected.{Connected}
 use Rattle.relay_node.specs.declared.receive.Received.{Received}
 use Rattle.relay_node.specs.declared.seat.Seat.{Seat}
@@ -27,10 +29,11 @@ use Rattle.relay_node.specs.Acceptance.{Acceptance, acceptance_by}
 use Rattle.relay_node.specs.Room.{AnswersMore, HasRoom, Overfills, size_with}
 use Rattle.relay_slots.specs.Slots.{AreFree, IsLeastFree, OthersStay, slot_at}
 
--- what callers see of a node: its configuration, its sessions by number, and its records
+-- what callers see of a node: its configuration, its sessions and its running attempts by number, and its records
 pub record Standing (D : Type 0) : Type 0 where
   pub config : Config
   pub seats : List (Option Seat)
+  pub attempts : List (Option Run)
   pub records : Kept D
 
 -- the session stands behind what was said, and each offer is answered
@@ -147,6 +150,12 @@ module _ {D : Type 0} (honest : Type 0) (words : DiskWords D) (config : Config) 
     pub fits : FitsIn old offer accept
     pub cuts : Cuts honest words new changes (change.Accept accept) used
 
+-- what a call did to the queue that accepted mail under this number, or none
+abbrev pub TakesIn : Queue → Option ℕ → Queue → Type 0
+TakesIn old None new = new ≡ old
+TakesIn old (Some number) new =
+    (accept : Accept) × (number ≡ old.next) × (new ≡ step old (change.Accept accept))
+
 -- octets of the piece were used: where a change was made, one at least, and where none was and nothing
 -- closed, all
 pub record UsesOctets (len : ℕ) (received : Received) : Type 0 where
@@ -154,10 +163,11 @@ pub record UsesOctets (len : ℕ) (received : Received) : Type 0 where
   pub some : received.change ≢ None → 0 < received.used
   pub whole : received.change ≡ None → received.close ≡ false → received.used ≡ len
 
--- a node without a session and a note
+-- a node without a session, an attempt and a note
 pub record IsIdle {D : Type 0} (config : Config) (node : Standing D) : Type 0 where
   pub config_is : node.config ≡ config
   pub free : AreFree node.seats
+  pub none_runs : AreFree node.attempts
   pub noted : node.records.noted ≡ None
 
 -- all but the disk is the same

@@ -1,15 +1,18 @@
-//! A node: the sessions of its clients, and the records of the mail that it has taken from them (RFC
-//! 5321, sections 4.2.5 and 6.1).
+//! A node: the sessions of its clients, the records of the mail that it has taken from them, and the
+//! attempts to pass it on (RFC 5321, sections 4.2.5, 4.5.4.1 and 6.1).
 #![tactic(auto)]
 
 mod accept;
+mod attempts;
 mod intake;
 pub mod laws;
 mod listen;
 mod node;
 mod receive;
+mod reply;
 mod seat;
 
 pub use node::{Connected, Node};
 pub use receive::Received;
+pub use relay_attempts::{Replied, Started, Work};
 pub use relay_records::{Cause, HeldPlace, NodeFault, NotOpened, Noted};

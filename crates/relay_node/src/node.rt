@@ -15,8 +15,10 @@ ghost use Rattle.relay_server.specs.Dialogue.{Said};
 ghost use Rattle.relay_spool.specs.Image.{HasNoBody};
 ghost use Rattle.relay_spool.specs.Spool.{AtEachMoment, OnlyReads};
 
+use crate::attempts::note;
 use crate::receive::{Received, hear};
 use crate::seat::Seat;
+use relay_attempts::Attempts;
 use relay_disk::{Disk, Reboot};
 use relay_records::{Cause, HeldPlace, NodeFault, NotOpened, Noted, Records};
 use relay_routes::Config;
@@ -36,14 +38,15 @@ pub struct Connected {
     pub out: Vec<u8>,
 }
 
-/// A node: up to 64 sessions, and the records of the mail that they took in. Where the device fails,
-/// the node is stopped: every later call answers that, but for `into_disk`, `take_noted` and
-/// `next_number`, and its disk has to be opened again.
+/// A node: up to 64 sessions, the records of the mail that they took in, and up to 64 attempts to pass it
+/// on. Where the device fails, the node is stopped: every later call answers that, but for `into_disk`,
+/// `take_noted` and `next_number`, and its disk has to be opened again.
 pub struct Node<D: Disk> {
-    alloc: Global,
-    config: Config,
-    seats: Slots<Seat>,
-    records: Records<D>,
+    pub(crate) alloc: Global,
+    pub(crate) config: Config,
+    pub(crate) seats: Slots<Seat>,
+    pub(crate) attempts: Attempts,
+    pub(crate) records: Records<D>,
 }
 
 // Written out, so that a crate that drops a node calls this, and doesn't look into each part where it
@@ -54,19 +57,27 @@ impl<D: Disk + Drop> Drop for Node<D> {
             alloc: _,
             config: _config,
             seats: _seats,
+            attempts: _attempts,
             records: _records,
         } = self;
     }
 }
 
 impl<D: Disk> Model for Node<D> {
+    ghost use Rattle.relay_attempts.specs.Attempts.{Serves};
     ghost use Rattle.relay_node.specs.Node.{Standing, HaveHistories};
 
     ghost Value = { Standing D };
 
-    ghost view = { λ node. record { config = node.config; seats = node.seats; records = node.records } };
+    ghost view = { λ node. record {
+      config = node.config;
+      seats = node.seats;
+      attempts = node.attempts.runs;
+      records = node.records;
+    } };
 
-    ghost invariant = { λ node. HaveHistories node.config node.seats };
+    ghost invariant = { λ node. HaveHistories node.config node.seats
+        × Serves node.config.host node.config.routes node.attempts node.records.queue };
 }
 
 impl<D: Disk> Node<D> {
@@ -86,16 +97,17 @@ impl<D: Disk> Node<D> {
             (λ refused. AtEachMoment D.words disk refused.disk HasNoBody) }
     {
         let Ok(seats) = Slots::new(alloc) else {
-            return Err(NotOpened {
-                cause: Cause::Spool(SpoolFault::NoMemory),
-                disk,
-            });
+            return Err(out_of_memory(disk));
+        };
+        let Ok(attempts) = Attempts::idle(alloc) else {
+            return Err(out_of_memory(disk));
         };
         match Records::create(alloc, disk) {
             Ok(records) => Ok(Node {
                 alloc,
                 config,
                 seats,
+                attempts,
                 records,
             }),
             Err(refused) => Err(refused),
@@ -115,18 +127,19 @@ impl<D: Disk> Node<D> {
             (λ refused. FailsFor D.words disk refused.disk refused.cause) }
     {
         let Ok(seats) = Slots::new(alloc) else {
-            return Err(NotOpened {
-                cause: Cause::Spool(SpoolFault::NoMemory),
-                disk,
-            });
+            return Err(out_of_memory(disk));
         };
         match Records::open(alloc, disk) {
-            Ok(records) => Ok(Node {
-                alloc,
-                config,
-                seats,
-                records,
-            }),
+            Ok(records) => match Attempts::new(alloc, &config.routes, &records) {
+                Ok(attempts) => Ok(Node {
+                    alloc,
+                    config,
+                    seats,
+                    attempts,
+                    records,
+                }),
+                Err(_) => Err(out_of_memory(records.into_disk())),
+            },
             Err(refused) => Err(refused),
         }
     }
@@ -139,9 +152,17 @@ impl<D: Disk> Node<D> {
             alloc: _,
             config: _config,
             seats: _seats,
+            attempts: _attempts,
             records,
         } = self;
         records.into_disk()
+    }
+
+    /// The configuration that the node was made with.
+    pub fn config(&self) -> &Config
+        ensures { result.now ≡ self.now.config }
+    {
+        &self.config
     }
 
     /// The number of the next change, live or stopped. It takes no memory.
@@ -168,6 +189,7 @@ impl<D: Disk> Node<D> {
     pub fn connect(&mut self, peer: [u8; 4]) -> Result<Connected, NodeFault>
         ensures connects { IfOk result (Connects peer self.old self.new) }
         ensures rest { (self.new.records ≡ self.old.records) × (self.new.config ≡ self.old.config) }
+        ensures attempts { self.new.attempts ≡ self.old.attempts }
         ensures refused { IfErr result (RefusesToConnect self.old self.new) }
         ensures stopped { (result ≡ Err NodeFault.Stopped) ↔ (self.old.records.spool.live ≡ false) }
         ensures too_many { (result ≡ Err NodeFault.TooMany)
@@ -194,6 +216,7 @@ impl<D: Disk> Node<D> {
         ensures gone { OnOk result (slot_at self.new.seats session ≡ None) }
         ensures others { OthersStay self.old.seats self.new.seats session }
         ensures rest { (self.new.records ≡ self.old.records) × (self.new.config ≡ self.old.config) }
+        ensures attempts { self.new.attempts ≡ self.old.attempts }
         ensures refused { IfErr result (RefusesToEnd self.old self.new) }
         ensures stopped { (result ≡ Err NodeFault.Stopped) ↔ (self.old.records.spool.live ≡ false) }
         ensures unknown { (result ≡ Err NodeFault.Unknown)
@@ -233,6 +256,7 @@ impl<D: Disk> Node<D> {
         ensures used { IfOk result (UsesOctets (length piece.now)) }
         ensures rest { OthersStay self.old.seats self.new.seats session
             × (self.new.config ≡ self.old.config) }
+        ensures attempts { self.new.attempts ≡ self.old.attempts }
         ensures refused { self.old.records.spool.live ≡ true
             → IfErr result (RefusesToReceive D.words session self.old self.new) }
         ensures stopped { self.old.records.spool.live ≡ false
@@ -247,6 +271,8 @@ impl<D: Disk> Node<D> {
             return Err(NodeFault::Unknown);
         };
         let mut seat = seat;
+        self.attempts.reserve()?;
+        self.records.numbers_rise();
         let received = hear(
             self.alloc,
             &self.config,
@@ -255,6 +281,7 @@ impl<D: Disk> Node<D> {
             piece,
             now,
         )?;
+        note(&mut self.attempts, &self.config, &self.records, &received);
         if received.close {
             return Ok(received);
         }
@@ -296,10 +323,21 @@ impl<D: Disk> Node<D> {
     }
 }
 
+/// The refusal of a disk for want of memory.
+fn out_of_memory<D>(disk: D) -> NotOpened<D>
+    ensures { (result.cause ≡ Cause.Spool SpoolFault.NoMemory) × (result.disk ≡ disk) }
+{
+    NotOpened {
+        cause: Cause::Spool(SpoolFault::NoMemory),
+        disk,
+    }
+}
+
 impl<D: Reboot> Node<D> {
     /// Sets the fuse of the disk: so many calls pass, and each later one fails. Nothing else changes.
     pub fn fuse(&mut self, calls: u64)
         ensures rest { (self.new.config ≡ self.old.config) × (self.new.seats ≡ self.old.seats) }
+        ensures attempts { self.new.attempts ≡ self.old.attempts }
         ensures same { IsFused self.old.records self.new.records }
         ensures kept { (changes : List Change) → Keeps D.Disk.honest D.Disk.words self.old.records changes
             → Stays D.Disk.honest D.Disk.words self.old.records self.new.records changes }

@@ -1,6 +1,6 @@
 ghost use Rattle.std.specs.Prelude.{◌≡◌, List, length, IfErr, IfOk, IsTrue, Err};
 ghost use Rattle.relay_book.specs.declared.change.Change.{Change};
-ghost use Rattle.relay_node.specs.Node.{CutsTalk, HasHistory, Hears, RefusesToHear, Says, UsesOctets};
+ghost use Rattle.relay_node.specs.Node.{CutsTalk, HasHistory, Hears, RefusesToHear, Says, TakesIn, UsesOctets};
 ghost use Rattle.relay_records.specs.Records.{Keeps};
 ghost use Rattle.relay_server.specs.Dialogue.{Said};
 ghost use Rattle.relay_server.specs.Setup.{setup_of_config};
@@ -49,6 +49,7 @@ pub(crate) fn hear<D: Disk>(
         → CutsTalk D.honest D.words config.now changes seat.old.peer now said piece.now
         records.old records.new }
     ensures used { IfOk result (UsesOctets (length piece.now)) }
+    ensures takes { IfOk result (λ received. TakesIn records.old.queue received.change records.new.queue) }
     ensures refused { IfErr result (RefusesToHear D.words records.old records.new) }
     ensures history { IfOk result (λ _. HasHistory config.now seat.new.session) }
     ensures peer { seat.new.peer ≡ seat.old.peer }

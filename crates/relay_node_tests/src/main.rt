@@ -6,7 +6,13 @@
 #[cfg(test)]
 mod expected;
 #[cfg(test)]
+mod hops;
+#[cfg(test)]
+mod passing;
+#[cfg(test)]
 mod receiving;
+#[cfg(test)]
+mod retrying;
 #[cfg(test)]
 mod sessions;
 mod setup;

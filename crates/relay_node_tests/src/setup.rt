@@ -17,14 +17,21 @@ pub(crate) fn config(alloc: Global, spool_limit: u64) -> Result<Config, Fail> {
 
 /// A configuration with a route for this domain alone.
 pub(crate) fn config_for(alloc: Global, domain: &str, spool_limit: u64) -> Result<Config, Fail> {
+    let route = format!(in alloc;
+        "\"{domain}\" = {{ name = \"next.example\", at = \"127.0.0.1:2526\" }}\n"
+    )?;
+    config_of(alloc, route.as_str(), spool_limit)
+}
+
+/// A configuration with these routes, each a line.
+pub(crate) fn config_of(alloc: Global, routes: &str, spool_limit: u64) -> Result<Config, Fail> {
     let text = format!(in alloc;
         "host = \"relay.example\"
 listen = \"127.0.0.1:2525\"
 spool = \"relay.spool\"
 spool_limit = {spool_limit}
 [routes]
-\"{domain}\" = {{ name = \"next.example\", at = \"127.0.0.1:2526\" }}
-"
+{routes}"
     )?;
     match Config::read(alloc, text.as_str()) {
         Ok(config) => Ok(config),

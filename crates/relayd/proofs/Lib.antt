@@ -1,1 +1,3 @@
+mod RoundsLemmas
 mod SessionLemmas
+mod ShapeLemmas

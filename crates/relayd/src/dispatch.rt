@@ -3,18 +3,18 @@ ghost use Rattle.clap.specs.Words.{kind_of};
 ghost use Rattle.relayd.specs.Arguments.{AreWrong, AskForSession, faults_in};
 ghost use Rattle.relayd.specs.Session.{IsBegun, IsServed};
 
-use crate::fault::Fault;
-use crate::listing::{init, list};
 use crate::streams::session;
 use crate::words::{Subcommand, arguments};
 use clap::Error;
 use clap::error::ErrorKind;
+use relay_service::{Fault, Log, init, list, push, serve};
 use std::alloc::Global;
 use std::convert::AsStr;
 use std::fmt::Display;
 use std::fs::File;
 use std::io::{self, Read, Write};
-use std::rt::Files;
+use std::net::{Net, TcpListener, TcpStream};
+use std::rt::{Clock, Files};
 
 /// The status of a run that did what it was asked for.
 const DONE: u8 = 0;
@@ -28,14 +28,13 @@ const WRONG_ARGUMENTS: u8 = 2;
 /// Runs the subcommand that the words name, the program's own name first, and answers the status
 /// for the system: 0 done, 1 a fault, with one line on `errors`, 2 wrong arguments, with the
 /// argument reader's text on `errors`. `--help` writes that reader's text on `writer`, and is done.
-pub fn command<S: AsStr, F: Files<File = File>, R: Read, W: Write, E: Write>(
-    alloc: Global,
-    files: &F,
-    words: &[S],
-    reader: &mut R,
-    writer: &mut W,
-    errors: &mut E,
-) -> u8
+pub fn command<
+    S: AsStr,
+    F: Files<File = File> + Clock + Net<Listener = TcpListener, Stream = TcpStream>,
+    R: Read,
+    W: Write,
+    E: Write,
+>(alloc: Global, system: &F, words: &[S], reader: &mut R, writer: &mut W, errors: &mut E) -> u8
     ensures served { AskForSession (map S.text words.now) → result ≡ 0
         → IsServed (R.remaining reader.old) (R.remaining reader.new) (W.contents writer.old)
         (W.contents writer.new) }
@@ -52,8 +51,29 @@ pub fn command<S: AsStr, F: Files<File = File>, R: Read, W: Write, E: Write>(
 {
     match arguments(alloc, words) {
         Ok(Subcommand::Session) => ended(session(alloc, reader, writer), errors),
-        Ok(Subcommand::Init(file)) => ended(init(alloc, files, file), errors),
-        Ok(Subcommand::List(file)) => ended(list(alloc, files, file, writer), errors),
+        Ok(Subcommand::Init(file)) => ended(init(alloc, system, file), errors),
+        Ok(Subcommand::List(file)) => ended(list(alloc, system, file, writer), errors),
+        Ok(Subcommand::Serve { file, rounds, log }) => {
+            let end = serve(
+                alloc,
+                system,
+                file,
+                rounds,
+                writer,
+                &mut Log::new(alloc, errors, log),
+            );
+            ended(end, errors)
+        }
+        Ok(Subcommand::Push { file, log }) => {
+            let end = push(
+                alloc,
+                system,
+                file,
+                writer,
+                &mut Log::new(alloc, errors, log),
+            );
+            ended(end, errors)
+        }
         Err(error) => explain(&error, writer, errors),
     }
 }

@@ -2,9 +2,9 @@
 #![tactic(auto)]
 
 mod dispatch;
-mod fault;
-mod listing;
 mod setup;
+#[cfg(test)]
+mod socket_tests;
 mod streams;
 #[cfg(test)]
 mod tests;

@@ -4,11 +4,11 @@ ghost use Rattle.relay_records.specs.Records.{Keeps};
 ghost use Rattle.relayd.specs.Session.{IsBegun, IsOpened, IsServed};
 ghost use Rattle.relayd.specs.Setup.{IsProfile};
 
-use crate::fault::Fault;
 use crate::setup::{ADDRESS, configuration, moment};
 use relay_disk::MemoryDisk;
 use relay_links::serve_link;
 use relay_node::{Connected, Node};
+use relay_service::Fault;
 use std::alloc::Global;
 use std::io::{Read, Write};
 

@@ -11,7 +11,7 @@ use std::io::{self, ErrorKind, Read, Write};
 use std::test::Fail;
 
 /// The lines of a client's first dialogue.
-const COMMANDS: [&str; 6] = [
+pub(crate) const COMMANDS: [&str; 6] = [
     "HELO x",
     "MAIL FROM:<a@example.org>",
     "RCPT TO:<b@example.org>",
@@ -21,7 +21,7 @@ const COMMANDS: [&str; 6] = [
 ];
 
 /// The relay's lines in it.
-const REPLIES: [&str; 7] = [
+pub(crate) const REPLIES: [&str; 7] = [
     "220 relay.example ESMTP relay ready",
     "250 relay.example",
     "250 sender OK",
@@ -112,7 +112,7 @@ fn writer_of(alloc: Global, cut: Option<usize>, kind: ErrorKind, bad_flush: usiz
 }
 
 /// The lines, each with its CR LF.
-fn text_of(alloc: Global, lines: &[&str]) -> Result<Vec<u8>, Fail> {
+pub(crate) fn text_of(alloc: Global, lines: &[&str]) -> Result<Vec<u8>, Fail> {
     let mut text = Vec::new(alloc);
     for line in lines {
         text.extend_from_slice(line.as_bytes())?;
@@ -230,13 +230,31 @@ fn a_flush_that_fails_ends_the_session(rt: HostRuntime) -> Result<(), Fail> {
 
 #[test]
 fn wrong_words_have_status_2(rt: HostRuntime) -> Result<(), Fail> {
-    let wrong: [&[&str]; 6] = [
+    let wrong: [&[&str]; 10] = [
         &["relayd"],
         &["relayd", "list"],
         &["relayd", "init", "--config"],
         &["relayd", "help"],
         &["relayd", "session", "more"],
         &["relayd", "--verbose", "session"],
+        &["relayd", "serve"],
+        &[
+            "relayd",
+            "serve",
+            "--config",
+            "relayd.toml",
+            "--rounds",
+            "0",
+        ],
+        &[
+            "relayd",
+            "serve",
+            "--config",
+            "relayd.toml",
+            "--rounds",
+            "1000001",
+        ],
+        &["relayd", "push", "--config", "relayd.toml", "--rounds", "1"],
     ];
     for words in wrong {
         let mut reader = reader_of(b"NOOP\r\n", None, ErrorKind::Other);
@@ -284,17 +302,17 @@ const INIT: [&str; 4] = ["relayd", "init", "--config", "relayd.toml"];
 const LIST: [&str; 4] = ["relayd", "list", "--config", "relayd.toml"];
 
 /// Runs a subcommand that reads nothing: the status, what is written, and the line of the fault.
-fn run_of(rt: &HostRuntime, words: &[&str]) -> (u8, Vec<u8>, Vec<u8>) {
+pub(crate) fn run_of(rt: &HostRuntime, words: &[&str]) -> (u8, Vec<u8>, Vec<u8>) {
     let mut reader = reader_of(b"", None, ErrorKind::Other);
     let mut writer: Vec<u8> = Vec::new(rt.alloc());
     let (status, errors) = run(rt, words, &mut reader, &mut writer);
     (status, writer, errors)
 }
 
-/// Puts the first message into the spool of the configuration.
-fn take_mail(rt: &HostRuntime) -> Result<(), Fail> {
+/// Puts the first message into the spool of a configuration, at this moment.
+pub(crate) fn take_mail(rt: &HostRuntime, configuration: &str, now: Moment) -> Result<(), Fail> {
     let alloc = rt.alloc();
-    let config = Config::read(alloc, CONFIGURATION)?;
+    let config = Config::read(alloc, configuration)?;
     let disk = FileDisk::open(rt, "relay.spool")?;
     let Ok(node) = Node::open(alloc, config, disk) else {
         return Err(Fail::new("the spool isn't opened"));
@@ -304,14 +322,7 @@ fn take_mail(rt: &HostRuntime) -> Result<(), Fail> {
     let input = text_of(alloc, &COMMANDS)?;
     let mut reader = reader_of(input.as_slice(), None, ErrorKind::Other);
     let mut writer: Vec<u8> = Vec::new(alloc);
-    serve_link(
-        alloc,
-        &mut node,
-        connected,
-        &mut reader,
-        &mut writer,
-        Moment::new(0)?,
-    )?;
+    serve_link(alloc, &mut node, connected, &mut reader, &mut writer, now)?;
     Ok(())
 }
 
@@ -327,7 +338,7 @@ fn a_spool_is_made_once_and_lists_the_mail_in_it(rt: HostRuntime) -> Result<(), 
     let (status, written, _) = run_of(&rt, &LIST);
     assert_eq!(rt; status, 0);
     assert!(rt; written.is_empty());
-    take_mail(&rt)?;
+    take_mail(&rt, CONFIGURATION, Moment::new(0)?)?;
     let (status, written, errors) = run_of(&rt, &LIST);
     assert_eq!(rt; status, 0);
     assert_eq!(rt; written.as_slice(), b"1 0 <b@example.org> 0\n".as_slice());

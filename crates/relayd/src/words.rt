@@ -1,7 +1,10 @@
-ghost use Rattle.std.specs.Prelude.{◌≡◌, false, map, IfOk};
-ghost use Rattle.clap.specs.Words.{FailsBy, app_of, found_of, rows_of, rule_of, subcommand_rows_of};
-ghost use Rattle.relayd.specs.Arguments.{WordsAreTaken, asked, asked_by, asked_in, asked_of, config_in, config_rule, configured, faults_in, relayd};
+ghost use Rattle.std.specs.Prelude.{◌≡◌, codes, false, map, IfOk};
+ghost use Rattle.clap.specs.Words.{FailsBy, app_of, found_of, new_app, rows_of, rule_of, subcommand_rows_of};
+ghost use Rattle.relayd.specs.Arguments.{WordsAreTaken, asked, asked_by, asked_in, asked_of, config_in};
+ghost use Rattle.relayd.specs.Arguments.{config_rule, configured, faults_in, is_logged_in, log_rule, pushing};
+ghost use Rattle.relayd.specs.Arguments.{relayd, rounds_in, rounds_of, rounds_rule, serving};
 
+use clap::builder::ValueParser;
 use clap::{Arg, ArgAction, ArgMatches, Command, Error};
 use std::alloc::{AllocError, Global};
 use std::convert::AsStr;
@@ -15,7 +18,26 @@ pub enum Subcommand<'a> {
     Init(&'a str),
     /// What is held in the spool is listed, by the configuration in this file.
     List(&'a str),
+    /// Clients are served, and their mail is handed on.
+    Serve {
+        /// The file of the configuration.
+        file: &'a str,
+        /// How many connections are served, 1 to 1,000,000.
+        rounds: u32,
+        /// Whether standard error says what was done.
+        log: bool,
+    },
+    /// What is due is handed on.
+    Push {
+        /// The file of the configuration.
+        file: &'a str,
+        /// Whether standard error says what was done.
+        log: bool,
+    },
 }
+
+/// The most connections of one run.
+const MOST_ROUNDS: u64 = 1_000_000;
 
 /// The subcommand that the words name, the program's own name first, and the file behind its
 /// `--config`. An error has a text for the user: of what is wrong with the words, or the help that
@@ -46,6 +68,17 @@ fn named<'a>(name: &str, matches: &ArgMatches<'a>) -> Subcommand<'a>
         Subcommand::Init(config(matches))
     } else if name == "list" {
         Subcommand::List(config(matches))
+    } else if name == "serve" {
+        Subcommand::Serve {
+            file: config(matches),
+            rounds: rounds(matches),
+            log: is_logged(matches),
+        }
+    } else if name == "push" {
+        Subcommand::Push {
+            file: config(matches),
+            log: is_logged(matches),
+        }
     } else {
         Subcommand::Session
     }
@@ -58,26 +91,113 @@ fn config<'a>(matches: &ArgMatches<'a>) -> &'a str
     matches.get_str("config").unwrap_or("")
 }
 
+/// How many connections `--rounds` asks for: 1 where it isn't given.
+fn rounds(matches: &ArgMatches<'_>) -> u32
+    ensures { result ≡ rounds_in (rows_of (found_of matches.now)) }
+{
+    match matches.get_str("rounds") {
+        Some(text) => rounds_of(text),
+        None => 1,
+    }
+}
+
+/// The number that a text says, where it is one from 1 to the most; the argument reader refuses other texts.
+fn rounds_of(text: &str) -> u32
+    ensures { result ≡ rounds_of text.now }
+{
+    match text.parse::<u64>() {
+        Ok(rounds) => {
+            if rounds < 1 {
+                1
+            } else if MOST_ROUNDS < rounds {
+                1
+            } else {
+                rounds as u32
+            }
+        }
+        Err(_) => 1,
+    }
+}
+
+/// Whether `--log` was given.
+fn is_logged(matches: &ArgMatches<'_>) -> bool
+    ensures { result ≡ is_logged_in (rows_of (found_of matches.now)) }
+{
+    match matches.get_str("log") {
+        Some(text) => text == "true",
+        None => false,
+    }
+}
+
 /// What the argument reader is told of the program. It fails where memory runs out.
 fn program<'a>(alloc: Global) -> Result<Command<'a>, AllocError>
     ensures { IfOk result (λ command. app_of command ≡ relayd) }
 {
-    let session = Command::new(alloc, "session").about(
-        "Holds one SMTP session from standard input to standard output",
-    );
-    let init = Command::new(alloc, "init")
-        .about("Makes the spool that the configuration names")
-        .arg(file_argument(alloc))?;
-    let list = Command::new(alloc, "list")
-        .about("Lists each recipient that the spool holds: message, place, path, due moment")
-        .arg(file_argument(alloc))?;
+    let session = session(alloc);
+    let init = with_file(
+        alloc,
+        "init",
+        "Makes the spool that the configuration names",
+    )?;
+    let list = with_file(
+        alloc,
+        "list",
+        "Lists each recipient that the spool holds: message, place, path, due moment",
+    )?;
+    let serve = serve(alloc)?;
+    let push = push(alloc)?;
     Command::new(alloc, "relayd")
         .about("A store-and-forward SMTP relay")
         .disable_help_subcommand(true)
         .subcommand_required(true)
         .subcommand(session)?
         .subcommand(init)?
-        .subcommand(list)
+        .subcommand(list)?
+        .subcommand(serve)?
+        .subcommand(push)
+}
+
+/// `session`
+fn session<'a>(alloc: Global) -> Command<'a>
+    ensures { app_of result ≡ new_app (codes "session") }
+{
+    Command::new(alloc, "session").about(
+        "Holds one SMTP session from standard input to standard output",
+    )
+}
+
+/// A subcommand of this name with a configuration file. It fails where memory runs out.
+fn with_file<'a>(alloc: Global, name: &'a str, about: &'a str) -> Result<Command<'a>, AllocError>
+    ensures { IfOk result (λ command. app_of command ≡ configured name.now) }
+{
+    Command::new(alloc, name)
+        .about(about)
+        .arg(file_argument(alloc))
+}
+
+/// `serve --config FILE [--rounds N] [--log]`. It fails where memory runs out.
+fn serve<'a>(alloc: Global) -> Result<Command<'a>, AllocError>
+    ensures { IfOk result (λ command. app_of command ≡ serving) }
+{
+    with_file(
+        alloc,
+        "serve",
+        "Serves clients one after another, and hands on their mail",
+    )?
+    .arg(rounds_argument(alloc))?
+    .arg(log_argument(alloc))
+}
+
+/// `push --config FILE [--log]`. It fails where memory runs out.
+fn push<'a>(alloc: Global) -> Result<Command<'a>, AllocError>
+    ensures { IfOk result (λ command. app_of command ≡ pushing) }
+{
+    with_file(
+        alloc,
+        "push",
+        "Hands on what is due: message, hop, and whether the attempt ended or was lost",
+    )?
+    .arg(log_argument(alloc))
 }
 
 /// `--config FILE`
@@ -90,6 +210,29 @@ fn file_argument<'a>(alloc: Global) -> Arg<'a>
         .action(ArgAction::Set)
         .required(true)
         .help("The configuration file")
+}
+
+/// `--rounds N`
+fn rounds_argument<'a>(alloc: Global) -> Arg<'a>
+    ensures rule { rule_of result ≡ rounds_rule }
+    ensures local { result.global ≡ false }
+{
+    Arg::new(alloc, "rounds")
+        .long("rounds")
+        .action(ArgAction::Set)
+        .value_parser(ValueParser::unsigned(1, MOST_ROUNDS))
+        .help("How many connections are served, 1 to 1,000,000; 1 where it isn't given")
+}
+
+/// `--log`
+fn log_argument<'a>(alloc: Global) -> Arg<'a>
+    ensures rule { rule_of result ≡ log_rule }
+    ensures local { result.global ≡ false }
+{
+    Arg::new(alloc, "log")
+        .long("log")
+        .action(ArgAction::SetTrue)
+        .help("Says on standard error what was done")
 }
 
 /// The law that says of some words, written out, what is wrong with them and what they ask for.

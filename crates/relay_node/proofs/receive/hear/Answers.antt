@@ -1,6 +1,8 @@
 -- What was listened to, and what became of an offer that there is room for.
-use Rattle.std.proofs.Common.{refl, sym}
+use Rattle.std.proofs.Common.{refl, sym, ap, ◌∙◌}
 use Rattle.relay_server.specs.Setup.{setup_of_config}
+use Rattle.relay_book.specs.declared.change.Change.{Change}
+use Rattle.relay_book.specs.Queue.{step}
 use Rattle.relay_node.proofs.ReceiveLemmas.{closes, cuts_talk, ends_for_close, ends_for_more, ends_for_taken, err_of, hears_queued, hears_quietly}
 use Rattle.relay_node.proofs.receive.hear.Goals as goal
 
@@ -57,3 +59,9 @@ returns-in-Err-clause-cut g c = λ changes said keeps says e.
     let a = c.in_ok-reply-in-Taken.ensures.answered setup l.later l.stands in
     cuts_talk g.D.Disk.honest g.D.Disk.words _ changes said c.args.piece.now c.args.records.now (c.next_number.ensures.kept changes keeps) c.size.ensures.size
     c.listen.new.session c.reply.new.self by.1.0 c.in-Taken.taken c.in_ok-used.field-0.used _ _ l by.1.1 by.1.2 a ends.within c.add.new.self (c.in-Err.ensures.cut changes keeps (err_of c.in-Err.fault _ e))
+
+pub returns-in-Ok-clause-takes : goal.returns-in-Ok-clause-takes
+returns-in-Ok-clause-takes g c =
+    let by = ends_for_taken _ _ _ _ c.in_ok-used.ensures.ends c.in-Taken.taken c.in-Taken.is in
+    let grows = c.in-Ok.ensures.grows in
+    (by.1.2.accept, grows.number_is, grows.queue ∙ ap (λ (change : Change). step c.args.records.now.queue change) by.1.2.change_is)

@@ -11,7 +11,7 @@ invariant_of-self g c =
     let config = c.self.inside.config in
     let made = c.in-Ok.ensures in
     let says : Says (setup_of_config config) c.in-Ok.session (greeted_by c.in-Ok.out.items) = record { stands = made.stands (setup_of_config config) refl refl; settled = made.settled } in
-    all_have_histories config c.self.inside.seats _ c.in-Some.number _ c.put.ensures c.self.invariant (greeted_by c.in-Ok.out.items, says)
+    (all_have_histories config c.self.inside.seats _ c.in-Some.number _ c.put.ensures c.self.invariant.0 (greeted_by c.in-Ok.out.items, says), c.self.invariant.1)
 
 pub returns-clause-connects : goal.returns-clause-connects
 returns-clause-connects g c = rw (← c.self.view_is) (

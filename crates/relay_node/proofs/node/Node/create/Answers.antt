@@ -1,6 +1,11 @@
--- Nothing was said on free seats.
+-- Nothing was said on free seats, and no attempt runs.
+use Rattle.std.proofs.Common.{ap}
+use Rattle.relay_book.specs.Queue.{Queue}
 use Rattle.relay_node.proofs.NodeLemmas.{free_histories}
 use Rattle.relay_node.proofs.node.Node.create.Goals as goal
 
 pub invariant_of-result : goal.invariant_of-result
-invariant_of-result g c = free_histories c.args.config c.in-Ok.seats c.in-Ok.ensures
+invariant_of-result g c = (
+  free_histories c.args.config c.in-Ok.seats c.in-Ok.ensures,
+  c.in-Ok-idle.ensures.serves c.args.config.host c.args.config.routes c.in-Ok-create.records.queue (ap (λ (q : Queue). q.messages) c.in-Ok-create.ensures.keeps.queue),
+)

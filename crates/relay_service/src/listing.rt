@@ -1,8 +1,8 @@
 //! The spool that a configuration names: made, and listed.
 use crate::fault::Fault;
-use relay_disk::FileDisk;
+use crate::settings::{configuration, spool_file};
+use relay_disk::{Disk, FileDisk};
 use relay_node::Node;
-use relay_routes::Config;
 use std::alloc::Global;
 use std::fs::File;
 use std::io::{self, Write};
@@ -18,6 +18,9 @@ pub fn init<F: Files<File = File>>(alloc: Global, files: &F, path: &str) -> Resu
     }
 }
 
+/// How often `list` opens a spool that grows while it is read.
+const OPENINGS: u32 = 1_000;
+
 /// Writes a line for each recipient that the spool holds, in order: the number of its message, its
 /// place in that, its path, and the moment when it is due, in seconds from 1970.
 pub fn list<F: Files<File = File>, W: Write>(
@@ -26,11 +29,34 @@ pub fn list<F: Files<File = File>, W: Write>(
     path: &str,
     writer: &mut W,
 ) -> Result<(), Fault> {
+    for _ in 0..OPENINGS {
+        if let Some(node) = open_unless_it_grew(alloc, files, path)? {
+            return write_held(alloc, &node, writer);
+        }
+    }
+    Err(Fault::Device)
+}
+
+/// The node of the spool that the configuration names; none where the spool seemed damaged and has grown while it
+/// was read. A process that serves adds to the file beside this one, and what it adds then may pass the end that
+/// the file had before.
+fn open_unless_it_grew<F: Files<File = File>>(
+    alloc: Global,
+    files: &F,
+    path: &str,
+) -> Result<Option<Node<FileDisk>>, Fault> {
     let config = configuration(alloc, files, path)?;
-    let disk = spool_file(files, &config)?;
+    let mut disk = spool_file(files, &config)?;
+    let size = disk.size();
     match Node::open(alloc, config, disk) {
-        Ok(node) => write_held(alloc, &node, writer),
-        Err(refused) => Err(Fault::from(refused.cause)),
+        Ok(node) => Ok(Some(node)),
+        Err(refused) => {
+            let mut disk = refused.disk;
+            match Fault::from(refused.cause) {
+                Fault::Damaged(_) if disk.size() != size => Ok(None),
+                fault => Err(fault),
+            }
+        }
     }
 }
 
@@ -68,28 +94,4 @@ fn write_fields<W: Write>(
     write!(writer, "{number} {place} ")?;
     writer.write_all(path)?;
     writeln!(writer, " {due}")
-}
-
-/// The configuration in the file at this path.
-fn configuration<F: Files<File = File>>(
-    alloc: Global,
-    files: &F,
-    path: &str,
-) -> Result<Config, Fault> {
-    match text_of(alloc, files, path) {
-        Ok(text) => Ok(Config::read(alloc, text.as_str())?),
-        Err(error) => Err(Fault::of_input(&error)),
-    }
-}
-
-fn text_of<F: Files<File = File>>(alloc: Global, files: &F, path: &str) -> io::Result<String> {
-    io::read_to_string(alloc, File::open(files, path)?)
-}
-
-/// The file of the spool that the configuration names.
-fn spool_file<F: Files<File = File>>(files: &F, config: &Config) -> Result<FileDisk, Fault> {
-    match FileDisk::open(files, config.spool.as_str()) {
-        Ok(disk) => Ok(disk),
-        Err(error) => Err(Fault::of_device(&error)),
-    }
 }

@@ -39,6 +39,9 @@ pub enum Fault {
     /// Standard output can't be written.
     #[error("output")]
     Output,
+    /// There is no listening at the configured place.
+    #[error("socket")]
+    Socket,
 }
 
 impl Fault {

@@ -1,0 +1,27 @@
+-- The link of an attempt goes on read by read.
+use Rattle.std.proofs.Common.{[]}
+use Rattle.relay_links.proofs.PushLemmas.{rest_stays}
+use Rattle.relay_links.proofs.push.converse.Goals as goal
+
+pub returns-in-Ok-exchange_block-clause-goes : goal.returns-in-Ok-exchange_block-clause-goes
+returns-in-Ok-exchange_block-clause-goes g c = λ start h. c.in-Ok-exchange_block.ensures.goes start (c.loop.invariant.so_far start h)
+
+pub returns-in-Ok-exchange_block-clause-gone : goal.returns-in-Ok-exchange_block-clause-gone
+returns-in-Ok-exchange_block-clause-gone g c = c.in-Ok-exchange_block.ensures.gone
+
+pub returns-in-Ok-exchange_block-clause-rest : goal.returns-in-Ok-exchange_block-clause-rest
+returns-in-Ok-exchange_block-clause-rest g c = rest_stays c.args.node.now c.loop.node c.exchange_block.new.node c.args.attempt c.loop.invariant.rest c.in-Ok-exchange_block.ensures.rest
+
+pub returns-in-Err-clause-goes : goal.returns-in-Err-clause-goes
+returns-in-Err-clause-goes g c = λ start h. c.in-Err.ensures.goes start (c.loop.invariant.so_far start h)
+
+pub loop-preserved : goal.loop-preserved
+loop-preserved g c = record {
+  rest = rest_stays c.args.node.now c.loop.node c.exchange_block.new.node c.args.attempt c.loop.invariant.rest c.in-Ok-On.ensures.rest;
+  so_far = λ start h.
+      let goes = c.in-Ok-On.ensures.goes start (c.loop.invariant.so_far start h) in
+      rw c.in-Ok-On.field-0-is at goes;
+}
+
+pub returns-clause-goes : goal.returns-clause-goes
+returns-clause-goes g c = λ start h. ([], [], c.loop.invariant.so_far start h)

@@ -1,0 +1,30 @@
+-- A link of an attempt from its start to its end, or to its loss.
+use Rattle.std.proofs.Common.{[]}
+use Rattle.relay_links.proofs.PushLemmas.{begins, rest_stays}
+use Rattle.relay_links.proofs.push.push_link.Goals as goal
+
+pub returns-in-Ok-Ended-clause-pushed : goal.returns-in-Ok-Ended-clause-pushed
+returns-in-Ok-Ended-clause-pushed g c = λ changes told keeps tells.
+    let goes = c.in-Ok-Ended.ensures.goes _ (begins g.D.Disk.honest g.D.Disk.words c.args.now c.args.attempt (g.R.Read.remaining c.args.reader.now) (g.W.Write.contents c.args.writer.now) c.args.node.now changes told keeps tells) in
+    rw c.in-Ok-Ended.field-0-is at goes
+
+pub returns-in-Ok-Unwritten-clause-pushed : goal.returns-in-Ok-Unwritten-clause-pushed
+returns-in-Ok-Unwritten-clause-pushed g c = λ changes told keeps tells.
+    let goes = c.in-Ok-Unwritten.ensures.goes _ (begins g.D.Disk.honest g.D.Disk.words c.args.now c.args.attempt (g.R.Read.remaining c.args.reader.now) (g.W.Write.contents c.args.writer.now) c.args.node.now changes told keeps tells) in
+    rw c.in-Ok-Unwritten.field-0-is at goes
+
+pub returns-in-Ok-On-clause-pushed : goal.returns-in-Ok-On-clause-pushed
+returns-in-Ok-On-clause-pushed g c = λ changes told keeps tells.
+    let goes = c.in-Ok-On.ensures.goes _ (begins g.D.Disk.honest g.D.Disk.words c.args.now c.args.attempt (g.R.Read.remaining c.args.reader.now) (g.W.Write.contents c.args.writer.now) c.args.node.now changes told keeps tells) in
+    let here = rw c.in-Ok-On.field-0-is at goes in
+    c.lose_link.ensures.pushed _ _ _ [] [] here
+
+pub returns-in-Ok-Broken-clause-pushed : goal.returns-in-Ok-Broken-clause-pushed
+returns-in-Ok-Broken-clause-pushed g c = λ changes told keeps tells.
+    let goes = c.in-Ok-Broken.ensures.goes _ (begins g.D.Disk.honest g.D.Disk.words c.args.now c.args.attempt (g.R.Read.remaining c.args.reader.now) (g.W.Write.contents c.args.writer.now) c.args.node.now changes told keeps tells) in
+    let here = rw c.in-Ok-Broken.field-0-is at goes in
+    c.lose_link-in-Ok-Broken.ensures.pushed _ _ _ here.0 here.1 here.2
+
+pub returns-in-Err-clause-pushed : goal.returns-in-Err-clause-pushed
+returns-in-Err-clause-pushed g c = λ changes told keeps tells.
+    c.in-Err.ensures.goes _ (begins g.D.Disk.honest g.D.Disk.words c.args.now c.args.attempt (g.R.Read.remaining c.args.reader.now) (g.W.Write.contents c.args.writer.now) c.args.node.now changes told keeps tells)

@@ -1,0 +1,136 @@
+-- What a link of an attempt over a reader and a writer has done: a course, and at its end one outcome.
+use Rattle.std.specs.Prelude.{◌≡◌, ℕ, Bool, true, false, List, [], ◌++◌, Option, Some, None, Result, Ok, Err}
+use Rattle.std.specs.Io.KnownBytes.{Appends, Consumes}
+use Rattle.relay_disk.specs.Device.{DiskWords}
+use Rattle.relay_book.specs.declared.change.Change.{Change}
+use Rattle.relay_book.specs.declared.change.Verdict.{Verdict}
+use Rattle.relay_records.specs.Records.{Keeps, Kept}
+use Rattle.relay_outcomes.specs.Outcomes.{AddsOutcome, CutsOutcome}
+use Rattle.relay_course.specs.Course.{IsCourse}
+use Rattle.relay_course.specs.VerdictTable.{all_later}
+use Rattle.relay_attempts.specs.Reply.{Told, outcome_at, told_more}
+use Rattle.relay_slots.specs.Slots.{slot_at}
+use Rattle.relay_node.specs.Attempts.{Tells}
+use Rattle.relay_node.specs.Node.{Standing}
+use Rattle.relay_links.specs.declared.fault.LinkFault.{LinkFault}
+use Rattle.relay_links.specs.declared.fault.LinkFault.TheVariants.{Input, Output, NoMemory, Full, Device}
+use Rattle.relay_links.specs.declared.push.Pushed.{Pushed}
+use Rattle.relay_links.specs.declared.push.Pushed.TheVariants.{Ended, Unwritten, Lost}
+use Rattle.relay_links.specs.declared.push.Way.{Way}
+use Rattle.relay_links.specs.declared.push.Way.TheVariants as way
+
+-- where a link of an attempt begins: what its reader still has and its writer holds, the host's name, the changes
+-- that the node keeps, and what is told of the attempt
+pub record PushStart : Type 0 where
+  pub left : Option (List ℕ)
+  pub held : Option (List ℕ)
+  pub host : List ℕ
+  pub changes : List Change
+  pub told : Told
+
+-- a link of this node's attempt begins, of which this is told; the node keeps these changes
+abbrev pub push_start_at : {D : Type 0} → Option (List ℕ) → Option (List ℕ) → Standing D → List Change → Told → PushStart
+push_start_at left held node changes told =
+    record { left = left; held = held; host = node.config.host; changes = changes; told = told }
+
+-- The words below are of a link from its start on, at a moment.
+module _ {D : Type 0} (honest : Type 0) (words : DiskWords D) (start : PushStart) (at : ℕ) where
+  -- The attempt of this number has read what was read but for these octets, which wait, and it wrote what was written
+  -- and these octets behind that, which weren't; the node keeps the changes of before.
+  pub record IsAt (number : ℕ) (left held : Option (List ℕ)) (waiting unwritten : List ℕ) (node : Standing D) : Type 0 where
+    pub input : List ℕ
+    pub written : List ℕ
+    pub host : node.config.host ≡ start.host
+    pub reads : Consumes start.left left (input ++ waiting)
+    pub writes : Appends start.held held written
+    pub keeps : Keeps honest words node.records start.changes
+    pub tells : Tells start.host start.changes node.attempts number (told_more start.told input (written ++ unwritten))
+
+  -- What was read and written is the attempt's course, told of a loss or not, with these verdicts or none yet: but for
+  -- octets that were read and not used, and these octets, which weren't written any more.
+  pub record Goes (left held : Option (List ℕ)) (unwritten : List ℕ) (lost : Bool) (verdicts : Option (List Verdict)) : Type 0 where
+    pub input : List ℕ
+    pub unused : List ℕ
+    pub written : List ℕ
+    pub reads : Consumes start.left left (input ++ unused)
+    pub writes : Appends start.held held written
+    pub course : IsCourse start.host start.told.envelope start.told.text start.told.places (start.told.input ++ input) lost
+        (start.told.output ++ (written ++ unwritten)) verdicts
+
+  -- the outcome with these verdicts, and the report that is due of it, is the one change that was added
+  pub record Concludes (verdicts : List Verdict) (records : Kept D) : Type 0 where
+    pub used : ℕ
+    pub number : ℕ
+    pub adds : AddsOutcome honest words start.host start.changes (outcome_at at start.told verdicts) used records number
+
+  -- a stop came while that outcome was added
+  pub record IsCut (verdicts : List Verdict) (records : Kept D) : Type 0 where
+    pub used : ℕ
+    pub cuts : CutsOutcome honest words start.host start.changes (outcome_at at start.told verdicts) used records
+
+  -- the course has come to verdicts, and its outcome was added
+  pub record HasEnded (left held : Option (List ℕ)) (unwritten : List ℕ) (records : Kept D) : Type 0 where
+    pub verdicts : List Verdict
+    pub goes : Goes left held unwritten false (Some verdicts)
+    pub concludes : Concludes verdicts records
+
+  -- its connection is lost, of which the outcome was added: each place may be tried again
+  pub record HasLost (left held : Option (List ℕ)) (records : Kept D) : Type 0 where
+    pub unwritten : List ℕ
+    pub goes : Goes left held unwritten true (Some (all_later start.told.places))
+    pub concludes : Concludes (all_later start.told.places) records
+
+  -- how a link has ended
+  abbrev pub HasPushed : Option (List ℕ) → Option (List ℕ) → Kept D → Pushed → Type 0
+  HasPushed left held records Ended = HasEnded left held [] records
+  HasPushed left held records Unwritten = (unwritten : List ℕ) × HasEnded left held unwritten records
+  HasPushed left held records Lost = HasLost left held records
+
+  -- the attempt is gone without an outcome, and the node keeps the changes of before
+  pub record HasDropped (left held : Option (List ℕ)) (records : Kept D) : Type 0 where
+    pub unwritten : List ℕ
+    pub goes : Goes left held unwritten false None
+    pub keeps : Keeps honest words records start.changes
+
+  -- the device failed while the outcome of the course, or of its loss, was added
+  pub record HasStopped (left held : Option (List ℕ)) (records : Kept D) : Type 0 where
+    pub unwritten : List ℕ
+    pub lost : Bool
+    pub verdicts : List Verdict
+    pub goes : Goes left held unwritten lost (Some verdicts)
+    pub cut : IsCut verdicts records
+
+  -- what a fault leaves
+  abbrev pub HasFailed : Option (List ℕ) → Option (List ℕ) → Kept D → LinkFault → Type 0
+  HasFailed left held records Input = ⊥
+  HasFailed left held records Output = ⊥
+  HasFailed left held records NoMemory = HasDropped left held records
+  HasFailed left held records Full = HasDropped left held records
+  HasFailed left held records Device = HasStopped left held records
+
+  -- a link has ended, or a fault has come
+  abbrev pub PushesTo : Option (List ℕ) → Option (List ℕ) → Kept D → Result Pushed LinkFault → Type 0
+  PushesTo left held records (Ok pushed) = HasPushed left held records pushed
+  PushesTo left held records (Err fault) = HasFailed left held records fault
+
+  -- the attempt goes on, or it has ended, or its connection is of no use any more
+  abbrev pub TakesWay : ℕ → Option (List ℕ) → Option (List ℕ) → Standing D → Way → Type 0
+  TakesWay number left held node way.On = IsAt number left held [] [] node
+  TakesWay number left held node way.Ended = HasEnded left held [] node.records
+  TakesWay number left held node way.Unwritten = (unwritten : List ℕ) × HasEnded left held unwritten node.records
+  TakesWay number left held node way.Broken =
+      (waiting : List ℕ) × (unwritten : List ℕ) × IsAt number left held waiting unwritten node
+
+  -- it has gone some way, or a fault has come
+  abbrev pub WaysTo : ℕ → Option (List ℕ) → Option (List ℕ) → Standing D → Result Way LinkFault → Type 0
+  WaysTo number left held node (Ok step) = TakesWay number left held node step
+  WaysTo number left held node (Err fault) = HasFailed left held node.records fault
+
+-- The attempt of a number is gone, unless it goes on, or its connection is lost of which the node wasn't told. Of a node that is
+-- stopped nothing is said.
+abbrev pub IsGoneBy : {D : Type 0} → ℕ → Standing D → Result Way LinkFault → Type 0
+IsGoneBy number new (Ok way.On) = Unit {0}
+IsGoneBy number new (Ok way.Ended) = slot_at new.attempts number ≡ None
+IsGoneBy number new (Ok way.Unwritten) = slot_at new.attempts number ≡ None
+IsGoneBy number new (Ok way.Broken) = Unit {0}
+IsGoneBy number new (Err fault) = new.records.spool.live ≡ true → slot_at new.attempts number ≡ None

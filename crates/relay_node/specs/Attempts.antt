@@ -1,0 +1,107 @@
+-- The attempts of a node to pass its mail on, in its list of changes (RFC 5321, section 4.5.4.1).
+use Rattle.std.specs.Prelude.{◌≡◌, ◌≢◌, ◌⊎◌, ℕ, ◌≤◌, true, false, List, [], ◌∷◌, ◌++◌, length, take, Option, None, Some}
+use Rattle.relay_disk.specs.Device.{DiskWords}
+use Rattle.relay_slots.specs.Slots.{IsLeastFree, OthersStay, slot_at}
+use Rattle.relay_routes.specs.declared.config.Config.{Config}
+use Rattle.relay_book.specs.declared.change.Accept.{Accept}
+use Rattle.relay_book.specs.declared.change.Change.{Change}
+use Rattle.relay_book.specs.declared.message.Message.{Message}
+use Rattle.relay_book.specs.Marks.{message_at}
+use Rattle.relay_book.specs.Queue.{Fitting, message_of, queue_of}
+use Rattle.relay_records.specs.Records.{IsStopped, Kept}
+use Rattle.relay_records.specs.declared.fault.NodeFault.{NodeFault}
+use Rattle.relay_records.specs.declared.fault.NodeFault.TheVariants.{NoMemory, Stopped, Unknown, TooMany, NotDue, Busy, Open, Full}
+use Rattle.relay_client.specs.Attempt.{Follows}
+use Rattle.relay_attempts.specs.declared.reply.Replied.{Replied}
+use Rattle.relay_attempts.specs.declared.runs.Run.{Run}
+use Rattle.relay_attempts.specs.declared.start.Started.{Started}
+use Rattle.relay_attempts.specs.Hops.{due_places_in}
+use Rattle.relay_attempts.specs.Reply.{HasEnded, Told, told_more}
+use Rattle.relay_attempts.specs.Runs.{is_running}
+use Rattle.relay_node.specs.Node.{Standing}
+
+-- This is told of the attempt of a number: by the list of changes its message was accepted with this envelope and stored text, and
+-- its client has read and written this.
+pub record Tells (host : List ℕ) (changes : List Change) (attempts : List (Option Run)) (number : ℕ) (told : Told) : Type 0 where
+  pub run : Run
+  pub at : slot_at attempts number ≡ Some run
+  pub its_message : run.message ≡ told.message
+  pub its_hop : run.hop ≡ told.hop
+  pub its_places : run.places.items ≡ told.places
+  pub accept : Accept
+  pub accepted : message_at changes told.message ≡ Some accept
+  pub envelope_is : accept.envelope ≡ told.envelope
+  pub text_is : accept.stored_text ≡ told.text
+  pub follows : Follows run.client host told.envelope told.text told.places told.input told.output
+
+-- What is told of an attempt stays so while changes are added, as long as the attempt is the same.
+abbrev pub ToldStays : Type 0
+ToldStays =
+    (host : List ℕ) (changes : List Change) (change : Change) (old new : List (Option Run)) (number : ℕ) (told : Told)
+    → Fitting (changes ++ change ∷ []) → slot_at new number ≡ slot_at old number
+    → Tells host changes old number told → Tells host (changes ++ change ∷ []) new number told
+
+-- of an attempt that has begun for these places of a message, nothing was read and written
+abbrev pub begun_with : ℕ → List ℕ → List ℕ → Message → Told
+begun_with number hop places message = record {
+  message = number;
+  hop = hop;
+  places = places;
+  envelope = message.accept.envelope;
+  text = message.accept.stored_text;
+  input = [];
+  output = [];
+}
+
+-- by the list of changes: an attempt has begun for those places of a message that are due and go to this hop, under the least
+-- free number, and none was running for message and hop
+pub record Begins (config : Config) (changes : List Change) (number : ℕ) (hop : List ℕ) (now : ℕ) (old new : List (Option Run))
+    (started : Started) : Type 0 where
+  pub least : IsLeastFree old started.attempt
+  pub free : is_running old number hop ≡ false
+  pub message : Message
+  pub found : message_of (queue_of changes).messages number ≡ Some message
+  pub places : started.places.items ≡ due_places_in config.routes hop now message
+  pub some : started.places.items ≢ []
+  pub tells : Tells config.host changes new started.attempt (begun_with number hop started.places.items message)
+  pub others : OthersStay old new started.attempt
+
+-- The words below are of a call at a moment, for an attempt of which this is told, of a node that keeps these changes.
+module _ {D : Type 0} (honest : Type 0) (words : DiskWords D) (host : List ℕ) (now : ℕ) (changes : List Change)
+    (number : ℕ) (told : Told) where
+  -- it goes on: all of the piece was read, and the records are the same
+  pub record ReadsOn (piece : List ℕ) (old new : Standing D) (replied : Replied) : Type 0 where
+    pub used : replied.used ≡ length piece
+    pub same : new.records ≡ old.records
+    pub tells : Tells host changes new.attempts number (told_more told (take replied.used piece) replied.out.items)
+
+  -- it goes on, or it has ended, and its outcome is the change of this number
+  abbrev pub RepliesBy : List ℕ → Standing D → Standing D → Replied → Option ℕ → Type 0
+  RepliesBy piece old new replied None = ReadsOn piece old new replied
+  RepliesBy piece old new replied (Some change) =
+      HasEnded honest words host now changes number told piece new.records new.attempts replied change
+
+  abbrev pub Replies : List ℕ → Standing D → Standing D → Replied → Type 0
+  Replies piece old new replied = RepliesBy piece old new replied replied.change
+
+-- octets of a piece of this length were used: all, unless a change was made, and then the attempt is gone
+pub record UsesReply (number len : ℕ) (new : List (Option Run)) (replied : Replied) : Type 0 where
+  pub within : replied.used ≤ len
+  pub whole : replied.change ≡ None → replied.used ≡ len
+  pub gone : replied.change ≢ None → slot_at new number ≡ None
+
+-- the attempt is gone, and the records are unchanged
+pub record IsDropped {D : Type 0} (number : ℕ) (old new : Standing D) : Type 0 where
+  pub attempt : slot_at new.attempts number ≡ None
+  pub records : new.records ≡ old.records
+
+-- what a live node leaves where it refuses a reply to an attempt, or the loss of its connection
+abbrev pub RefusesToReply : {D : Type 0} → DiskWords D → ℕ → Standing D → Standing D → NodeFault → Type 0
+RefusesToReply words number old new NoMemory = IsDropped number old new
+RefusesToReply words number old new Stopped = IsStopped words old.records new.records
+RefusesToReply words number old new Unknown = new ≡ old
+RefusesToReply words number old new TooMany = ⊥
+RefusesToReply words number old new NotDue = ⊥
+RefusesToReply words number old new Busy = ⊥
+RefusesToReply words number old new (Open cause) = ⊥
+RefusesToReply words number old new Full = IsDropped number old new

@@ -1,0 +1,93 @@
+//! What next hops answer to attempts, and connections that are lost.
+ghost use Rattle.std.specs.Prelude.{◌≡◌, ◌↔◌, ℕ, None, true, false, List, length, Err, IfErr, IfOk, OnOk};
+ghost use Rattle.relay_attempts.specs.Reply.{CutsLoss, CutsReply, HasNoRoomAtEnd, IsLost, Told, outcome_at};
+ghost use Rattle.relay_book.specs.declared.change.Change.{Change};
+ghost use Rattle.relay_course.specs.VerdictTable.{all_later};
+ghost use Rattle.relay_node.specs.Attempts.{RefusesToReply, Replies, Tells, UsesReply};
+ghost use Rattle.relay_outcomes.specs.Outcomes.{HasNoRoom};
+ghost use Rattle.relay_records.specs.Records.{Keeps};
+ghost use Rattle.relay_slots.specs.Slots.{OthersStay, slot_at};
+
+use crate::node::Node;
+use relay_attempts::Replied;
+use relay_disk::Disk;
+use relay_records::NodeFault;
+use relay_trace::Moment;
+
+impl<D: Disk> Node<D> {
+    /// Uses octets that the next hop of an attempt wrote, all of them or up to the attempt's end. At its end
+    /// one outcome is added, of exactly its places, each with its verdict, in one change with the report
+    /// that is due of it: from then on every stop leaves it. `Stopped` is answered first, and then `Unknown`
+    /// where there is no such attempt. At `NoMemory` and `Full` the attempt is gone without another octet,
+    /// and the records are unchanged.
+    pub fn reply(&mut self, attempt: usize, piece: &[u8], now: Moment) -> Result<Replied, NodeFault>
+        ensures replies { (changes : List Change) (told : Told)
+            → Keeps D.honest D.words self.old.records changes
+            → Tells self.old.config.host changes self.old.attempts attempt told
+            → IfOk result (Replies D.honest D.words self.old.config.host now changes attempt told piece.now
+            self.old self.new) }
+        ensures cut { (changes : List Change) (told : Told) → Keeps D.honest D.words self.old.records changes
+            → Tells self.old.config.host changes self.old.attempts attempt told
+            → result ≡ Err NodeFault.Stopped
+            → CutsReply D.honest D.words self.old.config.host now changes attempt told piece.now
+            self.new.records }
+        ensures full { (changes : List Change) (told : Told) → Keeps D.honest D.words self.old.records changes
+            → Tells self.old.config.host changes self.old.attempts attempt told
+            → result ≡ Err NodeFault.Full
+            → HasNoRoomAtEnd self.old.config.host now told piece.now self.old.records }
+        ensures used { IfOk result (UsesReply attempt (length piece.now) self.new.attempts) }
+        ensures rest { OthersStay self.old.attempts self.new.attempts attempt
+            × (self.new.config ≡ self.old.config) × (self.new.seats ≡ self.old.seats) }
+        ensures refused { self.old.records.spool.live ≡ true
+            → IfErr result (RefusesToReply D.words attempt self.old self.new) }
+        ensures stopped { self.old.records.spool.live ≡ false
+            → (result ≡ Err NodeFault.Stopped) × (self.new ≡ self.old) }
+        ensures unknown { (result ≡ Err NodeFault.Unknown)
+            ↔ ((self.old.records.spool.live ≡ true) × (slot_at self.old.attempts attempt ≡ None)) }
+    {
+        if !self.records.is_live() {
+            return Err(NodeFault::Stopped);
+        }
+        self.attempts.reply(
+            self.alloc,
+            &self.config,
+            &mut self.records,
+            attempt,
+            piece,
+            now,
+        )
+    }
+
+    /// Ends an attempt whose connection is lost: each of its places may be tried again, or has failed where
+    /// it was tried for too long. One outcome says so, in one change with the report that is due of it,
+    /// whose number is the answer. The faults are those of [`Node::reply`], and leave the same.
+    pub fn lost(&mut self, attempt: usize, now: Moment) -> Result<u64, NodeFault>
+        ensures lost { (changes : List Change) (told : Told) → Keeps D.honest D.words self.old.records changes
+            → Tells self.old.config.host changes self.old.attempts attempt told
+            → IfOk result (IsLost D.honest D.words self.old.config.host now changes attempt told
+            self.new.records self.new.attempts) }
+        ensures cut { (changes : List Change) (told : Told) → Keeps D.honest D.words self.old.records changes
+            → Tells self.old.config.host changes self.old.attempts attempt told
+            → result ≡ Err NodeFault.Stopped
+            → CutsLoss D.honest D.words self.old.config.host now changes attempt told self.new.records }
+        ensures full { (changes : List Change) (told : Told) → Keeps D.honest D.words self.old.records changes
+            → Tells self.old.config.host changes self.old.attempts attempt told
+            → result ≡ Err NodeFault.Full
+            → HasNoRoom self.old.config.host (outcome_at now told (all_later told.places)) self.old.records }
+        ensures gone { OnOk result (slot_at self.new.attempts attempt ≡ None) }
+        ensures rest { OthersStay self.old.attempts self.new.attempts attempt
+            × (self.new.config ≡ self.old.config) × (self.new.seats ≡ self.old.seats) }
+        ensures refused { self.old.records.spool.live ≡ true
+            → IfErr result (RefusesToReply D.words attempt self.old self.new) }
+        ensures stopped { self.old.records.spool.live ≡ false
+            → (result ≡ Err NodeFault.Stopped) × (self.new ≡ self.old) }
+        ensures unknown { (result ≡ Err NodeFault.Unknown)
+            ↔ ((self.old.records.spool.live ≡ true) × (slot_at self.old.attempts attempt ≡ None)) }
+    {
+        if !self.records.is_live() {
+            return Err(NodeFault::Stopped);
+        }
+        self.attempts
+            .lost(self.alloc, &self.config, &mut self.records, attempt, now)
+    }
+}

@@ -1,0 +1,21 @@
+//! The programs over files and sockets: a spool is made and listed, clients are served, and mail is
+//! handed on, by a configuration file.
+#![tactic(auto)]
+
+mod clock;
+mod fault;
+mod line;
+mod listing;
+mod log;
+mod push;
+mod serve;
+mod settings;
+mod sockets;
+
+pub use clock::clock_moment;
+pub use fault::Fault;
+pub use line::printable;
+pub use listing::{init, list};
+pub use log::Log;
+pub use push::push;
+pub use serve::serve;

@@ -1,0 +1,144 @@
+//! Mail that is handed on to its next hops.
+ghost use Rattle.std.specs.Prelude.{◌≡◌, ◌≢◌, MatchResult};
+
+use crate::clock::clock_moment;
+use crate::fault::Fault;
+use crate::log::Log;
+use crate::settings::{configuration, locked_node};
+use crate::sockets::connect;
+use relay_disk::FileDisk;
+use relay_links::{LinkFault, Pushed, lose_link, push_link};
+use relay_node::{Node, NodeFault, Work};
+use relay_routes::HostName;
+use relay_trace::Moment;
+use std::alloc::Global;
+use std::fs::File;
+use std::io::{self, Write};
+use std::net::{Net, TcpStream};
+use std::rt::{Clock, Files};
+
+/// Does each work that is due at the clock's moment once, in order: an attempt for each message and hop, and an
+/// end for places without one. A line for each goes to `writer`: `NUMBER HOP ended`, `NUMBER HOP lost`
+/// where the connection couldn't be made or was lost, or `NUMBER noroute`. A work that no memory or no room
+/// was left for has no line, and stays due. The file of the spool is taken for this process alone.
+pub fn push<R: Files<File = File> + Clock + Net<Stream = TcpStream>, W: Write, E: Write>(
+    alloc: Global,
+    rt: &R,
+    path: &str,
+    writer: &mut W,
+    log: &mut Log<'_, E>,
+) -> Result<(), Fault> {
+    let config = configuration(alloc, rt, path)?;
+    let mut node = locked_node(alloc, rt, config)?;
+    push_due(alloc, rt, &mut node, writer, log)
+}
+
+/// Does each work that is due at the clock's moment once, in order.
+pub(crate) fn push_due<R: Clock + Net<Stream = TcpStream>, W: Write, E: Write>(
+    alloc: Global,
+    rt: &R,
+    node: &mut Node<FileDisk>,
+    writer: &mut W,
+    log: &mut Log<'_, E>,
+) -> Result<(), Fault> {
+    let now = clock_moment(rt);
+    for work in node.due(alloc, now)? {
+        match work {
+            Work::NoRoute(number) => give_up(node, number, now, writer, log)?,
+            Work::Try(number, hop) => try_hop(alloc, rt, node, number, hop, now, writer, log)?,
+        }
+    }
+    Ok(())
+}
+
+/// Gives up the places of a message that have no hop.
+fn give_up<W: Write, E: Write>(
+    node: &mut Node<FileDisk>,
+    number: u64,
+    now: Moment,
+    writer: &mut W,
+    log: &mut Log<'_, E>,
+) -> Result<(), Fault> {
+    match node.give_up_unroutable(number, now) {
+        Ok(_) => {
+            log.attempt(number, b"", "noroute", node.take_noted());
+            said(writeln!(writer, "{number} noroute").and_then(|()| writer.flush()))
+        }
+        Err(fault) => left_over(fault),
+    }
+}
+
+/// Tries a hop for a message, at a connection of its own.
+fn try_hop<R: Clock + Net<Stream = TcpStream>, W: Write, E: Write>(
+    alloc: Global,
+    rt: &R,
+    node: &mut Node<FileDisk>,
+    number: u64,
+    hop: HostName,
+    now: Moment,
+    writer: &mut W,
+    log: &mut Log<'_, E>,
+) -> Result<(), Fault> {
+    let attempt = match node.start(number, &hop, now) {
+        Ok(started) => started.attempt,
+        Err(fault) => return left_over(fault),
+    };
+    let end = match hand_on(alloc, rt, node, attempt, &hop) {
+        Ok(Pushed::Ended | Pushed::Unwritten) => "ended",
+        Ok(Pushed::Lost) => "lost",
+        Err(LinkFault::Device) => return Err(Fault::Device),
+        Err(_) => {
+            log.attempt(number, hop.as_slice(), "without an outcome", None);
+            return Ok(());
+        }
+    };
+    log.attempt(number, hop.as_slice(), end, node.take_noted());
+    said(write_end(writer, number, hop.as_slice(), end))
+}
+
+/// Runs an attempt that has begun over a connection to its hop. One that can't be made is lost.
+fn hand_on<R: Clock + Net<Stream = TcpStream>>(
+    alloc: Global,
+    rt: &R,
+    node: &mut Node<FileDisk>,
+    attempt: usize,
+    hop: &HostName,
+) -> Result<Pushed, LinkFault> {
+    let Some(at) = node.config().routes.place_of(hop.as_slice()) else {
+        return lose_link(node, attempt, clock_moment(rt));
+    };
+    match connect(rt, at) {
+        Ok(stream) => {
+            let now = clock_moment(rt);
+            push_link(alloc, node, attempt, &mut &stream, &mut &stream, now)
+        }
+        Err(_) => lose_link(node, attempt, clock_moment(rt)),
+    }
+}
+
+/// Writes the line of an attempt's end.
+fn write_end<W: Write>(writer: &mut W, number: u64, hop: &[u8], end: &str) -> io::Result<()> {
+    write!(writer, "{number} ")?;
+    writer.write_all(hop)?;
+    writeln!(writer, " {end}")?;
+    writer.flush()
+}
+
+/// The fault of a line that can't be written.
+fn said(written: io::Result<()>) -> Result<(), Fault> {
+    match written {
+        Ok(()) => Ok(()),
+        Err(error) => Err(Fault::of_output(&error)),
+    }
+}
+
+/// What a fault of a work is to the others: it stays due, and only a device that failed ends them.
+fn left_over(fault: NodeFault) -> Result<(), Fault>
+    ensures { MatchResult result (λ _. fault ≢ NodeFault.Stopped) (λ ended. (fault ≡ NodeFault.Stopped)
+        × (ended ≡ Fault.Device)) }
+{
+    match fault {
+        NodeFault::Stopped => Err(Fault::Device),
+        _ => Ok(()),
+    }
+}

@@ -1,0 +1,115 @@
+//! A relay that serves its clients one after another, and hands on what they brought.
+ghost use Rattle.std.specs.Prelude.{◌≡◌, List};
+ghost use Rattle.relay_book.specs.declared.change.Change.{Change};
+ghost use Rattle.relay_links.specs.Link.{HasEnded, start_at};
+ghost use Rattle.relay_records.specs.Records.{Keeps};
+
+use crate::clock::clock_moment;
+use crate::fault::Fault;
+use crate::log::Log;
+use crate::push::push_due;
+use crate::settings::{configuration, locked_node};
+use crate::sockets::{listener, next_client};
+use relay_disk::{Disk, FileDisk};
+use relay_links::{LinkFault, serve_link};
+use relay_node::{Node, NodeFault};
+use relay_trace::Moment;
+use std::alloc::Global;
+use std::fs::File;
+use std::io::{Read, Write};
+use std::net::{Net, SocketAddrV4, TcpListener, TcpStream};
+use std::rt::{Clock, Files};
+
+/// Serves so many connections one after another, each to its end, and behind each does the work that is
+/// due, once. What that work leads to waits for the next. The file of the spool is taken for this process
+/// alone, and a line for each work goes to `writer`. Faults are looked for in this order: the
+/// configuration file, its content, the spool, the listener. A connection that breaks ends alone.
+pub fn serve<
+    R: Files<File = File> + Clock + Net<Listener = TcpListener, Stream = TcpStream>,
+    W: Write,
+    E: Write,
+>(
+    alloc: Global,
+    rt: &R,
+    path: &str,
+    rounds: u32,
+    writer: &mut W,
+    log: &mut Log<'_, E>,
+) -> Result<(), Fault> {
+    let config = configuration(alloc, rt, path)?;
+    let at = config.listen;
+    let mut node = locked_node(alloc, rt, config)?;
+    let listener = listener(rt, at)?;
+    log.listens(at);
+    for _ in 0..rounds {
+        round(alloc, rt, &mut node, &listener, writer, log)?;
+    }
+    Ok(())
+}
+
+/// Serves one connection, and then does the work that is due. A connection that can't be had is none.
+fn round<R: Clock + Net<Stream = TcpStream>, W: Write, E: Write>(
+    alloc: Global,
+    rt: &R,
+    node: &mut Node<FileDisk>,
+    listener: &TcpListener,
+    writer: &mut W,
+    log: &mut Log<'_, E>,
+) -> Result<(), Fault> {
+    if let Ok((stream, peer)) = next_client(listener) {
+        serve_stream(alloc, rt, node, stream, peer, log)?;
+    }
+    match push_due(alloc, rt, node, writer, log) {
+        // What is due stays due.
+        Err(Fault::NoMemory) => Ok(()),
+        end => end,
+    }
+}
+
+/// Serves a client on its stream, which is closed then. Only a fault of the device ends more than that.
+fn serve_stream<C: Clock, E: Write>(
+    alloc: Global,
+    clock: &C,
+    node: &mut Node<FileDisk>,
+    stream: TcpStream,
+    peer: SocketAddrV4,
+    log: &mut Log<'_, E>,
+) -> Result<(), Fault> {
+    let first = node.next_number();
+    let now = clock_moment(clock);
+    let end = serve_client(
+        alloc,
+        node,
+        peer.ip().octets(),
+        &mut &stream,
+        &mut &stream,
+        now,
+    );
+    log.client(peer, end, first, node.next_number());
+    match end {
+        Err(LinkFault::Device) => Err(Fault::Device),
+        _ => Ok(()),
+    }
+}
+
+/// Serves the client at an address, over its reader and writer.
+fn serve_client<D: Disk, R: Read, W: Write>(
+    alloc: Global,
+    node: &mut Node<D>,
+    peer: [u8; 4],
+    reader: &mut R,
+    writer: &mut W,
+    now: Moment,
+) -> Result<(), LinkFault>
+    ensures served { (changes : List Change) → Keeps D.honest D.words node.old.records changes
+        → HasEnded D.honest D.words
+        (start_at (R.remaining reader.old) (W.contents writer.old) peer node.old changes) now
+        (R.remaining reader.new) (W.contents writer.new) node.new.records result }
+    ensures config { node.new.config ≡ node.old.config }
+{
+    match node.connect(peer) {
+        Ok(connected) => serve_link(alloc, node, connected, reader, writer, now),
+        Err(NodeFault::Stopped) => Err(LinkFault::Device),
+        Err(_) => Err(LinkFault::NoMemory),
+    }
+}

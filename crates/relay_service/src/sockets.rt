@@ -1,0 +1,58 @@
+//! Sockets of clients and of next hops. A peer that is silent for longer than its timeout is gone
+//! (RFC 5321, section 4.5.3.2).
+use crate::fault::Fault;
+use std::io;
+use std::net::{Net, SocketAddr, SocketAddrV4, TcpListener, TcpStream};
+use std::time::Duration;
+
+/// How many seconds a read from a client, or a write to one, may wait (RFC 5321, section 4.5.3.2.7).
+const CLIENT_SECONDS: u64 = 300;
+
+/// How many seconds a read from a next hop, or a write to one, may wait: as long as its reply to a
+/// content may take (RFC 5321, section 4.5.3.2.6).
+const HOP_SECONDS: u64 = 600;
+
+/// How many seconds a next hop may take to answer a connection.
+const CONNECT_SECONDS: u64 = 5;
+
+/// A listener at this place.
+pub(crate) fn listener<N: Net<Listener = TcpListener, Stream = TcpStream>>(
+    net: &N,
+    at: SocketAddrV4,
+) -> Result<TcpListener, Fault> {
+    match net.bind(SocketAddr::V4(at)) {
+        Ok(listener) => Ok(listener),
+        Err(_) => Err(Fault::Socket),
+    }
+}
+
+/// The next client of a listener, and its place.
+pub(crate) fn next_client(listener: &TcpListener) -> io::Result<(TcpStream, SocketAddrV4)> {
+    match listener.accept()? {
+        (stream, SocketAddr::V4(peer)) => {
+            set_up(&stream, CLIENT_SECONDS)?;
+            Ok((stream, peer))
+        }
+        // A listener at four octets has no such client.
+        (_, SocketAddr::V6(_)) => Err(io::Error::from(io::ErrorKind::Unsupported)),
+    }
+}
+
+/// A connection to the next hop at this place.
+pub(crate) fn connect<N: Net<Stream = TcpStream>>(
+    net: &N,
+    at: SocketAddrV4,
+) -> io::Result<TcpStream> {
+    let stream = net.connect_timeout(SocketAddr::V4(at), Duration::from_secs(CONNECT_SECONDS))?;
+    set_up(&stream, HOP_SECONDS)?;
+    Ok(stream)
+}
+
+/// Sets how many seconds a read or a write of the stream may wait, and that octets go at once: all that
+/// belongs together is written by one call.
+fn set_up(stream: &TcpStream, seconds: u64) -> io::Result<()> {
+    let wait = Some(Duration::from_secs(seconds));
+    stream.set_read_timeout(wait)?;
+    stream.set_write_timeout(wait)?;
+    stream.set_nodelay(true)
+}
