@@ -1,6 +1,6 @@
 -- Octets that are shown.
 use Rattle.std.proofs.Common.{◌≡◌, ◌≤◌, ◌<◌, ◌&&◌, ◌+◌, ◌∷◌, ◌++◌, ℕ, Bool, true, false, List, [], map, take, length, get_or, nat_lt, cond, refl, sym, ap, ◌∙◌, subst, ltb-true, arith}
-use Rattle.std.specs.List.{All}
+use Rattle.std.specs.List.{All, slice_index_or}
 use Rattle.std.proofs.lemmas.List.{map_more, take_all}
 use Rattle.std.proofs.lemmas.List.Elements.{All-map}
 use Rattle.relay_service.specs.Line.{IsPrintable, Shows, shown}
@@ -21,4 +21,4 @@ shown_is_printable octet = by_tests (nat_lt 31 octet) (nat_lt octet 127) refl re
 pub shows_all : (text line : List ℕ) (index : ℕ) → length text ≤ index → line ≡ map shown (take index text) → Shows line text
 shows_all text line index end is =
     let each = is ∙ ap (map shown) (take_all index text end) in
-    record { each = each; printable = subst (All IsPrintable) (sym each) (All-map IsPrintable shown text (λ k d lt. shown_is_printable _)) }
+    record { each = each; printable = subst (All IsPrintable) (sym each) (All-map IsPrintable shown text (λ k d lt. shown_is_printable (slice_index_or text k d))) }

@@ -1,5 +1,5 @@
 -- Lines for a postmaster.
-use Rattle.std.specs.Prelude.{ℕ, ◌&&◌, ◌≤◌, List, map, nat_lt, if◌then◌else◌}
+use Rattle.std.specs.Prelude.{◌≡◌, ℕ, ◌&&◌, ◌≤◌, List, map, nat_lt, if◌then◌else◌}
 use Rattle.std.specs.List.{All}
 
 -- the octet has a sign of its own on a screen, or is a space

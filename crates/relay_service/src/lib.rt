@@ -7,8 +7,8 @@ mod fault;
 mod line;
 mod listing;
 mod log;
-mod push;
-mod serve;
+mod pushing;
+mod serving;
 mod settings;
 mod sockets;
 
@@ -17,5 +17,5 @@ pub use fault::Fault;
 pub use line::printable;
 pub use listing::{init, list};
 pub use log::Log;
-pub use push::push;
-pub use serve::serve;
+pub use pushing::push;
+pub use serving::serve;

@@ -6,7 +6,7 @@ use Rattle.relay_node.specs.Node.{SaysAt, greeted_by}
 use Rattle.relay_links.specs.declared.fault.LinkFault.TheVariants.{NoMemory}
 use Rattle.relay_links.specs.Link.{HasBegun, HasEnded, Start, start_at}
 use Rattle.relay_service.proofs.ClientLemmas.{refused, same_start}
-use Rattle.relay_service.proofs.serve.serve_client.Goals as goal
+use Rattle.relay_service.proofs.serving.serve_client.Goals as goal
 
 pub returns-in-Ok-clause-served : goal.returns-in-Ok-clause-served
 returns-in-Ok-clause-served g c = λ changes keeps.

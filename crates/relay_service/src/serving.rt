@@ -7,7 +7,7 @@ ghost use Rattle.relay_records.specs.Records.{Keeps};
 use crate::clock::clock_moment;
 use crate::fault::Fault;
 use crate::log::Log;
-use crate::push::push_due;
+use crate::pushing::push_due;
 use crate::settings::{configuration, locked_node};
 use crate::sockets::{listener, next_client};
 use relay_disk::{Disk, FileDisk};
