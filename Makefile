@@ -2,11 +2,11 @@
 SHELL := bash
 .SHELLFLAGS := -eo pipefail -c
 
-.PHONY: test demo bench instructions relayd relay_bench
+.PHONY: test demo interop bench load instructions relayd relay_bench
 
 # The whole gate: the sample configuration beside its tested copy; then every proof from nothing, the edits that must fail
-# and the tests; then the programs that these have built, over two pipes, short of memory, and on a device that fails. The
-# gate's own last line is the last.
+# and the tests; then the programs that these have built, over two pipes and over sockets, short of memory, and on a device that
+# fails. The gate's own last line is the last.
 test:
 	cmp relayd.toml crates/relay_routes_tests/data/relayd.toml
 	mkdir -p build
@@ -14,6 +14,7 @@ test:
 	cp crates/relayd/out/relayd build/relayd
 	tests/one_line_at_a_time.sh build/relayd
 	tests/fault_lines.sh build/relayd
+	tests/two_relays.py build/relayd
 	tests/each_allocation_refused.sh build/relayd
 	tests/book_without_memory.sh crates/relay_book_tests/out/relay_book_tests
 	tests/node_without_memory.sh crates/relay_node_tests/out/relay_node_tests
@@ -25,9 +26,18 @@ test:
 demo: relayd
 	build/relayd session < crates/relayd/stdin
 
+# Hands mail in from other mail programs, and on to them: those of Debian that can be had, each skipped by its name else.
+interop: relayd
+	tests/interop.sh build/relayd
+
 # Measures the program and library calls beside `wc` on the same octets (docs/PERFORMANCE.md).
 bench: relayd relay_bench
 	bench/run.sh build/relayd build/relay_bench
+
+# Measures a relay over sockets beside bare syncs, and kills one at thirty moments while mail comes in.
+load: relayd
+	bench/load.py build/relayd
+	bench/crashes.py build/relayd
 
 # Counts the instructions of the same with callgrind, which valgrind brings.
 instructions: relayd relay_bench
