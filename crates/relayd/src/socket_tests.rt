@@ -1,5 +1,5 @@
 // Runs over sockets of 127.0.0.1, in one process and one thread.
-use crate::tests::{COMMANDS, REPLIES, run_of, take_mail, text_of};
+use crate::tests::{COMMANDS, REPLIES, clear_spool, run_of, take_mail, text_of};
 use relay_disk::{FileDisk, MemoryDisk};
 use relay_links::serve_link;
 use relay_node::Node;
@@ -75,6 +75,7 @@ fn a_dialogue_over_a_socket(rt: HostRuntime) -> Result<(), Fail> {
 
 #[test]
 fn a_hop_that_does_not_listen_is_a_loss(rt: HostRuntime) -> Result<(), Fail> {
+    clear_spool(&rt);
     let port = free_port(&rt)?;
     let text = configuration(&rt, port, port)?;
     fs::write(&rt, "relayd.toml", text.as_str())?;
@@ -93,6 +94,7 @@ fn a_hop_that_does_not_listen_is_a_loss(rt: HostRuntime) -> Result<(), Fail> {
 
 #[test]
 fn a_spool_that_is_taken_is_refused(rt: HostRuntime) -> Result<(), Fail> {
+    clear_spool(&rt);
     let (_listener, port) = listener(&rt)?;
     let text = configuration(&rt, port, port)?;
     fs::write(&rt, "relayd.toml", text.as_str())?;
@@ -109,6 +111,7 @@ fn a_spool_that_is_taken_is_refused(rt: HostRuntime) -> Result<(), Fail> {
 
 #[test]
 fn a_port_that_is_taken_is_refused(rt: HostRuntime) -> Result<(), Fail> {
+    clear_spool(&rt);
     let (_listener, port) = listener(&rt)?;
     let text = configuration(&rt, port, port)?;
     fs::write(&rt, "relayd.toml", text.as_str())?;
@@ -122,6 +125,7 @@ fn a_port_that_is_taken_is_refused(rt: HostRuntime) -> Result<(), Fail> {
 
 #[test]
 fn an_empty_spool_has_nothing_to_push(rt: HostRuntime) -> Result<(), Fail> {
+    clear_spool(&rt);
     let port = free_port(&rt)?;
     fs::write(&rt, "relayd.toml", configuration(&rt, port, port)?.as_str())?;
     let (status, _, _) = run_of(&rt, &INIT);

@@ -309,6 +309,12 @@ pub(crate) fn run_of(rt: &HostRuntime, words: &[&str]) -> (u8, Vec<u8>, Vec<u8>)
     (status, writer, errors)
 }
 
+/// Takes the spool away that another test has left: all are run in one folder.
+pub(crate) fn clear_spool(rt: &HostRuntime) {
+    // Where there is none, nothing has to go.
+    let _ = fs::remove_file(rt, "relay.spool");
+}
+
 /// Puts the first message into the spool of a configuration, at this moment.
 pub(crate) fn take_mail(rt: &HostRuntime, configuration: &str, now: Moment) -> Result<(), Fail> {
     let alloc = rt.alloc();
@@ -328,6 +334,7 @@ pub(crate) fn take_mail(rt: &HostRuntime, configuration: &str, now: Moment) -> R
 
 #[test]
 fn a_spool_is_made_once_and_lists_the_mail_in_it(rt: HostRuntime) -> Result<(), Fail> {
+    clear_spool(&rt);
     fs::write(&rt, "relayd.toml", CONFIGURATION)?;
     let (status, written, _) = run_of(&rt, &INIT);
     assert_eq!(rt; status, 0);
