@@ -20,11 +20,20 @@ use std::alloc::{AllocError, Global};
 use std::marker::Model;
 
 /// The attempts of a node that are running, up to 64, and the messages with a held place that has no hop.
-#[derive(Drop)]
 pub struct Attempts {
     pub(crate) runs: Slots<Run>,
     /// The numbers of the messages with a held place that has no hop, in order.
     pub(crate) stranded: Vec<u64>,
+}
+
+// Written out, so that what drops the attempts of a node calls this, and doesn't look into each of them.
+impl Drop for Attempts {
+    fn drop(self) {
+        let Attempts {
+            runs: _runs,
+            stranded: _stranded,
+        } = self;
+    }
 }
 
 impl Model for Attempts {

@@ -24,10 +24,20 @@ pub struct ChunkCut {
 }
 
 /// A reader of the chunks of one message, which may come in any pieces (RFC 3030, section 2).
-#[derive(Debug, Drop)]
+#[derive(Debug)]
 pub struct ChunkReader {
     stage: Stage,
     gathering: Gathering,
+}
+
+// Written out, so that what drops a reader calls this, and doesn't look into its parts.
+impl Drop for ChunkReader {
+    fn drop(self) {
+        let ChunkReader {
+            stage: _,
+            gathering: _gathering,
+        } = self;
+    }
 }
 
 impl ChunkReader {
@@ -96,7 +106,11 @@ impl ChunkReader {
         ensures { (limit : ℕ) (chunks : List Chunk)
             → HasChunks self limit chunks → result ≡ gathered_of limit (content_of_chunks chunks) }
     {
-        self.gathering.finish()
+        let ChunkReader {
+            stage: _,
+            gathering,
+        } = self;
+        gathering.finish()
     }
 
     /// Uses the piece as far as octets are missing.

@@ -54,10 +54,20 @@ impl DotCut {
 }
 
 /// A reader of one dot text, which may come in any pieces (RFC 5321, section 4.5.2).
-#[derive(Debug, Drop)]
+#[derive(Debug)]
 pub struct DotReader {
     pub(crate) phase: Phase,
     pub(crate) gathering: Gathering,
+}
+
+// Written out, so that what drops a reader calls this, and doesn't look into its parts.
+impl Drop for DotReader {
+    fn drop(self) {
+        let DotReader {
+            phase: _,
+            gathering: _gathering,
+        } = self;
+    }
 }
 
 impl DotReader {
@@ -110,7 +120,11 @@ impl DotReader {
         ensures { (limit : ℕ) (text content : List ℕ)
             → HasRead self limit text content → result ≡ gathered_of limit content }
     {
-        self.gathering.finish()
+        let DotReader {
+            phase: _,
+            gathering,
+        } = self;
+        gathering.finish()
     }
 
     /// Reads on, and fails where memory runs out.

@@ -34,13 +34,23 @@ impl From<AllocError> for BodyFault {
 }
 
 /// A content on its way: kept up to a limit, and not at all once it has passed that.
-#[derive(Debug, Drop)]
+#[derive(Debug)]
 pub(crate) struct Gathering {
     /// The greatest length, in octets, of a content that is kept.
     limit: usize,
     /// All of the content so far, or none where it has passed the limit.
     kept: Option<Octets>,
     ghost within_limit: { ForSome kept (λ octets. length octets ≤ limit) },
+}
+
+// Written out, so that what drops a content on its way calls this, and doesn't look into what was kept.
+impl Drop for Gathering {
+    fn drop(self) {
+        let Gathering {
+            limit: _,
+            kept: _kept,
+        } = self;
+    }
 }
 
 impl Gathering {

@@ -90,13 +90,25 @@ fn feed(reader: &mut dot_reader::DotReader, piece: &[u8]) -> Result<DotCut, Body
             done: true,
         }),
         Phase::LineStart | Phase::Period | Phase::PeriodCr | Phase::Within | Phase::WithinCr =>
-            match read(reader, piece) {
-                Ok(cut) => Ok(cut),
-                Err(fault) => {
-                    reader.phase = Phase::Failed;
-                    Err(fault)
-                }
-            },
+            feed_open(reader, piece),
+    }
+}
+
+/// Reads on, and fails where memory runs out.
+fn feed_open(reader: &mut dot_reader::DotReader, piece: &[u8]) -> Result<DotCut, BodyFault>
+    requires { IsOpen reader.old.phase }
+    ensures feeds { IfOk result (Feeds reader.old reader.new piece.now) }
+    ensures within { IfOk result (λ cut. cut.used ≤ length piece.now) }
+    ensures progress { 0 < length piece.now → IfOk result (λ cut. 0 < cut.used) }
+    ensures failed { OnErr result (HasFailed reader.new) }
+    ensures limit { limit_of reader.new ≡ limit_of reader.old }
+{
+    match read(reader, piece) {
+        Ok(cut) => Ok(cut),
+        Err(fault) => {
+            reader.phase = Phase::Failed;
+            Err(fault)
+        }
     }
 }
 

@@ -403,6 +403,9 @@ impl Book {
     fn forget_fresh(&mut self, alloc: Global)
         ensures { self.new.queue ≡ self.old.queue }
     {
+        if self.fresh.is_empty() {
+            return;
+        }
         let fresh = mem::replace(&mut self.fresh, Vec::new(alloc));
         for (due, number) in fresh.as_slice() {
             self.forget(*due, *number);

@@ -19,7 +19,6 @@ use std::alloc::{AllocError, Global};
 
 /// An attempt without its reader: what has to be known of the replies that have come. To each reply it writes what the
 /// table says, and at the end it gives the verdicts.
-#[derive(Drop)]
 pub(crate) struct Conversation {
     pub(crate) alloc: Global,
     /// Our host's name.
@@ -32,6 +31,21 @@ pub(crate) struct Conversation {
     /// What the server offers.
     pub(crate) extensions: Extensions,
     pub(crate) settled: Settled,
+}
+
+// Written out, so that what drops a conversation calls this, and doesn't look into each of its lists.
+impl Drop for Conversation {
+    fn drop(self) {
+        let Conversation {
+            alloc: _,
+            host: _host,
+            places: _places,
+            waits: _waits,
+            asked: _,
+            extensions: _,
+            settled: _settled,
+        } = self;
+    }
 }
 
 impl Conversation {

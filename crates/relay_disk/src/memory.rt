@@ -20,7 +20,6 @@ use std::alloc::{AllocError, AllocFailed, Global};
 /// but for growth, which may move all octets. A stop takes time by the octets that were ever
 /// written, and by the octets of its image times the calls since the last sync; it drops the stored
 /// calls.
-#[derive(Drop)]
 pub struct MemoryDisk {
     start: Vec<u8>,
     calls: Vec<Call>,
@@ -29,6 +28,19 @@ pub struct MemoryDisk {
     fuse: Option<u64>,
     ghost replayed: { image.items ≡ seen_after start.items (reverse calls.items) },
     ghost within: { are_within start.items (reverse calls.items) ≡ true },
+}
+
+// Written out, so that what drops a disk calls this, and doesn't look into each call that it stored.
+impl Drop for MemoryDisk {
+    fn drop(self) {
+        let MemoryDisk {
+            start: _start,
+            calls: _calls,
+            image: _image,
+            failures: _,
+            fuse: _,
+        } = self;
+    }
 }
 
 impl MemoryDisk {

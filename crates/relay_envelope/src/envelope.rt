@@ -15,9 +15,16 @@ use std::alloc::{AllocError, Global};
 use std::marker::Model;
 
 /// A path as it came, with its brackets, in memory of its own.
-#[derive(Debug, Drop)]
+#[derive(Debug)]
 pub struct PathBuf {
     text: Octets,
+}
+
+// Written out, so that what drops a path calls this, and doesn't look into its text.
+impl Drop for PathBuf {
+    fn drop(self) {
+        let PathBuf { text: _text } = self;
+    }
 }
 
 impl Model for PathBuf {
@@ -59,9 +66,16 @@ impl PathBuf {
 }
 
 /// ORCPT as it was written (RFC 3461, section 4.2): a type, `;` and xtext.
-#[derive(Debug, Drop)]
+#[derive(Debug)]
 pub struct Orcpt {
     written: Octets,
+}
+
+// Written out, so that what drops an ORCPT calls this, and doesn't look into its text.
+impl Drop for Orcpt {
+    fn drop(self) {
+        let Orcpt { written: _written } = self;
+    }
 }
 
 impl Model for Orcpt {
@@ -127,7 +141,7 @@ fn copy_orcpt(alloc: Global, orcpt: Option<&[u8]>) -> Result<Option<Orcpt>, Allo
 }
 
 /// One accepted RCPT.
-#[derive(Debug, Drop)]
+#[derive(Debug)]
 pub struct Recipient {
     /// The forward path.
     pub path: PathBuf,
@@ -135,6 +149,17 @@ pub struct Recipient {
     pub notify: Option<Notify>,
     /// The original recipient, if given.
     pub orcpt: Option<Orcpt>,
+}
+
+// Written out, so that what drops a recipient calls this, and doesn't look into its parts.
+impl Drop for Recipient {
+    fn drop(self) {
+        let Recipient {
+            path: _path,
+            notify: _,
+            orcpt: _orcpt,
+        } = self;
+    }
 }
 
 impl Recipient {
@@ -162,9 +187,16 @@ impl Recipient {
 }
 
 /// The recipients of a message in the order of their RCPT. One given twice is there twice.
-#[derive(Debug, Drop)]
+#[derive(Debug)]
 pub struct Recipients {
     items: Vec<Recipient>,
+}
+
+// Written out, so that what drops recipients calls this, and doesn't look into each of them.
+impl Drop for Recipients {
+    fn drop(self) {
+        let Recipients { items: _items } = self;
+    }
 }
 
 impl Model for Recipients {
@@ -238,7 +270,7 @@ impl Recipients {
 }
 
 /// What a mail transaction has gathered (RFC 5321, section 2.3.1).
-#[derive(Debug, Drop)]
+#[derive(Debug)]
 pub struct Envelope {
     /// Where reports go, `<>` for none.
     pub reverse_path: PathBuf,
@@ -248,6 +280,18 @@ pub struct Envelope {
     pub envid: Option<Xtext>,
     /// Who gets the message.
     pub recipients: Recipients,
+}
+
+// Written out, so that what drops an envelope calls this, and doesn't look into its parts.
+impl Drop for Envelope {
+    fn drop(self) {
+        let Envelope {
+            reverse_path: _reverse_path,
+            ret: _,
+            envid: _envid,
+            recipients: _recipients,
+        } = self;
+    }
 }
 
 impl Envelope {

@@ -41,14 +41,14 @@ pub enum Notify {
 }
 
 /// The parameters of MAIL: slices of the text.
-#[derive(Clone, Copy, Debug)]
+#[derive(Clone, Copy)]
 pub(crate) struct MailParameters<'a> {
     pub(crate) ret: Option<Ret>,
     pub(crate) envid: Option<&'a [u8]>,
 }
 
 /// The parameters of RCPT: slices of the text.
-#[derive(Clone, Copy, Debug)]
+#[derive(Clone, Copy)]
 pub(crate) struct RcptParameters<'a> {
     pub(crate) notify: Option<Notify>,
     pub(crate) orcpt: Option<&'a [u8]>,

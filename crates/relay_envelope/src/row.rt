@@ -6,7 +6,7 @@ ghost use Rattle.relay_envelope.specs.RowScan.{is_outside, place_after, row_len_
 use relay_lines::word::is_printable;
 
 /// Where in a row an octet stands.
-#[derive(Clone, Copy, Debug)]
+#[derive(Clone, Copy)]
 enum Place {
     /// Outside a quoted string.
     Outside,

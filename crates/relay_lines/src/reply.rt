@@ -17,10 +17,20 @@ const LINE_FRAME: usize = 6;
 
 /// A reply (RFC 5321, 4.2): a code of three digits, the first 2 to 5, and 1 to 100 lines of text. A
 /// text is any octets but CR LF, 2,042 of them at most.
-#[derive(Debug, Drop)]
+#[derive(Debug)]
 pub struct Reply {
     code: u16,
     lines: Vec<Octets>,
+}
+
+// Written out, so that what drops a reply calls this, and doesn't look into its lines.
+impl Drop for Reply {
+    fn drop(self) {
+        let Reply {
+            code: _,
+            lines: _lines,
+        } = self;
+    }
 }
 
 impl Model for Reply {

@@ -1,6 +1,7 @@
 //! Links of a node: one session, or one attempt, over a reader and a writer.
 #![tactic(auto)]
 
+mod block;
 mod fault;
 mod push;
 mod send;

@@ -6,6 +6,7 @@ ghost use Rattle.relay_records.specs.Records.{Keeps};
 ghost use Rattle.relay_slots.specs.Slots.{OthersStay, slot_at};
 ghost use Rattle.relay_links.specs.Push.{IsAt, IsGoneBy, PushStart, PushesTo, WaysTo, push_start_at};
 
+use crate::block::read_block;
 use crate::fault::{LinkFault, link_fault};
 use crate::send::send;
 use relay_disk::Disk;
@@ -13,9 +14,6 @@ use relay_node::Node;
 use relay_trace::Moment;
 use std::alloc::Global;
 use std::io::{ErrorKind, Read, Write};
-
-/// How many octets one read takes at most.
-const BLOCK: usize = 65_536;
 
 /// How many reads a link does at most: 2^40.
 const READS: u64 = 1_099_511_627_776;
@@ -94,10 +92,10 @@ fn converse<D: Disk, R: Read, W: Write>(
     ensures rest { OthersStay node.old.attempts node.new.attempts attempt
         × (node.new.config ≡ node.old.config) × (node.new.seats ≡ node.old.seats) }
 {
-    let Ok(block) = vec![in alloc; 0; BLOCK] else {
+    let Ok(block) = read_block(alloc) else {
         return Ok(Way::Broken);
     };
-    let mut block: Vec<u8> = block;
+    let mut block = block;
     for _ in 0..READS {
         match exchange_block(node, attempt, block.as_mut_slice(), reader, writer, now) {
             Ok(Way::On) => {}

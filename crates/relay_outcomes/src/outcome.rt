@@ -79,8 +79,9 @@ fn reported<D: Disk>(
 }
 
 /// The outcome with another report.
-fn with_report(outcome: Outcome, report: Octets) -> Change
+fn with_report(mut outcome: Outcome, report: Octets) -> Change
     ensures { result ≡ reported_as outcome report }
 {
-    Change::Outcome(Outcome { report, ..outcome })
+    outcome.report = report;
+    Change::Outcome(outcome)
 }

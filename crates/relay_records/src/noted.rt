@@ -7,7 +7,7 @@ use relay_octets::Octets;
 use std::alloc::{AllocError, Global};
 
 /// The last change whose append was begun, also where a stop left it open.
-#[derive(Debug, Drop)]
+#[derive(Debug)]
 pub struct Noted {
     /// Its number.
     pub number: u64,
@@ -21,6 +21,20 @@ pub struct Noted {
     pub left: Vec<(u8, Way)>,
     /// Whether it queued a report.
     pub report: bool,
+}
+
+// Written out, so that what drops a note calls this, and doesn't look into each part of it.
+impl Drop for Noted {
+    fn drop(self) {
+        let Noted {
+            number: _,
+            octets: _octets,
+            used: _,
+            accepted: _,
+            left: _left,
+            report: _,
+        } = self;
+    }
 }
 
 /// How many recipients a change accepts.

@@ -25,11 +25,21 @@ pub(crate) const LAST_NUMBER: u64 = 1 << 62;
 
 /// All that a change touches: the spool, the queue that its bodies leave, and the note of the last append
 /// that was begun.
-#[derive(Drop)]
 pub struct Records<D: Disk> {
     pub(crate) spool: Spool<D>,
     pub(crate) book: Book,
     pub(crate) noted: Option<Noted>,
+}
+
+// Written out, so that what drops records calls this, and doesn't look into the book and the note.
+impl<D: Disk + Drop> Drop for Records<D> {
+    fn drop(self) {
+        let Records {
+            spool: _spool,
+            book: _book,
+            noted: _noted,
+        } = self;
+    }
 }
 
 impl<D: Disk> Model for Records<D> {

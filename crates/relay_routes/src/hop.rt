@@ -2,10 +2,17 @@ use crate::host_name::HostName;
 use std::net::SocketAddrV4;
 
 /// Another server that takes mail on.
-#[derive(Debug, Drop)]
+#[derive(Debug)]
 pub struct Hop {
     /// Its name.
     pub name: HostName,
     /// Where it listens: four octets, and a port.
     pub at: SocketAddrV4,
+}
+
+// Written out, so that what drops a hop calls this, and doesn't look into its name.
+impl Drop for Hop {
+    fn drop(self) {
+        let Hop { name: _name, at: _ } = self;
+    }
 }

@@ -7,9 +7,16 @@ use std::alloc::{AllocError, Global};
 use std::marker::Model;
 
 /// The name of a host: 1 to 255 letters, digits, `-` and `.`.
-#[derive(Debug, Drop)]
+#[derive(Debug)]
 pub struct HostName {
     octets: Octets,
+}
+
+// Written out, so that what drops a name calls this, and doesn't look into its octets.
+impl Drop for HostName {
+    fn drop(self) {
+        let HostName { octets: _octets } = self;
+    }
 }
 
 impl Model for HostName {

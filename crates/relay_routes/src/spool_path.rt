@@ -4,9 +4,16 @@ use std::alloc::{AllocError, Global};
 use std::marker::Model;
 
 /// The path of a spool's file: a text that isn't empty.
-#[derive(Debug, Drop)]
+#[derive(Debug)]
 pub struct SpoolPath {
     text: String,
+}
+
+// Written out, so that what drops a path calls this, and doesn't look into its text.
+impl Drop for SpoolPath {
+    fn drop(self) {
+        let SpoolPath { text: _text } = self;
+    }
 }
 
 impl Model for SpoolPath {

@@ -6,12 +6,22 @@ use relay_trace::Protocol;
 use std::alloc::{AllocError, Global};
 
 /// Who is at the other end of a session, as it has said with HELO or EHLO.
-#[derive(Debug, Drop)]
+#[derive(Debug)]
 pub struct Client {
     /// The word that it gave of itself: 1 to 255 octets.
     pub word: Octets,
     /// Which of the two it said.
     pub protocol: Protocol,
+}
+
+// Written out, so that what drops a client calls this, and doesn't look into its word.
+impl Drop for Client {
+    fn drop(self) {
+        let Client {
+            word: _word,
+            protocol: _,
+        } = self;
+    }
 }
 
 impl Client {

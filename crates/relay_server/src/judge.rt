@@ -12,7 +12,7 @@ ghost use Rattle.relay_server.specs.Values.{IsChunked, IsHeld, IsJudged, IsRepli
 use crate::client::Client;
 use crate::reply_table::Row;
 use crate::server::Server;
-use crate::state::{CommandState, Gathering, State, Transaction};
+use crate::state::{CommandState, State, Transaction};
 use relay_body::ChunkReader;
 use relay_envelope::{Envelope, EnvelopeFault, Mail, Rcpt, Recipient, read_mail, read_rcpt};
 use relay_lines::{BdatArgument, Command, LineFault};
@@ -222,7 +222,7 @@ fn judge_bdat(server: &Server, argument: BdatArgument, state: CommandState) -> J
     match state {
         CommandState::Open(transaction) => {
             if transaction.envelope.recipients.is_empty() {
-                let spent = CommandState::Spent(transaction.client);
+                let spent = CommandState::Spent(transaction.into_client());
                 return Judged::Refuses(Row::NoValidRecipients, spent, size);
             }
             let mut reader = ChunkReader::new(server.alloc, server.max_content);
@@ -230,10 +230,7 @@ fn judge_bdat(server: &Server, argument: BdatArgument, state: CommandState) -> J
             Judged::Gathers(transaction, reader, last)
         }
         CommandState::Gathering(gathering) => {
-            let Gathering {
-                transaction,
-                mut reader,
-            } = gathering;
+            let (transaction, mut reader) = gathering.into_parts();
             reader.begin(size);
             Judged::Gathers(transaction, reader, last)
         }
@@ -256,8 +253,8 @@ fn reset(state: CommandState) -> CommandState
     match state {
         CommandState::Fresh => CommandState::Fresh,
         CommandState::Greeted(client) => CommandState::Greeted(client),
-        CommandState::Open(transaction) => CommandState::Greeted(transaction.client),
-        CommandState::Gathering(gathering) => CommandState::Greeted(gathering.transaction.client),
+        CommandState::Open(transaction) => CommandState::Greeted(transaction.into_client()),
+        CommandState::Gathering(gathering) => CommandState::Greeted(gathering.into_client()),
         CommandState::Spent(client) => CommandState::Greeted(client),
     }
 }

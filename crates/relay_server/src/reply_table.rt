@@ -8,7 +8,7 @@ use relay_lines::{write_line, write_middle_line};
 use std::alloc::AllocError;
 
 /// What the server answers: one row for each reply.
-#[derive(Clone, Copy, Debug, Drop, PartialEq, Eq)]
+#[derive(Clone, Copy, Drop)]
 pub(crate) enum Row {
     /// A connection is there.
     Greeting,

@@ -29,13 +29,23 @@ use std::alloc::{AllocError, Global};
 const RECEIVED_LIMIT: usize = 100;
 
 /// What stays the same through a session.
-#[derive(Debug, Drop)]
 pub(crate) struct Server {
     pub(crate) alloc: Global,
     /// The name of this host.
     pub(crate) host: HostName,
     /// The most octets of a content.
     pub(crate) max_content: usize,
+}
+
+// Written out, so that what drops a server calls this, and doesn't look into its host's name.
+impl Drop for Server {
+    fn drop(self) {
+        let Server {
+            alloc: _,
+            host: _host,
+            max_content: _,
+        } = self;
+    }
 }
 
 impl Server {
@@ -131,10 +141,7 @@ impl Server {
         ensures within { IfOk result (λ read. read.1 ≤ length rest.now) }
         ensures progress { 0 < length rest.now → IfOk result (λ read. 0 < read.1) }
     {
-        let MailData {
-            transaction,
-            mut reader,
-        } = mail;
+        let (transaction, mut reader) = mail.into_parts();
         match reader.feed(rest) {
             Err(BodyFault::NoMemory) => Err(AllocError),
             Ok(cut) => {
@@ -168,7 +175,7 @@ impl Server {
         match gathered {
             Gathered::Whole(content) => self.end_content(transaction, content, out),
             Gathered::TooLarge => {
-                let greeted = CommandState::Greeted(transaction.client);
+                let greeted = CommandState::Greeted(transaction.into_client());
                 self.reply(Row::ContentTooLarge, State::Command(greeted), out)
             }
         }
@@ -187,7 +194,7 @@ impl Server {
             out.new.items) }
     {
         if received_count(content.as_slice()) >= RECEIVED_LIMIT {
-            let greeted = CommandState::Greeted(transaction.client);
+            let greeted = CommandState::Greeted(transaction.into_client());
             return self.reply(Row::TooManyReceived, State::Command(greeted), out);
         }
         Ok(Stage::Offering(transaction, content))
@@ -244,7 +251,7 @@ impl Server {
             (content_of_chunks chunks) is_last) stage out.old.items out.new.items) }
     {
         if reader.is_too_large() {
-            let spent = CommandState::Spent(transaction.client);
+            let spent = CommandState::Spent(transaction.into_client());
             return self.reply(Row::ContentTooLarge, State::Command(spent), out);
         }
         if is_last {

@@ -186,7 +186,7 @@ impl Session {
             unreachable!()
         };
         row_of_answer(answer).write(self.server.host.as_slice(), out)?;
-        self.enter(Stage::Command(CommandState::Greeted(transaction.client)));
+        self.enter(Stage::Command(CommandState::Greeted(transaction.into_client())));
         Ok(())
     }
 
@@ -311,11 +311,7 @@ impl Session {
         ensures within { IfOk result (λ used. (0 < used) × (used ≤ length rest.now)) }
         ensures failed { OnErr result (self.new.stage ≡ self.old.stage) }
     {
-        let Chunk {
-            transaction,
-            reader,
-            is_last,
-        } = chunk;
+        let (transaction, reader, is_last) = chunk.into_parts();
         let (stage, used) = self
             .server
             .read_chunk(transaction, reader, is_last, rest, out)?;
@@ -339,11 +335,7 @@ impl Session {
         ensures within { IfOk result (λ used. (0 < used) × (used ≤ length rest.now)) }
         ensures failed { OnErr result (self.new.stage ≡ self.old.stage) }
     {
-        let Skipped {
-            row,
-            state,
-            missing,
-        } = skipped;
+        let (row, state, missing) = skipped.into_parts();
         let (stage, used) = self.server.skip(row, state, missing, rest, out)?;
         self.enter(stage);
         Ok(used)

@@ -1,4 +1,4 @@
-ghost use Rattle.std.specs.Prelude.{◌<◌};
+ghost use Rattle.std.specs.Prelude.{◌≡◌, ◌<◌};
 ghost use Rattle.relay_body.specs.ChunkText.{IsBetweenChunks};
 ghost use Rattle.relay_body.specs.DotReading.{IsDone};
 
@@ -8,15 +8,36 @@ use relay_body::{ChunkReader, DotReader};
 use relay_octets::Octets;
 
 /// Mail data on its way.
-#[derive(Debug, Drop)]
 pub(crate) struct MailData {
     pub(crate) transaction: Transaction,
     pub(crate) reader: DotReader,
     ghost reading: { ¬ IsDone reader },
 }
 
+// Written out, so that what drops mail data calls this, and doesn't look into its parts.
+impl Drop for MailData {
+    fn drop(self) {
+        let MailData {
+            transaction: _transaction,
+            reader: _reader,
+        } = self;
+    }
+}
+
+impl MailData {
+    /// The transaction, and the reader of its content.
+    pub(crate) fn into_parts(self) -> (Transaction, DotReader)
+        ensures { (result.0 ≡ self.transaction) × (result.1 ≡ self.reader) }
+    {
+        let MailData {
+            transaction,
+            reader,
+        } = self;
+        (transaction, reader)
+    }
+}
+
 /// A chunk on its way.
-#[derive(Debug, Drop)]
 pub(crate) struct Chunk {
     pub(crate) transaction: Transaction,
     pub(crate) reader: ChunkReader,
@@ -25,8 +46,32 @@ pub(crate) struct Chunk {
     ghost reading: { ¬ IsBetweenChunks reader },
 }
 
+// Written out, so that what drops a chunk on its way calls this, and doesn't look into its parts.
+impl Drop for Chunk {
+    fn drop(self) {
+        let Chunk {
+            transaction: _transaction,
+            reader: _reader,
+            is_last: _,
+        } = self;
+    }
+}
+
+impl Chunk {
+    /// The transaction, the reader of its chunks, and whether this one ends the content.
+    pub(crate) fn into_parts(self) -> (Transaction, ChunkReader, bool)
+        ensures { (result.0 ≡ self.transaction) × (result.1 ≡ self.reader) × (result.2 ≡ self.is_last) }
+    {
+        let Chunk {
+            transaction,
+            reader,
+            is_last,
+        } = self;
+        (transaction, reader, is_last)
+    }
+}
+
 /// A chunk on its way that is refused.
-#[derive(Debug, Drop)]
 pub(crate) struct Skipped {
     /// The row that answers it.
     pub(crate) row: Row,
@@ -37,8 +82,33 @@ pub(crate) struct Skipped {
     ghost some: { 0 < missing },
 }
 
+// Written out, so that what drops a refused chunk calls this, and doesn't look into its parts.
+impl Drop for Skipped {
+    fn drop(self) {
+        let Skipped {
+            row: _,
+            state: _state,
+            missing: _,
+        } = self;
+    }
+}
+
+impl Skipped {
+    /// The row that answers it, the state behind it, and how many octets are to come.
+    pub(crate) fn into_parts(self) -> (Row, CommandState, u32)
+        ensures { (result.0 ≡ self.row) × (result.1 ≡ self.state) × (result.2 ≡ self.missing) }
+    {
+        let Skipped {
+            row,
+            state,
+            missing,
+        } = self;
+        (row, state, missing)
+    }
+}
+
 /// What a session does with the next octets.
-#[derive(Debug, Drop)]
+#[derive(Drop)]
 pub(crate) enum Stage {
     /// They belong to a command line.
     Command(CommandState),

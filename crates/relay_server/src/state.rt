@@ -1,3 +1,4 @@
+ghost use Rattle.std.specs.Prelude.{◌≡◌};
 ghost use Rattle.relay_body.specs.ChunkText.{IsBetweenChunks};
 
 use crate::client::Client;
@@ -5,22 +6,77 @@ use relay_body::ChunkReader;
 use relay_envelope::Envelope;
 
 /// A mail transaction (RFC 5321, section 3.3) of a client that has said who it is.
-#[derive(Debug, Drop)]
 pub(crate) struct Transaction {
     pub(crate) client: Client,
     pub(crate) envelope: Envelope,
 }
 
+// Written out, so that what drops a transaction calls this, and doesn't look into its envelope.
+impl Drop for Transaction {
+    fn drop(self) {
+        let Transaction {
+            client: _client,
+            envelope: _envelope,
+        } = self;
+    }
+}
+
+impl Transaction {
+    /// Gives the transaction up, and keeps its client.
+    pub(crate) fn into_client(self) -> Client
+        ensures { result ≡ self.client }
+    {
+        let Transaction {
+            client,
+            envelope: _envelope,
+        } = self;
+        client
+    }
+}
+
 /// A mail transaction of whose content chunks have come (RFC 3030, section 2).
-#[derive(Debug, Drop)]
 pub(crate) struct Gathering {
     pub(crate) transaction: Transaction,
     pub(crate) reader: ChunkReader,
     ghost between: { IsBetweenChunks reader },
 }
 
+// Written out, so that what drops a gathering calls this, and doesn't look into its parts.
+impl Drop for Gathering {
+    fn drop(self) {
+        let Gathering {
+            transaction: _transaction,
+            reader: _reader,
+        } = self;
+    }
+}
+
+impl Gathering {
+    /// The transaction, and the reader of its chunks.
+    pub(crate) fn into_parts(self) -> (Transaction, ChunkReader)
+        ensures { (result.0 ≡ self.transaction) × (result.1 ≡ self.reader) }
+    {
+        let Gathering {
+            transaction,
+            reader,
+        } = self;
+        (transaction, reader)
+    }
+
+    /// Gives the transaction up, and keeps its client.
+    pub(crate) fn into_client(self) -> Client
+        ensures { result ≡ self.transaction.client }
+    {
+        let Gathering {
+            transaction,
+            reader: _reader,
+        } = self;
+        transaction.into_client()
+    }
+}
+
 /// What stands while a command is awaited.
-#[derive(Debug, Drop)]
+#[derive(Drop)]
 pub(crate) enum CommandState {
     /// The client hasn't said who it is.
     Fresh,
@@ -35,7 +91,7 @@ pub(crate) enum CommandState {
 }
 
 /// What a command leads to.
-#[derive(Debug, Drop)]
+#[derive(Drop)]
 pub(crate) enum State {
     /// The next command is awaited.
     Command(CommandState),

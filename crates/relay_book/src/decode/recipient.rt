@@ -126,7 +126,7 @@ fn read_row(alloc: Global, count: u8, text: &[u8]) -> Result<(Recipients, &[u8])
         × (text.now ≡ flat_map recipient_octets parts.0 ++ parts.1.now)) }
     ensures bad { IsErrOf result BookFault.BadRecord → HasNoRow IsRecipient recipient_octets count text.now }
 {
-    let mut recipients = Recipients::new(alloc);
+    let mut recipients = Recipients::with_capacity(alloc, count as usize)?;
     let mut rest = text;
     for index in 0..count {
         match read_recipient(rest) {

@@ -22,13 +22,14 @@ returns-in-Gathering c = λ held.
     let limit = c.args.server.now.max_content in
     let gathering = c.in-Gathering.gathering in
     let kept : IsHeld limit (code.Gathering gathering) = rw c.in-Gathering.is at held in
-    let content = content_in gathering.reader in (
+    let content = content_in gathering.reader in
+    let parts = c.into_parts-transaction.ensures in (
       content,
       record {
         chunks = chunks_of content;
-        chunk_is = c.begin-in-Gathering.ensures.begins.begins limit (chunks_of content) (held_chunks gathering.reader limit gathering.between kept.0);
+        chunk_is = c.begin-in-Gathering.ensures.begins.begins limit (chunks_of content) (rw parts.1 (held_chunks gathering.reader limit gathering.between kept.0));
         before_is = held_content content;
       },
       refl,
-      λ octets. rw c.in-Gathering.is refl,
+      λ octets. rw (c.in-Gathering.is, parts.0) refl,
     )

@@ -17,4 +17,4 @@ returns-clause-answered c = λ setup said stands.
     let here : c.write.new.out.items ≡ before ++ reply_text (reply_of c.leave.new.self.server.host row) = cc (c.in_ok-write.ensures.ok) in
     let written = here ∙ ap (λ (server : Server). before ++ reply_text (reply_of server.host row)) left.0 in
     answered setup old _ said c.in-Offering.transaction c.in-Offering.field-1 c.args.answer before c.write.new.out.items stands (sym c.leave.ensures.stage ∙ c.in-Offering.is)
-    (entered.0 ∙ left.0) (entered.1 ∙ left.1) c.enter.ensures.stage written
+    (entered.0 ∙ left.0) (entered.1 ∙ left.1) (rw c.into_client.ensures at c.enter.ensures.stage) written
