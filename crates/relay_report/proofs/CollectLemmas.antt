@@ -1,5 +1,5 @@
 -- A pass over a text finds each number behind the stem, wherever it stands.
-use Rattle.std.proofs.Common.{◌≡◌, ◌⊎◌, inl, inr, ℕ, ◌+◌, ◌<◌, ◌≤◌, ◌^◌, List, ◌++◌, length, take, drop, Contains, decimal, Some, None, refl, sym, ap, subst, ◌∙◌, arith, append_assoc, length-append}
+use Rattle.std.proofs.Common.{◌≡◌, ◌⊎◌, inl, inr, ℕ, ◌+◌, ◌-◌, ◌<◌, ◌≤◌, ◌^◌, List, ◌++◌, length, take, drop, Contains, decimal, Some, None, refl, sym, ap, subst, ◌∙◌, arith, append_assoc, length-append}
 use Rattle.std.proofs.lemmas.Bool.{cases_lt, cases_eq}
 use Rattle.std.proofs.lemmas.List.{take_at, drop_at, drop-drop, length-take, length-drop, take-append-drop}
 use Rattle.std.proofs.lemmas.List.Elements.{Contains-append_left, Contains-append_right, Contains-append_cases}
@@ -8,7 +8,7 @@ use Rattle.std.specs.Option.{option_to_list}
 use Rattle.memchr.specs.Find.{OccursAt, NoneBefore, FindsNeedle}
 use Rattle.memchr.proofs.lemmas.MatchLemmas.{OccursAt-split, OccursAt-from_part}
 use Rattle.relay_report.specs.Boundary.{StandsIn, numbered}
-use Rattle.relay_report.specs.Numbers.{leading, beginnings, all_begun, Collects, Collecting}
+use Rattle.relay_report.specs.Numbers.{leading, beginnings, all_begun, Collects, Collecting, NextIsBehind}
 use Rattle.relay_report.proofs.BegunLemmas.{started, started_finds, started_only}
 
 -- a word behind some octets stands at their number
@@ -57,9 +57,11 @@ behind_stands stem rest place k at has =
     }
 
 -- a numbered stem in the rest is found at the first place, or stands behind it
-found_or_later : (stem rest : List ℕ) (place k : ℕ) → NoneBefore (OccursAt rest stem) 0 (length rest + 1) place → k < 2 ^ 64 → StandsIn (numbered stem k) rest
-    → Contains (started (drop (place + length stem) rest)) k ⊎ StandsIn (numbered stem k) (drop (place + 1) rest)
-found_or_later stem rest place k none fits stands = split (cases_lt (length stands.before) place) (cases_eq (length stands.before) place)
+found_or_later : (stem rest : List ℕ) (place step k : ℕ) → NoneBefore (OccursAt rest stem) 0 (length rest + 1) place → OccursAt rest stem place
+    → NextIsBehind stem step → k < 2 ^ 64 → StandsIn (numbered stem k) rest
+    → Contains (started (drop (place + length stem) rest)) k ⊎ StandsIn (numbered stem k) (drop (place + step) rest)
+found_or_later stem rest place step k none at behind fits stands =
+    split (cases_lt (length stands.before) place) (cases_eq (length stands.before) place) (cases_lt (length stands.before) (place + step))
   where
     e : rest ≡ stands.before ++ (stem ++ (decimal k ++ stands.after))
     e = un_numbered stem rest stands.before stands.after k stands.text_is
@@ -70,30 +72,40 @@ found_or_later stem rest place k none fits stands = split (cases_lt (length stan
         sym (drop-drop (length stem) place rest) ∙ ap (drop (length stem)) (ap (drop place) e ∙ drop_at stands.before (stem ++ (decimal k ++ stands.after)) place same) ∙ drop_at stem (decimal k ++ stands.after) (length stem) refl in
         subst (λ l. Contains (started l) k) (sym behind) (started_finds k stands.after fits)
 
+    here : OccursAt rest stem (length stands.before)
+    here = occurs_behind rest stem stands.before (decimal k ++ stands.after) e
+
+    between : place ≤ length stands.before → (length stands.before ≡ place → ⊥) → length stands.before < place + step → ⊥
+    between far differs near =
+        let there : length stands.before ≡ place + (length stands.before - place) = omega (arith, far) in
+        behind rest place (length stands.before - place) at (omega (arith, far, differs)) (omega (arith, far, near)) (subst (OccursAt rest stem) there here)
+
     split : (length stands.before < place) ⊎ (place ≤ length stands.before) → (length stands.before ≡ place) ⊎ (length stands.before ≡ place → ⊥)
-        → Contains (started (drop (place + length stem) rest)) k ⊎ StandsIn (numbered stem k) (drop (place + 1) rest)
-    split (inl near) other = absurd (none.before (length stands.before) (omega arith) near (occurs_behind rest stem stands.before (decimal k ++ stands.after) e))
-    split (inr far) (inl same) = inl (at_place same)
-    split (inr far) (inr differs) = inr (stands_later (numbered stem k) rest stands.before stands.after (place + 1) stands.text_is (omega (arith, far, differs)))
+        → (length stands.before < place + step) ⊎ (place + step ≤ length stands.before)
+        → Contains (started (drop (place + length stem) rest)) k ⊎ StandsIn (numbered stem k) (drop (place + step) rest)
+    split (inl near) other next = absurd (none.before (length stands.before) (omega arith) near here)
+    split (inr far) (inl same) next = inl (at_place same)
+    split (inr far) (inr differs) (inl near) = absurd (between far differs near)
+    split (inr far) (inr differs) (inr past) = inr (stands_later (numbered stem k) rest stands.before stands.after (place + step) stands.text_is past)
 
 -- one more place of the stem
-pub collect_step : (stem text rest more old now new : List ℕ) (place : ℕ) → Collecting stem text rest old now → FindsNeedle rest stem 0 (Some place)
-    → new ≡ now ++ started (drop (place + length stem) rest) → more ≡ drop (place + 1) rest → Collecting stem text more old new
-collect_step stem text rest more old now new place so found new_is more_is = record {
+pub collect_step : (stem text rest more old now new : List ℕ) (place step : ℕ) → Collecting stem text rest old now → FindsNeedle rest stem 0 (Some place)
+    → NextIsBehind stem step → new ≡ now ++ started (drop (place + length stem) rest) → more ≡ drop (place + step) rest → Collecting stem text more old new
+collect_step stem text rest more old now new place step so found behind new_is more_is = record {
   keeps = λ k has. subst (λ l. Contains l k) (sym new_is) (Contains-append_left now _ k (so.keeps k has));
   finds = λ k fits stands. finds k fits (so.finds k fits stands);
   only = λ k has. only k (Contains-append_cases now _ k (subst (λ l. Contains l k) new_is has));
-  part = λ k stands. so.part k (stands_behind (numbered stem k) rest (place + 1) (subst (StandsIn (numbered stem k)) more_is stands));
-  shorter = let less = length-drop (place + 1) rest in omega (arith, so.shorter, less, ap length more_is);
+  part = λ k stands. so.part k (stands_behind (numbered stem k) rest (place + step) (subst (StandsIn (numbered stem k)) more_is stands));
+  shorter = let less = length-drop (place + step) rest in omega (arith, so.shorter, less, ap length more_is);
 }
   where
-    right : (k : ℕ) → Contains (started (drop (place + length stem) rest)) k ⊎ StandsIn (numbered stem k) (drop (place + 1) rest) → Contains new k ⊎ StandsIn (numbered stem k) more
+    right : (k : ℕ) → Contains (started (drop (place + length stem) rest)) k ⊎ StandsIn (numbered stem k) (drop (place + step) rest) → Contains new k ⊎ StandsIn (numbered stem k) more
     right k (inl has) = inl (subst (λ l. Contains l k) (sym new_is) (Contains-append_right now _ k has))
     right k (inr stands) = inr (subst (StandsIn (numbered stem k)) (sym more_is) stands)
 
     finds : (k : ℕ) → k < 2 ^ 64 → Contains now k ⊎ StandsIn (numbered stem k) rest → Contains new k ⊎ StandsIn (numbered stem k) more
     finds k fits (inl has) = inl (subst (λ l. Contains l k) (sym new_is) (Contains-append_left now _ k has))
-    finds k fits (inr stands) = right k (found_or_later stem rest place k found.0 fits stands)
+    finds k fits (inr stands) = right k (found_or_later stem rest place step k found.0 found.1 behind fits stands)
 
     only : (k : ℕ) → Contains now k ⊎ Contains (started (drop (place + length stem) rest)) k → Contains old k ⊎ StandsIn (numbered stem k) text
     only k (inl has) = so.only k has

@@ -2,6 +2,7 @@ mod FieldLemmas
 mod JoinLemmas
 mod NumberLemmas
 mod BegunLemmas
+mod NearLemmas
 mod CollectLemmas
 mod RowLemmas
 mod MarkLemmas

@@ -1,6 +1,7 @@
 -- The numbers that stand behind a stem.
 use Rattle.std.specs.Prelude.{◌⊎◌, ℕ, zero, suc, ◌+◌, ◌*◌, ◌-◌, ◌/◌, ◌<◌, ◌^◌, nat_le, nat_lt, ◌&&◌, Bool, ◌==◌, List, [], ◌∷◌, Option, None, Some, Contains, length, ◌≤◌, if◌then◌else◌}
 use Rattle.std.specs.List.{flat_map}
+use Rattle.memchr.specs.Find.{OccursAt}
 use Rattle.relay_report.specs.Boundary.{StandsIn, numbered}
 
 -- the number with one digit more
@@ -55,3 +56,8 @@ pub record Collecting (stem text rest old new : List ℕ) : Type 0 where
   pub only : (number : ℕ) → Contains new number → Contains old number ⊎ StandsIn (numbered stem number) text
   pub part : (number : ℕ) → StandsIn (numbered stem number) rest → StandsIn (numbered stem number) text
   pub shorter : length rest ≤ length text
+
+-- behind a place of the word its next one is at least so far
+abbrev pub NextIsBehind : List ℕ → ℕ → Type 0
+NextIsBehind word step =
+    (text : List ℕ) (place far : ℕ) → OccursAt text word place → 0 < far → far < step → OccursAt text word (place + far) → ⊥

@@ -1,11 +1,17 @@
 //! The numbers that stand behind a stem in a text.
-ghost use Rattle.std.specs.Prelude.{◌≡◌, ◌++◌, ◌+◌, ◌<◌, ◌≤◌, length, drop, OnOk, MatchOption};
+ghost use Rattle.std.specs.Prelude.{◌≡◌, ◌++◌, ◌+◌, ◌<◌, ◌≤◌, length, drop, take, IfSome, OnOk, MatchOption, Some};
 ghost use Rattle.std.specs.Option.{option_to_list};
 ghost use Rattle.memchr.specs.Find.{FindsNeedle};
-ghost use Rattle.relay_report.specs.Numbers.{all_begun, grown, leading, longer, Collects};
+ghost use Rattle.relay_report.specs.Numbers.{all_begun, grown, leading, longer, Collects, NextIsBehind};
 
+use memchr::arch::all::is_prefix;
+use memchr::memchr;
 use memchr::memmem::Finder;
 use std::alloc::AllocError;
+
+/// How many octets are looked at for the next stem before the whole rest is searched: where stems stand close, as in
+/// a text full of boundaries, to begin a search costs more than the look.
+const NEAR: usize = 32;
 
 /// The number with one digit more.
 fn longer(value: u64, octet: u8) -> Option<u64>
@@ -69,12 +75,28 @@ pub(crate) fn collect(
     requires { 0 < length stem.now }
     ensures { OnOk result (Collects stem.now text.now (all_begun taken.old.items) (all_begun taken.new.items)) }
 {
+    let step = least_step(stem.needle());
     let mut rest = text;
     while let Some(place) = find_stem(rest, stem) {
         push_leading(taken, behind(rest, place + stem.needle().len()))?;
-        rest = behind(rest, place + 1);
+        rest = behind(rest, place + step);
     }
     Ok(())
+}
+
+/// How far behind a place of the stem its next one is at least: as long as the stem, where it doesn't overlap itself.
+#[tactic(auto, using(crate::proofs::NearLemmas::first_step))]
+fn least_step(stem: &[u8]) -> usize
+    requires { 0 < length stem.now }
+    ensures behind { NextIsBehind stem.now result }
+    ensures within { (0 < result) × (result ≤ length stem.now) }
+{
+    for step in 1..stem.len() {
+        if is_prefix(stem, &stem[step..]) {
+            return step;
+        }
+    }
+    stem.len()
 }
 
 /// The first place of the stem, which isn't empty.
@@ -82,7 +104,38 @@ fn find_stem(text: &[u8], stem: &Finder<'_>) -> Option<usize>
     ensures first { FindsNeedle text.now stem.now 0 result }
     ensures within { MatchOption result (Unit {0}) (λ place. place + length stem.now ≤ length text.now) }
 {
+    if let Some(place) = find_near(text, stem.needle()) {
+        return Some(place);
+    }
     stem.find(text)
+}
+
+/// The first place of the stem, if it is that of the first octet near by that is like the stem's first one.
+#[tactic(auto, using(crate::proofs::NearLemmas::first_like))]
+fn find_near(text: &[u8], stem: &[u8]) -> Option<usize>
+    ensures { IfSome result (λ place. FindsNeedle text.now stem.now 0 (Some place)) }
+{
+    if stem.is_empty() {
+        return None;
+    }
+    match memchr(stem[0], front(text)) {
+        None => None,
+        Some(place) => {
+            if is_prefix(behind(text, place), stem) {
+                Some(place)
+            } else {
+                None
+            }
+        }
+    }
+}
+
+/// The octets that are near.
+fn front(text: &[u8]) -> &[u8]
+    ensures front { result.now ≡ take (length result.now) text.now }
+    ensures within { length result.now ≤ length text.now }
+{
+    &text[..text.len().min(NEAR)]
 }
 
 /// What stands from a place on.
