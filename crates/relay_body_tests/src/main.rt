@@ -8,6 +8,7 @@ mod player;
 mod row;
 
 use row::{Row, verdict_of};
+use std::alloc::Global;
 use std::test::Fail;
 use std::{env, fs};
 
@@ -21,12 +22,19 @@ fn main(rt: HostRuntime) -> Result<(), Fail> {
     };
     let rows = fs::read_to_string(&rt, format!(in alloc; "{folder}/rows.in")?.as_str())?;
     for line in rows.as_str().lines() {
-        let Some(row) = Row::read(alloc, line)? else {
-            println!(rt; "{line}: no row")?;
-            continue;
-        };
-        let verdict = verdict_of(alloc, &row)?;
-        println!(rt; "{}: {verdict}", row.name)?;
+        show(&rt, alloc, line)?;
+    }
+    Ok(())
+}
+
+/// Plays a row, and prints what it comes to.
+fn show(rt: &HostRuntime, alloc: Global, line: &str) -> Result<(), Fail> {
+    match Row::read(alloc, line)? {
+        Some(row) => {
+            let verdict = verdict_of(alloc, &row)?;
+            println!(rt; "{}: {verdict}", row.name)?;
+        }
+        None => println!(rt; "{line}: no row")?,
     }
     Ok(())
 }

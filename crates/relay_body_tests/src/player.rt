@@ -14,10 +14,19 @@ use std::alloc::{AllocError, Global};
 const PLAIN_DIFFERS: &[u8] = b"the plain body differs";
 
 /// What is fed to what.
-#[derive(Drop)]
 pub struct Play {
     kind: Kind,
     pub octets: Octets,
+}
+
+// Written out, so that what drops a play calls this, and doesn't look into its kind.
+impl Drop for Play {
+    fn drop(self) {
+        let Play {
+            kind: _kind,
+            octets: _octets,
+        } = self;
+    }
 }
 
 /// A reader or writer of bodies.

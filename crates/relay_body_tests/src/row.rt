@@ -8,12 +8,22 @@ use relay_octets::Octets;
 use std::alloc::{AllocError, Global};
 
 /// A row of the data: what is fed, and what is to be found.
-#[derive(Drop)]
 pub struct Row<'a> {
     pub name: &'a str,
     pub play: Play,
     /// What is to be found for each cutting.
     wanted: Octets,
+}
+
+// Written out, so that what drops a row calls this, and doesn't look into what is played.
+impl Drop for Row<'_> {
+    fn drop(self) {
+        let Row {
+            name: _,
+            play: _play,
+            wanted: _wanted,
+        } = self;
+    }
 }
 
 impl<'a> Row<'a> {
@@ -31,15 +41,12 @@ impl<'a> Row<'a> {
         ) else {
             return Ok(None);
         };
+        let wanted = unescaped(alloc, wanted.as_bytes())?;
         let octets = unescaped(alloc, octets.as_bytes())?;
-        let Some(play) = Play::read(alloc, kind, limit, sizes, octets)? else {
-            return Ok(None);
-        };
-        Ok(Some(Row {
-            name,
-            play,
-            wanted: unescaped(alloc, wanted.as_bytes())?,
-        }))
+        match Play::read(alloc, kind, limit, sizes, octets)? {
+            Some(play) => Ok(Some(Row { name, play, wanted })),
+            None => Ok(None),
+        }
     }
 }
 

@@ -9,6 +9,7 @@ mod fault;
 mod generate;
 mod hex;
 mod octets;
+mod sum;
 mod tally;
 
 use answer::Subject;
@@ -26,24 +27,34 @@ fn main(rt: HostRuntime) -> Result<(), Fail> {
 
 /// Prints what comes of each row. The rows of a file are about one book.
 fn show_rows(rt: &HostRuntime) -> Result<(), RowsFault> {
-    let alloc = rt.alloc();
-    let words: Vec<String> = env::args(rt)?.collect(alloc)?;
+    let words: Vec<String> = env::args(rt)?.collect(rt.alloc())?;
     let folder = match words.get(1) {
         Some(word) => word.as_str(),
         None => ".",
     };
-    show_file(rt, format!(in alloc; "{folder}/rows.in")?.as_str())?;
-    show_file(rt, format!(in alloc; "{folder}/octets.in")?.as_str())
+    show_file(rt, folder, "rows.in")?;
+    show_file(rt, folder, "octets.in")
 }
 
 /// Prints what comes of each row of a file.
-fn show_file(rt: &HostRuntime, path: &str) -> Result<(), RowsFault> {
+fn show_file(rt: &HostRuntime, folder: &str, name: &str) -> Result<(), RowsFault> {
     let alloc = rt.alloc();
-    let rows = fs::read_to_string(rt, path)?;
-    let mut subject = Subject::new(alloc);
-    for row in rows.as_str().lines() {
-        let answer = subject.answer(alloc, row)?;
-        println!(rt; "{row} => {}", answer.as_str())?;
+    let path = format!(in alloc; "{folder}/{name}")?;
+    let rows = fs::read_to_string(rt, path.as_str())?;
+    show_lines(rt, rows.as_str())
+}
+
+fn show_lines(rt: &HostRuntime, rows: &str) -> Result<(), RowsFault> {
+    let mut subject = Subject::new(rt.alloc());
+    for row in rows.lines() {
+        show_row(rt, &mut subject, row)?;
     }
+    Ok(())
+}
+
+/// Prints a row, and what comes of it.
+fn show_row(rt: &HostRuntime, subject: &mut Subject, row: &str) -> Result<(), RowsFault> {
+    let answer = subject.answer(rt.alloc(), row)?;
+    println!(rt; "{row} => {}", answer.as_str())?;
     Ok(())
 }

@@ -27,8 +27,23 @@ pub fn values_that_fit(
     record: &[u8],
     place: usize,
 ) -> Result<String, RowsFault> {
-    let mut changed = record.to_vec(alloc)?;
     let mut text = String::new(alloc);
+    push_values(alloc, &mut text, book, record, place)?;
+    if text.is_empty() {
+        text.push_str("none")?;
+    }
+    Ok(text)
+}
+
+/// Adds the runs of values of an octet by which a record fits the book.
+fn push_values(
+    alloc: Global,
+    text: &mut String,
+    book: &mut Book,
+    record: &[u8],
+    place: usize,
+) -> Result<(), RowsFault> {
+    let mut changed = record.to_vec(alloc)?;
     let mut run: Option<(u8, u8)> = None;
     for value in 0..=u8::MAX {
         if let Some(octet) = changed.as_mut_slice().get_mut(place) {
@@ -36,7 +51,7 @@ pub fn values_that_fit(
         }
         let fits = fits(alloc, book, changed.as_slice())?;
         if !fits {
-            push_run(alloc, &mut text, run)?;
+            push_run(alloc, text, run)?;
         }
         run = match (fits, run) {
             (true, Some((first, _))) => Some((first, value)),
@@ -44,11 +59,7 @@ pub fn values_that_fit(
             (false, _) => None,
         };
     }
-    push_run(alloc, &mut text, run)?;
-    if text.is_empty() {
-        text.push_str("none")?;
-    }
-    Ok(text)
+    push_run(alloc, text, run)
 }
 
 /// Adds a run of values, its first and its last.

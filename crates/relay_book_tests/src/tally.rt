@@ -3,7 +3,7 @@ use relay_book::{Change, Outcome, Verdict};
 use std::alloc::{AllocError, Global};
 
 /// How much of what changes hold.
-#[derive(Drop)]
+#[derive(Clone, Copy)]
 pub struct Tally {
     recipients: u64,
     text: u64,

@@ -1,8 +1,8 @@
 use crate::mark::written_behind;
 use crate::row::{End, Row};
 use crate::verdict_text::verdict_lines;
-use relay_client::{Attempt, Driven, MailObject};
-use relay_envelope::Envelope;
+use relay_client::{Attempt, Driven, MailObject, Verdicts};
+use relay_envelope::{Envelope, Recipients};
 use std::alloc::{AllocError, Global};
 use std::fmt::{self, Display, Formatter};
 
@@ -75,36 +75,56 @@ impl<'a> Play<'a> {
     /// Gives the next octets of the server, which begin behind so many.
     fn give(&mut self, start: usize, piece: &[u8]) -> Result<(), AllocError> {
         let had_ended = self.verdicts.is_some();
+        let driven = self.feed(piece)?;
+        let has_ended = driven.verdicts.is_some();
+        let is_used = if had_ended {
+            driven.used == 0 && !has_ended
+        } else if has_ended && self.row.end == End::Reply {
+            start.saturating_add(driven.used) == self.row.said.len()
+        } else {
+            driven.used == piece.len()
+        };
+        self.take(driven)?;
+        let is_written = self.is_written_behind(start.saturating_add(piece.len()));
+        self.is_right = self.is_right && is_written && is_used;
+        Ok(())
+    }
+
+    /// The attempt reads octets of the server.
+    fn feed(&mut self, piece: &[u8]) -> Result<Driven, AllocError> {
         let mail = MailObject {
             envelope: self.envelope,
             stored_text: self.row.text.as_slice(),
         };
+        self.attempt.feed(&mail, piece)
+    }
+
+    /// Takes what came of a feed.
+    fn take(&mut self, driven: Driven) -> Result<(), AllocError> {
         let Driven {
-            used,
+            used: _,
             out,
             verdicts,
-        } = self.attempt.feed(&mail, piece)?;
-        self.written.extend_from_slice(out.as_slice())?;
-        let said = start.saturating_add(piece.len());
-        let wanted = written_behind(self.row.marks.as_slice(), said);
-        let is_written = self.written.len() == wanted
-            && self
-                .row
-                .written
-                .as_slice()
-                .starts_with(self.written.as_slice());
-        let is_used = if had_ended {
-            used == 0 && verdicts.is_none()
-        } else if verdicts.is_some() && self.row.end == End::Reply {
-            start.saturating_add(used) == self.row.said.len()
-        } else {
-            used == piece.len()
-        };
-        self.is_right = self.is_right && is_written && is_used;
+        } = driven;
+        self.take_verdicts(verdicts)?;
+        self.written.extend_from_slice(out.as_slice())
+    }
+
+    fn take_verdicts(&mut self, verdicts: Option<Verdicts>) -> Result<(), AllocError> {
         if let Some(verdicts) = verdicts {
             self.verdicts = Some(verdict_lines(self.alloc, verdicts)?);
         }
         Ok(())
+    }
+
+    /// Whether behind so many octets of the server that is written which is to be.
+    fn is_written_behind(&self, said: usize) -> bool {
+        self.written.len() == written_behind(self.row.marks.as_slice(), said)
+            && self
+                .row
+                .written
+                .as_slice()
+                .starts_with(self.written.as_slice())
     }
 
     /// Ends the play, and says whether all came as it is written down.
@@ -135,26 +155,60 @@ pub fn outcome_of(alloc: Global, row: &Row) -> Result<Outcome, AllocError> {
     let Some(envelope) = &row.envelope else {
         return Ok(Outcome::HasNoMail);
     };
-    let mut envelope = envelope.copy(alloc)?;
-    envelope.recipients = row.recipients.copy(alloc)?;
+    let envelope = with_recipients(alloc, envelope, &row.recipients)?;
+    let said = all_said(alloc, row)?;
+    outcome_of_cuts(alloc, row, &envelope, said.as_slice())
+}
+
+/// The envelope with these recipients.
+fn with_recipients(
+    alloc: Global,
+    envelope: &Envelope,
+    recipients: &Recipients,
+) -> Result<Envelope, AllocError> {
+    let mut copy = envelope.copy(alloc)?;
+    copy.recipients = recipients.copy(alloc)?;
+    Ok(copy)
+}
+
+/// What the server says up to the end and behind it.
+fn all_said(alloc: Global, row: &Row) -> Result<Vec<u8>, AllocError> {
     let mut said = Vec::from_slice(alloc, row.said.as_slice())?;
     said.extend_from_slice(row.behind.as_slice())?;
+    Ok(said)
+}
+
+/// Plays it cut into two pieces at each place, and octet by octet.
+fn outcome_of_cuts(
+    alloc: Global,
+    row: &Row,
+    envelope: &Envelope,
+    said: &[u8],
+) -> Result<Outcome, AllocError> {
     for place in 0..=said.len() {
-        let (front, rest) = said.as_slice().split_at(place);
-        let mut play = Play::new(alloc, row, &envelope)?;
-        play.give(0, front)?;
-        play.give(place, rest)?;
-        if !play.is_as_written()? {
+        let (front, rest) = said.split_at(place);
+        if !is_right_in_two(Play::new(alloc, row, envelope)?, front, rest)? {
             return Ok(Outcome::DiffersAt(place));
         }
     }
-    let mut play = Play::new(alloc, row, &envelope)?;
-    for (place, octet) in said.as_slice().iter().enumerate() {
-        play.give(place, &[*octet])?;
-    }
-    if play.is_as_written()? {
+    if is_right_by_octets(Play::new(alloc, row, envelope)?, said)? {
         Ok(Outcome::Equal)
     } else {
         Ok(Outcome::DiffersOctetByOctet)
     }
+}
+
+/// Whether all comes as it is written down in two pieces.
+fn is_right_in_two(mut play: Play<'_>, front: &[u8], rest: &[u8]) -> Result<bool, AllocError> {
+    play.give(0, front)?;
+    play.give(front.len(), rest)?;
+    play.is_as_written()
+}
+
+/// Whether all comes as it is written down octet by octet.
+fn is_right_by_octets(mut play: Play<'_>, said: &[u8]) -> Result<bool, AllocError> {
+    for (place, octet) in said.iter().enumerate() {
+        play.give(place, &[*octet])?;
+    }
+    play.is_as_written()
 }

@@ -21,7 +21,6 @@ pub enum End {
 /// Each line of it begins with a word: `name`, `host`, `mail`, `rcpt` (once for each recipient), `text`, `place` (once for
 /// each), `S` (a line of the server), `s` (octets of it), `C` (a line of ours), `c` (octets of ours), `B` (a line of the
 /// server behind the end), `end`, `V` (a verdict).
-#[derive(Drop)]
 pub struct Row {
     pub name: String,
     pub host: Vec<u8>,
@@ -39,6 +38,26 @@ pub struct Row {
     pub end: End,
     /// The verdicts, each a line.
     pub verdicts: Vec<u8>,
+}
+
+// Written out, so that what drops a row calls this, and doesn't look into each part of it.
+impl Drop for Row {
+    fn drop(self) {
+        let Row {
+            name: _name,
+            host: _host,
+            envelope: _envelope,
+            recipients: _recipients,
+            text: _text,
+            places: _places,
+            said: _said,
+            behind: _behind,
+            written: _written,
+            marks: _marks,
+            end: _,
+            verdicts: _verdicts,
+        } = self;
+    }
 }
 
 impl Row {
@@ -64,23 +83,32 @@ impl Row {
     pub fn take(&mut self, alloc: Global, line: &str) -> Result<bool, AllocError> {
         let (word, rest) = line.split_once(' ').unwrap_or((line, ""));
         let text = rest.as_bytes();
-        match word {
-            "name" => self.name.push_str(rest)?,
-            "host" => push_unescaped(&mut self.host, text)?,
+        let taken = match word {
+            "name" => self.name.push_str(rest),
+            "host" => push_unescaped(&mut self.host, text),
             "mail" => return self.take_mail(alloc, text),
             "rcpt" => return self.take_rcpt(alloc, text),
-            "text" => push_unescaped(&mut self.text, text)?,
-            "place" => self.places.push(rest.parse::<u8>().unwrap_or(255))?,
-            "S" => push_line(&mut self.said, text)?,
-            "s" => push_unescaped(&mut self.said, text)?,
-            "B" => push_line(&mut self.behind, text)?,
-            "C" => return self.take_written(text, b"\r\n"),
-            "c" => return self.take_written(text, b""),
-            "V" => push_line(&mut self.verdicts, text)?,
-            "end" => self.end = end_of(rest),
+            "text" => push_unescaped(&mut self.text, text),
+            "place" => self.take_place(rest),
+            "S" => push_line(&mut self.said, text),
+            "s" => push_unescaped(&mut self.said, text),
+            "B" => push_line(&mut self.behind, text),
+            "C" => self.take_written(text, b"\r\n"),
+            "c" => self.take_written(text, b""),
+            "V" => push_line(&mut self.verdicts, text),
+            "end" => {
+                self.end = end_of(rest);
+                Ok(())
+            }
             _ => return Ok(false),
-        }
+        };
+        taken?;
         Ok(true)
+    }
+
+    fn take_place(&mut self, text: &str) -> Result<(), AllocError> {
+        self.places.push(text.parse::<u8>().unwrap_or(255))?;
+        Ok(())
     }
 
     /// Takes what stands behind the colon of MAIL.
@@ -102,14 +130,14 @@ impl Row {
     }
 
     /// Takes what is to be written behind what was said so far.
-    fn take_written(&mut self, text: &[u8], end: &[u8]) -> Result<bool, AllocError> {
+    fn take_written(&mut self, text: &[u8], end: &[u8]) -> Result<(), AllocError> {
         push_unescaped(&mut self.written, text)?;
         self.written.extend_from_slice(end)?;
         self.marks.push(Mark {
             said: self.said.len(),
             written: self.written.len(),
         })?;
-        Ok(true)
+        Ok(())
     }
 }
 

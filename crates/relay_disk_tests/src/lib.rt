@@ -8,4 +8,6 @@ mod memory;
 #[cfg(test)]
 mod picks;
 #[cfg(test)]
+mod same;
+#[cfg(test)]
 mod spool;

@@ -1,5 +1,7 @@
 // Each pick after short scripts, with the images written out by hand.
+use crate::memory::stopped;
 use relay_disk::{Disk, MemoryDisk, Reboot};
+use std::alloc::Global;
 use std::process::Abort;
 use std::test::Fail;
 
@@ -120,16 +122,20 @@ const CASES: [Case; 8] = [
     },
 ];
 
+// Writes, which succeeds or fails.
+fn write(rt: &impl Abort, disk: &mut MemoryDisk, place: usize, octets: &[u8], succeeds: bool) {
+    assert!(rt; place <= disk.image().len());
+    assert!(rt; disk.write_at(place, octets).is_ok() == succeeds);
+}
+
 fn take_step(rt: &impl Abort, disk: &mut MemoryDisk, step: &Step) {
     match step {
         Step::Write(place, octets) => {
-            assert!(rt; *place <= disk.image().len());
-            assert!(rt; disk.write_at(*place, octets).is_ok());
+            write(rt, disk, *place, octets, true);
         }
         Step::FailedWrite(place, octets) => {
             disk.fuse(0);
-            assert!(rt; *place <= disk.image().len());
-            assert!(rt; disk.write_at(*place, octets).is_err());
+            write(rt, disk, *place, octets, false);
         }
         Step::Cut(size) => {
             assert!(rt; *size <= disk.image().len());
@@ -145,20 +151,40 @@ fn take_step(rt: &impl Abort, disk: &mut MemoryDisk, step: &Step) {
     }
 }
 
+// The disk of a case after a stop by this pick.
+fn disk_after_stop(
+    rt: &impl Abort,
+    alloc: Global,
+    case: &Case,
+    pick: u64,
+) -> Result<MemoryDisk, Fail> {
+    let mut disk = MemoryDisk::with_image(alloc, case.start)?;
+    for step in case.steps {
+        take_step(rt, &mut disk, step);
+    }
+    stopped(disk, pick)
+}
+
+// After a stop by this pick, the disk of a case holds this image.
+fn leaves(
+    rt: &impl Abort,
+    alloc: Global,
+    case: &Case,
+    pick: u64,
+    image: &[u8],
+) -> Result<(), Fail> {
+    let disk = disk_after_stop(rt, alloc, case, pick)?;
+    let name = case.name;
+    assert_eq!(rt; disk.image(), image, "{name}, pick {pick}");
+    Ok(())
+}
+
 #[test]
 fn each_pick_leaves_its_image(rt: HostRuntime) -> Result<(), Fail> {
     for case in &CASES {
         let mut pick = 0u64;
         for image in case.images {
-            let mut disk = MemoryDisk::with_image(rt.alloc(), case.start)?;
-            for step in case.steps {
-                take_step(&rt, &mut disk, step);
-            }
-            let Ok(stopped) = disk.after_stop(pick) else {
-                return Err(Fail::new("no memory"));
-            };
-            let name = case.name;
-            assert_eq!(rt; stopped.image(), *image, "{name}, pick {pick}");
+            leaves(&rt, rt.alloc(), case, pick, image)?;
             pick = pick.saturating_add(1);
         }
     }

@@ -1,9 +1,9 @@
 // Spools on memory and on a file: octets written out by hand, and each stop of an append.
-ghost use Rattle.std.specs.Prelude.{◌≡◌, true, IfOk};
-
+use crate::memory::stopped;
+use crate::same::{same, same_bodies};
 use relay_disk::{Disk, FileDisk, MemoryDisk, Reboot};
 use relay_spool::{Opened, Refused, Spool, SpoolFault};
-use std::alloc::Global;
+use std::alloc::{AllocError, Global};
 use std::fs;
 use std::process::Abort;
 use std::test::Fail;
@@ -14,20 +14,29 @@ const CLOSED: [u8; 18] = *b"RELAYQ01\0\0\0\0\0\0\0\0\x01\0";
 
 const WITH_ABC: [u8; 26] = *b"RELAYQ01\x01\0\0\0\0\0\0\0\x01\x01\0\0\0\x03abc\0";
 
-fn created(alloc: Global) -> Result<Spool<MemoryDisk>, Fail>
-    ensures { IfOk result (λ spool. spool.live ≡ true) }
-{
-    match Spool::create(alloc, MemoryDisk::new(alloc)) {
+fn created<D: Disk + Drop>(alloc: Global, disk: D) -> Result<Spool<D>, Fail> {
+    match Spool::create(alloc, disk) {
         Ok(spool) => Ok(spool),
         Err(_) => Err(Fail::new("not created")),
     }
 }
 
-fn opened(alloc: Global, image: &[u8]) -> Result<Opened<MemoryDisk>, Fail> {
-    match Spool::open(alloc, MemoryDisk::with_image(alloc, image)?) {
+fn not_created<D: Disk + Drop>(alloc: Global, disk: D) -> Result<Refused<D>, Fail> {
+    match Spool::create(alloc, disk) {
+        Ok(_) => Err(Fail::new("created")),
+        Err(refused) => Ok(refused),
+    }
+}
+
+fn opened_on<D: Disk + Drop>(alloc: Global, disk: D) -> Result<Opened<D>, Fail> {
+    match Spool::open(alloc, disk) {
         Ok(opened) => Ok(opened),
         Err(_) => Err(Fail::new("not opened")),
     }
+}
+
+fn opened(alloc: Global, image: &[u8]) -> Result<Opened<MemoryDisk>, Fail> {
+    opened_on(alloc, MemoryDisk::with_image(alloc, image)?)
 }
 
 fn fault_of(alloc: Global, image: &[u8]) -> Result<SpoolFault, Fail> {
@@ -37,40 +46,48 @@ fn fault_of(alloc: Global, image: &[u8]) -> Result<SpoolFault, Fail> {
     }
 }
 
+// Appends to a live spool, which answers this.
+fn append<D: Disk>(
+    rt: &impl Abort,
+    spool: &mut Spool<D>,
+    body: &[u8],
+    answer: Result<(), SpoolFault>,
+) {
+    assert!(rt; spool.is_live());
+    assert!(rt; body.len() < 1 << 32);
+    same(rt, spool.append(body), answer);
+}
+
 // A spool of 178 octets, with one body of 155.
-fn image_of_155(rt: &impl Abort, alloc: Global) -> Result<Vec<u8>, Fail> {
-    let body = vec![in alloc; 7; 155]?;
-    assert!(rt; body.len() == 155);
-    let mut image = Vec::from_slice(alloc, &CREATED)?;
-    assert!(rt; image.len() == 18);
-    image[17] = 1;
-    image.extend_from_slice(&[0, 0, 0, 155])?;
-    image.extend_from_slice(&body)?;
+fn image_of_155(alloc: Global) -> Result<Vec<u8>, AllocError> {
+    let mut image = Vec::from_slice(alloc, b"RELAYQ01\x01\0\0\0\0\0\0\0\x01\x01\0\0\0\x9b")?;
+    image.extend_from_slice(&[7; 155])?;
     image.push(0)?;
     Ok(image)
 }
 
 #[test]
 fn a_created_spool_is_18_octets(rt: HostRuntime) -> Result<(), Fail> {
-    let spool = created(rt.alloc())?;
+    let alloc = rt.alloc();
+    let spool = created(alloc, MemoryDisk::new(alloc))?;
     assert!(rt; spool.is_live());
-    assert_eq!(rt; spool.size(), 18);
-    assert_eq!(rt; spool.into_disk().image(), CREATED.as_slice());
+    same(&rt, spool.size(), 18);
+    same(&rt, spool.into_disk().image(), CREATED.as_slice());
     Ok(())
 }
 
 #[test]
 fn a_body_of_three_octets_makes_26(rt: HostRuntime) -> Result<(), Fail> {
-    let mut spool = created(rt.alloc())?;
-    assert_eq!(rt; spool.append(b"abc"), Ok(()));
+    let alloc = rt.alloc();
+    let mut spool = created(alloc, MemoryDisk::new(alloc))?;
+    append(&rt, &mut spool, b"abc", Ok(()));
     assert!(rt; spool.is_live());
-    assert_eq!(rt; spool.size(), 26);
+    same(&rt, spool.size(), 26);
     let disk = spool.into_disk();
-    assert_eq!(rt; disk.image(), WITH_ABC.as_slice());
-    let opened = opened(rt.alloc(), disk.image())?;
-    assert_eq!(rt; opened.bodies.len(), 1);
-    assert_eq!(rt; opened.bodies[0].as_slice(), b"abc".as_slice());
-    assert_eq!(rt; opened.spool.size(), 26);
+    same(&rt, disk.image(), WITH_ABC.as_slice());
+    let found = opened(alloc, disk.image())?;
+    same_bodies(&rt, &found.bodies, &[b"abc".as_slice()]);
+    same(&rt, found.spool.size(), 26);
     Ok(())
 }
 
@@ -82,18 +99,26 @@ const STOPS: [[bool; 4]; 4] = [
     [false, true, true, false],
 ];
 
+// What a stop leaves of a spool whose append of `abc` failed, when so many calls had passed.
+fn stopped_in_append(
+    rt: &impl Abort,
+    alloc: Global,
+    calls: u64,
+    pick: u64,
+) -> Result<MemoryDisk, Fail> {
+    let mut spool = created(alloc, MemoryDisk::new(alloc))?;
+    spool.fuse(calls);
+    append(rt, &mut spool, b"abc", Err(SpoolFault::Device));
+    assert!(rt; !spool.is_live());
+    stopped(spool.into_disk(), pick)
+}
+
 #[test]
 fn a_stop_at_each_call_of_an_append(rt: HostRuntime) -> Result<(), Fail> {
     let alloc = rt.alloc();
     for (calls, picks) in STOPS.iter().enumerate() {
         for (pick, is_there) in picks.iter().enumerate() {
-            let mut spool = created(alloc)?;
-            spool.fuse(calls as u64);
-            assert_eq!(rt; spool.append(b"abc"), Err(SpoolFault::Device));
-            assert!(rt; !spool.is_live());
-            let Ok(disk) = spool.into_disk().after_stop(pick as u64) else {
-                return Err(Fail::new("no memory"));
-            };
+            let disk = stopped_in_append(&rt, alloc, calls as u64, pick as u64)?;
             let found = opened(alloc, disk.image())?;
             assert_eq!(rt;
                 found.bodies.len(),
@@ -101,69 +126,82 @@ fn a_stop_at_each_call_of_an_append(rt: HostRuntime) -> Result<(), Fail> {
                 "call {calls}, pick {pick}"
             );
             for body in &found.bodies {
-                assert_eq!(rt; body.as_slice(), b"abc".as_slice());
+                same(&rt, body.as_slice(), b"abc".as_slice());
             }
         }
     }
     Ok(())
 }
 
-#[test]
-fn a_spool_opens_with_its_bodies_and_grows(rt: HostRuntime) -> Result<(), Fail> {
-    let alloc = rt.alloc();
+fn long_body(alloc: Global) -> Result<Vec<u8>, Fail> {
     let mut long = Vec::new(alloc);
     for count in 0..300_000u32 {
         long.push((count % 251) as u8)?;
     }
-    let mut spool = created(alloc)?;
-    assert_eq!(rt; spool.append(&[]), Ok(()));
+    Ok(long)
+}
+
+#[test]
+fn a_spool_opens_with_its_bodies_and_grows(rt: HostRuntime) -> Result<(), Fail> {
+    let alloc = rt.alloc();
+    let long = long_body(alloc)?;
     assert!(rt; long.len() == 300_000);
-    assert_eq!(rt; spool.append(&long), Ok(()));
-    let Ok(mut again) = Spool::open(alloc, spool.into_disk()) else {
-        return Err(Fail::new("not opened"));
-    };
-    assert_eq!(rt; again.spool.append(b"last"), Ok(()));
-    assert_eq!(rt; again.spool.size(), 300_037);
+    let mut spool = created(alloc, MemoryDisk::new(alloc))?;
+    append(&rt, &mut spool, &[], Ok(()));
+    append(&rt, &mut spool, &long, Ok(()));
+    let mut again = opened_on(alloc, spool.into_disk())?;
+    append(&rt, &mut again.spool, b"last", Ok(()));
+    same(&rt, again.spool.size(), 300_037);
     let found = opened(alloc, again.spool.into_disk().image())?;
-    assert_eq!(rt; found.bodies.len(), 3);
-    assert_eq!(rt; found.bodies[0].len(), 0);
-    assert!(rt; found.bodies[1].as_slice() == long.as_slice());
-    assert_eq!(rt; found.bodies[2].as_slice(), b"last".as_slice());
+    same_bodies(
+        &rt,
+        &found.bodies,
+        &[&[], long.as_slice(), b"last".as_slice()],
+    );
+    Ok(())
+}
+
+fn refuses(rt: &impl Abort, alloc: Global, image: &[u8], fault: SpoolFault) -> Result<(), Fail> {
+    let size = image.len();
+    assert_eq!(rt; fault_of(alloc, image)?, fault, "{size} octets");
     Ok(())
 }
 
 #[test]
 fn a_spool_cut_to_each_length(rt: HostRuntime) -> Result<(), Fail> {
     let alloc = rt.alloc();
-    let image = image_of_155(&rt, alloc)?;
-    assert_eq!(rt; image.len(), 178);
+    let image = image_of_155(alloc)?;
+    assert!(rt; image.len() == 178);
     for length in 0..178 {
-        let fault = fault_of(alloc, &image[..length])?;
         let expected = if length < 18 {
             SpoolFault::NotASpool
         } else {
             SpoolFault::Damaged(17)
         };
-        assert_eq!(rt; fault, expected, "cut to {length}");
+        refuses(&rt, alloc, &image[..length], expected)?;
     }
     let found = opened(alloc, &image)?;
-    assert_eq!(rt; found.bodies.len(), 1);
-    assert_eq!(rt; found.bodies[0].len(), 155);
+    same_bodies(&rt, &found.bodies, &[&[7; 155]]);
+    Ok(())
+}
+
+fn expect_no_body(rt: &impl Abort, alloc: Global, image: &[u8]) -> Result<(), Fail> {
+    let found = opened(alloc, image)?;
+    same(rt, found.bodies.len(), 0);
+    same(rt, found.spool.size(), 18);
     Ok(())
 }
 
 #[test]
 fn a_closed_gate_hides_what_stands_behind(rt: HostRuntime) -> Result<(), Fail> {
     let alloc = rt.alloc();
-    let mut image = image_of_155(&rt, alloc)?;
+    let mut image = image_of_155(alloc)?;
     image.truncate(100);
-    assert_eq!(rt; fault_of(alloc, &image)?, SpoolFault::Damaged(17));
-    assert_eq!(rt; image.len(), 100);
+    refuses(&rt, alloc, &image, SpoolFault::Damaged(17))?;
+    assert!(rt; image.len() == 100);
     for gate in [0, 2, 255] {
         image[17] = gate;
-        let found = opened(alloc, &image)?;
-        assert_eq!(rt; found.bodies.len(), 0);
-        assert_eq!(rt; found.spool.size(), 18);
+        expect_no_body(&rt, alloc, &image)?;
     }
     Ok(())
 }
@@ -171,13 +209,12 @@ fn a_closed_gate_hides_what_stands_behind(rt: HostRuntime) -> Result<(), Fail> {
 #[test]
 fn a_length_past_every_end_is_damaged(rt: HostRuntime) -> Result<(), Fail> {
     let alloc = rt.alloc();
-    let mut image = image_of_155(&rt, alloc)?;
-    assert_eq!(rt; image.len(), 178);
+    let mut image = image_of_155(alloc)?;
+    assert!(rt; image.len() == 178);
     for place in 18..22 {
         image[place] = 255;
     }
-    assert_eq!(rt; fault_of(alloc, &image)?, SpoolFault::Damaged(17));
-    Ok(())
+    refuses(&rt, alloc, &image, SpoolFault::Damaged(17))
 }
 
 #[test]
@@ -201,11 +238,9 @@ fn each_call_of_create_may_fail(rt: HostRuntime) -> Result<(), Fail> {
     for calls in 0..5 {
         let mut disk = MemoryDisk::new(alloc);
         disk.fuse(calls);
-        let Err(Refused { fault, disk }) = Spool::create(alloc, disk) else {
-            return Err(Fail::new("created"));
-        };
-        assert_eq!(rt; fault, SpoolFault::Device);
-        assert_eq!(rt; disk.failures(), 1);
+        let Refused { fault, disk } = not_created(alloc, disk)?;
+        same(&rt, fault, SpoolFault::Device);
+        same(&rt, disk.failures(), 1);
     }
     Ok(())
 }
@@ -214,13 +249,7 @@ fn each_call_of_create_may_fail(rt: HostRuntime) -> Result<(), Fail> {
 fn stopped_in_create(alloc: Global, calls: u64, pick: u64) -> Result<MemoryDisk, Fail> {
     let mut disk = MemoryDisk::new(alloc);
     disk.fuse(calls);
-    let Err(Refused { fault: _, disk }) = Spool::create(alloc, disk) else {
-        return Err(Fail::new("created"));
-    };
-    match disk.after_stop(pick) {
-        Ok(stopped) => Ok(stopped),
-        Err(_) => Err(Fail::new("no memory")),
-    }
+    stopped(not_created(alloc, disk)?.disk, pick)
 }
 
 #[test]
@@ -249,7 +278,7 @@ fn a_stop_inside_create_leaves_no_body(rt: HostRuntime) -> Result<(), Fail> {
 #[test]
 fn before_its_second_write_create_leaves_both_gates_closed(rt: HostRuntime) -> Result<(), Fail> {
     let stopped = stopped_in_create(rt.alloc(), 2, 1)?;
-    assert_eq!(rt; stopped.image(), CLOSED.as_slice());
+    same(&rt, stopped.image(), CLOSED.as_slice());
     Ok(())
 }
 
@@ -258,25 +287,18 @@ fn a_spool_on_a_file(rt: HostRuntime) -> Result<(), Fail> {
     let alloc = rt.alloc();
     let path = "relay_spool_test_file";
     let _ = fs::remove_file(&rt, path);
-    let Ok(mut spool) = Spool::create(alloc, FileDisk::open(&rt, path)?) else {
-        return Err(Fail::new("not created"));
-    };
-    assert_eq!(rt; spool.append(b"one"), Ok(()));
-    assert_eq!(rt; spool.append(b"another"), Ok(()));
-    assert_eq!(rt; spool.size(), 38);
+    let mut spool = created(alloc, FileDisk::open(&rt, path)?)?;
+    append(&rt, &mut spool, b"one", Ok(()));
+    append(&rt, &mut spool, b"another", Ok(()));
+    same(&rt, spool.size(), 38);
 
-    let Err(Refused { fault, disk }) = Spool::create(alloc, FileDisk::open(&rt, path)?) else {
-        return Err(Fail::new("created twice"));
-    };
-    assert_eq!(rt; fault, SpoolFault::NotEmpty);
-    let Ok(found) = Spool::open(alloc, disk) else {
-        return Err(Fail::new("not opened"));
-    };
-    assert_eq!(rt; found.bodies.len(), 2);
-    assert_eq!(rt; found.bodies[0].as_slice(), b"one".as_slice());
-    assert_eq!(rt; found.bodies[1].as_slice(), b"another".as_slice());
-    assert_eq!(rt; found.spool.size(), 38);
-    assert_eq!(rt; found.spool.into_disk().size(), Ok(38));
+    let refused = not_created(alloc, FileDisk::open(&rt, path)?)?;
+    same(&rt, refused.fault, SpoolFault::NotEmpty);
+    let found = opened_on(alloc, refused.disk)?;
+    let bodies = [b"one".as_slice(), b"another".as_slice()];
+    same_bodies(&rt, &found.bodies, &bodies);
+    same(&rt, found.spool.size(), 38);
+    same(&rt, found.spool.into_disk().size(), Ok(38));
     fs::remove_file(&rt, path)?;
     Ok(())
 }

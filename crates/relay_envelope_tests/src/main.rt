@@ -28,16 +28,32 @@ fn show_rows(rt: &HostRuntime) -> Result<(), RowsFault> {
         Some(word) => word.as_str(),
         None => ".",
     };
-    let rows = fs::read_to_string(rt, format!(in alloc; "{folder}/rows.in")?.as_str())?;
-    let outcomes = fs::read_to_string(rt, format!(in alloc; "{folder}/rows.ref")?.as_str())?;
-    let mut rest = outcomes.as_str().lines();
-    for row in rows.as_str().lines() {
+    let rows = file(rt, folder, "rows.in")?;
+    let outcomes = file(rt, folder, "rows.ref")?;
+    show_each(rt, rows.as_str(), outcomes.as_str())
+}
+
+/// The text of a file of the folder.
+fn file(rt: &HostRuntime, folder: &str, name: &str) -> Result<String, RowsFault> {
+    Ok(fs::read_to_string(rt, format!(in rt.alloc(); "{folder}/{name}")?.as_str())?)
+}
+
+/// Prints the line of each of these rows, for which as many outcomes are written down.
+fn show_each(rt: &HostRuntime, rows: &str, outcomes: &str) -> Result<(), RowsFault> {
+    let mut rest = outcomes.lines();
+    for row in rows.lines() {
         let wanted = rest.next().ok_or(RowsFault::Count)?;
-        let line = line_of(alloc, row, wanted)?;
-        println!(rt; "{}", str::from_utf8(line.as_slice())?)?;
+        show(rt, row, wanted)?;
     }
     match rest.next() {
         Some(_) => Err(RowsFault::Count),
         None => Ok(()),
     }
+}
+
+/// Prints the line of a row.
+fn show(rt: &HostRuntime, row: &str, wanted: &str) -> Result<(), RowsFault> {
+    let line = line_of(rt.alloc(), row, wanted)?;
+    println!(rt; "{}", str::from_utf8(line.as_slice())?)?;
+    Ok(())
 }

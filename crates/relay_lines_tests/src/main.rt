@@ -30,16 +30,21 @@ fn main(rt: HostRuntime) -> Result<(), Fail> {
     };
     let rows = fs::read_to_string(&rt, format!(in alloc; "{folder}/rows.in")?.as_str())?;
     for line in rows.as_str().lines() {
-        let Some(row) = Row::read(alloc, line)? else {
-            println!(rt; "{line}: no row")?;
-            continue;
-        };
-        let verdict = verdict_of(alloc, &row.play, row.wanted.as_slice())?;
-        println!(rt; "{}: {verdict}", row.name)?;
+        show(&rt, alloc, line)?;
     }
     say_texts(&rt)?;
-    println!(rt; "octets: {}", handle_octets(alloc)?)?;
-    println!(rt; "a line of 10,000,000 octets: {}", hold_long_line())?;
+    say_calls(&rt, alloc)
+}
+
+/// Plays a row, and prints what it comes to.
+fn show(rt: &HostRuntime, alloc: Global, line: &str) -> Result<(), Fail> {
+    match Row::read(alloc, line)? {
+        Some(row) => {
+            let verdict = verdict_of(alloc, &row.play, row.wanted.as_slice())?;
+            println!(rt; "{}: {verdict}", row.name)?;
+        }
+        None => println!(rt; "{line}: no row")?,
+    }
     Ok(())
 }
 
@@ -55,6 +60,13 @@ fn say_texts(rt: &HostRuntime) -> Result<(), Fail> {
     println!(rt; "fault: {}", ReplyFault::TooLong)?;
     println!(rt; "fault: {}", ReplyFault::NoMemory)?;
     println!(rt; "fault: {}", BodyFault::NoMemory)?;
+    Ok(())
+}
+
+/// Says what comes of the calls that no row makes.
+fn say_calls(rt: &HostRuntime, alloc: Global) -> Result<(), Fail> {
+    println!(rt; "octets: {}", handle_octets(alloc)?)?;
+    println!(rt; "a line of 10,000,000 octets: {}", hold_long_line())?;
     Ok(())
 }
 

@@ -1,7 +1,7 @@
 //! What a server offers, and what its client had read by then.
 use crate::errand::Errand;
 use crate::row::Row;
-use relay_envelope::{Recipient, write_mail, write_rcpt};
+use relay_envelope::{Envelope, Recipient, write_mail, write_rcpt};
 use relay_lines::ReplyReader;
 use relay_server::Offer;
 use std::alloc::{AllocError, Global};
@@ -13,19 +13,21 @@ pub fn is_child(
     row: Row,
     offer: &Offer<'_>,
 ) -> Result<bool, AllocError> {
-    let offered = write_mail(alloc, offer.envelope)?;
-    let wanted = write_mail(alloc, &errand.envelope)?;
+    let is_mail = are_equal_mails(alloc, offer.envelope, &errand.envelope)?;
     let are_wanted = are_wanted(
         alloc,
         row,
         errand.envelope.recipients.as_slice(),
         offer.envelope.recipients.as_slice(),
     )?;
-    Ok(
-        are_wanted
-            && offered.as_slice() == wanted.as_slice()
-            && offer.content == errand.text.as_slice(),
-    )
+    Ok(is_mail && are_wanted && offer.content == errand.text.as_slice())
+}
+
+/// Whether they have one reverse-path and the same parameters.
+fn are_equal_mails(alloc: Global, one: &Envelope, other: &Envelope) -> Result<bool, AllocError> {
+    let one = write_mail(alloc, one)?;
+    let other = write_mail(alloc, other)?;
+    Ok(one.as_slice() == other.as_slice())
 }
 
 /// Whether those that are offered are the recipients with a hop.
@@ -73,19 +75,35 @@ pub fn are_rcpts(alloc: Global, row: Row, octets: &[u8]) -> Result<bool, AllocEr
 
 /// The codes of the whole replies that the octets begin with.
 fn codes_in(alloc: Global, octets: &[u8]) -> Result<Vec<u16>, AllocError> {
-    let mut reader = ReplyReader::new(alloc);
     let mut codes = Vec::new(alloc);
+    push_codes(&mut ReplyReader::new(alloc), octets, &mut codes)?;
+    Ok(codes)
+}
+
+/// Adds the codes of the whole replies that the octets begin with.
+fn push_codes(
+    reader: &mut ReplyReader,
+    octets: &[u8],
+    codes: &mut Vec<u16>,
+) -> Result<(), AllocError> {
     let mut used = 0usize;
     for _ in 0..octets.len() {
-        let rest = octets.get(used..).unwrap_or(&[]);
-        let Ok(cut) = reader.feed(rest) else {
-            return Ok(codes);
+        let Some((count, code)) = next_code(reader, octets.get(used..).unwrap_or(&[])) else {
+            break;
         };
-        used = used.saturating_add(cut.used);
-        match cut.reply {
-            Some(reply) => codes.push(reply.code())?,
-            None => return Ok(codes),
-        }
+        codes.push(code)?;
+        used = used.saturating_add(count);
     }
-    Ok(codes)
+    Ok(())
+}
+
+/// The code of the whole reply that the octets begin with, and how many it has.
+fn next_code(reader: &mut ReplyReader, octets: &[u8]) -> Option<(usize, u16)> {
+    let Ok(cut) = reader.feed(octets) else {
+        return None;
+    };
+    match &cut.reply {
+        Some(reply) => Some((cut.used, reply.code())),
+        None => None,
+    }
 }

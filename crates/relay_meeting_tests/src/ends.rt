@@ -72,22 +72,21 @@ impl<'a> Ends<'a> {
     /// Two ends of which none has read anything. What they are to say is compared with what they say, where it is known.
     pub fn new(meeting: Meeting<'a>, said: Option<Said<'a>>) -> Result<Self, AllocError> {
         let alloc = meeting.alloc;
-        let places = Vec::from_slice(alloc, meeting.errand.places.as_slice())?;
-        let attempt = Attempt::begin(alloc, HOST, places)?;
+        let attempt = attempt_of(alloc, meeting.errand)?;
         let (session, greeting) = Session::new(alloc, meeting.config)?;
-        let mut down = Wire::new(alloc, said.map(|said| said.down));
-        down.write(greeting.as_slice())?;
-        Ok(Ends {
+        let mut ends = Ends {
             meeting,
             session,
             attempt,
             up: Wire::new(alloc, said.map(|said| said.up)),
-            down,
+            down: Wire::new(alloc, said.map(|said| said.down)),
             offers: 0,
             are_children: true,
             is_closed: false,
             verdicts: None,
-        })
+        };
+        ends.down.write(greeting.as_slice())?;
+        Ok(ends)
     }
 
     /// What the client has written.
@@ -175,21 +174,27 @@ impl<'a> Ends<'a> {
         if self.verdicts.is_some() {
             return Ok(false);
         }
-        let piece = self.down.piece(self.meeting.alloc, cutting)?;
+        let piece = self.down.piece(cutting);
+        let has_read = !piece.is_empty();
         let mail = MailObject {
             envelope: &self.meeting.errand.envelope,
             stored_text: self.meeting.errand.text.as_slice(),
         };
-        let driven = self.attempt.feed(&mail, piece.as_slice())?;
+        let driven = self.attempt.feed(&mail, piece)?;
+        self.take(driven)?;
+        Ok(has_read)
+    }
+
+    /// Takes what came of a feed of the client.
+    fn take(&mut self, driven: Driven) -> Result<(), AllocError> {
         let Driven {
             used,
             out,
             verdicts,
         } = driven;
-        self.verdicts = verdicts;
         self.down.pass(used);
-        self.up.write(out.as_slice())?;
-        Ok(!piece.is_empty())
+        self.verdicts = verdicts;
+        self.up.write(out.as_slice())
     }
 
     /// The server reads a piece.
@@ -197,7 +202,7 @@ impl<'a> Ends<'a> {
         if self.is_closed {
             return Ok(false);
         }
-        let piece = self.up.piece(self.meeting.alloc, cutting)?;
+        let piece = Vec::from_slice(self.meeting.alloc, self.up.piece(cutting))?;
         self.up.pass(piece.len());
         self.give(piece.as_slice())?;
         Ok(!piece.is_empty())
@@ -207,35 +212,59 @@ impl<'a> Ends<'a> {
     fn give(&mut self, piece: &[u8]) -> Result<(), AllocError> {
         let mut used = 0usize;
         for _ in 0..piece.len() {
-            let rest = piece.get(used..).unwrap_or(&[]);
-            let fed = self.session.feed(&self.meeting.config.routes, rest)?;
-            used = used.saturating_add(fed.used);
-            self.down.write(fed.out.as_slice())?;
-            match fed.next {
+            let (count, next) = self.feed(piece.get(used..).unwrap_or(&[]))?;
+            used = used.saturating_add(count);
+            match next {
                 Next::More => return Ok(()),
                 Next::Close => {
                     self.is_closed = true;
                     return Ok(());
                 }
-                Next::Offer => self.answer()?,
+                Next::Offer => self.meet_offer()?,
             }
         }
         Ok(())
     }
 
-    /// Answers the offer that is open, as the row says.
-    fn answer(&mut self) -> Result<(), AllocError> {
-        let alloc = self.meeting.alloc;
+    /// The server reads octets. It answers how many it has used, and what comes next.
+    fn feed(&mut self, octets: &[u8]) -> Result<(usize, Next), AllocError> {
+        let fed = self.session.feed(&self.meeting.config.routes, octets)?;
+        self.down.write(fed.out.as_slice())?;
+        Ok((fed.used, fed.next))
+    }
+
+    /// Counts the offer that is open, and answers it.
+    fn meet_offer(&mut self) -> Result<(), AllocError> {
+        self.count_offer()?;
+        self.answer()
+    }
+
+    /// Counts the offer that is open, and looks whether it is the errand's one child.
+    fn count_offer(&mut self) -> Result<(), AllocError> {
+        let Meeting {
+            alloc,
+            config: _,
+            errand,
+            row,
+        } = self.meeting;
         let Some(offer) = self.session.offer() else {
             return Ok(());
         };
-        let is_child = is_child(alloc, self.meeting.errand, self.meeting.row, &offer)?
-            && are_rcpts(alloc, self.meeting.row, self.down.octets_read())?;
+        let is_child = is_child(alloc, errand, row, &offer)?
+            && are_rcpts(alloc, row, self.down.octets_read())?;
         self.are_children = self.are_children && is_child;
         self.offers = self.offers.saturating_add(1);
+        Ok(())
+    }
+
+    /// Answers the offer that is open, as the row says.
+    fn answer(&mut self) -> Result<(), AllocError> {
         let answer = match self.meeting.row.answer {
             Some(number) => Answer::Queued(number),
             None => Answer::Full,
+        };
+        let Some(_) = self.session.offer() else {
+            return Ok(());
         };
         let out = self.session.answer(answer)?;
         self.down.write(out.as_slice())
@@ -259,4 +288,10 @@ impl<'a> Ends<'a> {
     pub fn are_done(&self) -> bool {
         self.is_closed && self.verdicts.is_some() && self.offers == self.meeting.row.offers
     }
+}
+
+/// An attempt of the errand that waits for the greeting.
+fn attempt_of(alloc: Global, errand: &Errand) -> Result<Attempt, AllocError> {
+    let places = Vec::from_slice(alloc, errand.places.as_slice())?;
+    Attempt::begin(alloc, HOST, places)
 }

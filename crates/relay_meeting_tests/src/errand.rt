@@ -36,21 +36,29 @@ pub fn configuration(alloc: Global) -> Result<Config, Fail> {
 pub const HOST: &[u8] = b"client.example";
 
 /// What a client has to do: a message, and its places.
-#[derive(Drop)]
 pub struct Errand {
     pub envelope: Envelope,
     pub text: Vec<u8>,
     pub places: Vec<u8>,
 }
 
+// Written out, so that each exit that drops an errand calls this, and doesn't look into its envelope.
+impl Drop for Errand {
+    fn drop(self) {
+        let Errand {
+            envelope: _envelope,
+            text: _text,
+            places: _places,
+        } = self;
+    }
+}
+
 impl Errand {
     /// The errand of a row.
     pub fn of_row(alloc: Global, row: Row) -> Result<Self, Fail> {
-        let Ok(mail) = read_mail(b"<sender@client.example> RET=HDRS ENVID=e+2B1") else {
-            return Err(Fail::new("MAIL was refused"));
-        };
+        let envelope = envelope_of(alloc)?;
         let mut errand = Errand {
-            envelope: Envelope::new(alloc, mail)?,
+            envelope,
             text: text_of_row(alloc, row.text)?,
             places: Vec::new(alloc),
         };
@@ -62,35 +70,53 @@ impl Errand {
 
     /// Adds a recipient, whom the server has a hop for or not, and the place of it.
     fn add_place(&mut self, alloc: Global, place: u8, goes: bool) -> Result<(), Fail> {
-        let domain = if goes { "example.org" } else { "example.net" };
-        let text = format!(in alloc; "<r{place}@{domain}> NOTIFY=FAILURE ORCPT=rfc822;r{place}")?;
-        let Ok(rcpt) = read_rcpt(text.as_bytes()) else {
-            return Err(Fail::new("RCPT was refused"));
-        };
-        self.envelope.recipients.push(Recipient::new(alloc, rcpt)?)?;
+        let recipient = recipient_of(alloc, place, goes)?;
+        self.envelope.recipients.push(recipient)?;
         self.places.push(place)?;
         Ok(())
     }
 }
 
+/// The envelope without a recipient.
+fn envelope_of(alloc: Global) -> Result<Envelope, Fail> {
+    let Ok(mail) = read_mail(b"<sender@client.example> RET=HDRS ENVID=e+2B1") else {
+        return Err(Fail::new("MAIL was refused"));
+    };
+    Ok(Envelope::new(alloc, mail)?)
+}
+
+/// The recipient of a place, whom the server has a hop for or not.
+fn recipient_of(alloc: Global, place: u8, goes: bool) -> Result<Recipient, Fail> {
+    let domain = if goes { "example.org" } else { "example.net" };
+    let text = format!(in alloc; "<r{place}@{domain}> NOTIFY=FAILURE ORCPT=rfc822;r{place}")?;
+    let Ok(rcpt) = read_rcpt(text.as_bytes()) else {
+        return Err(Fail::new("RCPT was refused"));
+    };
+    Ok(Recipient::new(alloc, rcpt)?)
+}
+
 /// The text of this kind.
 fn text_of_row(alloc: Global, kind: Text) -> Result<Vec<u8>, AllocError> {
     let mut text = Vec::new(alloc);
-    match kind {
-        Text::Lines => text.extend_from_slice(LINES)?,
-        Text::Octets => text.extend_from_slice(OCTETS)?,
-        Text::TooManyLines => push_count(&mut text, b"line\r\n", CONTENT_LIMIT / 5)?,
-        Text::TooManyOctets => push_count(&mut text, b"octet", CONTENT_LIMIT / 4)?,
-        Text::Circling => {
-            push_count(&mut text, b"received:\r\n", 100)?;
-            text.extend_from_slice(b"\r\n")?;
-        }
-        Text::CirclingOctets => {
-            push_count(&mut text, b"received:\r\n", 100)?;
-            text.extend_from_slice(b"\r\nend")?;
-        }
-    }
+    push_text(&mut text, kind)?;
     Ok(text)
+}
+
+fn push_text(text: &mut Vec<u8>, kind: Text) -> Result<(), AllocError> {
+    match kind {
+        Text::Lines => text.extend_from_slice(LINES),
+        Text::Octets => text.extend_from_slice(OCTETS),
+        Text::TooManyLines => push_count(text, b"line\r\n", CONTENT_LIMIT / 5),
+        Text::TooManyOctets => push_count(text, b"octet", CONTENT_LIMIT / 4),
+        Text::Circling => push_circling(text, b"\r\n"),
+        Text::CirclingOctets => push_circling(text, b"\r\nend"),
+    }
+}
+
+/// Adds 100 `Received:` fields, and what stands behind them.
+fn push_circling(text: &mut Vec<u8>, behind: &[u8]) -> Result<(), AllocError> {
+    push_count(text, b"received:\r\n", 100)?;
+    text.extend_from_slice(behind)
 }
 
 /// Adds the octets so often.

@@ -22,17 +22,28 @@ use trial::{Outcome, outcome_of};
 
 /// The word is the folder of the rows. Without one they lie where the program runs.
 fn main(rt: HostRuntime) -> Result<(), Fail> {
+    let rows = rows_of(&rt)?;
+    let config = configuration(rt.alloc())?;
+    show_rows(&rt, &config, rows.as_str())
+}
+
+/// The text of the rows.
+fn rows_of(rt: &HostRuntime) -> Result<String, Fail> {
     let alloc = rt.alloc();
-    let words: Vec<String> = env::args(&rt)?.collect(alloc)?;
+    let words: Vec<String> = env::args(rt)?.collect(alloc)?;
     let folder = match words.get(1) {
         Some(word) => word.as_str(),
         None => ".",
     };
-    let rows = fs::read_to_string(&rt, format!(in alloc; "{folder}/rows.in")?.as_str())?;
-    let config = configuration(alloc)?;
-    for line in rows.as_str().lines() {
+    let path = format!(in alloc; "{folder}/rows.in")?;
+    Ok(fs::read_to_string(rt, path.as_str())?)
+}
+
+/// Prints each row, and what it comes to.
+fn show_rows(rt: &HostRuntime, config: &Config, rows: &str) -> Result<(), Fail> {
+    for line in rows.lines() {
         match Row::read(line) {
-            Some(row) => println!(rt; "{line}: {}", outcome_at(alloc, &config, row)?)?,
+            Some(row) => println!(rt; "{line}: {}", outcome_at(rt.alloc(), config, row)?)?,
             None => println!(rt; "{line}: no row")?,
         }
     }

@@ -64,7 +64,7 @@ impl<'a> Wire<'a> {
     }
 
     /// The next piece that is there.
-    pub fn piece(&self, alloc: Global, cutting: Cutting) -> Result<Vec<u8>, AllocError> {
+    pub fn piece(&self, cutting: Cutting) -> &[u8] {
         let mut end = self.read;
         for _ in 0..cutting.size {
             end = end.saturating_add(1);
@@ -73,10 +73,7 @@ impl<'a> Wire<'a> {
             }
         }
         let end = end.min(self.octets.len());
-        Vec::from_slice(
-            alloc,
-            self.octets.as_slice().get(self.read..end).unwrap_or(&[]),
-        )
+        self.octets.as_slice().get(self.read..end).unwrap_or(&[])
     }
 
     /// So many octets more are read.

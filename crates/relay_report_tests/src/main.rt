@@ -22,20 +22,32 @@ fn main(rt: HostRuntime) -> Result<(), Fail> {
 
 /// Prints what comes of each row.
 fn show_rows(rt: &HostRuntime) -> Result<(), RowsFault> {
+    let rows = rows_of(rt)?;
+    for row in rows.as_str().lines() {
+        show_row(rt, row)?;
+    }
+    Ok(())
+}
+
+/// The text of the rows.
+fn rows_of(rt: &HostRuntime) -> Result<String, RowsFault> {
     let alloc = rt.alloc();
     let words: Vec<String> = env::args(rt)?.collect(alloc)?;
     let folder = match words.get(1) {
         Some(word) => word.as_str(),
         None => ".",
     };
-    let rows = fs::read_to_string(rt, format!(in alloc; "{folder}/rows.in")?.as_str())?;
-    for row in rows.as_str().lines() {
-        if row.starts_with("#") {
-            println!(rt; "{row}")?;
-        } else {
-            let text = answer(alloc, row)?;
-            println!(rt; "{}", text.as_str())?;
-        }
+    let path = format!(in alloc; "{folder}/rows.in")?;
+    Ok(fs::read_to_string(rt, path.as_str())?)
+}
+
+/// Prints what comes of a row, and a line that isn't one as it is.
+fn show_row(rt: &HostRuntime, row: &str) -> Result<(), RowsFault> {
+    if row.starts_with("#") {
+        println!(rt; "{row}")?;
+        return Ok(());
     }
+    let text = answer(rt.alloc(), row)?;
+    println!(rt; "{}", text.as_str())?;
     Ok(())
 }
