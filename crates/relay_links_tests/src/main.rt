@@ -1,33 +1,53 @@
-//! A message that a node over memory has taken by one link, and hands on by another to a next hop that takes
-//! it. Prints how many octets the attempt wrote, and what the node holds then. The tests beside it let each
-//! read and each write of such a link fail in turn.
+//! Lets a node over memory take one message by a link, and hand it on by another: to a next hop that takes
+//! it, in pieces of any length, and to one whose connection ends or fails behind each octet that is read or
+//! written, by the rows of data/.
 #![tactic(auto)]
 
-#[cfg(test)]
 mod faulty;
-#[cfg(test)]
 mod pushing;
+mod row;
 mod setup;
 
-use relay_links::push_link;
-use setup::{SAID, attempt, node_with_mail, start, text_of};
+use pushing::difference_of;
+use row::Row;
 use std::test::Fail;
+use std::{env, fs};
 
+/// The word is the folder of the rows. Without one they lie where the program runs.
 fn main(rt: HostRuntime) -> Result<(), Fail> {
-    let alloc = rt.alloc();
-    let mut node = node_with_mail(alloc)?;
-    let attempt = attempt(alloc, &mut node)?;
-    let said = text_of(alloc, &SAID)?;
-    let mut written: Vec<u8> = Vec::new(alloc);
-    let end = push_link(
-        alloc,
-        &mut node,
-        attempt,
-        &mut said.as_slice(),
-        &mut written,
-        start()?,
-    )?;
-    println!(rt; "{end:?} behind {} octets", written.len())?;
-    println!(rt; "{} places are held", node.marks(alloc)?.len())?;
-    Ok(())
+    let words: Vec<String> = env::args(&rt)?.collect(rt.alloc())?;
+    let folder = match words.get(1) {
+        Some(word) => word.as_str(),
+        None => ".",
+    };
+    let path = format!(in rt.alloc(); "{folder}/rows.in")?;
+    let rows = fs::read_to_string(&rt, path.as_str())?;
+    play_rows(&rt, rows.as_str())
+}
+
+/// Plays each row, and fails where one differs.
+fn play_rows(rt: &HostRuntime, rows: &str) -> Result<(), Fail> {
+    let mut are_right = true;
+    for line in rows.lines() {
+        are_right = play_row(rt, line)? && are_right;
+    }
+    if are_right {
+        Ok(())
+    } else {
+        Err(Fail::new("a row came otherwise"))
+    }
+}
+
+/// Plays a row, prints a line for it, and says whether it came as it is to.
+fn play_row(rt: &HostRuntime, line: &str) -> Result<bool, Fail> {
+    let Some(row) = Row::read(line) else {
+        println!(rt; "{line}: no row")?;
+        return Ok(false);
+    };
+    let difference = difference_of(rt.alloc(), row)?;
+    match difference {
+        Some(number) => println!(rt; "{line}: differs at {number}")?,
+        None => println!(rt; "{line}: as written down")?,
+    }
+    Ok(difference.is_none())
 }

@@ -1,112 +1,99 @@
 use crate::faulty::{Narrow, Trickle};
-use crate::setup::{SAID, WRITTEN, attempt, node_with_mail, start, text_of};
-use relay_links::{LinkFault, Pushed, push_link};
+use crate::row::{Row, Trial};
+use crate::setup::{MemoryNode, begin, count_held, next_number, node_with_mail, push};
+use relay_links::{LinkFault, Pushed};
+use relay_trace::Moment;
+use std::alloc::Global;
 use std::test::Fail;
 
-/// What came of an attempt over a reader that gives so many octets at a call, where the reader or the writer may
-/// fail once: how it ended, what was written, how many changes the node has, and how many places it holds.
-#[derive(Drop)]
-struct Run {
-    end: Result<Pushed, LinkFault>,
-    written: Vec<u8>,
+/// What the next hop says: its greeting, and a line each to EHLO, MAIL, RCPT, DATA and the content.
+const SAID: &[u8] = b"220 n\r\n250 n\r\n250 ok\r\n250 ok\r\n354 go\r\n250 ok\r\n";
+
+/// What the attempt writes to that. The time stamp line stands in three lines before the content, which is
+/// empty.
+const WRITTEN: &[u8] =
+    b"EHLO relay.example\r\nMAIL FROM:<a@example.org>\r\nRCPT TO:<b@example.org>\r\nDATA\r\n\
+Received: from x ([127.0.0.1])\r\n by relay.example with SMTP id 1;\r\n Thu, 01 Jan 1970 00:00:00 +0000\r\n\
+.\r\nQUIT\r\n";
+
+/// The number of the change behind the attempt's one.
+const NEXT: u64 = 3;
+
+/// What came of an attempt.
+#[derive(Clone, Copy)]
+struct Came {
+    /// How it ended.
+    end: &'static str,
+    /// How many octets it wrote, where these are what it is to write.
+    written: Option<usize>,
+    /// The number of the next change.
     next: u64,
+    /// How many places are held.
     held: usize,
 }
 
-fn push(
-    rt: &HostRuntime,
-    said: &[u8],
-    most: usize,
-    bad_read: Option<usize>,
-    bad_write: Option<usize>,
-) -> Result<Run, Fail> {
-    let alloc = rt.alloc();
-    let mut node = node_with_mail(alloc)?;
-    let attempt = attempt(alloc, &mut node)?;
+/// The first number of a row by which something else comes than is written down.
+pub fn difference_of(alloc: Global, row: Row<'_>) -> Result<Option<usize>, Fail> {
+    for number in row.first..=row.last {
+        let came = outcome_of(alloc, row.trial(number))?;
+        let is_right = came.end == row.end
+            && came.written == Some(row.written.unwrap_or(number))
+            && came.next == NEXT
+            && came.held == row.held;
+        if !is_right {
+            return Ok(Some(number));
+        }
+    }
+    Ok(None)
+}
+
+/// Lets an attempt run.
+fn outcome_of(alloc: Global, trial: Trial) -> Result<Came, Fail> {
+    let now = Moment::new(0)?;
+    let mut node = node_with_mail(alloc, now)?;
+    let attempt = begin(alloc, &mut node, now)?;
+    run(alloc, &mut node, attempt, trial, now)
+}
+
+/// Lets an attempt run over a reader and a writer of which one may fail.
+fn run(
+    alloc: Global,
+    node: &mut MemoryNode,
+    attempt: usize,
+    trial: Trial,
+    now: Moment,
+) -> Result<Came, Fail> {
     let mut reader = Trickle {
-        octets: said,
+        octets: SAID.get(..trial.end).unwrap_or(SAID),
         given: 0,
-        most,
-        cut: bad_read,
+        most: trial.most,
+        cut: trial.bad_read,
     };
-    let mut writer = Narrow::new(alloc, bad_write);
-    let end = push_link(
-        alloc,
-        &mut node,
-        attempt,
-        &mut reader,
-        &mut writer,
-        start()?,
-    );
-    Ok(Run {
-        end,
-        written: writer.held,
-        next: node.next_number(),
-        held: node.marks(alloc)?.len(),
+    let mut writer = Narrow::new(alloc, trial.bad_write);
+    let end = push(alloc, node, attempt, &mut reader, &mut writer, now);
+    Ok(Came {
+        end: word_of(end),
+        written: count_written(writer.held.as_slice()),
+        next: next_number(node),
+        held: count_held(alloc, node)?,
     })
 }
 
-#[test]
-fn a_hop_that_takes_the_mail_is_written_188_octets(rt: HostRuntime) -> Result<(), Fail> {
-    let said = text_of(rt.alloc(), &SAID)?;
-    let wanted = text_of(rt.alloc(), &WRITTEN)?;
-    assert_eq!(rt; wanted.len(), 188);
-    for most in [1, 5, 100] {
-        let came = push(&rt, said.as_slice(), most, None, None)?;
-        assert_eq!(rt; came.end, Ok(Pushed::Ended));
-        assert_eq!(rt; came.written.as_slice(), wanted.as_slice());
-        assert_eq!(rt; came.next, 3);
-        assert_eq!(rt; came.held, 0);
+/// How an attempt ended.
+fn word_of(end: Result<Pushed, LinkFault>) -> &'static str {
+    match end {
+        Ok(Pushed::Ended) => "ended",
+        Ok(Pushed::Lost) => "lost",
+        Ok(Pushed::Unwritten) => "unwritten",
+        Err(_) => "fault",
     }
-    Ok(())
 }
 
-#[test]
-fn an_end_of_the_input_before_the_last_reply_is_a_loss(rt: HostRuntime) -> Result<(), Fail> {
-    let said = text_of(rt.alloc(), &SAID)?;
-    let wanted = text_of(rt.alloc(), &WRITTEN)?;
-    for end in 0..said.len() {
-        let came = push(&rt, &said.as_slice()[..end], 1, None, None)?;
-        assert_eq!(rt; came.end, Ok(Pushed::Lost), "behind {end}");
-        assert!(rt; wanted.as_slice().starts_with(came.written.as_slice()));
-        assert_eq!(rt; came.next, 3, "the loss is a change");
-        assert_eq!(rt; came.held, 1, "the place is tried again");
+/// How many octets these are, where they begin what the attempt is to write.
+fn count_written(octets: &[u8]) -> Option<usize> {
+    if WRITTEN.starts_with(octets) {
+        Some(octets.len())
+    } else {
+        None
     }
-    Ok(())
-}
-
-#[test]
-fn a_reader_that_fails_is_a_loss(rt: HostRuntime) -> Result<(), Fail> {
-    let said = text_of(rt.alloc(), &SAID)?;
-    let wanted = text_of(rt.alloc(), &WRITTEN)?;
-    for cut in 0..said.len() {
-        let came = push(&rt, said.as_slice(), 1, Some(cut), None)?;
-        assert_eq!(rt; came.end, Ok(Pushed::Lost), "behind {cut}");
-        assert!(rt; wanted.as_slice().starts_with(came.written.as_slice()));
-        assert_eq!(rt; came.next, 3);
-        assert_eq!(rt; came.held, 1);
-    }
-    Ok(())
-}
-
-/// QUIT is written behind the end of the attempt: a writer that fails there loses nothing.
-#[test]
-fn a_writer_that_fails_is_a_loss_before_the_last_reply(rt: HostRuntime) -> Result<(), Fail> {
-    let said = text_of(rt.alloc(), &SAID)?;
-    let wanted = text_of(rt.alloc(), &WRITTEN)?;
-    for cut in 0..wanted.len() {
-        let came = push(&rt, said.as_slice(), 1, None, Some(cut))?;
-        let is_ended = 182 <= cut;
-        let end = if is_ended {
-            Pushed::Unwritten
-        } else {
-            Pushed::Lost
-        };
-        assert_eq!(rt; came.end, Ok(end), "behind {cut}");
-        assert_eq!(rt; came.written.len(), cut);
-        assert!(rt; wanted.as_slice().starts_with(came.written.as_slice()));
-        assert_eq!(rt; came.next, 3);
-        assert_eq!(rt; came.held, if is_ended { 0 } else { 1 });
-    }
-    Ok(())
 }

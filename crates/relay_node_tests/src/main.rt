@@ -1,61 +1,100 @@
-//! Two sessions on one node over memory: each gives a message, and then quits. Prints what came of each
-//! piece; tests/node_without_memory.sh refuses each allocation of it in turn. The tests beside it are of
-//! the public calls of relay_node: replies, stored texts and images written out by hand.
+//! Plays each scenario of data/ on a node over memory: in one piece, with what the other sides say cut in
+//! two at each octet, and octet by octet; or, where a device fails, for each call and each stop. What comes
+//! of each event is compared with what is written down. By the word `sessions` or `report` it plays what
+//! tests/node_without_memory.sh refuses each allocation of in turn.
 #![tactic(auto)]
 
-#[cfg(test)]
-mod expected;
-#[cfg(test)]
-mod hops;
-#[cfg(test)]
-mod passing;
-#[cfg(test)]
-mod receiving;
-#[cfg(test)]
-mod retrying;
-#[cfg(test)]
-mod sessions;
-mod setup;
-#[cfg(test)]
-mod stops;
+mod answers;
+mod calls;
+mod course;
+mod escape;
+mod pushed;
+mod refused;
+mod scenario;
+mod scene;
+mod stage;
+mod step;
+mod talk;
+mod trial;
+mod words;
 
-use relay_disk::MemoryDisk;
-use relay_node::Node;
-use relay_trace::Moment;
-use setup::{MAIL, connected, node, start};
+use refused::{report, sessions};
+use scenario::Scenario;
 use std::test::Fail;
+use std::{env, fs};
+use trial::difference_of;
 
+/// The files of scenarios.
+const FILES: [&str; 7] = [
+    "receiving",
+    "sessions",
+    "stops",
+    "passing",
+    "retrying",
+    "moments",
+    "wrong",
+];
+
+/// A word that is neither of the two is the folder of the scenarios. Without one they lie where the program
+/// runs.
 fn main(rt: HostRuntime) -> Result<(), Fail> {
-    let now = start()?;
-    let mut node = node(rt.alloc(), 67_108_864)?;
-    let first = connected(&mut node)?;
-    let second = connected(&mut node)?;
-    for piece in [MAIL, b"QUIT\r\n".as_slice()] {
-        for session in [first, second] {
-            give(&rt, &mut node, session, piece, now)?;
-        }
+    let words: Vec<String> = env::args(&rt)?.collect(rt.alloc())?;
+    let word = match words.get(1) {
+        Some(word) => word.as_str(),
+        None => ".",
+    };
+    match word {
+        "sessions" => sessions(&rt),
+        "report" => report(&rt),
+        folder => play_files(&rt, folder),
     }
-    println!(rt; "the next change is {}", node.next_number())?;
-    Ok(())
 }
 
-/// Gives a session a piece, and prints what came of it.
-fn give(
-    rt: &HostRuntime,
-    node: &mut Node<MemoryDisk>,
-    session: usize,
-    piece: &[u8],
-    now: Moment,
-) -> Result<(), Fail> {
-    match node.receive(session, piece, now) {
-        Ok(received) => println!(rt;
-            "session {session}: {} octets used, {} out, change {}, close {}",
-            received.used,
-            received.out.len(),
-            received.change.unwrap_or(0),
-            received.close
-        )?,
-        Err(fault) => println!(rt; "session {session}: {fault}")?,
+/// Plays the scenarios of a folder. It fails where one differs.
+fn play_files(rt: &HostRuntime, folder: &str) -> Result<(), Fail> {
+    let mut are_right = true;
+    for file in FILES {
+        are_right = play_file(rt, folder, file)? && are_right;
     }
-    Ok(())
+    if are_right {
+        Ok(())
+    } else {
+        Err(Fail::new("a scenario came otherwise"))
+    }
+}
+
+/// Plays the scenarios of a file, and says whether each came as it is to.
+fn play_file(rt: &HostRuntime, folder: &str, file: &str) -> Result<bool, Fail> {
+    let path = format!(in rt.alloc(); "{folder}/{file}.in")?;
+    let text = fs::read_to_string(rt, path.as_str())?;
+    play_text(rt, text.as_str())
+}
+
+/// Plays the scenarios of a text, which an empty line ends each.
+fn play_text(rt: &HostRuntime, text: &str) -> Result<bool, Fail> {
+    let alloc = rt.alloc();
+    let mut are_right = true;
+    let mut scenario = Scenario::new(alloc);
+    for line in text.lines() {
+        if line.is_empty() {
+            are_right = play_scenario(rt, &scenario)? && are_right;
+            scenario = Scenario::new(alloc);
+        } else {
+            scenario.take(alloc, line)?;
+        }
+    }
+    Ok(are_right)
+}
+
+/// Plays a scenario, prints a line for it, and says whether it came as it is to.
+fn play_scenario(rt: &HostRuntime, scenario: &Scenario<'_>) -> Result<bool, Fail> {
+    let name = scenario.name;
+    let difference = difference_of(rt.alloc(), scenario)?;
+    let outcome = match &difference {
+        Some(_) if scenario.differs => "differs, as it must",
+        Some(difference) => difference.as_str(),
+        None => "as written down",
+    };
+    println!(rt; "{name}: {outcome}")?;
+    Ok(difference.is_some() == scenario.differs)
 }

@@ -1,0 +1,46 @@
+/// How what other sides say comes: in a piece of so many octets, and then in pieces of so many.
+#[derive(Clone, Copy)]
+pub struct Cutting {
+    pub first: usize,
+    pub rest: usize,
+}
+
+/// One of the ways that a scenario is played in.
+#[derive(Clone, Copy)]
+pub struct Course {
+    pub cutting: Cutting,
+    /// How many calls of the device pass where a fuse is set.
+    pub calls: u64,
+    /// What a stop leaves.
+    pub pick: u64,
+}
+
+impl Cutting {
+    /// All at once.
+    pub const WHOLE: Self = Cutting {
+        first: 0,
+        rest: usize::MAX,
+    };
+
+    /// The cutting of this number of so many octets: by 0 all at once, then in two behind each octet but the
+    /// last, and then octet by octet.
+    pub fn of_number(number: usize, length: usize) -> Self {
+        if number < length {
+            Cutting {
+                first: number,
+                rest: usize::MAX,
+            }
+        } else {
+            Cutting { first: 1, rest: 1 }
+        }
+    }
+
+    /// Where the piece ends that begins here, of so many octets.
+    pub fn end_of_piece(self, start: usize, length: usize) -> usize {
+        if start < self.first {
+            self.first.min(length)
+        } else {
+            start.saturating_add(self.rest).min(length)
+        }
+    }
+}

@@ -1,0 +1,89 @@
+//! What tests/node_without_memory.sh refuses each allocation of in turn. From the first line that is printed
+//! on, nothing here takes memory but the node.
+use crate::calls::{Handed, MemoryNode, configuration, connect, create, next_number, receive};
+use crate::pushed::push;
+use relay_node::NodeFault;
+use relay_trace::Moment;
+use std::alloc::Global;
+use std::test::Fail;
+
+/// A client that gives mail without content.
+const MAIL: &[u8] =
+    b"HELO x\r\nMAIL FROM:<a@example.org>\r\nRCPT TO:<b@example.org>\r\nDATA\r\n.\r\n";
+
+/// A client that quits.
+const QUIT: &[u8] = b"QUIT\r\n";
+
+/// A client that gives mail without content for three recipients.
+const MAIL_FOR_THREE: &[u8] =
+    b"EHLO x\r\nMAIL FROM:<a@example.org>\r\nRCPT TO:<b@example.org>\r\nRCPT TO:<c@example.org>\r\n\
+RCPT TO:<d@example.org>\r\nDATA\r\n.\r\n";
+
+/// Two sessions on one node: each gives a message, and then quits. It prints what came of each piece.
+pub fn sessions(rt: &HostRuntime) -> Result<(), Fail> {
+    let mut node = node(rt.alloc())?;
+    let first = session(&mut node)?;
+    let second = session(&mut node)?;
+    give(rt, &mut node, first, MAIL)?;
+    give(rt, &mut node, second, MAIL)?;
+    give(rt, &mut node, first, QUIT)?;
+    give(rt, &mut node, second, QUIT)?;
+    println!(rt; "the next change is {}", next_number(&node))?;
+    Ok(())
+}
+
+/// One message whose three places go three ways at one attempt, with a report of one of them. What was
+/// refused for want of memory is tried once more. It prints what came of each call.
+pub fn report(rt: &HostRuntime) -> Result<(), Fail> {
+    let mut node = node(rt.alloc())?;
+    let session = session(&mut node)?;
+    match receive(&mut node, session, MAIL_FOR_THREE, Moment::new(0)?) {
+        Ok(_) => push(rt, &mut node, Moment::new(1000)?),
+        Err(_) => Err(Fail::new("no mail")),
+    }
+}
+
+/// A node without changes, on a disk in memory.
+fn node(alloc: Global) -> Result<MemoryNode, Fail> {
+    let Some(config) = configuration(alloc, 67_108_864, "example.org next.example")? else {
+        return Err(Fail::new("no configuration"));
+    };
+    match create(alloc, config) {
+        Ok(node) => Ok(node),
+        Err(_) => Err(Fail::new("not created")),
+    }
+}
+
+/// Connects a client, and gives the number of its session.
+fn session(node: &mut MemoryNode) -> Result<usize, Fail> {
+    match connect(node) {
+        Ok(connected) => Ok(connected.session),
+        Err(_) => Err(Fail::new("not connected")),
+    }
+}
+
+/// Gives a session a piece, and prints what came of it.
+fn give(rt: &HostRuntime, node: &mut MemoryNode, session: usize, piece: &[u8]) -> Result<(), Fail> {
+    let handed = receive(node, session, piece, Moment::new(0)?);
+    print_handed(rt, "session", session, handed)
+}
+
+/// Prints what came of a piece.
+pub fn print_handed(
+    rt: &HostRuntime,
+    word: &str,
+    number: usize,
+    handed: Result<Handed, NodeFault>,
+) -> Result<(), Fail> {
+    match handed {
+        Ok(handed) => println!(rt;
+            "{word} {number}: {} octets used, {} out, change {}, close {}",
+            handed.used,
+            handed.out.len(),
+            handed.change.unwrap_or(0),
+            handed.is_closed
+        )?,
+        Err(fault) => println!(rt; "{word} {number}: {fault}")?,
+    }
+    Ok(())
+}

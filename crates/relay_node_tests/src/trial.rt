@@ -1,0 +1,115 @@
+use crate::course::{Course, Cutting};
+use crate::escape::push_escaped;
+use crate::scenario::{Numbers, Scenario};
+use crate::scene::Scene;
+use crate::stage::Stage;
+use relay_trace::Moment;
+use std::alloc::{AllocError, Global};
+use std::mem;
+
+/// Plays a scenario in each of its courses, and says what came first that isn't written down.
+pub fn difference_of(alloc: Global, scenario: &Scenario<'_>) -> Result<Option<String>, AllocError> {
+    match scenario.calls {
+        Some(calls) => difference_at_stops(alloc, scenario, calls),
+        None => difference_by_cutting(alloc, scenario),
+    }
+}
+
+/// Plays a scenario for each number of calls that pass, and for each pick.
+fn difference_at_stops(
+    alloc: Global,
+    scenario: &Scenario<'_>,
+    numbers: Numbers,
+) -> Result<Option<String>, AllocError> {
+    for calls in numbers.first..=numbers.last {
+        for pick in scenario.picks.first..=scenario.picks.last {
+            let course = Course {
+                cutting: Cutting::WHOLE,
+                calls,
+                pick,
+            };
+            let difference = play(alloc, scenario, course, &mut Vec::new(alloc))?;
+            if difference.is_some() {
+                return Ok(difference);
+            }
+        }
+    }
+    Ok(None)
+}
+
+/// Plays a scenario whole, and for each cutting, after which the disk holds the same.
+fn difference_by_cutting(
+    alloc: Global,
+    scenario: &Scenario<'_>,
+) -> Result<Option<String>, AllocError> {
+    let mut image = Vec::new(alloc);
+    let length = scenario.longest();
+    for number in 0..=length {
+        let course = Course {
+            cutting: Cutting::of_number(number, length),
+            calls: 0,
+            pick: 0,
+        };
+        let difference = play(alloc, scenario, course, &mut image)?;
+        if difference.is_some() {
+            return Ok(difference);
+        }
+    }
+    Ok(None)
+}
+
+/// Plays a scenario in one course, and says what came first that isn't written down, or that the disk holds
+/// another image than this one in the end. In the place of an empty image it leaves that of the disk.
+fn play(
+    alloc: Global,
+    scenario: &Scenario<'_>,
+    course: Course,
+    image: &mut Vec<u8>,
+) -> Result<Option<String>, AllocError> {
+    let Ok(now) = Moment::new(0) else {
+        return Err(AllocError);
+    };
+    let mut stage = Stage::new(alloc, course, now);
+    let difference = play_on(&mut stage, scenario, image)?;
+    if stage.scene.is_short {
+        return Err(AllocError);
+    }
+    Ok(difference)
+}
+
+/// The same on a stage on which nothing has happened.
+fn play_on<'a>(
+    stage: &mut Stage<'a>,
+    scenario: &Scenario<'a>,
+    image: &mut Vec<u8>,
+) -> Result<Option<String>, AllocError> {
+    for step in scenario.steps.as_slice() {
+        stage.perform(step);
+        if !step.allows(stage.scene.came.as_slice()) {
+            return Ok(Some(told(&stage.scene, step.event)?));
+        }
+        stage.scene.came.clear();
+    }
+    stage.tell_image();
+    if image.is_empty() {
+        mem::swap(image, &mut stage.scene.came);
+    } else if image.as_slice() != stage.scene.came.as_slice() {
+        return Ok(Some(told(&stage.scene, "the last image")?));
+    }
+    Ok(None)
+}
+
+/// Tells what came of an event.
+fn told(scene: &Scene, event: &str) -> Result<String, AllocError> {
+    let Course {
+        cutting,
+        calls,
+        pick,
+    } = scene.course;
+    let first = cutting.first;
+    let mut text = format!(in scene.alloc;
+        "{event}, of {calls} calls, pick {pick}, cut at {first}: "
+    )?;
+    push_escaped(&mut text, scene.came.as_slice())?;
+    Ok(text)
+}

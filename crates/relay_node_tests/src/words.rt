@@ -1,0 +1,39 @@
+/// What stands behind the word of an event, and isn't read yet.
+#[derive(Clone, Copy)]
+pub struct Words<'a> {
+    pub rest: &'a str,
+}
+
+/// One that a node talks to.
+#[derive(Clone, Copy)]
+pub enum Peer {
+    /// The client of the session of this number.
+    Client(usize),
+    /// The next hop of the attempt of this number.
+    Hop(usize),
+}
+
+impl<'a> Words<'a> {
+    /// The next word.
+    pub fn word(&mut self) -> &'a str {
+        let (word, rest) = self.rest.split_once(' ').unwrap_or((self.rest, ""));
+        self.rest = rest;
+        word
+    }
+
+    /// The next word as a number, the greatest where it is none.
+    pub fn number(&mut self) -> u64 {
+        self.word().parse::<u64>().unwrap_or(u64::MAX)
+    }
+
+    /// The peer that the next two words name: `client 0`, `hop 0`.
+    pub fn peer(&mut self) -> Peer {
+        let is_client = self.word() == "client";
+        let number = self.number() as usize;
+        if is_client {
+            Peer::Client(number)
+        } else {
+            Peer::Hop(number)
+        }
+    }
+}
