@@ -5,14 +5,15 @@ SHELL := bash
 .PHONY: test demo interop bench load instructions relayd relay_bench
 
 # The whole gate: the sample configuration beside its tested copy; then every proof from nothing, the edits that must fail
-# and the tests; then the programs that these have built, over two pipes and over sockets, short of memory, and on a device that
-# fails. The gate's own last line is the last.
+# and the tests; then the programs that these have built, over two pipes, streams that fail and sockets, short of memory, and on a
+# device that fails. The gate's own last line is the last.
 test:
 	cmp relayd.toml crates/relay_routes_tests/data/relayd.toml
 	mkdir -p build
 	rt ci | tee build/gate.log
 	cp crates/relayd/out/relayd build/relayd
 	tests/one_line_at_a_time.sh build/relayd
+	tests/standard_streams.py build/relayd
 	tests/fault_lines.sh build/relayd
 	tests/two_relays.py build/relayd
 	tests/each_allocation_refused.sh build/relayd

@@ -1,6 +1,6 @@
 #!/usr/bin/env bash
 # The faults of `init` and `list` over files, in the order in which they are looked for: what comes of each on standard error,
-# and its status. Nothing is written to standard output then.
+# and its status. Nothing is written to standard output then. Behind them, what `list` writes of a message.
 #
 #   tests/fault_lines.sh build/relayd
 set -euo pipefail
@@ -92,4 +92,17 @@ if [ "$(stat -c '%a %s' relay.spool)" != '600 18' ]; then
     echo "the spool has the mode and size $(stat -c '%a %s' relay.spool)" >&2
     exit 1
 fi
-echo "faults of init and list: 16 refused, each by its line"
+# A message of the first moment, from <a@example.org> to <b@example.org>, as its record stands in a spool by hand: an open
+# gate and the record's 57 octets; its kind and its moment; MAIL's path, and neither RET nor ENVID; one recipient, its
+# path, and neither NOTIFY nor ORCPT; the stored text, which is a line of one letter.
+moment='\x00\x00\x00\x00\x00\x00\x00\x00'
+mail='\x00\x0f<a@example.org>\x00\x00\x00'
+rcpt='\x01\x00\x0f<b@example.org>\x00\x00\x00'
+printf "$head"'\x01\x00\x00\x00\x39\x01'"$moment$mail$rcpt"'\x00\x00\x00\x03x\r\n\x00' > relay.spool
+status=0
+"${as[@]}" "$relayd" list --config relayd.toml > out 2> err || status=$?
+if [ "$status" -ne 0 ] || [ "$(cat out)" != '1 0 <b@example.org> 0' ] || [ -s err ]; then
+    echo "relayd list: status $status and $(cat out err), and not one place that is due at once" >&2
+    exit 1
+fi
+echo "faults of init and list: 16 refused, each by its line, and a message listed"

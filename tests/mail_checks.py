@@ -49,9 +49,9 @@ def connected(relay):
     return socket.create_connection(("127.0.0.1", relay.port), PATIENCE)
 
 
-def converse(relay, *parts):
+def talk(link, *parts):
     """Sends each part when the replies to those before have come; the last reply."""
-    with connected(relay) as link, link.makefile("rb") as replies:
+    with link.makefile("rb") as replies:
         line = replies.readline()
         for part in parts:
             link.sendall(part)
@@ -59,6 +59,12 @@ def converse(relay, *parts):
             while line[3:4] == b"-":
                 line = replies.readline()
         return line.decode().rstrip("\r\n")
+
+
+def converse(relay, *parts):
+    """Sends each part at a connection of its own when the replies to those before have come; the last reply."""
+    with connected(relay) as link:
+        return talk(link, *parts)
 
 
 # What a report says of the usual recipient, before the status.

@@ -71,6 +71,12 @@ class Relay:
         same(f"relayd {' '.join(words)}", (ended.returncode, ended.stderr), (0, b""))
         return ended.stdout.decode().splitlines()
 
+    def logged(self, *words):
+        """The lines that a subcommand prints, and those of its log. It has to end well."""
+        ended = self.ended(120, *words, "--log")
+        same(f"relayd {' '.join(words)} --log", ended.returncode, 0)
+        return ended.stdout.decode().splitlines(), ended.stderr.decode().splitlines()
+
     def refused(self, *words):
         """The status and the fault line of a subcommand, which prints nothing else."""
         ended = self.ended(PATIENCE, *words)

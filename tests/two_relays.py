@@ -12,6 +12,7 @@ import pathlib
 import re
 import smtplib
 import socket
+import struct
 import subprocess
 import sys
 import tempfile
@@ -20,7 +21,7 @@ import time
 sys.dont_write_bytecode = True
 
 from mail_checks import CONTENT, CONTENTS, FAILED, behind_mark, connected, converse, fields, hand_in, one_message
-from mail_checks import read_report
+from mail_checks import read_report, talk
 from relay_program import Difference, PATIENCE, Relay, free_port, same
 from smtp_sink import Manners, Sink
 
@@ -206,6 +207,7 @@ def is_due(relay, begun, seconds):
 
 
 def a_hop_that_is_down_and_comes_back(field):
+    same("push of a new spool", field.relay.run("push"), [])
     port, begun = field.sink.port, time.time()
     field.sink.close()
     with field.relay.serving() as lines:
@@ -265,6 +267,14 @@ def a_message_goes_over_two_relays(field):
     same("list of both", field.relay.held() + second.held(), [])
 
 
+def a_dialogue_is_answered_over_a_socket(field):
+    stored = HERE.parent / "crates" / "relayd"
+    with field.relay.serving(), connected(field.relay) as link:
+        link.sendall((stored / "stdin").read_bytes())
+        with link.makefile("rb") as replies:
+            same("the replies", replies.read(), (stored / "stdout").read_bytes())
+
+
 def serve_takes_so_many_connections(field):
     with field.relay.serving("--rounds", "4") as lines:
         hand_in(field.relay)
@@ -291,18 +301,95 @@ def serve_takes_so_many_connections(field):
 
 
 def a_log_says_what_was_done_and_nothing_of_a_content(field):
-    field.sink.manners = Manners(refusals={"<r@example.org>": "550 \x1b[1mno \x07such user"})
-    log = []
-    with field.relay.serving(log=log) as lines:
-        hand_in(field.relay, b"Subject: private\r\n\r\nprivate\r\n", ["b@example.org", "r@example.org"])
+    refusals = {"<r@example.org>": "550 \x1b[1mno \x07such user", "<l@example.org>": "450 later"}
+    field.sink.manners, log = Manners(refusals=refusals), []
+    with field.relay.serving(log=log) as lines, connected(field.relay) as link:
+        peer = link.getsockname()[1]
+        # 8, 27, three times 25, 6, 18, 2, 9, 3 and 6 octets: 154.
+        link.sendall(b"EHLO x\r\nMAIL FROM:<a@example.org>\r\nRCPT TO:<b@example.org>\r\n"
+                     b"RCPT TO:<r@example.org>\r\nRCPT TO:<l@example.org>\r\nDATA\r\n"
+                     b"Subject: private\r\n\r\nprivate\r\n.\r\nQUIT\r\n")
+        while link.recv(1000):
+            pass
     same("the lines of serve", lines, ["1 next.example ended"])
-    same("the lines of the log", len(log), 3)
-    same("the first", log[0], f"relayd: listening on 127.0.0.1:{field.relay.port}")
-    for line, words in zip(log[1:], [("client", "127.0.0.1:", "1"), ("message", "1", "next.example")]):
-        if not line.startswith("relayd: ") or any(word not in line for word in words):
-            raise Difference(f"the log says {line!r}")
-    if not all(" " <= octet <= "~" for line in log for octet in line) or "private" in "".join(log):
-        raise Difference(f"the log says {log}")
+    same("the log", log, [
+        f"relayd: listening on 127.0.0.1:{field.relay.port}",
+        f"relayd: client 127.0.0.1:{peer} ended, 154 octets, message 1 for 3 recipients",
+        "relayd: message 1 next.example ended, 0 transferred, 1 refused 550, 2 deferred, report queued as 2"])
+    # A report that is refused is dropped, and none is made of it.
+    field.sink.manners = Manners(content_reply="554 no")
+    same("push", field.relay.logged("push"),
+         (["2 next.example ended"], ["relayd: message 2 next.example ended, 0 refused 554"]))
+    same("push with nothing due", field.relay.logged("push"), ([], []))
+
+
+def visit(relay, *lines):
+    """Sends each line when the reply to the one before has come; the port that it came from."""
+    with connected(relay) as link:
+        talk(link, *[line + b"\r\n" for line in lines])
+        return link.getsockname()[1]
+
+
+def a_log_has_a_line_for_each_connection(field):
+    to_b, to_c = b"RCPT TO:<b@example.org>", b"RCPT TO:<c@example.org>"
+    two = [b"MAIL FROM:<a@example.org>", to_b, to_c, b"DATA", b"."]
+    one = [b"MAIL FROM:<>", to_b, b"DATA", b"."]
+    hundred = [b"MAIL FROM:<>", *[b"RCPT TO:<b%d@example.org>" % number for number in range(100)], b"DATA", b"."]
+    # The lines of each connection, and its end. A line has two octets more than are written here.
+    visits = [
+        ([], "ended, 0 octets, no message"),
+        # 8; 27, twice 25, 6 and 3; 14, 25, 6 and 3; 6.
+        ([b"EHLO x", *two, *one, b"QUIT"],
+         "ended, 148 octets, message 1 for 2 recipients, message 2 for 1 recipient"),
+        ([b"EHLO x", b"MAIL FROM:<a@example.org>"], "ended, 35 octets, no message"),
+        # 8; 14, ten times 26, ninety times 27, 6 and 3. The changes 3 and 4 were the outcomes of two messages.
+        ([b"EHLO x", *hundred], "ended, 2721 octets, message 5 for 100 recipients"),
+    ]
+    wanted, log = [], []
+    with field.relay.serving("--rounds", str(len(visits) + 1), log=log):
+        for lines, end in visits:
+            wanted.append(f"relayd: client 127.0.0.1:{visit(field.relay, *lines)} {end}")
+        with connected(field.relay) as link:
+            talk(link, b"NOOP\r\n")
+            fault = "broken off by a fault: input, 6 octets, no message"
+            wanted.append(f"relayd: client 127.0.0.1:{link.getsockname()[1]} {fault}")
+            # The connection is reset, and not ended.
+            link.setsockopt(socket.SOL_SOCKET, socket.SO_LINGER, struct.pack("ii", 1, 0))
+    same("the lines of connections", [line for line in log if line.startswith("relayd: client ")], wanted)
+
+
+def a_log_says_why_a_place_has_left(field):
+    field.sink.manners, log = Manners(("PIPELINING",)), []
+    with field.relay.serving(log=log):
+        # A next hop without chunks can't be sent a content whose last line has no end.
+        parts = [b"EHLO x\r\n", b"MAIL FROM:<a@example.org>\r\n", b"RCPT TO:<b@example.org>\r\n"]
+        converse(field.relay, *parts, b"BDAT 3 LAST\r\nend")
+    same("the line of the attempt", log[2:],
+         ["relayd: message 1 next.example ended, 0 unsendable, report queued as 2"])
+    same("push", field.relay.run("push"), ["2 next.example ended"])
+    # Where no connection can be made, and then without a route.
+    field.relay.route({"example.org": ("next.example", free_port())})
+    log = []
+    with field.relay.serving(log=log):
+        hand_in(field.relay, recipients=["b@example.org", "c@example.org"])
+    same("the line of the attempt", log[2:], ["relayd: message 4 next.example lost, 0 deferred, 1 deferred"])
+    field.relay.route({"example.com": ("next.example", field.sink.port)})
+    same("push", field.relay.logged("push"), (
+        ["4 noroute"], ["relayd: message 4 noroute, 0 unroutable, 1 unroutable, report queued as 6"]))
+
+
+def a_log_says_which_places_have_expired(field):
+    field.sink.manners = Manners(refusals={"<b@example.org>": "450 later", "<c@example.org>": "450 later"})
+    log = []
+    with field.relay.serving(log=log):
+        hand_in(field.relay, recipients=["b@example.org", "c@example.org"])
+    same("the line of the attempt", log[2:], ["relayd: message 1 next.example ended, 0 deferred, 1 deferred"])
+    # Five days after its acceptance a message is tried for the last time.
+    field.later(field.relay, 5 * 86400 + 60)
+    field.sink.manners = Manners(refusals={"<b@example.org>": "450 later"})
+    same("push", field.relay.logged("push"), (
+        ["1 next.example ended"],
+        ["relayd: message 1 next.example ended, 0 expired, 1 transferred, report queued as 3"]))
 
 
 def a_silent_peer_is_given_up(field):
@@ -324,17 +411,6 @@ def a_silent_peer_is_given_up(field):
             hand_in(field.relay)
     same("the lines of serve", lines, ["1 next.example lost"])
     same("waits for a hop", sorted(waits.read_text().splitlines()[-2:]), ["read 600", "write 600"])
-
-
-def wrong_words_are_refused(field):
-    for words in [["serve"], ["push"], ["serve", "--rounds", "0"], ["serve", "--rounds", "1000001"],
-                  ["serve", "--rounds", "one"], ["push", "--rounds", "1"], ["serve", "more"]]:
-        file = [] if len(words) == 1 else ["--config", str(field.relay.file)]
-        command = [field.program, words[0], *file, *words[1:]]
-        ended = subprocess.run(command, capture_output=True, timeout=PATIENCE)
-        same(f"{words}", (ended.returncode, ended.stdout), (2, b""))
-        if not ended.stderr:
-            raise Difference(f"{words}: nothing on standard error")
 
 
 def faults_come_in_their_order(field):
@@ -383,10 +459,13 @@ ROWS = [
     a_hop_that_is_down_and_comes_back,
     mail_without_a_route_any_more_is_given_up,
     a_message_goes_over_two_relays,
+    a_dialogue_is_answered_over_a_socket,
     serve_takes_so_many_connections,
     a_log_says_what_was_done_and_nothing_of_a_content,
+    a_log_has_a_line_for_each_connection,
+    a_log_says_why_a_place_has_left,
+    a_log_says_which_places_have_expired,
     a_silent_peer_is_given_up,
-    wrong_words_are_refused,
     faults_come_in_their_order,
 ]
 

@@ -1,7 +1,7 @@
 -- Octets that are shown.
-use Rattle.std.proofs.Common.{◌≡◌, ◌≤◌, ◌<◌, ◌&&◌, ◌+◌, ◌∷◌, ◌++◌, ℕ, Bool, true, false, List, [], map, take, length, get_or, nat_lt, cond, refl, sym, ap, ◌∙◌, subst, ltb-true, arith}
+use Rattle.std.proofs.Common.{◌≡◌, ◌≤◌, ℕ, Bool, true, false, List, map, take, length, nat_lt, refl, sym, ap, ◌∙◌, subst, ltb-true, arith}
 use Rattle.std.specs.List.{All, slice_index_or}
-use Rattle.std.proofs.lemmas.List.{map_more, take_all}
+use Rattle.std.proofs.lemmas.List.{take_all}
 use Rattle.std.proofs.lemmas.List.Elements.{All-map}
 use Rattle.relay_service.specs.Line.{IsPrintable, Shows, shown}
 

@@ -2,6 +2,8 @@
 //! handed on, by a configuration file.
 #![tactic(auto)]
 
+mod attempt_line;
+mod client_line;
 mod clock;
 mod fault;
 mod line;

@@ -1,6 +1,7 @@
 //! Mail that is handed on to its next hops.
 ghost use Rattle.std.specs.Prelude.{◌≡◌, ◌≢◌, MatchResult};
 
+use crate::attempt_line::Attempt;
 use crate::clock::clock_moment;
 use crate::fault::Fault;
 use crate::log::Log;
@@ -42,13 +43,27 @@ pub(crate) fn push_due<R: Clock + Net<Stream = TcpStream>, W: Write, E: Write>(
     log: &mut Log<'_, E>,
 ) -> Result<(), Fault> {
     let now = clock_moment(rt);
-    for work in node.due(alloc, now)? {
-        match work {
-            Work::NoRoute(number) => give_up(node, number, now, writer, log)?,
-            Work::Try(number, hop) => try_hop(alloc, rt, node, number, hop, now, writer, log)?,
-        }
+    let works = node.due(alloc, now)?;
+    for work in works.as_slice() {
+        do_work(alloc, rt, node, work, now, writer, log)?;
     }
     Ok(())
+}
+
+/// Does a work once.
+fn do_work<R: Clock + Net<Stream = TcpStream>, W: Write, E: Write>(
+    alloc: Global,
+    rt: &R,
+    node: &mut Node<FileDisk>,
+    work: &Work,
+    now: Moment,
+    writer: &mut W,
+    log: &mut Log<'_, E>,
+) -> Result<(), Fault> {
+    match work {
+        Work::NoRoute(number) => give_up(node, *number, now, writer, log),
+        Work::Try(number, hop) => try_hop(alloc, rt, node, *number, hop, now, writer, log),
+    }
 }
 
 /// Gives up the places of a message that have no hop.
@@ -61,7 +76,12 @@ fn give_up<W: Write, E: Write>(
 ) -> Result<(), Fault> {
     match node.give_up_unroutable(number, now) {
         Ok(_) => {
-            log.attempt(number, b"", "noroute", node.take_noted());
+            log.attempt(&Attempt {
+                number,
+                hop: None,
+                end: "noroute",
+                noted: node.take_noted(),
+            });
             said(writeln!(writer, "{number} noroute").and_then(|()| writer.flush()))
         }
         Err(fault) => left_over(fault),
@@ -74,25 +94,35 @@ fn try_hop<R: Clock + Net<Stream = TcpStream>, W: Write, E: Write>(
     rt: &R,
     node: &mut Node<FileDisk>,
     number: u64,
-    hop: HostName,
+    hop: &HostName,
     now: Moment,
     writer: &mut W,
     log: &mut Log<'_, E>,
 ) -> Result<(), Fault> {
-    let attempt = match node.start(number, &hop, now) {
+    let attempt = match node.start(number, hop, now) {
         Ok(started) => started.attempt,
         Err(fault) => return left_over(fault),
     };
-    let end = match hand_on(alloc, rt, node, attempt, &hop) {
+    let end = match hand_on(alloc, rt, node, attempt, hop) {
         Ok(Pushed::Ended | Pushed::Unwritten) => "ended",
         Ok(Pushed::Lost) => "lost",
         Err(LinkFault::Device) => return Err(Fault::Device),
         Err(_) => {
-            log.attempt(number, hop.as_slice(), "without an outcome", None);
+            log.attempt(&Attempt {
+                number,
+                hop: Some(hop.as_slice()),
+                end: "without an outcome",
+                noted: None,
+            });
             return Ok(());
         }
     };
-    log.attempt(number, hop.as_slice(), end, node.take_noted());
+    log.attempt(&Attempt {
+        number,
+        hop: Some(hop.as_slice()),
+        end,
+        noted: node.take_noted(),
+    });
     said(write_end(writer, number, hop.as_slice(), end))
 }
 

@@ -4,6 +4,7 @@ ghost use Rattle.relay_book.specs.declared.change.Change.{Change};
 ghost use Rattle.relay_links.specs.Link.{HasEnded, start_at};
 ghost use Rattle.relay_records.specs.Records.{Keeps};
 
+use crate::client_line::Connection;
 use crate::clock::clock_moment;
 use crate::fault::Fault;
 use crate::log::Log;
@@ -19,6 +20,10 @@ use std::fs::File;
 use std::io::{Read, Write};
 use std::net::{Net, SocketAddrV4, TcpListener, TcpStream};
 use std::rt::{Clock, Files};
+
+/// How many octets may be read on a connection. A link does 2^40 reads at most, of 65,536 octets each, so this
+/// ends none: the count of what is left tells what was read.
+const OCTET_LIMIT: u64 = u64::MAX;
 
 /// Serves so many connections one after another, each to its end, and behind each does the work that is
 /// due, once. What that work leads to waits for the next. The file of the spool is taken for this process
@@ -77,15 +82,22 @@ fn serve_stream<C: Clock, E: Write>(
 ) -> Result<(), Fault> {
     let first = node.next_number();
     let now = clock_moment(clock);
+    let mut reader = (&stream).take(OCTET_LIMIT);
     let end = serve_client(
         alloc,
         node,
         peer.ip().octets(),
-        &mut &stream,
+        &mut reader,
         &mut &stream,
         now,
     );
-    log.client(peer, end, first, node.next_number());
+    let connection = Connection {
+        peer,
+        end,
+        octets: OCTET_LIMIT - reader.limit(),
+        first,
+    };
+    log.client(node, &connection);
     match end {
         Err(LinkFault::Device) => Err(Fault::Device),
         _ => Ok(()),

@@ -35,19 +35,23 @@ pub(crate) fn spool_file<F: Files<File = File>>(
     }
 }
 
-/// The node of the spool that the configuration names, whose file is taken for this process alone. A
-/// file that another process has taken is as one that can't be opened.
+/// That file, taken for this process alone. One that another process has taken is as one that can't be opened.
+fn locked_spool_file<F: Files<File = File>>(files: &F, config: &Config) -> Result<FileDisk, Fault> {
+    let disk = spool_file(files, config)?;
+    match disk.try_lock() {
+        Ok(true) => Ok(disk),
+        Ok(false) => Err(Fault::Device),
+        Err(error) => Err(Fault::of_device(&error)),
+    }
+}
+
+/// The node of the spool that the configuration names, whose file is taken for this process alone.
 pub(crate) fn locked_node<F: Files<File = File>>(
     alloc: Global,
     files: &F,
     config: Config,
 ) -> Result<Node<FileDisk>, Fault> {
-    let disk = spool_file(files, &config)?;
-    match disk.try_lock() {
-        Ok(true) => {}
-        Ok(false) => return Err(Fault::Device),
-        Err(error) => return Err(Fault::of_device(&error)),
-    }
+    let disk = locked_spool_file(files, &config)?;
     match Node::open(alloc, config, disk) {
         Ok(node) => Ok(node),
         Err(refused) => Err(Fault::from(refused.cause)),

@@ -1,12 +1,11 @@
 -- A session of the program is a link of a new node.
-use Rattle.std.proofs.Common.{◌≡◌, ◌⊎◌, inl, ℕ, List, [], ◌∷◌, ◌++◌, Option, Result, Ok, Err, OnErr, refl, sym, ap, ap₂, ◌∙◌, subst, append-nil}
-use Rattle.std.specs.Io.KnownBytes.{Appends, Consumes, IsAtEnd}
+use Rattle.std.proofs.Common.{◌≡◌, ◌⊎◌, inl, ℕ, List, [], ◌∷◌, ◌++◌, Option, Result, Ok, Err, OnErr, refl, sym, ap, ap₂, subst, append-nil}
+use Rattle.std.specs.Io.KnownBytes.{IsAtEnd}
 use Rattle.std.proofs.KnownBytes.{Appends-nil, Consumes-nil}
 use Rattle.relay_disk.specs.declared.memory.MemoryDisk.{MemoryDisk}
 use Rattle.relay_disk.specs.Memory.{memory_words}
-use Rattle.relay_routes.specs.declared.config.Config.{Config}
 use Rattle.relay_server.specs.Dialogue.{IsDialogue, Said, greeted_only}
-use Rattle.relay_server.specs.Setup.{Setup, setup_of_config}
+use Rattle.relay_server.specs.Setup.{Setup}
 use Rattle.relay_server.specs.State.{Closed, start}
 use Rattle.relay_server.proofs.Theorems.{no_unit_is_empty}
 use Rattle.relay_book.specs.declared.change.Change.{Change}
@@ -17,7 +16,7 @@ use Rattle.relay_links.specs.declared.fault.LinkFault.TheVariants.{Input, Output
 use Rattle.relay_links.specs.Accepted.{Accepts, Rule}
 use Rattle.relay_links.specs.Link.{HasBegun, HasServed, HaveCome, Leaves, Start, rule, start_at}
 use Rattle.relayd.specs.Session.{AreAnswered, IsBegun, IsServed, session_rule}
-use Rattle.relayd.specs.Setup.{IsProfile, session_limit, session_moment, session_peer, session_setup}
+use Rattle.relayd.specs.Setup.{IsProfile, session_moment, session_peer, session_setup}
 
 -- what holds in any case holds on an error
 pub on_err : {T E : Type 0} (result : Result T E) (P : Type 0) → P → OnErr result P

@@ -3,11 +3,7 @@
 
 mod dispatch;
 mod setup;
-#[cfg(test)]
-mod socket_tests;
 mod streams;
-#[cfg(test)]
-mod tests;
 mod words;
 
 use dispatch::{command, refuse_words};

@@ -1,8 +1,9 @@
 ghost use Rattle.std.specs.Prelude.{◌≡◌, codes, false, map, IfOk};
 ghost use Rattle.clap.specs.Words.{FailsBy, app_of, found_of, new_app, rows_of, rule_of, subcommand_rows_of};
 ghost use Rattle.relayd.specs.Arguments.{WordsAreTaken, asked, asked_by, asked_in, asked_of, config_in};
-ghost use Rattle.relayd.specs.Arguments.{config_rule, configured, faults_in, is_logged_in, log_rule, pushing};
-ghost use Rattle.relayd.specs.Arguments.{relayd, rounds_in, rounds_of, rounds_rule, serving};
+ghost use Rattle.relayd.specs.Arguments.{config_rule, configured, faults_in, is_logged_in, log_rule};
+ghost use Rattle.relayd.specs.Arguments.{over_files, pushing, relayd, rounds_in, rounds_of, rounds_rule};
+ghost use Rattle.relayd.specs.Arguments.{serving, without_subcommands};
 
 use clap::builder::ValueParser;
 use clap::{Arg, ArgAction, ArgMatches, Command, Error};
@@ -133,28 +134,42 @@ fn is_logged(matches: &ArgMatches<'_>) -> bool
 fn program<'a>(alloc: Global) -> Result<Command<'a>, AllocError>
     ensures { IfOk result (λ command. app_of command ≡ relayd) }
 {
+    // Each subcommand is made when it is added, so that few are at hand where memory runs out.
+    let with_files = over_files(alloc)?;
+    let serve = serve(alloc)?;
+    let with_serve = with_files.subcommand(serve)?;
+    let push = push(alloc)?;
+    with_serve.subcommand(push)
+}
+
+/// The program with its subcommands that need no socket. It fails where memory runs out.
+fn over_files<'a>(alloc: Global) -> Result<Command<'a>, AllocError>
+    ensures { IfOk result (λ command. app_of command ≡ over_files) }
+{
     let session = session(alloc);
+    let with_session = without_subcommands(alloc).subcommand(session)?;
     let init = with_file(
         alloc,
         "init",
         "Makes the spool that the configuration names",
     )?;
+    let with_init = with_session.subcommand(init)?;
     let list = with_file(
         alloc,
         "list",
         "Lists each recipient that the spool holds: message, place, path, due moment",
     )?;
-    let serve = serve(alloc)?;
-    let push = push(alloc)?;
+    with_init.subcommand(list)
+}
+
+/// The program without its subcommands, of which one has to be entered.
+fn without_subcommands<'a>(alloc: Global) -> Command<'a>
+    ensures { app_of result ≡ without_subcommands }
+{
     Command::new(alloc, "relayd")
         .about("A store-and-forward SMTP relay")
         .disable_help_subcommand(true)
         .subcommand_required(true)
-        .subcommand(session)?
-        .subcommand(init)?
-        .subcommand(list)?
-        .subcommand(serve)?
-        .subcommand(push)
 }
 
 /// `session`

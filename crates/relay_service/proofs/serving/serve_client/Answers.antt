@@ -1,5 +1,5 @@
 -- A client is served from where it connected, or refused before anything was said.
-use Rattle.std.proofs.Common.{◌≡◌, Err, List, ℕ, ap, subst, sym, ◌∙◌, true, false, true≢false}
+use Rattle.std.proofs.Common.{Err, ap, subst, sym, ◌∙◌, true≢false}
 use Rattle.relay_routes.specs.declared.config.Config.{Config}
 use Rattle.relay_records.specs.Records.{Keeps, Kept}
 use Rattle.relay_node.specs.Node.{SaysAt, greeted_by}

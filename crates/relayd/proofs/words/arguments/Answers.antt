@@ -1,6 +1,6 @@
 -- The words of a parse that succeeds have no fault.
 use Rattle.std.proofs.Common.{◌≡◌, ◌∙◌, ap, refl, sym, map, true}
-use Rattle.clap.specs.Words.{app_of, fault_of, is_simple_and_free}
+use Rattle.clap.specs.Words.{fault_of, is_simple_and_free}
 use Rattle.clap.proofs.OnLiterals.{clap_on_literals}
 use Rattle.relayd.specs.Arguments.{relayd}
 use Rattle.relayd.proofs.words.arguments.Goals as goal

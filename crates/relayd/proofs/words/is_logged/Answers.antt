@@ -1,5 +1,5 @@
 -- Whether `--log` was given, by the rows of a parse.
-use Rattle.std.proofs.Common.{◌≡◌, ◌∙◌, ap, sym, codes, option_map, Option, Bor, Bool, false, List, ℕ}
+use Rattle.std.proofs.Common.{◌∙◌, ap, sym, codes, option_map, Option, Bor, Bool, false, List, ℕ}
 use Rattle.std.specs.Option.{option_map_or}
 use Rattle.std.specs.Str.{bytes_eq}
 use Rattle.clap.specs.Words.{found_of}

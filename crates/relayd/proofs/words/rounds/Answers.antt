@@ -1,5 +1,5 @@
 -- What `--rounds` asks for, by the rows of a parse.
-use Rattle.std.proofs.Common.{◌≡◌, ◌∙◌, ap, sym, codes, option_map, Option, Bor, List, ℕ}
+use Rattle.std.proofs.Common.{◌∙◌, ap, sym, codes, option_map, Option, Bor, List, ℕ}
 use Rattle.std.specs.Option.{option_map_or}
 use Rattle.clap.specs.Words.{found_of}
 use Rattle.clap.proofs.WalkLemmas.{first_value-rows}

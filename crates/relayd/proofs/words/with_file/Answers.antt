@@ -1,7 +1,7 @@
 -- A subcommand with a file.
 use Rattle.std.proofs.Common.{rules, ◌≡◌, ◌∙◌, ap₂}
 use Rattle.std.proofs.lemmas.Result.{IfOk-weaker}
-use Rattle.clap.specs.Words.{App, app_of, new_app, with_rule}
+use Rattle.clap.specs.Words.{app_of, new_app, with_rule}
 use Rattle.relayd.proofs.words.with_file.Goals as goal
 
 pub returns : goal.returns

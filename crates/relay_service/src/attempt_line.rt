@@ -1,0 +1,72 @@
+//! The line of the log for an attempt.
+use relay_book::{Change, Ruling, Verdict, decode_change};
+use relay_node::Noted;
+use std::alloc::Global;
+use std::io::{self, ErrorKind, Write};
+
+/// An attempt for a message that has ended, or what was done in place of one.
+#[derive(Debug, Drop)]
+pub(crate) struct Attempt<'a> {
+    /// The number of the message.
+    pub(crate) number: u64,
+    /// The next hop, where there is one.
+    pub(crate) hop: Option<&'a [u8]>,
+    /// How it has ended.
+    pub(crate) end: &'a str,
+    /// Its outcome as the node has noted it, where there is one.
+    pub(crate) noted: Option<Noted>,
+}
+
+/// Says of an attempt the message, the hop and how it has ended, and what was said of each place.
+pub(crate) fn attempt_text(alloc: Global, attempt: &Attempt<'_>) -> io::Result<Vec<u8>> {
+    let mut text = Vec::new(alloc);
+    write!(text, "relayd: message {} ", attempt.number)?;
+    if let Some(hop) = attempt.hop {
+        text.write_all(hop)?;
+        write!(text, " ")?;
+    }
+    write!(text, "{}", attempt.end)?;
+    if let Some(noted) = &attempt.noted {
+        write_outcome(alloc, &mut text, noted)?;
+    }
+    Ok(text)
+}
+
+/// Writes what an outcome says of each place, and the number of the report that it queues. The note has
+/// the places that left and not why, so its record is read.
+fn write_outcome(alloc: Global, text: &mut Vec<u8>, noted: &Noted) -> io::Result<()> {
+    match decode_change(alloc, noted.octets.as_slice()) {
+        Ok(Change::Outcome(outcome)) => write_rulings(text, outcome.rulings.as_slice(), noted),
+        _ => Err(io::Error::from(ErrorKind::OutOfMemory)),
+    }
+}
+
+fn write_rulings(text: &mut Vec<u8>, rulings: &[Ruling], noted: &Noted) -> io::Result<()> {
+    // Of the places that may be tried again all leave or none does: their message is too old, or isn't.
+    let none_waits = noted.left.len() == rulings.len();
+    for ruling in rulings {
+        write_ruling(text, ruling, none_waits)?;
+    }
+    if noted.report {
+        write!(text, ", report queued as {}", noted.number)?;
+    }
+    Ok(())
+}
+
+/// Writes what was said of a place.
+fn write_ruling(text: &mut Vec<u8>, ruling: &Ruling, none_waits: bool) -> io::Result<()> {
+    write!(text, ", {} ", ruling.place)?;
+    match &ruling.verdict {
+        Verdict::Taken { .. } => write!(text, "transferred"),
+        Verdict::Refused { code, .. } => write!(text, "refused {code}"),
+        Verdict::Later => {
+            if none_waits {
+                write!(text, "expired")
+            } else {
+                write!(text, "deferred")
+            }
+        }
+        Verdict::CantSend => write!(text, "unsendable"),
+        Verdict::NoRoute => write!(text, "unroutable"),
+    }
+}
