@@ -2,16 +2,17 @@
 """Measures relayd over 127.0.0.1: one line a figure, medians of interleaved runs, beside bare syncs on the same disk
 in the same run, and beside Postfix where tests/interop.sh has unpacked it.
 
-    bench/load.py build/relayd
+    bench/load.py build/relayd [FIGURE ..]
 
+The figures are kept, connections, large and push; all where none is given.
 DISK (build) is the folder whose device is measured, RUNS (5) how many runs a median is of, QUEUE (10000) how many
-messages a push sends, PACKAGES (build/interop) where Postfix is looked for. The client is Python, and its time counts;
-the next hop is bench/sink.c.
+messages a push sends, PACKAGES (build/interop) where Postfix is looked for. The client is bench/client.c and the next
+hop bench/sink.c; what they take counts. With SYNC_WAIT each sync takes so many microseconds more, the bare ones too:
+many a machine's disk answers a sync from a cache, which no disk does that keeps what it has synced.
 """
 import contextlib
 import os
 import pathlib
-import socket
 import statistics
 import subprocess
 import sys
@@ -23,60 +24,38 @@ sys.path.insert(0, str(HERE.parent / "tests"))
 sys.dont_write_bytecode = True
 
 from mail_servers import Postfix, can_make_rooms
-from relay_program import Difference, PATIENCE, Relay, same
+from relay_program import Difference, Relay, same
 
 RUNS = int(os.environ.get("RUNS", 5))
 QUEUE = int(os.environ.get("QUEUE", 10000))
 # What a message of 1,024 octets adds to the spool, and what an outcome of one place does.
 ACCEPT, OUTCOME = 1196, 43
-GROUP = b"MAIL FROM:<a@out.example>\r\nRCPT TO:<b@out.example>\r\nDATA\r\n"
 
 
-def content_of(size):
-    """A content of so many octets, in lines of 64 and one of 1 to 64 more."""
-    head, line = b"Subject: load\r\n\r\n", b"x" * 62 + b"\r\n"
-    count, rest = divmod(size - len(head) - 2, 64)
-    return head + line * count + b"x" * rest + b"\r\n"
+def built(name, folder):
+    """A program of this folder in C, which is built once."""
+    program = folder / name
+    if not program.exists():
+        subprocess.run(["cc", "-O2", "-pthread", "-o", program, HERE / f"{name}.c"], check=True)
+    return program
 
 
 class Client:
-    """A connection that writes in groups, as RFC 2920 lets it."""
+    """bench/client.c, which hands in so many messages of so many octets, at one connection or one each."""
 
-    def __init__(self, port):
-        self.link = socket.create_connection(("127.0.0.1", port), PATIENCE)
-        self.link.setsockopt(socket.IPPROTO_TCP, socket.TCP_NODELAY, 1)
-        self.held = b""
-        self.replies(1)
-        self.link.sendall(b"EHLO client.example\r\n")
-        self.replies(1)
+    def __init__(self, folder, port, count, size, way):
+        words = [built("client", folder), str(port), str(count), str(size), way]
+        self.process = subprocess.Popen(words, stdin=subprocess.PIPE, stdout=subprocess.PIPE, text=True)
 
-    def replies(self, count):
-        """So many replies, each of which has to be 2yz or 354."""
-        while count:
-            while b"\r\n" not in self.held:
-                octets = self.link.recv(65536)
-                if not octets:
-                    raise Difference("the relay hung up")
-                self.held += octets
-            line, self.held = self.held.split(b"\r\n", 1)
-            if line[:1] != b"2" and line[:3] != b"354":
-                raise Difference(f"the reply is {line!r}")
-            count -= line[3:4] == b" "
+    def seconds(self):
+        """How long the messages took, which have been answered 250 then. The connection stays open."""
+        line = self.process.stdout.readline()
+        if not line:
+            raise Difference("the client gave up")
+        return float(line)
 
-    def hand_in(self, text, count):
-        """So many messages: a text, and the group before the next one, are one write."""
-        self.link.sendall(GROUP)
-        self.replies(3)
-        for _ in range(count - 1):
-            self.link.sendall(text + b".\r\n" + GROUP)
-            self.replies(4)
-        self.link.sendall(text + b".\r\n")
-        self.replies(1)
-
-    def quit(self):
-        self.link.sendall(b"QUIT\r\n")
-        self.replies(1)
-        self.link.close()
+    def close(self):
+        self.process.communicate()
 
 
 def bare_pairs(folder, sizes):
@@ -100,10 +79,7 @@ class Sink:
     """bench/sink.c, built and started. It ends when so many contents have come."""
 
     def __init__(self, folder, count):
-        program = folder / "sink"
-        if not program.exists():
-            subprocess.run(["cc", "-O2", "-pthread", "-o", program, HERE / "sink.c"], check=True)
-        self.process = subprocess.Popen([program, str(count)], stdout=subprocess.PIPE)
+        self.process = subprocess.Popen([built("sink", folder), str(count)], stdout=subprocess.PIPE)
         self.port = int(self.process.stdout.readline())
 
     def wait(self):
@@ -149,27 +125,23 @@ class Bench:
         """Seconds of so many messages at one connection. The relay is killed then, before it sends them on."""
         relay = self.new_relay(9)
         process = relay.start()
-        client = Client(relay.port)
-        text, begun = content_of(size), time.perf_counter()
-        client.hand_in(text, count)
-        ended = time.perf_counter()
+        client = Client(self.folder, relay.port, count, size, "kept")
+        seconds = client.seconds()
         process.kill()
         process.communicate()
-        client.link.close()
+        client.close()
         same("messages in the spool", len(relay.held()), count)
-        return ended - begun, relay
+        return seconds, relay
 
     def one_a_connection(self, count, size):
         """Seconds of so many connections with a message each, and of handing each message on behind it."""
         sink = Sink(self.folder, count)
         relay = self.new_relay(sink.port)
-        text = content_of(size)
         with relay.serving("--rounds", str(count)) as lines:
             begun = time.perf_counter()
-            for _ in range(count):
-                client = Client(relay.port)
-                client.hand_in(text, 1)
-                client.quit()
+            client = Client(self.folder, relay.port, count, size, "each")
+            client.seconds()
+            client.close()
         ended = time.perf_counter()
         sink.wait()
         same("lines of serve", len(lines), count)
@@ -197,12 +169,10 @@ class Bench:
     def postfix_kept(self, packages, count, size, spool):
         """What `kept` measures, of Postfix, whose queue is on the measured disk."""
         with contextlib.closing(HoldingPostfix(packages, 9, 9, spool)) as server:
-            client = Client(server.port)
-            text, begun = content_of(size), time.perf_counter()
-            client.hand_in(text, count)
-            ended = time.perf_counter()
-            client.quit()
-        return ended - begun
+            client = Client(self.folder, server.port, count, size, "kept")
+            seconds = client.seconds()
+            client.close()
+        return seconds
 
     def postfix_pushed(self, packages, count, size):
         """Seconds from where Postfix listens to the end of its delivery of so many queued messages, at connections
@@ -263,18 +233,44 @@ def tell_push(bench, packages):
     tell(f"push: {QUEUE:,} queued messages of 1 KiB", QUEUE / ours, "messages/s", *ratios)
 
 
-def main():
-    program = os.path.realpath(sys.argv[1])
+FIGURES = {
+    "kept": tell_kept,
+    "connections": lambda bench, packages: tell_one_a_connection(bench),
+    "large": lambda bench, packages: tell_large(bench),
+    "push": tell_push,
+}
+
+
+def begin_again(folder):
+    """Starts this program anew, with bench/slow_syncs.c before the C library of all that it starts."""
+    shim = folder / "slow_syncs.so"
+    subprocess.run(["cc", "-O2", "-shared", "-fPIC", "-o", shim, HERE / "slow_syncs.c"], check=True)
+    os.environ["LD_PRELOAD"] = str(shim)
+    os.execv(sys.executable, [sys.executable, *sys.argv])
+
+
+def postfix_packages():
+    """Where Postfix stands, if its time can be told. It starts its own programs without our shim."""
     packages = pathlib.Path(os.environ.get("PACKAGES", "build/interop")).resolve()
+    if "SYNC_WAIT" in os.environ:
+        print("load: without Postfix, whose syncs can't be made to wait")
+        return None
     if not (packages / "postfix.ready").exists() or not can_make_rooms():
         print("load: without Postfix, which tests/interop.sh unpacks and the superuser starts")
-        packages = None
+        return None
+    return packages
+
+
+def main():
+    if "SYNC_WAIT" in os.environ and "LD_PRELOAD" not in os.environ:
+        begin_again(pathlib.Path("build").resolve())
+    program, names = os.path.realpath(sys.argv[1]), sys.argv[2:] or list(FIGURES)
+    tellers = [FIGURES[name] for name in names]
+    packages = postfix_packages()
     with tempfile.TemporaryDirectory(prefix="load.", dir=os.environ.get("DISK", "build")) as folder:
         bench = Bench(program, pathlib.Path(folder).resolve())
-        tell_kept(bench, packages)
-        tell_one_a_connection(bench)
-        tell_large(bench)
-        tell_push(bench, packages)
+        for tell_figure in tellers:
+            tell_figure(bench, packages)
 
 
 main()

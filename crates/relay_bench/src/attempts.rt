@@ -113,12 +113,17 @@ fn waiting(alloc: Global, envelope: &Envelope) -> Result<Attempt, Fail> {
 
 /// Lets so many attempts with 100 places wait, and says how much memory the program has now.
 pub fn hold_attempts(rt: &HostRuntime, count: u64) -> Result<String, Fail> {
-    let alloc = rt.alloc();
+    let mut held: Vec<Attempt> = Vec::new(rt.alloc());
+    hold(rt.alloc(), &mut held, count)?;
+    let resident = memory_line(rt, "VmRSS:")?;
+    Ok(format!(in rt.alloc(); "waiting: {count} attempts, {resident}")?)
+}
+
+/// Adds so many attempts that wait.
+fn hold(alloc: Global, held: &mut Vec<Attempt>, count: u64) -> Result<(), Fail> {
     let envelope = envelope_of(alloc, PLACES)?;
-    let mut held: Vec<Attempt> = Vec::new(alloc);
     for _ in 0..count {
         held.push(waiting(alloc, &envelope)?)?;
     }
-    let resident = memory_line(rt, "VmRSS:")?;
-    Ok(format!(in alloc; "waiting: {} attempts, {resident}", held.len())?)
+    Ok(())
 }

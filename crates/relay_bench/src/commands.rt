@@ -5,7 +5,7 @@ use std::io::Read;
 use std::test::Fail;
 
 /// What was counted of command lines.
-#[derive(Drop)]
+#[derive(Clone, Copy)]
 struct Tally {
     commands: u64,
     faults: u64,
@@ -19,21 +19,31 @@ pub fn count_commands<R: Read>(alloc: Global, reader: &mut R) -> Result<String, 
         faults: 0,
         long: 0,
     };
-    let mut line = LineBuffer::new();
     let mut blocks = Blocks::new(alloc)?;
-    for _ in 0..u64::MAX {
-        let block = blocks.next(reader)?;
-        if block.is_empty() {
-            break;
-        }
-        read_block(&mut line, block, &mut tally);
-    }
+    read_blocks(reader, &mut blocks, &mut tally)?;
     let Tally {
         commands,
         faults,
         long,
     } = tally;
     Ok(format!(in alloc; "commands: {commands}, {faults} faults, {long} too long")?)
+}
+
+/// Reads the input in blocks.
+fn read_blocks<R: Read>(
+    reader: &mut R,
+    blocks: &mut Blocks,
+    tally: &mut Tally,
+) -> Result<(), Fail> {
+    let mut line = LineBuffer::new();
+    for _ in 0..u64::MAX {
+        let block = blocks.next(reader)?;
+        if block.is_empty() {
+            break;
+        }
+        read_block(&mut line, block, tally);
+    }
+    Ok(())
 }
 
 /// Reads one block. A line that stands whole in it is read there, another in the buffer.

@@ -8,8 +8,10 @@ mod blocks;
 mod books;
 mod commands;
 mod header;
+mod mail;
 mod memory;
 mod nodes;
+mod passing;
 mod replies;
 mod reports;
 mod routes;
@@ -21,6 +23,7 @@ use books::{ask_what_is_due, decode_record, drain_book, fill_book, hold_book};
 use commands::count_commands;
 use header::look_through_header;
 use nodes::{accept_messages, open_node, open_node_and_measure};
+use passing::{ask_for_works, begin_attempts, deliver_messages};
 use replies::count_replies;
 use reports::make_reports;
 use routes::look_up;
@@ -49,84 +52,94 @@ const CHUNK: &[u8] = b"x";
 /// A record of a message with one octet of text for the run without a word.
 const RECORD: &[u8] = b"\x01\0\0\0\0\0\0\0\0\0\x05<a@b>\0\0\0\x01\0\x05<c@d>\0\0\0\0\0\0\x01x";
 
-/// The measurements that read nothing.
-const IN_MEMORY: [&str; 7] = [
-    "routes",
-    "fill",
-    "drain",
-    "due",
-    "hold",
-    "conversations",
-    "waiting",
-];
-
 /// Two dot texts for the run without a word.
 const TEXTS: &[u8] = b"..\r\na\r\n.\r\n.\r\n";
 
+/// The measurements that read the input, and what each reads in the run without a word.
+const READING: [(&str, &[u8]); 10] = [
+    ("commands", COMMANDS),
+    ("replies", REPLIES),
+    ("header", HEADER),
+    ("texts", TEXTS),
+    ("plain", TEXTS),
+    ("dots", CONTENT),
+    ("decode", RECORD),
+    ("reports", CONTENT),
+    ("attempts", CONTENT),
+    ("attempts", CHUNK),
+];
+
+/// The measurements that read nothing, and on how much each runs without a word. Those on nothing say how much memory the
+/// program has, and aren't run then.
+const IN_MEMORY: [(&str, u64); 9] = [
+    ("routes", 2),
+    ("fill", 3),
+    ("drain", 3),
+    ("due", 12),
+    ("conversations", 2),
+    ("works", 12),
+    ("begins", 12),
+    ("hold", 0),
+    ("waiting", 0),
+];
+
+/// The measurements of a file that are run without a word, in the order in which each finds what it needs.
+const ON_SPOOL: [&str; 2] = ["append", "open"];
+
+const ON_NODE: [&str; 3] = ["accepts", "node", "deliver"];
+
 fn main(rt: HostRuntime) -> Result<(), Fail> {
-    let alloc = rt.alloc();
-    let words: Vec<String> = env::args(&rt)?.collect(alloc)?;
-    if let Some(word) = words.get(1) {
-        let line = match words.get(2) {
-            Some(count) if IN_MEMORY.contains(&word.as_str()) => {
-                measure_in_memory(
-                    &rt,
-                    word.as_str(),
-                    count_of(Some(count)),
-                    count_of(words.get(3)),
-                )?
-            }
-            Some(path) => measure_file(
-                &rt,
-                word.as_str(),
-                path.as_str(),
-                count_of(words.get(3)),
-                count_of(words.get(4)),
-            )?,
-            None => measure(alloc, word.as_str(), &mut rt.stdin())?,
-        };
-        println!(rt; "{}", line.as_str())?;
-        return Ok(());
+    let words: Vec<String> = env::args(&rt)?.collect(rt.alloc())?;
+    match words.get(1) {
+        Some(word) => say(
+            &rt,
+            measure_by_words(&rt, word.as_str(), &words.as_slice()[2..]),
+        ),
+        None => say_all(&rt),
     }
-    let samples: [(&str, &[u8]); 10] = [
-        ("commands", COMMANDS),
-        ("replies", REPLIES),
-        ("header", HEADER),
-        ("texts", TEXTS),
-        ("plain", TEXTS),
-        ("dots", CONTENT),
-        ("decode", RECORD),
-        ("reports", CONTENT),
-        ("attempts", CONTENT),
-        ("attempts", CHUNK),
-    ];
-    for (name, mut octets) in samples {
-        let line = measure(alloc, name, &mut octets)?;
-        println!(rt; "{}", line.as_str())?;
-    }
-    for (name, count) in [
-        ("routes", 2),
-        ("fill", 3),
-        ("drain", 3),
-        ("due", 12),
-        ("conversations", 2),
-    ] {
-        let line = measure_in_memory(&rt, name, count, 3)?;
-        println!(rt; "{}", line.as_str())?;
-    }
-    for (path, names) in [
-        ("relay_bench_spool", ["append", "open"]),
-        ("relay_bench_node", ["accepts", "node"]),
-    ] {
-        // A run that was cut off may have left it.
-        let _ = fs::remove_file(&rt, path);
-        for name in names {
-            let line = measure_file(&rt, name, path, 3, 128)?;
-            println!(rt; "{}", line.as_str())?;
-        }
-        fs::remove_file(&rt, path)?;
-    }
+}
+
+/// Writes the line of a measurement.
+fn say(rt: &HostRuntime, line: Result<String, Fail>) -> Result<(), Fail> {
+    println!(rt; "{}", line?.as_str())?;
     Ok(())
+}
+
+/// Runs each measurement on a few octets.
+fn say_all(rt: &HostRuntime) -> Result<(), Fail> {
+    for (name, mut octets) in READING {
+        say(rt, measure(rt.alloc(), name, &mut octets))?;
+    }
+    for (name, count) in IN_MEMORY {
+        if count > 0 {
+            say(rt, measure_in_memory(rt, name, count, 3))?;
+        }
+    }
+    say_file(rt, "relay_bench_spool", &ON_SPOOL)?;
+    say_file(rt, "relay_bench_node", &ON_NODE)
+}
+
+/// Runs these measurements on a file, which is gone then.
+fn say_file(rt: &HostRuntime, path: &str, names: &[&str]) -> Result<(), Fail> {
+    // A run that was cut off may have left it.
+    let _ = fs::remove_file(rt, path);
+    for name in names {
+        say(rt, measure_file(rt, *name, path, 3, 128))?;
+    }
+    fs::remove_file(rt, path)?;
+    Ok(())
+}
+
+/// Runs the measurement of this name on what the other words say.
+fn measure_by_words(rt: &HostRuntime, name: &str, words: &[String]) -> Result<String, Fail> {
+    let Some(first) = words.first() else {
+        return measure(rt.alloc(), name, &mut rt.stdin());
+    };
+    let second = count_of(words.get(1));
+    if IN_MEMORY.iter().any(|(word, _)| *word == name) {
+        return measure_in_memory(rt, name, count_of(Some(first)), second);
+    }
+    measure_file(rt, name, first.as_str(), second, count_of(words.get(2)))
 }
 
 /// How many turns a word asks for: one, where it is none.
@@ -142,16 +155,27 @@ fn count_of(word: Option<&String>) -> u64 {
 fn measure_in_memory(rt: &HostRuntime, name: &str, count: u64, times: u64) -> Result<String, Fail> {
     if name == "routes" {
         look_up(rt.alloc(), count, times)
-    } else if name == "fill" {
+    } else if name == "works" {
+        ask_for_works(rt.alloc(), count, times)
+    } else if name == "begins" {
+        begin_attempts(rt.alloc(), count, times)
+    } else if name == "conversations" {
+        hold_conversations(rt.alloc(), count)
+    } else if name == "waiting" {
+        hold_attempts(rt, count)
+    } else {
+        measure_book(rt, name, count, times)
+    }
+}
+
+/// The same of those that fill a book.
+fn measure_book(rt: &HostRuntime, name: &str, count: u64, times: u64) -> Result<String, Fail> {
+    if name == "fill" {
         fill_book(rt.alloc(), count)
     } else if name == "drain" {
         drain_book(rt.alloc(), count)
     } else if name == "due" {
         ask_what_is_due(rt.alloc(), count, times)
-    } else if name == "conversations" {
-        hold_conversations(rt.alloc(), count)
-    } else if name == "waiting" {
-        hold_attempts(rt, count)
     } else {
         hold_book(rt, count)
     }
@@ -177,8 +201,12 @@ fn measure_file(
         open_node(rt, path)
     } else if name == "peak" {
         open_node_and_measure(rt, path)
+    } else if name == "deliver" {
+        deliver_messages(rt, path)
     } else {
-        Err(Fail::new("the measurements of a file are: open, append, syncs, accepts, node, peak"))
+        Err(Fail::new(
+            "the measurements of a file are: open, append, syncs, accepts, node, peak, deliver",
+        ))
     }
 }
 
@@ -194,7 +222,14 @@ fn measure<R: Read>(alloc: Global, name: &str, reader: &mut R) -> Result<String,
         count_texts(alloc, reader)
     } else if name == "plain" {
         count_plain(alloc, reader)
-    } else if name == "dots" {
+    } else {
+        measure_mail(alloc, name, reader)
+    }
+}
+
+/// The same of those that read mail which is already taken.
+fn measure_mail<R: Read>(alloc: Global, name: &str, reader: &mut R) -> Result<String, Fail> {
+    if name == "dots" {
         write_texts(alloc, reader)
     } else if name == "decode" {
         decode_record(alloc, reader)

@@ -1,13 +1,17 @@
+use crate::mail::moment_of;
 use crate::memory::memory_line;
 use relay_disk::{Disk, FileDisk};
 use relay_node::Node;
 use relay_routes::Config;
 use relay_trace::Moment;
-use std::alloc::Global;
+use std::alloc::{AllocError, Global};
 use std::test::Fail;
 
 /// The octets of a line of a content, with its CR LF.
 const LINE: usize = 64;
+
+/// A header section and the empty line behind it, with as many octets as a line.
+const HEAD: &[u8; LINE] = b"Subject: what a session hands in, of 64 octets a line, all x\r\n\r\n";
 
 /// The most octets that a session is given at once, as a connection's are.
 const BLOCK: usize = 65_536;
@@ -22,7 +26,7 @@ spool_limit = 549755813888
 ";
 
 /// Makes a node in this file, which is to be empty, and hands it so many messages for one recipient, with so many octets
-/// of content, on one session.
+/// of content, on one session. They are due from the moment 0.
 pub fn accept_messages(
     rt: &HostRuntime,
     path: &str,
@@ -30,44 +34,48 @@ pub fn accept_messages(
     octets: u64,
 ) -> Result<String, Fail> {
     let alloc = rt.alloc();
-    let Ok(mut node) = Node::create(alloc, config(alloc)?, FileDisk::open(rt, path)?) else {
-        return Err(Fail::new("the node was refused"));
-    };
-    let Ok(connected) = node.connect([127, 0, 0, 1]) else {
-        return Err(Fail::new("the connection was refused"));
-    };
-    let transaction = transaction_of(alloc, octets)?;
-    let mut queued = give(&mut node, connected.session, b"HELO x\r\n")?;
-    for _ in 0..count {
-        queued = queued.saturating_add(give(&mut node, connected.session, transaction.as_slice())?);
-    }
-    let Ok(size) = node.into_disk().size() else {
-        return Err(Fail::new("the file has no size"));
-    };
+    let mut node = created(alloc, FileDisk::open(rt, path)?)?;
+    let session = greeted(&mut node)?;
+    let queued = accept(alloc, &mut node, session, moment_of(0)?, count, octets)?;
+    let size = size_of(node)?;
     Ok(format!(in alloc; "accepts: {queued} messages, {size} octets")?)
 }
 
-/// Opens the node in this file, and counts its held places.
+/// Opens the node in this file, and tells the number of its next change.
 pub fn open_node(rt: &HostRuntime, path: &str) -> Result<String, Fail> {
-    let held = held_in(rt, path)?;
-    Ok(format!(in rt.alloc(); "node: {held} held places")?)
+    let next = opened(rt, path)?.next_number();
+    Ok(format!(in rt.alloc(); "node: next number {next}")?)
 }
 
 /// The same, and how much memory it took at most.
 pub fn open_node_and_measure(rt: &HostRuntime, path: &str) -> Result<String, Fail> {
-    let held = held_in(rt, path)?;
+    let next = opened(rt, path)?.next_number();
     let peak = memory_line(rt, "VmHWM:")?;
-    Ok(format!(in rt.alloc(); "peak: {held} held places, {peak}")?)
+    Ok(format!(in rt.alloc(); "peak: next number {next}, {peak}")?)
 }
 
-fn held_in(rt: &HostRuntime, path: &str) -> Result<usize, Fail> {
+/// A node without mail, on a disk that is to be empty.
+pub fn created<D: Disk + Drop>(alloc: Global, disk: D) -> Result<Node<D>, Fail> {
+    match Node::create(alloc, config(alloc)?, disk) {
+        Ok(node) => Ok(node),
+        Err(_) => Err(Fail::new("the node was refused")),
+    }
+}
+
+/// The node in this file.
+pub fn opened(rt: &HostRuntime, path: &str) -> Result<Node<FileDisk>, Fail> {
     let alloc = rt.alloc();
-    let Ok(node) = Node::open(alloc, config(alloc)?, FileDisk::open(rt, path)?) else {
-        return Err(Fail::new("the node was refused"));
-    };
-    match node.marks(alloc) {
-        Ok(marks) => Ok(marks.len()),
-        Err(_) => Err(Fail::new("the node is stopped")),
+    match Node::open(alloc, config(alloc)?, FileDisk::open(rt, path)?) {
+        Ok(node) => Ok(node),
+        Err(_) => Err(Fail::new("the node was refused")),
+    }
+}
+
+/// How many octets the file of a node has.
+pub fn size_of(node: Node<FileDisk>) -> Result<usize, Fail> {
+    match node.into_disk().size() {
+        Ok(size) => Ok(size),
+        Err(_) => Err(Fail::new("the file has no size")),
     }
 }
 
@@ -78,25 +86,63 @@ fn config(alloc: Global) -> Result<Config, Fail> {
     }
 }
 
-/// The commands and the content of a message: so many octets, in lines.
-fn transaction_of(alloc: Global, octets: u64) -> Result<Vec<u8>, Fail> {
-    let mut text = Vec::from_slice(
-        alloc,
-        b"MAIL FROM:<sender@example.org>\r\nRCPT TO:<somebody@example.org>\r\nDATA\r\n",
-    )?;
-    for _ in 0..octets / LINE as u64 {
-        text.extend_from_slice(&[b'x'; LINE - 2])?;
-        text.extend_from_slice(b"\r\n")?;
+/// The number of a session of which the client has said its name.
+pub fn greeted<D: Disk>(node: &mut Node<D>) -> Result<usize, Fail> {
+    let session = connected(node)?;
+    give(node, session, moment_of(0)?, b"HELO x\r\n")?;
+    Ok(session)
+}
+
+fn connected<D: Disk>(node: &mut Node<D>) -> Result<usize, Fail> {
+    match node.connect([127, 0, 0, 1]) {
+        Ok(connected) => Ok(connected.session),
+        Err(_) => Err(Fail::new("the connection was refused")),
     }
-    text.extend_from_slice(b".\r\n")?;
+}
+
+/// Hands in so many messages at a moment, and counts those that were queued.
+pub fn accept<D: Disk>(
+    alloc: Global,
+    node: &mut Node<D>,
+    session: usize,
+    now: Moment,
+    count: u64,
+    octets: u64,
+) -> Result<u64, Fail> {
+    let transaction = transaction_of(alloc, octets)?;
+    let mut queued: u64 = 0;
+    for _ in 0..count {
+        queued = queued.saturating_add(give(node, session, now, transaction.as_slice())?);
+    }
+    Ok(queued)
+}
+
+/// The commands and the content of a message: so many octets, in lines, of which the first is the header section.
+fn transaction_of(alloc: Global, octets: u64) -> Result<Vec<u8>, Fail> {
+    let mut text = Vec::new(alloc);
+    push_transaction(&mut text, octets)?;
     Ok(text)
 }
 
+fn push_transaction(text: &mut Vec<u8>, octets: u64) -> Result<(), AllocError> {
+    text.extend_from_slice(
+        b"MAIL FROM:<sender@example.org>\r\nRCPT TO:<somebody@example.org>\r\nDATA\r\n",
+    )?;
+    text.extend_from_slice(HEAD)?;
+    for _ in 1..octets / LINE as u64 {
+        text.extend_from_slice(&[b'x'; LINE - 2])?;
+        text.extend_from_slice(b"\r\n")?;
+    }
+    text.extend_from_slice(b".\r\n")
+}
+
 /// Gives a session these octets in blocks, and counts the messages that were queued.
-fn give(node: &mut Node<FileDisk>, session: usize, octets: &[u8]) -> Result<u64, Fail> {
-    let Ok(now) = Moment::new(0) else {
-        return Err(Fail::new("the moment was refused"));
-    };
+fn give<D: Disk>(
+    node: &mut Node<D>,
+    session: usize,
+    now: Moment,
+    octets: &[u8],
+) -> Result<u64, Fail> {
     let mut queued: u64 = 0;
     let mut rest = octets;
     for _ in 0..octets.len() {
@@ -104,16 +150,25 @@ fn give(node: &mut Node<FileDisk>, session: usize, octets: &[u8]) -> Result<u64,
             break;
         }
         let block = &rest[..rest.len().min(BLOCK)];
-        let Ok(received) = node.receive(session, block, now) else {
-            return Err(Fail::new("a message was refused"));
-        };
-        if received.close {
-            return Err(Fail::new("the session ended"));
-        }
-        if received.change.is_some() {
+        let (used, is_queued) = give_block(node, session, now, block)?;
+        if is_queued {
             queued = queued.saturating_add(1);
         }
-        rest = &rest[received.used..];
+        rest = rest.get(used..).unwrap_or(&[]);
     }
     Ok(queued)
+}
+
+/// Gives a session a block: how many octets it used, and whether a message was queued.
+fn give_block<D: Disk>(
+    node: &mut Node<D>,
+    session: usize,
+    now: Moment,
+    block: &[u8],
+) -> Result<(usize, bool), Fail> {
+    match node.receive(session, block, now) {
+        Ok(received) if !received.close => Ok((received.used, received.change.is_some())),
+        Ok(_) => Err(Fail::new("the session ended")),
+        Err(_) => Err(Fail::new("a message was refused")),
+    }
 }

@@ -5,7 +5,7 @@ use std::io::Read;
 use std::test::Fail;
 
 /// What was counted of replies.
-#[derive(Drop)]
+#[derive(Clone, Copy)]
 struct Tally {
     replies: u64,
     lines: u64,
@@ -17,17 +17,28 @@ pub fn count_replies<R: Read>(alloc: Global, reader: &mut R) -> Result<String, F
         replies: 0,
         lines: 0,
     };
-    let mut replies = ReplyReader::new(alloc);
     let mut blocks = Blocks::new(alloc)?;
+    read_blocks(alloc, reader, &mut blocks, &mut tally)?;
+    let Tally { replies, lines } = tally;
+    Ok(format!(in alloc; "replies: {replies} of {lines} lines")?)
+}
+
+/// Reads the input in blocks.
+fn read_blocks<R: Read>(
+    alloc: Global,
+    reader: &mut R,
+    blocks: &mut Blocks,
+    tally: &mut Tally,
+) -> Result<(), Fail> {
+    let mut replies = ReplyReader::new(alloc);
     for _ in 0..u64::MAX {
         let block = blocks.next(reader)?;
         if block.is_empty() {
             break;
         }
-        read_block(&mut replies, block, &mut tally)?;
+        read_block(&mut replies, block, tally)?;
     }
-    let Tally { replies, lines } = tally;
-    Ok(format!(in alloc; "replies: {replies} of {lines} lines")?)
+    Ok(())
 }
 
 /// Reads one block.

@@ -1,9 +1,9 @@
 use crate::blocks::read_all;
-use relay_book::{Accept, Book, Change, Ruling, Rulings, Verdict};
-use relay_envelope::{Envelope, Path, PathBuf, Recipient, Recipients, Ret};
+use crate::mail::{accept_of, moment_of};
+use relay_book::{Book, Change, Message, Ruling, Rulings, Verdict};
+use relay_envelope::Ret;
 use relay_octets::Octets;
 use relay_report::{Report, report_if_due};
-use relay_trace::Moment;
 use std::alloc::Global;
 use std::io::Read;
 use std::test::Fail;
@@ -14,83 +14,68 @@ const TIMES: u64 = 20;
 /// When the message came, and when it was refused.
 const AT: u64 = 1_000;
 
+/// Where the message comes from, and where it goes.
+const PATHS: [&[u8]; 2] = [b"<a@example.org>", b"<b@example.org>"];
+
 /// Reads the whole input as a stored text, and makes the report of its refusal many times: report 2, which returns all
 /// of it.
 pub fn make_reports<R: Read>(alloc: Global, reader: &mut R) -> Result<String, Fail> {
-    let text = read_all(alloc, reader)?;
     let mut book = Book::new(alloc);
-    let Ok(()) = book.apply(alloc, Change::Accept(accept_of(alloc, text)?)) else {
-        return Err(Fail::new("a change was refused"));
-    };
-    let rulings = refusal(alloc)?;
-    let octets = count_octets(alloc, &book, &rulings)?;
+    accept(alloc, &mut book, reader)?;
+    let octets = count_octets(alloc, &book)?;
     Ok(format!(in alloc; "reports: {octets} octets, in {TIMES} times")?)
 }
 
+/// Accepts the whole input as a message, which is to be returned whole.
+fn accept<R: Read>(alloc: Global, book: &mut Book, reader: &mut R) -> Result<(), Fail> {
+    let at = moment_of(AT)?;
+    let text = Octets::new(read_all(alloc, reader)?);
+    let accept = accept_of(alloc, at, PATHS, Some(Ret::Full), text)?;
+    match book.apply(alloc, Change::Accept(accept)) {
+        Ok(()) => Ok(()),
+        Err(_) => Err(Fail::new("a change was refused")),
+    }
+}
+
 /// Makes the report of message 1 many times, and counts its octets.
-fn count_octets(alloc: Global, book: &Book, rulings: &Rulings) -> Result<u64, Fail> {
+fn count_octets(alloc: Global, book: &Book) -> Result<u64, Fail> {
     let Some(message) = book.message(1) else {
         return Err(Fail::new("there is no message"));
     };
-    let report = Report {
-        host: b"relay.example",
-        number: book.next_number(),
-        message,
-        hop: b"next.example",
-        rulings: rulings.as_slice(),
-        at: moment_of(AT)?,
-    };
+    let number = book.next_number();
+    let rulings = refusal(alloc)?;
     let mut octets: u64 = 0;
     for _ in 0..TIMES {
-        let text = report_if_due(alloc, &report)?;
-        octets = octets.saturating_add(text.len() as u64);
+        octets = octets.saturating_add(report_on(alloc, number, message, rulings.as_slice())?);
     }
     Ok(octets)
 }
 
-fn moment_of(seconds: u64) -> Result<Moment, Fail> {
-    match Moment::new(seconds) {
-        Ok(moment) => Ok(moment),
-        Err(_) => Err(Fail::new("a moment was refused")),
-    }
-}
-
-fn path_of(alloc: Global, text: &[u8]) -> Result<PathBuf, Fail> {
-    match Path::read(text) {
-        Some(path) => Ok(PathBuf::new(alloc, path)?),
-        None => Err(Fail::new("a path was refused")),
-    }
-}
-
-/// A message with one recipient, which is returned whole.
-fn accept_of(alloc: Global, text: Vec<u8>) -> Result<Accept, Fail> {
-    let mut recipients = Recipients::with_capacity(alloc, 1)?;
-    recipients.push(Recipient {
-        path: path_of(alloc, b"<b@example.org>")?,
-        notify: None,
-        orcpt: None,
-    })?;
-    Ok(Accept {
+/// Makes the report of this number on a message, and counts its octets.
+fn report_on(
+    alloc: Global,
+    number: u64,
+    message: &Message,
+    rulings: &[Ruling],
+) -> Result<u64, Fail> {
+    let report = Report {
+        host: b"relay.example",
+        number,
+        message,
+        hop: b"next.example",
+        rulings,
         at: moment_of(AT)?,
-        envelope: Envelope {
-            reverse_path: path_of(alloc, b"<a@example.org>")?,
-            ret: Some(Ret::Full),
-            envid: None,
-            recipients,
-        },
-        stored_text: Octets::new(text),
-    })
+    };
+    Ok(report_if_due(alloc, &report)?.len() as u64)
 }
 
 /// The verdict of a hop that refused the place.
 fn refusal(alloc: Global) -> Result<Rulings, Fail> {
+    let text = Octets::from_slice(alloc, b"no such user")?;
     let mut rulings = Rulings::new(alloc);
     rulings.push(Ruling {
         place: 0,
-        verdict: Verdict::Refused {
-            code: 550,
-            text: Octets::from_slice(alloc, b"no such user")?,
-        },
+        verdict: Verdict::Refused { code: 550, text },
     })?;
     Ok(rulings)
 }

@@ -1,6 +1,8 @@
 use relay_disk::FileDisk;
 use relay_spool::{Opened, Spool};
-use std::fs::OpenOptions;
+use std::alloc::Global;
+use std::fs::{File, OpenOptions};
+use std::io;
 use std::os::unix::fs::FileExt;
 use std::test::Fail;
 
@@ -36,21 +38,28 @@ pub fn append_bodies(rt: &HostRuntime, path: &str, count: u64) -> Result<String,
 /// Does on a bare file what the device does for so many appends that add so many octets each, and no more: the octets, a
 /// sync, an octet before them, a sync.
 pub fn sync_twice(rt: &HostRuntime, path: &str, count: u64, link: u64) -> Result<String, Fail> {
+    let file = OpenOptions::new().write(true).create(true).open(rt, path)?;
+    sync_each(rt.alloc(), &file, count, link)?;
+    let size = file.metadata()?.len();
+    Ok(format!(in rt.alloc(); "syncs: {count} times two, {size} octets")?)
+}
+
+/// Writes so many links of so many octets one behind another.
+fn sync_each(alloc: Global, file: &File, count: u64, link: u64) -> Result<(), Fail> {
     let Ok(width) = usize::try_from(link) else {
         return Err(Fail::new("too many octets"));
     };
-    let octets: Vec<u8> = vec![in rt.alloc(); 7; width]?;
-    let file = OpenOptions::new().write(true).create(true).open(rt, path)?;
+    let octets: Vec<u8> = vec![in alloc; 7; width]?;
     for turn in 0..count {
-        let Some(place) = turn.checked_mul(link) else {
-            return Err(Fail::new("too many octets"));
-        };
-        let place = place.saturating_add(1);
-        file.write_all_at(octets.as_slice(), place)?;
-        file.sync_data()?;
-        file.write_all_at(b"1", place.saturating_sub(1))?;
-        file.sync_data()?;
+        sync_link(file, turn.saturating_mul(link), octets.as_slice())?;
     }
-    let size = file.metadata()?.len();
-    Ok(format!(in rt.alloc(); "syncs: {count} times two, {size} octets")?)
+    Ok(())
+}
+
+/// Writes these octets behind a place, and then an octet there, with a sync behind each write.
+fn sync_link(file: &File, place: u64, octets: &[u8]) -> io::Result<()> {
+    file.write_all_at(octets, place.saturating_add(1))?;
+    file.sync_data()?;
+    file.write_all_at(b"1", place)?;
+    file.sync_data()
 }

@@ -11,7 +11,7 @@ const LIMIT: usize = 1_048_576;
 const TIMES: u64 = 20;
 
 /// What was counted of dot texts.
-#[derive(Drop)]
+#[derive(Clone, Copy)]
 struct Tally {
     whole: u64,
     octets: u64,
@@ -25,15 +25,8 @@ pub fn count_texts<R: Read>(alloc: Global, reader: &mut R) -> Result<String, Fai
         octets: 0,
         too_large: 0,
     };
-    let mut text = DotReader::new(alloc, LIMIT);
     let mut blocks = Blocks::new(alloc)?;
-    for _ in 0..u64::MAX {
-        let block = blocks.next(reader)?;
-        if block.is_empty() {
-            break;
-        }
-        text = read_block(alloc, text, block, &mut tally)?;
-    }
+    read_blocks(alloc, reader, &mut blocks, &mut tally)?;
     let Tally {
         whole,
         octets,
@@ -42,9 +35,38 @@ pub fn count_texts<R: Read>(alloc: Global, reader: &mut R) -> Result<String, Fai
     Ok(format!(in alloc; "texts: {whole} of {octets} octets, {too_large} too large")?)
 }
 
+/// Reads the input in blocks.
+fn read_blocks<R: Read>(
+    alloc: Global,
+    reader: &mut R,
+    blocks: &mut Blocks,
+    tally: &mut Tally,
+) -> Result<(), Fail> {
+    let mut text = DotReader::new(alloc, LIMIT);
+    for _ in 0..u64::MAX {
+        let block = blocks.next(reader)?;
+        if block.is_empty() {
+            break;
+        }
+        text = read_block(alloc, text, block, tally)?;
+    }
+    Ok(())
+}
+
 /// Reads the input as one dot text by the reader that goes octet by octet, and counts the octets that it used.
 pub fn count_plain<R: Read>(alloc: Global, reader: &mut R) -> Result<String, Fail> {
     let mut text = plain::DotReader::new(alloc, LIMIT);
+    let octets = read_plain(alloc, reader, &mut text)?;
+    let ending = if text.is_done() { "ended" } else { "open" };
+    Ok(format!(in alloc; "plain: a text of {octets} octets, {ending}")?)
+}
+
+/// Reads the input in blocks, and gives how many octets were used.
+fn read_plain<R: Read>(
+    alloc: Global,
+    reader: &mut R,
+    text: &mut plain::DotReader,
+) -> Result<u64, Fail> {
     let mut octets: u64 = 0;
     let mut blocks = Blocks::new(alloc)?;
     for _ in 0..u64::MAX {
@@ -54,8 +76,7 @@ pub fn count_plain<R: Read>(alloc: Global, reader: &mut R) -> Result<String, Fai
         }
         octets = octets.saturating_add(text.feed(block)?.used as u64);
     }
-    let ending = if text.is_done() { "ended" } else { "open" };
-    Ok(format!(in alloc; "plain: a text of {octets} octets, {ending}")?)
+    Ok(octets)
 }
 
 /// Reads the whole input as one content, and writes its dot text many times into one row of octets.
