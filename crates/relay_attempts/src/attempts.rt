@@ -9,7 +9,7 @@ ghost use Rattle.relay_attempts.specs.Work.{works_of};
 
 use crate::gathering::gathered;
 use crate::runs::Run;
-use crate::stranded::stranded_among;
+use crate::stranded::Stranded;
 use crate::work::{Finder, Work};
 use relay_disk::Disk;
 use relay_records::Records;
@@ -72,10 +72,7 @@ impl Attempts {
         ensures serves { IfOk result (λ attempts. (host : List ℕ)
             → Serves host table.now attempts records.now.queue) }
     {
-        records.numbers_rise();
-        let marks = records.held(alloc)?;
-        let numbers = gathered(alloc, marks.as_slice(), &[])?;
-        let stranded = stranded_among(alloc, table, records, &numbers)?;
+        let stranded = records.numbers_where(alloc, &Stranded { table })?;
         Ok(Attempts {
             runs: Slots::new(alloc)?,
             stranded,

@@ -1,9 +1,7 @@
 //! The messages with a held place that has no hop.
-ghost use Rattle.std.specs.Prelude.{◌≡◌, ℕ, List, IfOk, ◌<◌, ◌≤◌, ◌++◌, ◌∷◌, [], if◌then◌else◌, OnOk, vec_capacity, vec_len};
-ghost use Rattle.std.specs.List.{flat_map};
+ghost use Rattle.std.specs.Prelude.{◌≡◌, ℕ, List, ◌<◌, ◌≤◌, ◌++◌, ◌∷◌, [], if◌then◌else◌, OnOk, vec_capacity, vec_len};
 ghost use Rattle.relay_attempts.specs.Attempts.{Serves};
-ghost use Rattle.relay_attempts.specs.Gathering.{at_number};
-ghost use Rattle.relay_attempts.specs.Hops.{if_stranded, is_stranded_at, without};
+ghost use Rattle.relay_attempts.specs.Hops.{is_stranded_at, without};
 ghost use Rattle.relay_book.specs.Book.{Rise};
 ghost use Rattle.relay_book.specs.Queue.{Queue, step};
 ghost use Rattle.relay_book.specs.declared.change.Accept.{Accept};
@@ -11,11 +9,11 @@ ghost use Rattle.relay_book.specs.declared.change.Change.TheVariants as Change;
 
 use crate::attempts::Attempts;
 use crate::hops::has_stranded;
+use relay_book::{Message, Question};
 use relay_disk::Disk;
 use relay_records::Records;
 use relay_routes::Table;
-use std::alloc::{AllocError, Global};
-use std::collections::BTreeSet;
+use std::alloc::AllocError;
 
 impl Attempts {
     /// Makes room to note one message more. Nothing else changes.
@@ -63,25 +61,20 @@ impl Attempts {
     }
 }
 
-/// The numbers of the messages with a held place that has no hop, among these. It fails where memory runs out.
-pub(crate) fn stranded_among<D: Disk>(
-    alloc: Global,
-    table: &Table,
-    records: &Records<D>,
-    numbers: &BTreeSet<u64, Global>,
-) -> Result<Vec<u64>, AllocError>
-    ensures { IfOk result (λ stranded. stranded.items
-        ≡ flat_map (at_number (if_stranded table.now) records.now.queue.messages) numbers.now.keys) }
-{
-    let mut stranded = Vec::new(alloc);
-    for number in numbers.iter() {
-        if let Some(message) = records.message(*number) {
-            if has_stranded(table, message) {
-                stranded.push(*number)?;
-            }
-        }
+/// Asks whether a held place of a message has no hop under this table.
+#[derive(Drop)]
+pub(crate) struct Stranded<'a> {
+    pub(crate) table: &'a Table,
+}
+
+impl Question for Stranded<'_> {
+    ghost use Rattle.relay_attempts.specs.Hops.{is_any, stranded_places};
+
+    ghost holds = { λ stranded message. is_any (stranded_places stranded.table.now message) };
+
+    fn holds(&self, message: &Message) -> bool {
+        has_stranded(self.table, message)
     }
-    Ok(stranded)
 }
 
 /// Whether a held place of the message of this number has no hop.

@@ -1,16 +1,17 @@
 -- The fields of an accept are one.
-use Rattle.std.proofs.Common.{◌≡◌, ◌≢◌, ℕ, ◌<◌, ◌≤◌, ◌^◌, List, [], ◌∷◌, ◌++◌, length, refl, sym, ap, ◌∙◌, arith, append-nil, length-append}
+use Rattle.std.proofs.Common.{◌≡◌, ◌≢◌, ℕ, ◌<◌, ◌≤◌, ◌^◌, ◌+◌, ◌-◌, List, [], ◌∷◌, ◌++◌, drop, length, refl, sym, subst, ap, ◌∙◌, arith, add-one, append-nil, length-append}
 use Rattle.relay_trace.specs.declared.moment.TheConstants.{LAST_SECOND}
 use Rattle.relay_envelope.specs.declared.envelope.Envelope.{Envelope}
 use Rattle.relay_envelope.specs.declared.envelope.Recipient.{Recipient}
 use Rattle.relay_envelope.specs.Envelope.{IsRecipient}
 use Rattle.relay_book.specs.declared.change.Accept.{Accept as AcceptFields}
 use Rattle.relay_book.specs.Record.{IsAccept, accept_octets, counted, octets_4, octets_8, recipient_octets, ret_number, sized_2, sized_4, text_limit, written}
-use Rattle.relay_book.specs.Fields.{AreSome, HasMailFields, HasNoCounted, HasNoFields, IsMail, IsNoMail, IsNoSized, SpellsAccept, SpellsFields, SpellsNoAccept}
+use Rattle.relay_book.specs.Fields.{AreSome, BeginsAccept, BeginsRecord, HasMailFields, HasNoCounted, HasNoFields, IsMail, IsNoMail, IsNoSized, SpellsAccept, SpellsFields, SpellsNoAccept}
 use Rattle.relay_book.proofs.CodeLemmas.{code_4, code_8, code_sized}
 use Rattle.relay_book.proofs.FieldLemmas.{fields_are_one}
 use Rattle.relay_book.proofs.FitLemmas.{reverse_path_fits, text_fits, written_envid_fits}
 use Rattle.relay_book.proofs.RowLemmas.{counted_are_one}
+use Rattle.relay_book.proofs.TailLemmas.{Ends, ends_itself, ends_more}
 use Rattle.relay_book.proofs.ValueLemmas.{code_recipient}
 
 -- texts that end the record
@@ -193,3 +194,65 @@ pub accept_is : (text : List ℕ) (at : ℕ) (path : List ℕ) (ret : ℕ) (envi
 accept_is text at path ret envid recipients stored envelope spelled has =
     spelled.text_is
     ∙ (λ i. octets_8 at ++ (sized_2 (has.path_is i) ++ (has.ret_is i ∷ (sized_2 (has.envid_is i) ++ (counted recipient_octets recipients ++ sized_4 stored)))))
+
+-- its stored text ends it
+stored_ends : (at : ℕ) (path : List ℕ) (ret : ℕ) (envid : List ℕ) (recipients : List Recipient) (stored : List ℕ)
+    → Ends stored (octets_8 at ++ (sized_2 path ++ (ret ∷ (sized_2 envid ++ (counted recipient_octets recipients ++ sized_4 stored)))))
+stored_ends at path ret envid recipients stored =
+    ends_more (octets_8 at) stored _
+    (ends_more (sized_2 path) stored _
+    (ends_more (ret ∷ []) stored _
+    (ends_more (sized_2 envid) stored _
+    (ends_more (counted recipient_octets recipients) stored _
+    (ends_more (octets_4 (length stored)) stored stored (ends_itself stored))))))
+
+ends_text : (text : List ℕ) (at : ℕ) (path : List ℕ) (ret : ℕ) (envid : List ℕ) (recipients : List Recipient) (stored : List ℕ)
+    → SpellsAccept text at path ret envid recipients stored → Ends stored text
+ends_text text at path ret envid recipients stored spelled = subst (Ends stored) (sym spelled.text_is) (stored_ends at path ret envid recipients stored)
+
+pub stored_within : (text : List ℕ) (at : ℕ) (path : List ℕ) (ret : ℕ) (envid : List ℕ) (recipients : List Recipient) (stored : List ℕ)
+    → SpellsAccept text at path ret envid recipients stored → length stored ≤ length text
+stored_within text at path ret envid recipients stored spelled = (ends_text text at path ret envid recipients stored spelled).within
+
+-- what MAIL said, with the recipients and where the stored text begins
+pub begins_accept : (text : List ℕ) (at : ℕ) (path : List ℕ) (ret : ℕ) (envid : List ℕ) (recipients : List Recipient) (stored : List ℕ) (envelope : Envelope)
+    → SpellsAccept text at path ret envid recipients stored → IsMail envelope → HasMailFields envelope path ret envid → at ≤ LAST_SECOND → length stored ≤ text_limit path
+    → BeginsAccept text at (record envelope { recipients = recipients }) (length text - length stored)
+begins_accept text at path ret envid recipients stored envelope spelled mail has moment short =
+    let ends = ends_text text at path ret envid recipients stored spelled in
+    let last_is : stored ≡ drop (length text - length stored) text = sym ends.is_last in
+    record {
+      within = omega arith;
+      valid = subst (λ (s : List ℕ). IsAccept (record { at = at; envelope = record envelope { recipients = recipients }; stored_text = s })) last_is
+          (is_accept text at path ret envid recipients stored envelope spelled mail has moment short);
+      text_is = accept_is text at path ret envid recipients stored envelope spelled has
+          ∙ ap (λ (s : List ℕ). accept_octets (record { at = at; envelope = record envelope { recipients = recipients }; stored_text = s })) last_is;
+    }
+
+pub begun_is_accept : (text : List ℕ) (at : ℕ) (envelope : Envelope) (head : ℕ) (stored : List ℕ) → BeginsAccept text at envelope head → stored ≡ drop head text
+    → IsAccept (record { at = at; envelope = envelope; stored_text = stored })
+begun_is_accept text at envelope head stored begun is = subst (λ (s : List ℕ). IsAccept (record { at = at; envelope = envelope; stored_text = s })) (sym is) begun.valid
+
+pub begun_is_text : (text : List ℕ) (at : ℕ) (envelope : Envelope) (head : ℕ) (stored : List ℕ) → BeginsAccept text at envelope head → stored ≡ drop head text
+    → text ≡ accept_octets (record { at = at; envelope = envelope; stored_text = stored })
+begun_is_text text at envelope head stored begun is = begun.text_is ∙ ap (λ (s : List ℕ). accept_octets (record { at = at; envelope = envelope; stored_text = s })) (sym is)
+
+-- the same behind the octet of an accept
+pub begins_record : (text fields : List ℕ) (at : ℕ) (envelope : Envelope) (head : ℕ) → text ≡ 1 ∷ fields → BeginsAccept fields at envelope head → BeginsRecord text at envelope (head + 1)
+begins_record text fields at envelope head is begun =
+    let rest : drop head fields ≡ drop (head + 1) text = ap (λ n. drop n (1 ∷ fields)) (sym (add-one head)) ∙ ap (drop (head + 1)) (sym is) in
+    let long = ap length is in
+    let within = begun.within in
+    record {
+      within = omega (arith, long, within);
+      valid = subst (λ (s : List ℕ). IsAccept (record { at = at; envelope = envelope; stored_text = s })) rest begun.valid;
+      text_is = is ∙ ap (λ (l : List ℕ). 1 ∷ l) (begun.text_is ∙ ap (λ (s : List ℕ). accept_octets (record { at = at; envelope = envelope; stored_text = s })) rest);
+    }
+
+pub record_is_accept : (text : List ℕ) (at : ℕ) (envelope : Envelope) (head : ℕ) (stored : List ℕ) → BeginsRecord text at envelope head → stored ≡ drop head text
+    → IsAccept (record { at = at; envelope = envelope; stored_text = stored })
+record_is_accept text at envelope head stored begun is = subst (λ (s : List ℕ). IsAccept (record { at = at; envelope = envelope; stored_text = s })) (sym is) begun.valid
+
+pub record_is_text : (text : List ℕ) (at : ℕ) (envelope : Envelope) (head : ℕ) (stored : List ℕ) → BeginsRecord text at envelope head → stored ≡ drop head text
+    → text ≡ 1 ∷ accept_octets (record { at = at; envelope = envelope; stored_text = stored })
+record_is_text text at envelope head stored begun is = begun.text_is ∙ ap (λ (l : List ℕ). 1 ∷ accept_octets (record { at = at; envelope = envelope; stored_text = l })) (sym is)

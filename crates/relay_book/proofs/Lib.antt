@@ -6,6 +6,7 @@ mod ValueLemmas
 mod RefusalLemmas
 mod RowLemmas
 mod MailFieldLemmas
+mod TailLemmas
 mod AcceptLemmas
 mod OutcomeLemmas
 mod ChangeFieldLemmas

@@ -1,6 +1,6 @@
 -- What contracts see of a book: its queue, and what was made ready for the next change.
-use Rattle.std.specs.Prelude.{◌≡◌, ℕ, suc, ◌≤◌, ◌==◌, ◌&&◌, Bool, true, List, [], ◌∷◌, ◌++◌, Option, None, Some, is_some, if◌then◌else◌}
-use Rattle.std.specs.List.{AllByRecursion, Contains, flat_map, list_any}
+use Rattle.std.specs.Prelude.{◌≡◌, ℕ, suc, ◌≤◌, ◌==◌, ◌&&◌, Bool, true, List, [], ◌∷◌, ◌++◌, map, Option, None, Some, is_some, if◌then◌else◌}
+use Rattle.std.specs.List.{AllByRecursion, Contains, filter, flat_map, list_any}
 use Rattle.relay_book.specs.declared.change.Outcome.{Outcome as OutcomeFields}
 use Rattle.relay_book.specs.declared.message.Place.{Place}
 use Rattle.relay_book.specs.declared.message.Message.{Message}
@@ -50,6 +50,14 @@ marks_at test entries number = marks_of_slot test number (message_of entries num
 
 abbrev pub marks_live : (Place → Bool) → List (ℕ × Option Message) → List (ℕ × ℕ)
 marks_live test entries = flat_map (marks_of_entry test) (live entries)
+
+-- the number of an entry, where its message hasn't ended and passes a test, and the numbers of all such entries
+abbrev pub number_of_slot : (Message → Bool) → ℕ → Option Message → List ℕ
+number_of_slot test number None = []
+number_of_slot test number (Some message) = if test message then number ∷ [] else []
+
+abbrev pub numbers_live : (Message → Bool) → List (ℕ × Option Message) → List ℕ
+numbers_live test entries = map (λ entry. entry.0) (filter (λ entry. test entry.1) (live entries))
 
 -- numbers rise, from one number to below another
 abbrev pub Rise : {A : Type 0} → ℕ → ℕ → List (ℕ × A) → Type 0

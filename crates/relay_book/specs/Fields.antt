@@ -1,6 +1,6 @@
 -- The fields of records, one after another, and what no valid value begins. (Readers cut them; others judge
 -- them.)
-use Rattle.std.specs.Prelude.{◌≡◌, ◌≢◌, ℕ, ◌≤◌, ◌<◌, ◌^◌, true, List, ◌∷◌, ◌++◌, length}
+use Rattle.std.specs.Prelude.{◌≡◌, ◌≢◌, ℕ, ◌≤◌, ◌<◌, ◌^◌, true, List, ◌∷◌, ◌++◌, drop, length}
 use Rattle.std.specs.List.{flat_map, AllByRecursion}
 use Rattle.relay_envelope.specs.declared.envelope.Recipient.{Recipient}
 use Rattle.relay_envelope.specs.declared.envelope.Envelope.{Envelope}
@@ -102,6 +102,18 @@ pub record IsNoMail (path : List ℕ) (ret : ℕ) (envid : List ℕ) : Type 0 wh
 -- the text is no accept
 pub record SpellsNoAccept (text : List ℕ) : Type 0 where
   pub none : (accept : AcceptFields) → IsAccept accept → text ≢ accept_octets accept
+
+-- so many octets say an accept's moment and envelope, and the others are its stored text
+pub record BeginsAccept (text : List ℕ) (at : ℕ) (envelope : Envelope) (head : ℕ) : Type 0 where
+  pub within : head ≤ length text
+  pub valid : IsAccept (record { at = at; envelope = envelope; stored_text = drop head text })
+  pub text_is : text ≡ accept_octets (record { at = at; envelope = envelope; stored_text = drop head text })
+
+-- so many octets of a record say that it is an accept's, its moment and its envelope, and the others are its stored text
+pub record BeginsRecord (text : List ℕ) (at : ℕ) (envelope : Envelope) (head : ℕ) : Type 0 where
+  pub within : head ≤ length text
+  pub valid : IsAccept (record { at = at; envelope = envelope; stored_text = drop head text })
+  pub text_is : text ≡ 1 ∷ accept_octets (record { at = at; envelope = envelope; stored_text = drop head text })
 
 -- an outcome up to its hop: its message, its moment, the hop
 pub record SpellsHead (text : List ℕ) (message at : ℕ) (hop rest : List ℕ) : Type 0 where

@@ -6,10 +6,13 @@ ghost use Rattle.relay_book.specs.Book.{AllTold, AreTold, IsTold, Rise, is_held_
 ghost use Rattle.relay_book.specs.Marks.{leaving_of};
 ghost use Rattle.relay_book.specs.Queue.{FitsQueue, due_of, empty_queue, held_of, is_due_at, message_of, ruled, step};
 ghost use Rattle.relay_book.specs.Ready.{IsReady, entry_of, message_in};
+ghost use Rattle.relay_book.specs.Record.{IsAccept};
 
+mod decoded;
 mod entries;
 mod leaving;
 mod make;
+mod numbers;
 mod questions;
 
 use crate::change::{Accept, Change, Outcome};
@@ -205,7 +208,21 @@ impl Book {
         ensures change { IfOk result (λ ready. ready.change ≡ Change.Accept accept) }
         ensures bad { IsErrOf result BookFault.BadRecord → ¬ FitsQueue self.old.queue (Change.Accept accept) }
     {
-        if self.next > LAST_NUMBER || !is_accept(&accept) {
+        if !is_accept(&accept) {
+            return Err(BookFault::BadRecord);
+        }
+        self.ready_accept(alloc, accept)
+    }
+
+    /// Makes room for the message of an accept that may be stored.
+    fn ready_accept(&mut self, alloc: Global, accept: Accept) -> Result<Ready, BookFault>
+        requires { IsAccept accept }
+        ensures queue { self.new.queue ≡ self.old.queue }
+        ensures ready { IfOk result (λ ready. IsReady self.new ready) }
+        ensures change { IfOk result (λ ready. ready.change ≡ Change.Accept accept) }
+        ensures bad { IsErrOf result BookFault.BadRecord → ¬ FitsQueue self.old.queue (Change.Accept accept) }
+    {
+        if self.next > LAST_NUMBER {
             return Err(BookFault::BadRecord);
         }
         let made = Made::Accepted(accepted(alloc, self.next, accept)?);

@@ -1,13 +1,14 @@
 //! Records read back.
-ghost use Rattle.std.specs.Prelude.{◌≡◌, ◌≢◌, ◌<◌, ◌^◌, length, MatchOption, IfOk, IsErrOf, IsTrue, ◌↔◌};
+ghost use Rattle.std.specs.Prelude.{◌≡◌, ◌≢◌, ◌<◌, ◌^◌, length, MatchOption, IfOk, IfSome, IsErrOf, IsTrue, ◌↔◌};
 ghost use Rattle.relay_envelope.specs.Envelope.{IsRecipient, IsReversePath, may_be_envid, envelope_from};
 ghost use Rattle.relay_envelope.specs.Mail.{mail_value};
 ghost use Rattle.relay_book.specs.Record.{IsAccept, IsChange, IsNoRecord, IsOutcome, MayBeHop, accept_octets, encode, outcome_octets, sized_4, text_limit};
-ghost use Rattle.relay_book.specs.Fields.{HasNoHead, IsNoSized, SpellsHead, SpellsAccept, SpellsNoAccept, SpellsNoOutcome, SpellsOutcome};
+ghost use Rattle.relay_book.specs.Fields.{BeginsAccept, BeginsRecord, HasNoHead, IsNoSized, SpellsHead, SpellsAccept, SpellsNoAccept, SpellsNoOutcome, SpellsOutcome};
 
 mod mail;
 mod recipient;
 mod ruling;
+mod tail;
 
 use crate::change::{Accept, Change, Outcome, Rulings};
 use crate::fault::BookFault;
@@ -20,6 +21,7 @@ use relay_octets::Octets;
 use relay_trace::Moment;
 use ruling::read_rulings;
 use std::alloc::Global;
+use tail::behind;
 
 /// The change of which these octets are the record, with one copy of each text. It fails with `BadRecord`
 /// exactly where they are no record of a change, and where memory runs out.
@@ -42,6 +44,39 @@ pub fn decode_change(alloc: Global, text: &[u8]) -> Result<Change, BookFault>
         }
         _ => Err(BookFault::BadRecord),
     }
+}
+
+/// The same change, where the octets are to be had. The stored text of an accept keeps their memory, and isn't copied.
+#[tactic(auto, using(crate::proofs::AcceptLemmas::record_is_accept, crate::proofs::AcceptLemmas::record_is_text))]
+pub fn decode_record(alloc: Global, octets: Vec<u8>) -> Result<Change, BookFault>
+    ensures change { IfOk result (λ change. IsChange change × (octets.items ≡ encode change)) }
+    ensures bad { IsErrOf result BookFault.BadRecord → IsNoRecord octets.items }
+{
+    match head_of(alloc, octets.as_slice())? {
+        Some((at, envelope, head)) => Ok(Change::Accept(Accept {
+            at,
+            envelope,
+            stored_text: Octets::new(behind(octets, head)),
+        })),
+        None => decode_change(alloc, octets.as_slice()),
+    }
+}
+
+/// What the record of an accept says before its stored text, and none for another record.
+#[tactic(auto, using(crate::proofs::ChangeFieldLemmas::no_accept, crate::proofs::AcceptLemmas::begins_record))]
+fn head_of(alloc: Global, octets: &[u8]) -> Result<Option<AcceptHead>, BookFault>
+    ensures accept { IfOk result (λ found. IfSome found
+        (λ parts. BeginsRecord octets.now parts.0 parts.1 parts.2)) }
+    ensures bad { IsErrOf result BookFault.BadRecord → IsNoRecord octets.now }
+{
+    let Some((kind, fields)) = octets.split_first() else {
+        return Ok(None);
+    };
+    if *kind != 1 {
+        return Ok(None);
+    }
+    let (at, envelope, head) = read_accept_head(alloc, fields)?;
+    Ok(Some((at, envelope, head + 1)))
 }
 
 /// The text behind its length of four octets that the whole text is.
@@ -81,10 +116,13 @@ fn split_accept(alloc: Global, text: &[u8]) -> Result<AcceptFields<'_>, BookFaul
     }
 }
 
-/// The accept that the text spells.
-#[tactic(auto, using(crate::proofs::AcceptLemmas::bad_mail, crate::proofs::AcceptLemmas::bad_moment, crate::proofs::AcceptLemmas::bad_text, crate::proofs::AcceptLemmas::is_accept, crate::proofs::AcceptLemmas::accept_is))]
-fn read_accept(alloc: Global, text: &[u8]) -> Result<Accept, BookFault>
-    ensures accept { IfOk result (λ accept. IsAccept accept × (text.now ≡ accept_octets accept)) }
+/// What an accept says before its stored text: its moment and its envelope, and how many octets that takes.
+type AcceptHead = (Moment, Envelope, usize);
+
+/// What the accept says before its stored text that the text spells.
+#[tactic(auto, using(crate::proofs::AcceptLemmas::bad_mail, crate::proofs::AcceptLemmas::bad_moment, crate::proofs::AcceptLemmas::bad_text, crate::proofs::AcceptLemmas::begins_accept, crate::proofs::AcceptLemmas::stored_within))]
+fn read_accept_head(alloc: Global, text: &[u8]) -> Result<AcceptHead, BookFault>
+    ensures accept { IfOk result (λ parts. BeginsAccept text.now parts.0 parts.1 parts.2) }
     ensures bad { IsErrOf result BookFault.BadRecord → SpellsNoAccept text.now }
 {
     let (at, path, ret, envid, recipients, stored_text) = split_accept(alloc, text)?;
@@ -97,12 +135,23 @@ fn read_accept(alloc: Global, text: &[u8]) -> Result<Accept, BookFault>
     if stored_text.len() > text_limit(path) {
         return Err(BookFault::BadRecord);
     }
+    let head = text.len() - stored_text.len();
     let mut envelope = Envelope::new(alloc, mail)?;
     envelope.recipients = recipients;
+    Ok((at, envelope, head))
+}
+
+/// The accept that the text spells.
+#[tactic(auto, using(crate::proofs::AcceptLemmas::begun_is_accept, crate::proofs::AcceptLemmas::begun_is_text))]
+fn read_accept(alloc: Global, text: &[u8]) -> Result<Accept, BookFault>
+    ensures accept { IfOk result (λ accept. IsAccept accept × (text.now ≡ accept_octets accept)) }
+    ensures bad { IsErrOf result BookFault.BadRecord → SpellsNoAccept text.now }
+{
+    let (at, envelope, head) = read_accept_head(alloc, text)?;
     Ok(Accept {
         at,
         envelope,
-        stored_text: Octets::from_slice(alloc, stored_text)?,
+        stored_text: Octets::from_slice(alloc, &text[head..])?,
     })
 }
 

@@ -44,7 +44,7 @@ impl<D: Disk> Records<D> {
 
     /// The changes that a disk holds. The disk is synced and read, and not written: where it is refused, it
     /// comes back as it was. It needs memory for the bodies, and beside them for a block and the queue; each
-    /// body is let go when it has been read.
+    /// body is let go when it has been read, or has become a message's text.
     pub fn open(alloc: Global, disk: D) -> Result<Self, NotOpened<D>>
         ensures opens { IfOk result (Opens D.honest D.words disk) }
         ensures refused { IfErr result (λ refused. RefusesImage D.honest (D.words.seen disk) refused.cause) }

@@ -1,6 +1,6 @@
 //! The records of a node, and what they answer.
-ghost use Rattle.std.specs.Prelude.{◌≡◌, ◌↔◌, ◌+◌, ◌≤◌, ◌^◌, ℕ, List, length, Option, None, Some, IfOk, IfSome, IsTrue, MatchOption};
-ghost use Rattle.std.specs.List.{Contains};
+ghost use Rattle.std.specs.Prelude.{◌≡◌, ◌↔◌, ◌+◌, ◌≤◌, ◌^◌, ℕ, List, length, map, Option, None, Some, IfOk, IfSome, IsTrue, MatchOption};
+ghost use Rattle.std.specs.List.{Contains, filter};
 ghost use Rattle.std.specs.Option.{option_copied, option_map};
 ghost use Rattle.relay_disk.specs.Device.{AddsNoImage, FailsNot};
 ghost use Rattle.relay_book.specs.declared.change.Change.{Change};
@@ -12,7 +12,7 @@ ghost use Rattle.relay_records.specs.HeldPlace.{IsWaiting, waiting_at};
 
 use crate::noted::Noted;
 use crate::place::{HeldPlace, held_place};
-use relay_book::{Book, Message};
+use relay_book::{Book, Message, Question};
 use relay_disk::{Disk, Reboot};
 use relay_spool::Spool;
 use relay_trace::Moment;
@@ -117,6 +117,18 @@ impl<D: Disk> Records<D> {
             → Contains {X = ℕ × ℕ} marks.items (number, place) ↔ Held changes number place) }
     {
         self.book.held(alloc)
+    }
+
+    /// The numbers of the messages of which a question holds, in order. It fails where memory runs out.
+    pub fn numbers_where<Q: Question>(
+        &self,
+        alloc: Global,
+        question: &Q,
+    ) -> Result<Vec<u64>, AllocError>
+        ensures { IfOk result (λ numbers. numbers.items
+            ≡ map (λ entry. entry.0) (filter (λ entry. Q.holds question.now entry.1) self.now.queue.messages)) }
+    {
+        self.book.numbers_where(alloc, question)
     }
 
     /// The held places that are due at a moment or before, each with the number of its message, in order. It

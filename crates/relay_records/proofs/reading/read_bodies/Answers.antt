@@ -3,7 +3,6 @@ use Rattle.std.proofs.Common.{◌+◌, ℕ, List, [], ◌∷◌, map, Vec, sym, 
 use Rattle.std.proofs.lemmas.List.{length-map, map-append}
 use Rattle.std.specs.Vec.Iter.{into_iter_items}
 use Rattle.std.specs.declared.alloc.Global.{Global}
-use Rattle.relay_book.specs.StandsFor.{ReadsBody}
 use Rattle.relay_records.specs.Open.{LeavesQueue, NoneFits}
 use Rattle.relay_records.proofs.ReadLemmas.{is_bad, leaves_more, texts_around}
 use Rattle.relay_records.proofs.reading.read_bodies.Goals as goal
@@ -14,7 +13,7 @@ loop-body-preserved c =
     let body = c.in-Some.body in
     let long = length-append given (body ∷ []) in
     let counted = c.loop-body.invariant.counted in
-    let reads = subst (λ (b : List ℕ). ReadsBody c.loop-body.book.queue b c.read_body.new.book.queue) c.as_slice.ensures.value c.in-Ok.ensures.reads in
+    let reads = c.in-Ok.ensures.reads in
     record {
       counted = omega (arith, long, counted);
       leaves = subst (λ (bodies : List (List ℕ)). LeavesQueue bodies c.read_body.new.book.queue) (sym (map-append (λ (r : Vec ℕ Global). r.items) given (body ∷ [])))
@@ -28,10 +27,10 @@ returns-in-Err-BadRecord-clause-refused c =
     let texts = map (λ (r : Vec ℕ Global). r.items) given in
     let long = length-map given (λ (r : Vec ℕ Global). r.items) in
     let counted = c.loop-body.invariant.counted in
-    let none : NoneFits c.loop-body.book.queue c.as_slice.result.now = search rules in
+    let none : NoneFits c.loop-body.book.queue body.items = search rules in
     is_bad texts body.items (map (λ (r : Vec ℕ Global). r.items) (into_iter_items c.next.new.self)) _ (c.loop-body.number + 1) c.loop-body.book.queue
     c.loop-body.invariant.leaves
     (texts_around c.args.bodies.items c.into_iter-body-iterator.result c.loop-body.body-iterator c.next.new.self given body
     c.into_iter-body-iterator.ensures.into_iter_gives.0 c.loop-body.yielded_by c.in-Some.ensures.steps.0)
     (omega (arith, long, counted))
-    (subst (NoneFits c.loop-body.book.queue) c.as_slice.ensures.value none)
+    none
