@@ -1,0 +1,4 @@
+pub mod Text
+pub mod Word
+pub mod Line
+pub mod Reading

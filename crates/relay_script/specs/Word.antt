@@ -1,0 +1,27 @@
+-- Words of a line of a script: nodes, numbers and moments.
+use Rattle.std.specs.Prelude.{◌≡◌, ℕ, ◌+◌, ◌<◌, ◌≤◌, List, [], ◌∷◌, length}
+use Rattle.std.specs.List.{AllPass}
+use Rattle.std.specs.Char.{is_ascii_digit}
+use Rattle.std.specs.Str.Parse.{digits_value}
+use Rattle.relay_trace.specs.DateTime.{last_second}
+
+-- how many nodes play
+abbrev pub node_count : ℕ
+node_count = 2
+
+-- a node's letter: `a` for 0, `b` for 1
+pub record IsNode (word : List ℕ) (index : ℕ) : Type 0 where
+  pub within : index < node_count
+  pub letter : word ≡ (97 + index) ∷ []
+
+-- a number: 1 to 18 decimal digits, leading zeros among them
+pub record IsNumber (word : List ℕ) (number : ℕ) : Type 0 where
+  pub some : 1 ≤ length word
+  pub few : length word ≤ 18
+  pub digits : AllPass is_ascii_digit word
+  pub value : digits_value 10 word ≡ number
+
+-- a moment: the number of its seconds from 1970
+pub record IsMoment (word : List ℕ) (seconds : ℕ) : Type 0 where
+  pub number : IsNumber word seconds
+  pub within : seconds ≤ last_second

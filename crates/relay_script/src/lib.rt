@@ -1,0 +1,16 @@
+//! Scripts of a play of two relays: what a line of one says, and the text that spells octets in it.
+#![tactic(auto)]
+
+mod event;
+pub mod laws;
+mod line;
+mod node_index;
+mod octet;
+mod operands;
+mod text;
+mod word;
+
+pub use event::{Event, ScriptLine};
+pub use line::script_line;
+pub use node_index::{NODE_COUNT, NodeIndex};
+pub use text::push_text;

@@ -1,0 +1,111 @@
+//! The operands behind a keyword, one space apart.
+ghost use Rattle.std.specs.Prelude.{[], ◌∷◌, MatchOption};
+ghost use Rattle.relay_script.specs.Line.{SpellsWords};
+ghost use Rattle.relay_script.specs.Line.Operand.{Node, Number, Time};
+ghost use Rattle.relay_script.specs.Reading.{LacksOperands, LacksWords, SpellsOperands};
+ghost use Rattle.relay_script.specs.Reading.Kind.{NodeKind, NumberKind, TimeKind};
+
+use crate::node_index::NodeIndex;
+use crate::word::{behind, cut_word, read_moment, read_node, read_number};
+use relay_trace::Moment;
+
+/// A node behind the keyword.
+#[tactic(auto, using(crate::proofs::LineLemmas::no_words_behind))]
+pub(crate) fn node_behind(keyword: &[u8], line: &[u8]) -> Option<NodeIndex>
+    ensures { MatchOption result (LacksWords keyword.now (NodeKind ∷ []) line.now)
+        (λ node. SpellsWords line.now keyword.now (Node node ∷ [])) }
+{
+    let word = behind(keyword, line)?;
+    read_node(word)
+}
+
+/// A number behind the keyword.
+#[tactic(auto, using(crate::proofs::LineLemmas::no_words_behind))]
+pub(crate) fn number_behind(keyword: &[u8], line: &[u8]) -> Option<u64>
+    ensures { MatchOption result (LacksWords keyword.now (NumberKind ∷ []) line.now)
+        (λ number. SpellsWords line.now keyword.now (Number number ∷ [])) }
+{
+    let word = behind(keyword, line)?;
+    read_number(word)
+}
+
+/// A moment behind the keyword.
+#[tactic(auto, using(crate::proofs::LineLemmas::no_words_behind))]
+pub(crate) fn moment_behind(keyword: &[u8], line: &[u8]) -> Option<Moment>
+    ensures { MatchOption result (LacksWords keyword.now (TimeKind ∷ []) line.now)
+        (λ moment. SpellsWords line.now keyword.now (Time moment ∷ [])) }
+{
+    let word = behind(keyword, line)?;
+    read_moment(word)
+}
+
+/// A node and two numbers behind the keyword.
+#[tactic(auto, using(crate::proofs::LineLemmas::several_behind))]
+pub(crate) fn node_and_numbers_behind(keyword: &[u8], line: &[u8]) -> Option<(NodeIndex, u64, u64)>
+    ensures { MatchOption result (LacksWords keyword.now (NodeKind ∷ NumberKind ∷ NumberKind ∷ []) line.now)
+        (λ read. SpellsWords line.now keyword.now (Node read.0 ∷ Number read.1 ∷ Number read.2 ∷ [])) }
+{
+    let text = behind(keyword, line)?;
+    node_and_numbers(text)
+}
+
+/// A number, a node and a number behind the keyword.
+#[tactic(auto, using(crate::proofs::LineLemmas::several_behind))]
+pub(crate) fn node_within_numbers_behind(
+    keyword: &[u8],
+    line: &[u8],
+) -> Option<(u64, NodeIndex, u64)>
+    ensures { MatchOption result (LacksWords keyword.now (NumberKind ∷ NodeKind ∷ NumberKind ∷ []) line.now)
+        (λ read. SpellsWords line.now keyword.now (Number read.0 ∷ Node read.1 ∷ Number read.2 ∷ [])) }
+{
+    let text = behind(keyword, line)?;
+    node_within_numbers(text)
+}
+
+/// A node and two numbers.
+#[tactic(auto, using(crate::proofs::OperandLemmas::first_and_others))]
+fn node_and_numbers(text: &[u8]) -> Option<(NodeIndex, u64, u64)>
+    ensures { MatchOption result (LacksOperands (NodeKind ∷ NumberKind ∷ NumberKind ∷ []) text.now)
+        (λ read. SpellsOperands text.now (Node read.0 ∷ Number read.1 ∷ Number read.2 ∷ [])) }
+{
+    let (word, rest) = cut_word(text)?;
+    let node = read_node(word)?;
+    let (first, second) = two_numbers(rest)?;
+    Some((node, first, second))
+}
+
+/// A number, a node and a number.
+#[tactic(auto, using(crate::proofs::OperandLemmas::first_and_others))]
+fn node_within_numbers(text: &[u8]) -> Option<(u64, NodeIndex, u64)>
+    ensures { MatchOption result (LacksOperands (NumberKind ∷ NodeKind ∷ NumberKind ∷ []) text.now)
+        (λ read. SpellsOperands text.now (Number read.0 ∷ Node read.1 ∷ Number read.2 ∷ [])) }
+{
+    let (word, rest) = cut_word(text)?;
+    let first = read_number(word)?;
+    let (node, second) = node_and_number(rest)?;
+    Some((first, node, second))
+}
+
+/// Two numbers.
+#[tactic(auto, using(crate::proofs::OperandLemmas::first_and_others))]
+fn two_numbers(text: &[u8]) -> Option<(u64, u64)>
+    ensures { MatchOption result (LacksOperands (NumberKind ∷ NumberKind ∷ []) text.now)
+        (λ read. SpellsOperands text.now (Number read.0 ∷ Number read.1 ∷ [])) }
+{
+    let (word, rest) = cut_word(text)?;
+    let first = read_number(word)?;
+    let second = read_number(rest)?;
+    Some((first, second))
+}
+
+/// A node and a number.
+#[tactic(auto, using(crate::proofs::OperandLemmas::first_and_others))]
+fn node_and_number(text: &[u8]) -> Option<(NodeIndex, u64)>
+    ensures { MatchOption result (LacksOperands (NodeKind ∷ NumberKind ∷ []) text.now)
+        (λ read. SpellsOperands text.now (Node read.0 ∷ Number read.1 ∷ [])) }
+{
+    let (word, rest) = cut_word(text)?;
+    let node = read_node(word)?;
+    let number = read_number(rest)?;
+    Some((node, number))
+}

@@ -1,0 +1,88 @@
+//! The words of a line.
+ghost use Rattle.std.specs.Prelude.{◌≡◌, IsTrue, MatchOption, Some, None};
+ghost use Rattle.std.specs.Char.{is_ascii_digit};
+ghost use Rattle.std.specs.List.{list_all};
+ghost use Rattle.relay_script.specs.Line.{IsOperand};
+ghost use Rattle.relay_script.specs.Line.Operand.{Node, Number, Time};
+ghost use Rattle.relay_script.specs.Reading.{are_number_digits, CutsWord, HasNoSpace, IsNotBehind, LacksOperand, StandsBehind};
+ghost use Rattle.relay_script.specs.Reading.Kind.{NodeKind, NumberKind, TimeKind};
+
+use crate::node_index::NodeIndex;
+use relay_trace::Moment;
+use std::str;
+
+/// The most digits of a number.
+const DIGIT_LIMIT: usize = 18;
+
+/// What stands behind the keyword and a space that a text begins with.
+#[tactic(auto, using(crate::proofs::WordLemmas::keyword))]
+pub(crate) fn behind<'a>(keyword: &[u8], text: &'a [u8]) -> Option<&'a [u8]>
+    ensures { MatchOption result (IsNotBehind keyword.now text.now) (λ rest. StandsBehind keyword.now text.now rest.now) }
+{
+    let more = text.strip_prefix(keyword)?;
+    more.strip_prefix(b" ")
+}
+
+/// The word before the first space, and what stands behind that space.
+pub(crate) fn cut_word(text: &[u8]) -> Option<(&[u8], &[u8])>
+    ensures { MatchOption result (HasNoSpace text.now) (λ parts. CutsWord text.now parts.0.now parts.1.now) }
+{
+    for (i, octet) in text.iter().enumerate() {
+        if *octet == b' ' {
+            return Some((&text[..i], &text[i + 1..]));
+        }
+    }
+    None
+}
+
+/// The node of a letter.
+pub(crate) fn read_node(word: &[u8]) -> Option<NodeIndex>
+    ensures { MatchOption result (LacksOperand NodeKind word.now) (λ node. IsOperand word.now (Node node)) }
+{
+    match word {
+        [b'a'] => Some(NodeIndex::new(0)),
+        [b'b'] => Some(NodeIndex::new(1)),
+        _ => None,
+    }
+}
+
+/// The number of 1 to 18 digits, leading zeros among them.
+#[tactic(auto, using(crate::proofs::NumberLemmas::no_number))]
+pub(crate) fn read_number(word: &[u8]) -> Option<u64>
+    ensures { MatchOption result (LacksOperand NumberKind word.now) (λ number. IsOperand word.now (Number number)) }
+{
+    if !are_number_digits(word) {
+        return None;
+    }
+    match str::from_utf8(word) {
+        Ok(digits) => digits.parse().ok(),
+        Err(_) => None,
+    }
+}
+
+/// Whether a word is 1 to 18 digits.
+#[tactic(auto, unfolding(crate::specs::Reading::are_number_digits))]
+fn are_number_digits(word: &[u8]) -> bool
+    ensures { result ≡ are_number_digits word.now }
+{
+    if word.is_empty() || word.len() > DIGIT_LIMIT {
+        return false;
+    }
+    are_digits(word)
+}
+
+/// Whether each octet is a digit.
+fn are_digits(text: &[u8]) -> bool
+    ensures { result ≡ list_all is_ascii_digit text.now }
+{
+    text.iter().all(|octet| octet.is_ascii_digit())
+}
+
+/// The moment whose seconds from 1970 a word writes.
+#[tactic(auto, using(crate::proofs::NumberLemmas::no_moment, crate::proofs::NumberLemmas::late_moment))]
+pub(crate) fn read_moment(word: &[u8]) -> Option<Moment>
+    ensures { MatchOption result (LacksOperand TimeKind word.now) (λ moment. IsOperand word.now (Time moment)) }
+{
+    let seconds = read_number(word)?;
+    Moment::new(seconds).ok()
+}

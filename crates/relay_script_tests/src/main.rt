@@ -1,0 +1,146 @@
+//! Reads each row of data/: `LINE` and a line of a script, or `TEXT` and octets in decimal, and behind `=>` what the line
+//! says or the text that spells the octets. Where something else comes of a row, that it differs is printed.
+#![tactic(auto)]
+
+use relay_script::{Event, NODE_COUNT, NodeIndex, ScriptLine, push_text, script_line};
+use std::alloc::{AllocError, Global};
+use std::test::Fail;
+use std::{env, fs};
+
+/// The word is the folder of the rows. Without one they lie where the program runs.
+fn main(rt: HostRuntime) -> Result<(), Fail> {
+    let alloc = rt.alloc();
+    let words: Vec<String> = env::args(&rt)?.collect(alloc)?;
+    let folder = match words.get(1) {
+        Some(word) => word.as_str(),
+        None => ".",
+    };
+    let rows = fs::read_to_string(&rt, format!(in alloc; "{folder}/rows.in")?.as_str())?;
+    for row in rows.as_str().lines() {
+        show(&rt, alloc, row)?;
+    }
+    say_octets(&rt, alloc)?;
+    for index in 0..NODE_COUNT {
+        let node = NodeIndex::new(index);
+        println!(rt; "node {}: {}", node.index(), char::from(node.letter()))?;
+    }
+    Ok(())
+}
+
+/// Names each octet that isn't read as it was written.
+fn say_octets(rt: &HostRuntime, alloc: Global) -> Result<(), Fail> {
+    for octet in 0..=u8::MAX {
+        if !is_read_again(alloc, octet)? {
+            println!(rt; "octet {octet} is not read as it was written")?;
+        }
+    }
+    println!(rt; "each octet was written and read")?;
+    Ok(())
+}
+
+/// Prints a row and what comes of it; a line that is no row stands as it is.
+fn show(rt: &HostRuntime, alloc: Global, row: &str) -> Result<(), Fail> {
+    let Some((given, wanted)) = row.split_once(" => ") else {
+        println!(rt; "{row}")?;
+        return Ok(());
+    };
+    let outcome = outcome_of_row(alloc, given)?;
+    if outcome.as_str() == wanted {
+        println!(rt; "{given} => {outcome}")?;
+    } else {
+        println!(rt; "{given} => {outcome}, and not {wanted}")?;
+    }
+    Ok(())
+}
+
+/// What comes of what a row gives.
+fn outcome_of_row(alloc: Global, given: &str) -> Result<String, Fail> {
+    if let Some(line) = given.strip_prefix("LINE ") {
+        return outcome_of_line(alloc, line.as_bytes());
+    }
+    if let Some(octets) = given.strip_prefix("TEXT ") {
+        return text_of(alloc, octets);
+    }
+    Ok(String::from_str(alloc, "no row")?)
+}
+
+/// What a line says.
+fn outcome_of_line(alloc: Global, line: &[u8]) -> Result<String, Fail> {
+    match script_line(alloc, line)? {
+        Some(said) => Ok(outcome_of(alloc, said)?),
+        None => Ok(String::from_str(alloc, "none")?),
+    }
+}
+
+/// What was said.
+fn outcome_of(alloc: Global, said: ScriptLine) -> Result<String, AllocError> {
+    match said {
+        ScriptLine::Skipped => String::from_str(alloc, "skipped"),
+        ScriptLine::Event(event) => outcome_of_event(alloc, &event),
+        ScriptLine::Ledger => String::from_str(alloc, "ledger"),
+        ScriptLine::Marks => String::from_str(alloc, "marks"),
+        ScriptLine::Copies {
+            node,
+            number,
+            place,
+        } => format!(in alloc;
+            "copies of node {}, number {number}, place {place}",
+            node.index()
+        ),
+    }
+}
+
+/// What happens.
+fn outcome_of_event(alloc: Global, event: &Event) -> Result<String, AllocError> {
+    match event {
+        Event::Connect { node } => format!(in alloc; "connect node {}", node.index()),
+        Event::Send { link, text } => outcome_of_send(alloc, *link, text.as_slice()),
+        Event::Carry { link, node, count } => {
+            format!(in alloc; "carry link {link}, node {}, count {count}", node.index())
+        }
+        Event::Break { link } => format!(in alloc; "break link {link}"),
+        Event::Tick { moment } => format!(in alloc; "tick {}", moment.seconds()),
+        Event::Give { node } => format!(in alloc; "give node {}", node.index()),
+        Event::Stop { node, calls, pick } => {
+            format!(in alloc; "stop node {}, calls {calls}, pick {pick}", node.index())
+        }
+    }
+}
+
+/// The octets that are written on a link, in decimal.
+fn outcome_of_send(alloc: Global, link: u64, octets: &[u8]) -> Result<String, AllocError> {
+    let mut outcome = format!(in alloc; "send link {link}:")?;
+    for octet in octets {
+        outcome.push_str(format!(in alloc; " {octet}")?.as_str())?;
+    }
+    Ok(outcome)
+}
+
+/// The text that spells octets, which stand in decimal.
+fn text_of(alloc: Global, octets: &str) -> Result<String, Fail> {
+    let mut text = Vec::new(alloc);
+    for word in octets.split(" ") {
+        push_text(&mut text, &[word.parse::<u8>()?])?;
+    }
+    Ok(String::from_utf8(text)?)
+}
+
+/// Whether a line that was written with an octet says that octet.
+fn is_read_again(alloc: Global, octet: u8) -> Result<bool, AllocError> {
+    let mut line = b"send 1 ".to_vec(alloc)?;
+    push_text(&mut line, &[octet])?;
+    match script_line(alloc, line.as_slice())? {
+        Some(said) => Ok(is_sent(&said, octet)),
+        None => Ok(false),
+    }
+}
+
+/// Whether what was said is that octet alone, on link 1.
+fn is_sent(said: &ScriptLine, octet: u8) -> bool {
+    match said {
+        ScriptLine::Event(Event::Send { link, text }) => {
+            *link == 1 && text.as_slice() == [octet].as_slice()
+        }
+        _ => false,
+    }
+}

@@ -1,0 +1,94 @@
+-- A link that breaks keeps a world bound.
+use Rattle.std.proofs.Common.{Bool, true, ◌≡◌, ℕ, List, Option, Some, refl, sym, subst}
+use Rattle.std.proofs.lemmas.Bool.{false≢true}
+use Rattle.relay_disk.specs.Device.{DiskWords}
+use Rattle.relay_book.specs.declared.change.Change.{Change}
+use Rattle.relay_book.specs.declared.change.Accept.{Accept}
+use Rattle.relay_book.specs.declared.change.Verdict.{Verdict}
+use Rattle.relay_world.specs.declared.attempt.Attempt.{Attempt}
+use Rattle.relay_world.specs.declared.attempt.Fate.{Fate}
+use Rattle.relay_world.specs.declared.attempt.Fate.TheVariants.{Running, Replied, Lost, Dropped}
+use Rattle.relay_world.specs.declared.link.Link.{Link}
+use Rattle.relay_world.specs.declared.link.ServerEnd.{ServerEnd}
+use Rattle.relay_world.specs.Bound.{HasFate, IsBound, IsServed, IsTried}
+use Rattle.relay_world.specs.Steps.{BreakingKeeps}
+use Rattle.relay_world.specs.World.{Host}
+use Rattle.relay_world.proofs.LinkLemmas.{relinked}
+
+-- what became of an attempt that doesn't run stays where the link breaks
+fate_broken : {D : Type 0} (host : Host D) (changes : List Change) (link : Link) (attempt : Attempt) (accept : Accept)
+    (output : List ℕ) (told : Bool) (verdicts : Option (List Verdict)) (fate : Fate) → ((slot : ℕ) → fate ≡ Running slot → ⊥)
+    → HasFate host changes link attempt accept output told verdicts fate
+    → HasFate host changes (record link { broken = true }) attempt accept output told verdicts fate
+fate_broken host changes link attempt accept output told verdicts (Running slot) ends is = absurd (ends slot refl)
+fate_broken host changes link attempt accept output told verdicts (Replied number) ends is = is
+fate_broken host changes link attempt accept output told verdicts (Lost number) ends is = is
+fate_broken host changes link attempt accept output told verdicts Dropped ends is = is
+
+pub breaking_keeps : {D : Type 0} (honest : Type 0) (words : DiskWords D) → BreakingKeeps honest words
+breaking_keeps {D} honest words old new lists number bound breaks =
+    subst (λ w. IsBound honest words w lists) (sym breaks.new_is)
+    (relinked honest words old lists number bound breaks.link broken breaks.link_is breaks.links breaks.put (record {
+      served = served;
+      tried = tried;
+      reads = record {
+        up = (bound.reads number breaks.link breaks.link_is).up;
+        down = (bound.reads number breaks.link breaks.link_is).down;
+      };
+      server = refl;
+      client = refl;
+    }))
+  where
+    broken : Link
+    broken = record breaks.link { broken = true }
+
+    served : (end : ServerEnd) → breaks.link.server ≡ Some end
+        → IsServed (record old { links = breaks.links }) lists number broken end
+    served end serves =
+        let was : IsServed old lists number breaks.link end = bound.servers number breaks.link end breaks.link_is serves in
+        record {
+          host = was.host;
+          changes = was.changes;
+          stands = record { host_at = was.stands.host_at; list_at = was.stands.list_at };
+          serves = record {
+            said = was.serves.said;
+            dialogue = was.serves.dialogue;
+            numbered = was.serves.numbered;
+            answered = was.serves.answered;
+            input = was.serves.input;
+            wrote = was.serves.wrote;
+            whole = λ is. absurd (false≢true (sym is));
+            accepts = was.serves.accepts;
+            stored = was.serves.stored;
+            live = was.serves.live;
+          };
+        }
+
+    tried : (place : ℕ) → breaks.link.client ≡ Some place
+        → IsTried (record old { links = breaks.links }) lists number broken place
+    tried place client =
+        let was : IsTried old lists number breaks.link place = bound.clients number place breaks.link breaks.link_is client in
+        record {
+          attempt = was.attempt;
+          attempt_at = was.attempt_at;
+          its_link = was.its_link;
+          host = was.host;
+          changes = was.changes;
+          stands = record { host_at = was.stands.host_at; list_at = was.stands.list_at };
+          passes = record {
+            accept = was.passes.accept;
+            accepted = was.passes.accepted;
+            valid = was.passes.valid;
+            some = was.passes.some;
+            few = was.passes.few;
+            within = was.passes.within;
+            told = was.passes.told;
+            output = was.passes.output;
+            verdicts = was.passes.verdicts;
+            course = was.passes.course;
+            wrote = was.passes.wrote;
+            whole = λ is. absurd (false≢true (sym is));
+            fate = fate_broken was.host was.changes breaks.link was.attempt was.passes.accept was.passes.output was.passes.told
+                was.passes.verdicts was.attempt.fate (breaks.tried place was.attempt client was.attempt_at) was.passes.fate;
+          };
+        }

@@ -1,0 +1,72 @@
+-- Each place that has left has left for a cause, with the report that is due.
+use Rattle.std.proofs.Common.{◌≡◌, ℕ, zero, suc, ◌+◌, nat_le, Bool, true, false, List, [], ◌∷◌, ◌++◌, take, Some, refl, sym, subst, ap, cond}
+use Rattle.std.specs.Prelude.{slice_get}
+use Rattle.std.specs.Option.{is_some, option_map_or}
+use Rattle.std.proofs.lemmas.Bool.{false≢true, leb-true}
+use Rattle.std.proofs.lemmas.List.{append_assoc, append-nil}
+use Rattle.std.proofs.lemmas.Option.{same_Some}
+use Rattle.relay_book.specs.declared.change.Change.{Change}
+use Rattle.relay_book.specs.declared.change.Change.TheVariants as change
+use Rattle.relay_book.specs.declared.change.Verdict.{Verdict}
+use Rattle.relay_book.specs.declared.change.Verdict.TheVariants.{Taken, Refused, Later, CantSend, NoRoute}
+use Rattle.relay_book.specs.declared.fate.Way.{Way}
+use Rattle.relay_book.specs.declared.fate.Way.TheVariants.{ByTransfer, ByEnd}
+use Rattle.relay_book.specs.declared.fate.Fate.TheVariants.{Waits, Failed}
+use Rattle.relay_book.specs.DueReport.{fate_of, patience, way_of}
+use Rattle.relay_book.specs.Marks.{LeavesAt, change_at}
+use Rattle.relay_report.specs.Report.{Reported}
+use Rattle.relay_world.specs.Bound.{ReportsBehind}
+use Rattle.relay_world.specs.Custody.{HasCause, LeftFor, changes_before}
+
+abbrev is_end : Way → Bool
+is_end ByTransfer = false
+is_end ByEnd = true
+
+not_end : Some ByEnd ≡ Some ByTransfer → ⊥
+not_end same = false≢true (sym (ap (λ o. option_map_or is_end o false) same))
+
+not_transfer : Some ByTransfer ≡ Some ByEnd → ⊥
+not_transfer same = not_end (sym same)
+
+-- a place that is tried for too long has failed
+late : (accepted at : ℕ) (way : Way) (is : Bool) → nat_le (accepted + patience) at ≡ is
+    → way_of (cond is Failed Waits) ≡ Some way → HasCause accepted at way Later
+late accepted at ByTransfer true test leaves = not_end leaves
+late accepted at ByEnd true test leaves = leb-true (accepted + patience) at test
+late accepted at way false test leaves = absurd (false≢true (ap is_some leaves))
+
+has_cause : (accepted at : ℕ) (way : Way) (verdict : Verdict) → way_of (fate_of accepted at verdict) ≡ Some way
+    → HasCause accepted at way verdict
+has_cause accepted at ByTransfer (Taken dsn) leaves = tt
+has_cause accepted at ByEnd (Taken dsn) leaves = not_transfer leaves
+has_cause accepted at ByTransfer (Refused code text) leaves = not_end leaves
+has_cause accepted at ByEnd (Refused code text) leaves = tt
+has_cause accepted at way Later leaves = late accepted at way (nat_le (accepted + patience) at) refl leaves
+has_cause accepted at ByTransfer CantSend leaves = not_end leaves
+has_cause accepted at ByEnd CantSend leaves = tt
+has_cause accepted at ByTransfer NoRoute leaves = not_end leaves
+has_cause accepted at ByEnd NoRoute leaves = tt
+
+-- each change of a list has the report that is due behind those before it
+reported_at : (host : List ℕ) (front changes : List Change) (n : ℕ) (change : Change) → ReportsBehind host front changes
+    → slice_get changes n ≡ Some change → Reported host (front ++ take n changes) change
+reported_at host front [] n change all found = absurd (false≢true (ap is_some found))
+reported_at host front (first ∷ changes) zero change all found =
+    subst (λ l. Reported host l change) (sym (append-nil front))
+    (subst (λ c. Reported host front c) (same_Some first change found) all.0)
+reported_at host front (first ∷ changes) (suc n) change all found =
+    subst (λ l. Reported host l change) (append_assoc front (first ∷ []) (take n changes))
+    (reported_at host (front ++ first ∷ []) changes n change all.1 found)
+
+reported_by : (host : List ℕ) (changes : List Change) (at : ℕ) (change : Change) → ReportsBehind host [] changes
+    → change_at changes at ≡ Some change → Reported host (changes_before at changes) change
+reported_by host changes zero change all found = absurd (false≢true (ap is_some found))
+reported_by host changes (suc n) change all found = reported_at host [] changes n change all found
+
+pub left_for : (host : List ℕ) (changes : List Change) (at number place : ℕ) (way : Way) → ReportsBehind host [] changes
+    → LeavesAt changes at number place way → LeftFor host changes at number place way
+left_for host changes at number place way all leaves = record {
+  leaves = leaves;
+  cause = has_cause leaves.accept.at leaves.outcome.at way leaves.verdict leaves.leaves;
+  reported = reported_by host changes at (change.Outcome leaves.outcome) all leaves.change;
+}

@@ -1,0 +1,234 @@
+-- What ties the values of two relays together: each node to its list of changes, each end of a link to what it has read and
+-- written, and the ledger to the lists of changes.
+use Rattle.std.specs.Prelude.{◌≡◌, ◌⊎◌, ℕ, ◌≤◌, Bool, true, false, List, [], ◌∷◌, ◌++◌, length, map, take, Option, Some, None, slice_get}
+use Rattle.std.specs.List.{AllByRecursion}
+use Rattle.relay_octets.specs.Beginning.{Begins}
+use Rattle.relay_disk.specs.Device.{DiskWords}
+use Rattle.relay_spool.specs.Spool.{EveryImageHas}
+use Rattle.relay_routes.specs.declared.config.Config.{Config}
+use Rattle.relay_server.specs.Dialogue.{IsDialogue, Offered, Said}
+use Rattle.relay_server.specs.DialogueLaws.{AreNumbered}
+use Rattle.relay_server.specs.Setup.{setup_of_config}
+use Rattle.relay_book.specs.declared.change.Accept.{Accept}
+use Rattle.relay_book.specs.declared.change.Change.{Change}
+use Rattle.relay_book.specs.declared.change.Change.TheVariants as change
+use Rattle.relay_book.specs.declared.change.Verdict.{Verdict}
+use Rattle.relay_book.specs.Marks.{change_at, message_at}
+use Rattle.relay_book.specs.Queue.{Fitting}
+use Rattle.relay_book.specs.Record.{IsAccept, encode}
+use Rattle.relay_records.specs.Records.{Keeps, StandsForOrWith}
+use Rattle.relay_report.specs.Report.{Reported}
+use Rattle.relay_course.specs.Course.{IsCourse}
+use Rattle.relay_course.specs.Laws.{AreWithin}
+use Rattle.relay_attempts.specs.Outcomes.{outcome_of, rulings_of}
+use Rattle.relay_attempts.specs.Reply.{Told}
+use Rattle.relay_outcomes.specs.Outcomes.{reported_as}
+use Rattle.relay_node.specs.Acceptance.{IsAcceptOf, acceptance_by}
+use Rattle.relay_node.specs.Attempts.{Tells}
+use Rattle.relay_node.specs.Node.{SaysAt, Standing}
+use Rattle.relay_node.specs.Queued.{queued_in}
+use Rattle.relay_world.specs.declared.attempt.Attempt.{Attempt}
+use Rattle.relay_world.specs.declared.attempt.Fate.{Fate}
+use Rattle.relay_world.specs.declared.attempt.Fate.TheVariants.{Running, Replied, Lost, Dropped}
+use Rattle.relay_world.specs.declared.line.Line.{Line}
+use Rattle.relay_world.specs.declared.line.Line.TheVariants.{Accepted, Left}
+use Rattle.relay_world.specs.declared.link.Link.{Link}
+use Rattle.relay_world.specs.declared.link.ServerEnd.{ServerEnd}
+use Rattle.relay_world.specs.Ledger.{accepts_on, steps_in, steps_of}
+use Rattle.relay_world.specs.World.{Down, Holder, Host, Undecided, Up, World, link_at}
+
+-- the records are those of this list of changes
+pub record IsListOf (records : List (List ℕ)) (changes : List Change) : Type 0 where
+  pub fitting : Fitting changes
+  pub records_are : records ≡ map encode changes
+
+-- each outcome of the changes behind these has the report that is due of it, and none where none is due
+abbrev pub ReportsBehind : List ℕ → List Change → List Change → Type 0
+ReportsBehind host front [] = Unit {0}
+ReportsBehind host front (change ∷ changes) = Reported host front change × ReportsBehind host (front ++ change ∷ []) changes
+
+-- the change that the next opening decides has this record
+abbrev pub IsUndecided : Option Undecided → Change → Type 0
+IsUndecided None change = ⊥
+IsUndecided (Some undecided) change = undecided.octets ≡ encode change
+
+-- the bodies stand for these changes, or for these and the undecided one
+abbrev pub StandsForUnlessDecided : List Change → Option Undecided → List (List ℕ) → Type 0
+StandsForUnlessDecided changes undecided bodies =
+    StandsForOrWith changes None bodies
+    ⊎ ((change : Change) × IsUndecided undecided change × StandsForOrWith changes (Some change) bodies)
+
+module _ {D : Type 0} (honest : Type 0) (words : DiskWords D) where
+  -- a node that is up runs by this configuration, and keeps these changes
+  pub record NodeKeeps (config : Config) (node : Standing D) (changes : List Change) : Type 0 where
+    pub config_is : node.config ≡ config
+    pub keeps : Keeps honest words node.records changes
+
+  -- so it does; or it is down, and a stop leaves the changes, or them and the undecided one
+  abbrev pub HolderKeeps : Config → Holder D → List Change → Type 0
+  HolderKeeps config (Up node) changes = NodeKeeps config node changes
+  HolderKeeps config (Down disk undecided) changes =
+      honest → EveryImageHas words disk (StandsForUnlessDecided changes undecided)
+
+  -- the node keeps these changes, which are those of its records
+  pub record HostKeeps (host : Host D) (changes : List Change) : Type 0 where
+    pub list : IsListOf host.records changes
+    pub holds : HolderKeeps host.config host.holder changes
+    pub reports : ReportsBehind host.config.host [] changes
+
+-- a node that is up has this session, which stands behind what was said
+abbrev pub SaysThere : {D : Type 0} → Host D → Option ℕ → List ℕ → Said → Type 0
+SaysThere {D} host None peer said = Unit {0}
+SaysThere {D} host (Some session) peer said =
+    (node : Standing D) × (host.holder ≡ Up node) × SaysAt host.config node.seats session peer said
+
+-- the change of this number accepts the offer, from this address
+pub record IsStoredAs (config : Config) (peer : List ℕ) (changes : List Change) (number : ℕ) (offer : Offered) : Type 0 where
+  pub accept : Accept
+  pub found : change_at changes number ≡ Some (change.Accept accept)
+  pub at : ℕ
+  pub is : IsAcceptOf (acceptance_by config peer number at) offer accept
+
+-- the same of a queued offer and its number
+abbrev pub IsStored : Config → List ℕ → List Change → ℕ × Offered → Type 0
+IsStored config peer changes one = IsStoredAs config peer changes one.0 one.1
+
+-- The server end of the link of a number, at a node that keeps these changes: what it has read and written is a dialogue, and
+-- where the link is whole all of it was written; the accepts on the link are the queued offers, in order, and each is stored.
+pub record ServesLink {D : Type 0} (host : Host D) (changes : List Change) (ledger : List Line) (number : ℕ) (link : Link)
+    (end : ServerEnd) : Type 0 where
+  pub said : Said
+  pub dialogue : IsDialogue (setup_of_config host.config) said
+  pub numbered : AreNumbered said.answers
+  pub answered : length said.answers ≡ length said.offers
+  pub input : said.input ≡ take link.up_read link.up
+  pub wrote : Begins link.down said.output
+  pub whole : link.broken ≡ false → link.down ≡ said.output
+  pub accepts : accepts_on number ledger ≡ map (λ one. (one.0, length one.1.envelope.recipients)) (queued_in said)
+  pub stored : AllByRecursion (IsStored host.config end.peer changes) (queued_in said)
+  pub live : SaysThere host end.session end.peer said
+
+-- what is told of an attempt
+abbrev pub told_by : Attempt → Accept → List ℕ → List ℕ → Told
+told_by attempt accept input output = record {
+  message = attempt.message;
+  hop = attempt.hop;
+  places = attempt.places.items;
+  envelope = accept.envelope;
+  text = accept.stored_text;
+  input = input;
+  output = output;
+}
+
+-- the change of this number is the attempt's outcome, of these verdicts
+pub record IsItsOutcome (attempt : Attempt) (verdicts : List Verdict) (changes : List Change) (number : ℕ) : Type 0 where
+  pub at : ℕ
+  pub report : List ℕ
+  pub found : change_at changes number
+      ≡ Some (reported_as (outcome_of attempt.message at attempt.hop (rulings_of attempt.places.items verdicts)) report)
+
+-- what became of an attempt, which was told of a loss or not, and has these verdicts or none yet
+abbrev pub HasFate
+    : {D : Type 0} → Host D → List Change → Link → Attempt → Accept → List ℕ → Bool → Option (List Verdict) → Fate → Type 0
+HasFate {D} host changes link attempt accept output told verdicts (Running slot) =
+    (told ≡ false) × (verdicts ≡ None) × (link.broken ≡ false)
+    × ((node : Standing D) × (host.holder ≡ Up node)
+    × Tells host.config.host changes node.attempts slot (told_by attempt accept (take link.down_read link.down) output))
+HasFate host changes link attempt accept output told verdicts (Replied number) =
+    (told ≡ false) × ((all : List Verdict) × (verdicts ≡ Some all) × IsItsOutcome attempt all changes number)
+HasFate host changes link attempt accept output told verdicts (Lost number) =
+    (told ≡ true) × ((all : List Verdict) × (verdicts ≡ Some all) × IsItsOutcome attempt all changes number)
+HasFate host changes link attempt accept output told verdicts Dropped = (told ≡ false) × (verdicts ≡ None)
+
+-- The client end of a link, by an attempt of a node that keeps these changes: what it has read and written is the course of the
+-- message, as it was accepted, for 1 to 100 of its places; where the link is whole all of it was written.
+pub record PassesOn {D : Type 0} (host : Host D) (changes : List Change) (link : Link) (attempt : Attempt) : Type 0 where
+  pub accept : Accept
+  pub accepted : message_at changes attempt.message ≡ Some accept
+  pub valid : IsAccept accept
+  pub some : 1 ≤ length attempt.places.items
+  pub few : length attempt.places.items ≤ 100
+  pub within : AreWithin attempt.places.items accept.envelope.recipients
+  pub told : Bool
+  pub output : List ℕ
+  pub verdicts : Option (List Verdict)
+  pub course : IsCourse host.config.host accept.envelope accept.stored_text attempt.places.items
+      (take link.down_read link.down) told output verdicts
+  pub wrote : Begins link.up output
+  pub whole : link.broken ≡ false → link.up ≡ output
+  pub fate : HasFate host changes link attempt accept output told verdicts attempt.fate
+
+-- a node of this place, with its list of changes
+pub record StandsAt {D : Type 0} (world : World D) (lists : List (List Change)) (node : ℕ) (host : Host D)
+    (changes : List Change) : Type 0 where
+  pub host_at : slice_get world.hosts node ≡ Some host
+  pub list_at : slice_get lists node ≡ Some changes
+
+-- the link's server end is at a node that serves it
+pub record IsServed {D : Type 0} (world : World D) (lists : List (List Change)) (number : ℕ) (link : Link) (end : ServerEnd)
+    : Type 0 where
+  pub host : Host D
+  pub changes : List Change
+  pub stands : StandsAt world lists end.node host changes
+  pub serves : ServesLink host changes world.ledger number link end
+
+-- the link's client end is an attempt of a node, at this place among the attempts
+pub record IsTried {D : Type 0} (world : World D) (lists : List (List Change)) (number : ℕ) (link : Link) (place : ℕ)
+    : Type 0 where
+  pub attempt : Attempt
+  pub attempt_at : slice_get world.attempts place ≡ Some attempt
+  pub its_link : attempt.link ≡ number
+  pub host : Host D
+  pub changes : List Change
+  pub stands : StandsAt world lists attempt.node host changes
+  pub passes : PassesOn host changes link attempt
+
+-- each end has read no more than the other wrote
+pub record ReadsWithin (link : Link) : Type 0 where
+  pub up : link.up_read ≤ length link.up
+  pub down : link.down_read ≤ length link.down
+
+-- the number of the link that a line tells of
+abbrev pub link_of : Line → ℕ
+link_of (Accepted node number places link) = link
+link_of (Left way node number place link report) = link
+
+-- the link's server end is a session of this number at this node, which goes on
+pub record HasSession (link : Link) (node session : ℕ) : Type 0 where
+  pub end : ServerEnd
+  pub serves : link.server ≡ Some end
+  pub its_node : end.node ≡ node
+  pub its_session : end.session ≡ Some session
+
+-- the attempt runs under this number at this node
+pub record HasSlot (attempt : Attempt) (node slot : ℕ) : Type 0 where
+  pub its_node : attempt.node ≡ node
+  pub runs : attempt.fate ≡ Running slot
+
+-- the attempt at this place has its link
+pub record HasLink (links : List Link) (place : ℕ) (attempt : Attempt) : Type 0 where
+  pub link : Link
+  pub is_there : link_at links attempt.link ≡ Some link
+  pub client : link.client ≡ Some place
+
+-- the nodes keep these lists of changes, and the links and the ledger are theirs
+pub record IsBound {D : Type 0} (honest : Type 0) (words : DiskWords D) (world : World D) (lists : List (List Change))
+    : Type 0 where
+  pub even : length lists ≡ length world.hosts
+  pub hosts : (node : ℕ) (host : Host D) (changes : List Change) → StandsAt world lists node host changes
+      → HostKeeps honest words host changes
+  pub servers : (number : ℕ) (link : Link) (end : ServerEnd) → link_at world.links number ≡ Some link
+      → link.server ≡ Some end → IsServed world lists number link end
+  pub clients : (number place : ℕ) (link : Link) → link_at world.links number ≡ Some link → link.client ≡ Some place
+      → IsTried world lists number link place
+  pub attempts : (place : ℕ) (attempt : Attempt) → slice_get world.attempts place ≡ Some attempt
+      → HasLink world.links place attempt
+  pub reads : (number : ℕ) (link : Link) → link_at world.links number ≡ Some link → ReadsWithin link
+  pub ledger : (node : ℕ) (changes : List Change) → slice_get lists node ≡ Some changes
+      → steps_in node world.ledger ≡ steps_of changes
+  pub lines : AllByRecursion (λ line. link_of line ≤ length world.links) world.ledger
+  -- a session is one link's, and the number of an attempt one attempt's
+  pub sessions : (one other : ℕ) (link others : Link) (node session : ℕ) → link_at world.links one ≡ Some link
+      → link_at world.links other ≡ Some others → HasSession link node session → HasSession others node session → one ≡ other
+  pub slots : (one other : ℕ) (attempt others : Attempt) (node slot : ℕ) → slice_get world.attempts one ≡ Some attempt
+      → slice_get world.attempts other ≡ Some others → HasSlot attempt node slot → HasSlot others node slot → one ≡ other

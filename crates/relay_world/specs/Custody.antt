@@ -1,0 +1,97 @@
+-- Custody of each recipient that a node acknowledged (RFC 5321, section 6.1): it is held, or the next hop has taken it, or it has
+-- ended for a cause, and then the report that is due was queued in the same change.
+use Rattle.std.specs.Prelude.{◌≡◌, ◌↔◌, ℕ, zero, suc, ◌+◌, ◌<◌, ◌≤◌, List, [], ◌∷◌, ◌++◌, length, take, Some, slice_get}
+use Rattle.std.specs.List.{Contains}
+use Rattle.relay_octets.specs.Beginning.{Begins}
+use Rattle.relay_disk.specs.Device.{DiskWords}
+use Rattle.relay_spool.specs.Spool.{EveryImageHas}
+use Rattle.relay_server.specs.declared.offer.Answer.{Answer}
+use Rattle.relay_server.specs.declared.offer.Answer.TheVariants.{Queued}
+use Rattle.relay_server.specs.Dialogue.{IsDialogue, Offered, Said}
+use Rattle.relay_server.specs.Setup.{setup_of_config}
+use Rattle.relay_book.specs.declared.change.Change.{Change}
+use Rattle.relay_book.specs.declared.change.Change.TheVariants as change
+use Rattle.relay_book.specs.declared.change.Verdict.{Verdict}
+use Rattle.relay_book.specs.declared.change.Verdict.TheVariants.{Taken, Refused, Later, CantSend, NoRoute}
+use Rattle.relay_book.specs.declared.fate.Way.{Way}
+use Rattle.relay_book.specs.declared.fate.Way.TheVariants.{ByTransfer, ByEnd}
+use Rattle.relay_book.specs.DueReport.{patience}
+use Rattle.relay_book.specs.Marks.{Added, Ended, Held, IsOneOf, LeavesAt, Transferred}
+use Rattle.relay_book.specs.Queue.{held_of}
+use Rattle.relay_book.specs.StandsFor.{StandsFor}
+use Rattle.relay_node.specs.Node.{Standing}
+use Rattle.relay_report.specs.Report.{Reported}
+use Rattle.relay_world.specs.declared.link.Link.{Link}
+use Rattle.relay_world.specs.declared.link.ServerEnd.{ServerEnd}
+use Rattle.relay_world.specs.Bound.{IsBound, StandsAt}
+use Rattle.relay_world.specs.World.{Host, Up, World, link_at}
+
+-- The node wrote on a link that a message of so many places is queued under this number: a dialogue with what it has read there,
+-- all of whose output was written, ends with that answer.
+pub record Acknowledged {D : Type 0} (world : World D) (node number places : ℕ) : Type 0 where
+  pub on : ℕ
+  pub link : Link
+  pub is_there : link_at world.links on ≡ Some link
+  pub end : ServerEnd
+  pub serves : link.server ≡ Some end
+  pub its_node : end.node ≡ node
+  pub host : Host D
+  pub found : slice_get world.hosts node ≡ Some host
+  pub said : Said
+  pub dialogue : IsDialogue (setup_of_config host.config) said
+  pub was_read : Begins said.input (take link.up_read link.up)
+  pub written : Begins said.output link.down
+  pub answers : List Answer
+  pub last_answer : said.answers ≡ answers ++ Queued number ∷ []
+  pub offers : List Offered
+  pub offer : Offered
+  pub last_offer : said.offers ≡ offers ++ offer ∷ []
+  pub each : length answers ≡ length offers
+  pub places_are : places ≡ length offer.envelope.recipients
+
+-- why a place that was accepted at one moment leaves at another in this way by a verdict: it was taken; or it was refused, can't
+-- be sent, has no hop, or was tried for too long
+abbrev pub HasCause : ℕ → ℕ → Way → Verdict → Type 0
+HasCause accepted at ByTransfer (Taken dsn) = Unit {0}
+HasCause accepted at ByTransfer _ = ⊥
+HasCause accepted at ByEnd (Taken dsn) = ⊥
+HasCause accepted at ByEnd (Refused code text) = Unit {0}
+HasCause accepted at ByEnd Later = accepted + patience ≤ at
+HasCause accepted at ByEnd CantSend = Unit {0}
+HasCause accepted at ByEnd NoRoute = Unit {0}
+
+-- the changes before that of this number
+abbrev pub changes_before : ℕ → List Change → List Change
+changes_before zero changes = []
+changes_before (suc n) changes = take n changes
+
+-- A place has left by the change of this number for a cause, and that change has the report that is due of it.
+pub record LeftFor (host : List ℕ) (changes : List Change) (at number place : ℕ) (way : Way) : Type 0 where
+  pub leaves : LeavesAt changes at number place way
+  pub cause : HasCause leaves.accept.at leaves.outcome.at way leaves.verdict
+  pub reported : Reported host (changes_before at changes) (change.Outcome leaves.outcome)
+
+-- What a bound world keeps of the recipients of each node.
+pub record KeepsCustody {D : Type 0} (honest : Type 0) (words : DiskWords D) (world : World D) (node : ℕ) (host : Host D)
+    (changes : List Change) : Type 0 where
+  -- each recipient that was acknowledged was added
+  pub acknowledged : (number places place : ℕ) → Acknowledged world node number places → place < places
+      → Added changes number place
+  -- each that was added is held, was transferred or has ended, and only one of these
+  pub one_of : (number place : ℕ) → Added changes number place
+      → IsOneOf (Held changes number place) (Transferred changes number place) (Ended changes number place)
+  -- a node that is up has just those in its queue that are held, and so has every image that a stop may leave
+  pub held : (standing : Standing D) → host.holder ≡ Up standing → (number place : ℕ)
+      → Contains {X = ℕ × ℕ} (held_of standing.records.queue) (number, place) ↔ Held changes number place
+  pub images : honest → (standing : Standing D) → host.holder ≡ Up standing
+      → EveryImageHas words standing.records.spool.disk (λ bodies. StandsFor bodies changes)
+  -- each that has left has left for a cause, with the report that is due
+  pub left : (at number place : ℕ) (way : Way) → LeavesAt changes at number place way
+      → LeftFor host.config.host changes at number place way
+
+-- Custody is kept by each node of a bound world.
+abbrev pub CustodyIsKept : {D : Type 0} → Type 0 → DiskWords D → Type 0
+CustodyIsKept {D} honest words =
+    (world : World D) (lists : List (List Change)) → IsBound honest words world lists
+    → (node : ℕ) (host : Host D) (changes : List Change) → StandsAt world lists node host changes
+    → KeepsCustody honest words world node host changes

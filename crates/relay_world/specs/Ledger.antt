@@ -1,0 +1,55 @@
+-- The ledger of a run: what each change of a node's list makes of the custody of mail, in order.
+use Rattle.std.specs.Prelude.{ℕ, suc, nat_eq, List, [], ◌∷◌, ◌++◌, length, map, if◌then◌else◌}
+use Rattle.std.specs.List.{flat_map}
+use Rattle.relay_book.specs.declared.change.Change.{Change}
+use Rattle.relay_book.specs.declared.change.Change.TheVariants.{Accept, Outcome}
+use Rattle.relay_book.specs.declared.fate.Way.{Way}
+use Rattle.relay_book.specs.Marks.{leaving}
+use Rattle.relay_world.specs.declared.line.Line.{Line}
+use Rattle.relay_world.specs.declared.line.Line.TheVariants.{Accepted, Left}
+
+-- a message was accepted with so many places; or a place of a message left, and a report was queued under this number (0: none)
+pub data Step : Type 0 where
+  Accepts : (number places : ℕ) → Step
+  Leaves : (way : Way) (number place report : ℕ) → Step
+
+-- the number of the change where it queues a report, and else 0
+abbrev pub report_number : ℕ → List ℕ → ℕ
+report_number number [] = 0
+report_number number (octet ∷ report) = number
+
+-- the steps of a change behind these
+abbrev pub steps_by : List Change → Change → List Step
+steps_by changes (Accept accept) = Accepts (suc (length changes)) (length accept.envelope.recipients) ∷ []
+steps_by changes (Outcome outcome) =
+    map (λ one. Leaves one.1 outcome.message one.0 (report_number (suc (length changes)) outcome.report))
+    (leaving changes (Outcome outcome))
+
+-- the steps of changes behind these
+abbrev pub steps_behind : List Change → List Change → List Step
+steps_behind front [] = []
+steps_behind front (change ∷ changes) = steps_by front change ++ steps_behind (front ++ change ∷ []) changes
+
+-- the steps of a list of changes, in order
+abbrev pub steps_of : List Change → List Step
+steps_of changes = steps_behind [] changes
+
+-- the step that a line of a node tells of
+abbrev pub if_of_node : ℕ → Line → List Step
+if_of_node node (Accepted other number places link) =
+    if nat_eq other node then Accepts number places ∷ [] else []
+if_of_node node (Left way other number place link report) =
+    if nat_eq other node then Leaves way number place report ∷ [] else []
+
+-- the steps that a ledger tells of a node
+abbrev pub steps_in : ℕ → List Line → List Step
+steps_in node ledger = flat_map (if_of_node node) ledger
+
+-- the accept that a line tells of, on a link: its number, and how many places
+abbrev pub if_accepted_on : ℕ → Line → List (ℕ × ℕ)
+if_accepted_on link (Accepted node number places other) = if nat_eq other link then (number, places) ∷ [] else []
+if_accepted_on link (Left way node number place other report) = []
+
+-- the accepts on a link, in order
+abbrev pub accepts_on : ℕ → List Line → List (ℕ × ℕ)
+accepts_on link ledger = flat_map (if_accepted_on link) ledger

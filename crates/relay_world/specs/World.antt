@@ -1,0 +1,37 @@
+-- Two relays and the links between them, as they stand: what each node keeps, what each end of a link has written and read, the
+-- attempts, and the ledger.
+use Rattle.std.specs.Prelude.{ℕ, suc, zero, List, Option, None, slice_get}
+use Rattle.relay_routes.specs.declared.config.Config.{Config}
+use Rattle.relay_node.specs.Node.{Standing}
+use Rattle.relay_world.specs.declared.attempt.Attempt.{Attempt}
+use Rattle.relay_world.specs.declared.line.Line.{Line}
+use Rattle.relay_world.specs.declared.link.Link.{Link}
+
+-- the note of an append that a stop left open: the record, and how many octets of its piece the call had used
+pub record Undecided : Type 0 where
+  pub octets : List ℕ
+  pub used : ℕ
+
+-- a node is up, or it is down: then it is its disk, and perhaps a change that its next opening decides
+pub data Holder (D : Type 0) : Type 0 where
+  Up : Standing D → Holder D
+  Down : D → Option Undecided → Holder D
+
+-- a node: its configuration, itself, and the records of its changes, of which the notes told, in order
+pub record Host (D : Type 0) : Type 0 where
+  pub config : Config
+  pub holder : Holder D
+  pub records : List (List ℕ)
+
+-- all of it, at a moment of its clock
+pub record World (D : Type 0) : Type 0 where
+  pub hosts : List (Host D)
+  pub links : List Link
+  pub attempts : List Attempt
+  pub ledger : List Line
+  pub clock : ℕ
+
+-- the link of a number; they count from 1
+abbrev pub link_at : List Link → ℕ → Option Link
+link_at links zero = None
+link_at links (suc n) = slice_get links n
