@@ -1,2 +1,3 @@
 mod LineLemmas
+mod SearchLemmas
 pub mod Theorems
