@@ -17,7 +17,6 @@ pub fn encode_change(alloc: Global, change: &Change) -> Result<Vec<u8>, AllocErr
     let mut out = Vec::new(alloc);
     match change {
         Change::Accept(accept) => {
-            out.reserve_exact(accept.stored_text.len())?;
             push_1(&mut out, 1)?;
             push_accept(&mut out, accept)?;
         }
