@@ -10,7 +10,7 @@ use Rattle.relay_body.specs.declared.chunk_reader.Stage.{Stage}
 use Rattle.relay_body.specs.declared.chunk_reader.Stage.TheVariants.{Awaits, Failed}
 use Rattle.relay_body.specs.declared.chunk_reader.ChunkReader.{ChunkReader}
 use Rattle.relay_body.specs.Gathering.{kept_of}
-use Rattle.relay_body.specs.ChunkText.{Chunk, HasNoMemory, EachReaderWasGivenChunks, IsWhole, AreWhole, octets_of, content_of_chunks, with_octets, IsFed, IsInChunk, joined, ChunksHaveMemory, CuttingSaysNothing, NoMoreThanItsSize, SizesCutOnce, WholeIsBetween, WholeIsOneMore}
+use Rattle.relay_body.specs.ChunkText.{Chunk, HasNoMemory, EachReaderWasGivenChunks, IsWhole, octets_of, content_of_chunks, with_octets, IsFed, IsInChunk, joined, ChunksHaveMemory, CuttingSaysNothing, NoMoreThanItsSize, SizesCutOnce, WholeIsBetween, WholeIsOneMore}
 
 pub whole_is_between : WholeIsBetween
 whole_is_between reader limit chunks chunk inside = (

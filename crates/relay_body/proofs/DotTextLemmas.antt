@@ -248,12 +248,12 @@ nothing_ends_so (one ∷ next ∷ third ∷ more) none ends =
     absurd (cc)
 
 -- any octets are lines, and then a part of one
-record Splits (octets : List ℕ) : Type 0 where
-  lines : List (List ℕ)
-  part : List ℕ
-  each : AreLines lines
-  none : HasNoCrlf part
-  octets_are : octets ≡ lines_text lines ++ part
+pub record Splits (octets : List ℕ) : Type 0 where
+  pub lines : List (List ℕ)
+  pub part : List ℕ
+  pub each : AreLines lines
+  pub none : HasNoCrlf part
+  pub octets_are : octets ≡ lines_text lines ++ part
 
 -- an octet before octets that begin with no LF behind a CR
 no_crlf_more : (octet next : ℕ) (octets more : List ℕ) → octet == 13 && next == 10 ≡ false
@@ -284,7 +284,7 @@ split_more octet next more apart (line ∷ lines) part each none e = record {
   octets_are = ap (λ l. octet ∷ l) e;
 }
 
-splits : (octets : List ℕ) → Splits octets
+pub splits : (octets : List ℕ) → Splits octets
 splits [] = record { lines = []; part = []; each = tt; none = no_crlf_nil; octets_are = refl }
 splits (octet ∷ []) =
     record { lines = []; part = octet ∷ []; each = tt; none = no_crlf_one octet; octets_are = refl }

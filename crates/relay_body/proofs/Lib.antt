@@ -2,6 +2,7 @@ mod DotTextLemmas
 mod ReadingLemmas
 mod WritingLemmas
 mod RunLemmas
+mod RunReadingLemmas
 mod ChunkLemmas
 mod PlainLemmas
 pub mod Theorems

@@ -1,11 +1,11 @@
 -- What a reader has in hand, phase by phase, behind the octets that it uses.
-use Rattle.std.proofs.Common.{◌≡◌, ◌≢◌, ℕ, suc, ◌+◌, ◌-◌, ◌<◌, ◌≤◌, Bool, true, false, ◌&&◌, ◌==◌, if◌then◌else◌, List, [], ◌∷◌, ◌++◌, length, map, take, drop, get_or, refl, sym, ap, subst, ◌∙◌, arith, append_assoc, length-append, eq-eqb}
+use Rattle.std.proofs.Common.{◌≡◌, ◌≢◌, ℕ, suc, ◌+◌, ◌-◌, ◌<◌, Bool, true, false, ◌&&◌, ◌==◌, if◌then◌else◌, List, [], ◌∷◌, ◌++◌, length, map, take, drop, get_or, refl, sym, ap, subst, ◌∙◌, arith, append_assoc, eq-eqb}
 use Rattle.std.proofs.SliceLists.{all_by_recursion_push}
-use Rattle.std.proofs.lemmas.List.{append-nil, map_push, flat_map_more, take_at, take_all, length-take-le, take-take, drop-take, take-append-drop, take_rest}
+use Rattle.std.proofs.lemmas.List.{append-nil, map_push, flat_map_more, take_all, take-take, drop-take, take-append-drop, take_rest}
 use Rattle.std.proofs.lemmas.Bool.{eqb-true, false≢true, ne_eqb}
-use Rattle.relay_octets.specs.Line.{crlf, HasNoCrlf, ReadsLine, line_text, lines_text, ends_in_cr, begins_with_lf}
+use Rattle.relay_octets.specs.Line.{crlf, HasNoCrlf, line_text, lines_text, ends_in_cr, begins_with_lf}
 use Rattle.relay_octets.proofs.Theorems.{no_crlf_joined, no_crlf_one, no_crlf_front}
-use Rattle.relay_body.specs.DotText.{end_of_data, IsTextLine, AreTextLines, without_period, content_of}
+use Rattle.relay_body.specs.DotText.{end_of_data, IsTextLine, without_period, content_of}
 use Rattle.relay_body.specs.Gathering.{KeepsContent}
 use Rattle.relay_body.specs.DotReading.{BeginsTextLine, IsPart, IsReading, HasRead, HasUsed, Uses, Feeds}
 use Rattle.relay_body.specs.DotSteps.{begins_with_period, RunsOn, phase_behind}
@@ -21,7 +21,7 @@ pub lines_text-more : (lines : List (List ℕ)) (line : List ℕ)
 lines_text-more lines line = flat_map_more line_text [] lines line
 
 -- the content of one line more
-content_of-more : (lines : List (List ℕ)) (line : List ℕ)
+pub content_of-more : (lines : List (List ℕ)) (line : List ℕ)
     → content_of lines ++ (without_period line ++ crlf) ≡ content_of (lines ++ line ∷ [])
 content_of-more lines line =
     lines_text-more (map without_period lines) (without_period line)
@@ -130,7 +130,7 @@ no_end_begins (octet ∷ used) none some rest e =
     false≢true (sym none ∙ eq-eqb octet 46 same)
 
 -- where what comes next runs on, a part of it does
-runs_front : (phase : Phase) (front back : List ℕ) → RunsOn phase (front ++ back)
+pub runs_front : (phase : Phase) (front back : List ℕ) → RunsOn phase (front ++ back)
     → RunsOn phase front
 runs_front LineStart front back runs = begins_with_period-front front back runs
 runs_front Within front back runs = tt
@@ -141,7 +141,7 @@ runs_front Done front back runs = absurd runs
 runs_front Failed front back runs = absurd runs
 
 -- what runs on is content, but for a period that was taken off before it
-run_content : (phase : Phase) (part content run : List ℕ) → RunsOn phase run
+pub run_content : (phase : Phase) (part content run : List ℕ) → RunsOn phase run
     → IsPart phase part content → content ++ run ≡ without_period (part ++ run)
 run_content LineStart part content run runs is =
     ap (λ c. c ++ run) is.1 ∙ sym (without_period-none run runs)
@@ -155,7 +155,7 @@ run_content Done part content run runs is = absurd runs
 run_content Failed part content run runs is = absurd runs
 
 -- it makes no CR LF where it has none
-run_has_no_crlf : (phase : Phase) (part content run : List ℕ) → RunsOn phase run
+pub run_has_no_crlf : (phase : Phase) (part content run : List ℕ) → RunsOn phase run
     → IsPart phase part content → HasNoCrlf run → HasNoCrlf (part ++ run)
 run_has_no_crlf LineStart part content run runs is none =
     subst (λ (p : List ℕ). HasNoCrlf (p ++ run)) (sym is.0) none
@@ -168,7 +168,7 @@ run_has_no_crlf Done part content run runs is none = absurd runs
 run_has_no_crlf Failed part content run runs is none = absurd runs
 
 -- and the line isn't the end of mail data
-run_is_no_end : (phase : Phase) (part content used : List ℕ) → RunsOn phase used
+pub run_is_no_end : (phase : Phase) (part content used : List ℕ) → RunsOn phase used
     → IsPart phase part content → 0 < length used → (rest : List ℕ)
     → end_of_data ≢ part ++ used ++ rest
 run_is_no_end LineStart part content used runs is some rest e =
@@ -181,58 +181,8 @@ run_is_no_end WithinCr part content used runs is some rest e = absurd runs
 run_is_no_end Done part content used runs is some rest e = absurd runs
 run_is_no_end Failed part content used runs is some rest e = absurd runs
 
--- the octets through the first CR LF
-pub taken_through : (rest : List ℕ) (place : ℕ) → place + 2 ≤ length rest
-    → ReadsLine rest (take place rest) (drop (place + 2) rest)
-    → take (place + 2) rest ≡ take place rest ++ crlf
-taken_through rest place fits reads =
-    let long =
-    length-append (take place rest) crlf
-    ∙ ap (λ n. n + 2) (length-take-le place rest (omega arith)) in
-    ap (take (place + 2)) reads.text
-    ∙ take_at (take place rest ++ crlf) (drop (place + 2) rest) (place + 2) long
-
--- a run through a CR LF ends the line
-pub run_ends_line : (old : DotReader) (gathering : Gathering) (rest : List ℕ) (place : ℕ)
-    → RunsOn old.phase rest → place + 2 ≤ length rest
-    → ReadsLine rest (take place rest) (drop (place + 2) rest)
-    →
-    ((limit : ℕ) (content : List ℕ) → KeepsContent old.gathering limit content → KeepsContent gathering limit (content ++ take (place + 2) rest))
-    → Uses old (record { phase = LineStart; gathering = gathering }) (take (place + 2) rest) false
-run_ends_line old gathering rest place runs fits reads keeps =
-    let run = take place rest in
-    let through : take (place + 2) rest ≡ run ++ crlf = taken_through rest place fits reads in
-    let all : rest ≡ run ++ (crlf ++ drop (place + 2) rest) =
-    reads.text ∙ append_assoc run crlf (drop (place + 2) rest) in
-    let run_runs =
-    runs_front old.phase run (crlf ++ drop (place + 2) rest)
-    (subst (λ (r : List ℕ). RunsOn old.phase r) all runs) in
-    let used_runs =
-    runs_front old.phase (run ++ crlf) (drop (place + 2) rest)
-    (subst (λ (r : List ℕ). RunsOn old.phase r) reads.text runs) in
-    record {
-      stands = λ limit before reading.
-          let text_line : IsTextLine (reading.part ++ run) = record {
-            no_crlf =
-                run_has_no_crlf old.phase reading.part reading.content run run_runs reading.part_is reads.first;
-            not_end = λ e.
-                let long = length-append run crlf in
-                run_is_no_end old.phase reading.part reading.content
-                (run ++ crlf) used_runs reading.part_is (omega (arith, long)) []
-                (ap (λ l. l ++ crlf) (sym e) ∙ append_assoc reading.part run crlf ∙ sym (append-nil (reading.part ++ (run ++ crlf))));
-          } in
-          let joined = ap (λ u. reading.part ++ u) through ∙ sym (append_assoc reading.part run crlf) in
-          let content =
-          ap (λ u. reading.content ++ u) through ∙ sym (append_assoc reading.content run crlf)
-          ∙ ap (λ c. c ++ crlf)
-          (run_content old.phase reading.part reading.content run run_runs reading.part_is) in
-          line_ends old gathering limit before (reading.part ++ run) (take (place + 2) rest)
-          (take (place + 2) rest) reading text_line joined content
-          (keeps limit (content_of reading.lines ++ reading.content) reading.keeps);
-    }
-
 -- the last octet says whether a CR ends the octets
-ends_in_cr-last : (octets : List ℕ) → 0 < length octets
+pub ends_in_cr-last : (octets : List ℕ) → 0 < length octets
     → ends_in_cr octets ≡ (get_or octets (length octets - 1) 0 == 13)
 ends_in_cr-last [] some = absurd (omega arith)
 ends_in_cr-last (octet ∷ []) some = refl
@@ -247,34 +197,6 @@ ends_in_cr-append [] back some = refl
 ends_in_cr-append (octet ∷ []) [] some = absurd (omega arith)
 ends_in_cr-append (octet ∷ []) (first ∷ back) some = refl
 ends_in_cr-append (octet ∷ next ∷ front) back some = ends_in_cr-append (next ∷ front) back some
-
--- a run without a CR LF stays within the line
-pub run_stays : (old : DotReader) (phase : Phase) (gathering : Gathering) (rest : List ℕ)
-    → RunsOn old.phase rest → 0 < length rest → HasNoCrlf rest
-    → phase ≡ phase_behind (get_or rest (length rest - 1) 0)
-    →
-    ((limit : ℕ) (content : List ℕ) → KeepsContent old.gathering limit content → KeepsContent gathering limit (content ++ rest))
-    → Uses old (record { phase = phase; gathering = gathering }) (take (length rest) rest) false
-run_stays old phase gathering rest runs some none behind keeps = record {
-  stands = λ limit before reading.
-      let begins : BeginsTextLine (reading.part ++ rest) = record {
-        no_crlf = run_has_no_crlf old.phase reading.part reading.content rest runs reading.part_is none;
-        not_end =
-            λ more e. run_is_no_end old.phase reading.part reading.content rest runs reading.part_is some more e;
-      } in
-      let last = ends_in_cr-append reading.part rest some ∙ ends_in_cr-last rest some in
-      let content = run_content old.phase reading.part reading.content rest runs reading.part_is in
-      let part =
-      is_part_by (get_or rest (length rest - 1) 0 == 13) (reading.part ++ rest)
-      (reading.content ++ rest) begins last content in
-      let here =
-      subst (λ (p : Phase). IsPart p (reading.part ++ rest) (reading.content ++ rest))
-      (sym behind) part in
-      subst
-      (λ (used : List ℕ). IsReading (record { phase = phase; gathering = gathering }) limit (before ++ used))
-      (sym (take_all (length rest) rest (omega arith)))
-      (line_goes_on old phase gathering limit before rest rest reading here (keeps limit (content_of reading.lines ++ reading.content) reading.keeps));
-}
 
 -- the part without its last CR
 pub cr_off : (part : List ℕ) → ends_in_cr part ≡ true → (line : List ℕ) × (part ≡ line ++ 13 ∷ [])

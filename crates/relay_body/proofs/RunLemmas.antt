@@ -105,7 +105,7 @@ period_off [] begins = absurd (cc begins)
 period_off (octet ∷ octets) begins = (octets, ap (λ o. o ∷ octets) (eqb-true octet 46 begins))
 
 -- behind a line end no line begins with a period
-no_period_behind : (front behind : List ℕ) → HasNoPeriodLine ((front ++ crlf) ++ behind)
+pub no_period_behind : (front behind : List ℕ) → HasNoPeriodLine ((front ++ crlf) ++ behind)
     → begins_with_period behind ≡ false
 no_period_behind front behind none = elim (cases_Bool (begins_with_period behind)) [
   | inl begins ↦
@@ -116,7 +116,7 @@ no_period_behind front behind none = elim (cases_Bool (begins_with_period behind
 ]
 
 -- nor does one in what follows
-none_in_rest : (front behind : List ℕ) → HasNoPeriodLine (front ++ behind) → HasNoPeriodLine behind
+pub none_in_rest : (front behind : List ℕ) → HasNoPeriodLine (front ++ behind) → HasNoPeriodLine behind
 none_in_rest front behind none = record {
   nowhere = λ before after e.
       none.nowhere (front ++ before) after

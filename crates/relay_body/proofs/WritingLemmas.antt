@@ -3,7 +3,7 @@ use Rattle.std.proofs.Common.{◌≡◌, ℕ, suc, ◌-◌, ◌<◌, Bool, true,
 use lib.Pointwise.{pointwise}
 use Rattle.std.proofs.Math.Bool.{and-false, and-true}
 use Rattle.std.proofs.lemmas.Bool.{cases_Bool, eqb-true, eqb-false, ne_eqb}
-use Rattle.relay_octets.specs.Line.{crlf, HasNoCrlf, AreLines}
+use Rattle.relay_octets.specs.Line.{crlf}
 use Rattle.relay_body.specs.DotText.{ends_in_line_end, with_period}
 
 -- a period before a line doesn't touch its line end

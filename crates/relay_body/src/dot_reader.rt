@@ -1,10 +1,12 @@
-ghost use Rattle.std.specs.Prelude.{◌≡◌, ◌<◌, ◌≤◌, ◌↔◌, ℕ, List, [], ◌∷◌, true, false, length, take, Ok, IfOk, OnOk, OnErr, IsErr, IsTrue, MatchBool};
+ghost use Rattle.std.specs.Prelude.{◌≡◌, ◌-◌, ◌<◌, ◌≤◌, ◌↔◌, ℕ, List, [], ◌∷◌, true, false, length, slice_index, take, Ok, IfOk, OnOk, OnErr, IsErr, IsTrue, MatchBool};
 ghost use Rattle.relay_body.specs.DotSteps.{IsOpen, RunsOn, phase_behind};
+ghost use Rattle.relay_body.specs.DotText.{ends_in_line_end};
 ghost use Rattle.relay_body.specs.Gathering.{gathered_of};
 ghost use Rattle.relay_body.specs.DotReading.{IsReading, IsDone, HasFailed, HasRead, Feeds, Uses, limit_of};
 
+use crate::dot_writer::ends_in_line_end;
 use crate::gathered::{BodyFault, Gathered, Gathering};
-use relay_octets::find_crlf;
+use crate::run::run_len;
 use std::alloc::{AllocError, Global};
 
 /// Where a reader stands in a line of mail text.
@@ -31,6 +33,21 @@ impl Phase {
         match octet {
             b'\r' => Phase::WithinCr,
             _ => Phase::Within,
+        }
+    }
+
+    /// The phase behind a run, of which there is an octet.
+    fn behind_run(run: &[u8]) -> Phase
+        requires { 0 < length run.now }
+        ensures line { ends_in_line_end run.now ≡ true → result ≡ Phase.LineStart }
+        ensures within { ends_in_line_end run.now ≡ false
+            → result ≡ phase_behind (slice_index run.now (length run.now - 1)) }
+        ensures phase { IsOpen result }
+    {
+        if ends_in_line_end(run) {
+            Phase::LineStart
+        } else {
+            Phase::behind(run[run.len() - 1])
         }
     }
 }
@@ -211,7 +228,7 @@ impl DotReader {
         }
     }
 
-    /// Uses the rest of a line through its CR LF, or all where none is there.
+    /// Uses what comes up to the next line that begins with a period, or all where none does. It is kept as one.
     fn take_run(&mut self, rest: &[u8]) -> Result<usize, AllocError>
         requires runs { RunsOn self.old.phase rest.now }
         requires some { 0 < length rest.now }
@@ -220,18 +237,11 @@ impl DotReader {
         ensures phase { OnOk result (IsOpen self.new.phase) }
         ensures limit { limit_of self.new ≡ limit_of self.old }
     {
-        match find_crlf(rest) {
-            Some(place) => {
-                self.gathering.keep(&rest[..place + 2])?;
-                self.phase = Phase::LineStart;
-                Ok(place + 2)
-            }
-            None => {
-                self.gathering.keep(rest)?;
-                self.phase = Phase::behind(rest[rest.len() - 1]);
-                Ok(rest.len())
-            }
-        }
+        let used = run_len(rest);
+        let run = &rest[..used];
+        self.gathering.keep(run)?;
+        self.phase = Phase::behind_run(run);
+        Ok(used)
     }
 
     /// Uses the octet behind a period that a line begins with.

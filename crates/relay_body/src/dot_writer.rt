@@ -1,13 +1,10 @@
-ghost use Rattle.std.specs.Prelude.{◌≡◌, ◌++◌, IfOk, IsTrue, MatchOption, OnErr, OnOk};
+ghost use Rattle.std.specs.Prelude.{◌≡◌, ◌++◌, IfOk, IsTrue, OnErr, OnOk};
 ghost use Rattle.relay_octets.specs.Beginning.{Begins};
 ghost use Rattle.relay_body.specs.DotText.{AddsDotText, WritesDotText, ends_in_line_end};
-ghost use Rattle.relay_body.specs.DotSteps.{EndsRun, HasNoPeriodLine, period_for};
+ghost use Rattle.relay_body.specs.DotSteps.{period_for};
 
-use memchr::memmem;
+use crate::run::run_end;
 use std::alloc::{AllocError, Global};
-
-/// A line end, and the period that begins the next line.
-const PERIOD_LINE: &[u8; 3] = b"\r\n.";
 
 /// Whether a content is empty or ends in CR LF, so that it can be written as a dot text.
 pub fn ends_in_line_end(content: &[u8]) -> bool
@@ -71,14 +68,4 @@ fn push_period(out: &mut Vec<u8>, lines: &[u8]) -> Result<(), AllocError>
         out.push(b'.')?;
     }
     Ok(())
-}
-
-/// The place behind the first line end that a period follows.
-fn run_end(octets: &[u8]) -> Option<usize>
-    ensures ends { MatchOption result (HasNoPeriodLine octets.now) (λ end. EndsRun octets.now end) }
-{
-    match memmem::find(octets, PERIOD_LINE) {
-        Some(place) => Some(place + 2),
-        None => None,
-    }
 }

@@ -9,6 +9,7 @@ mod dot_writer;
 mod gathered;
 pub mod laws;
 pub mod plain;
+mod run;
 
 pub use chunk_reader::{ChunkCut, ChunkReader};
 pub use dot_reader::{DotCut, DotReader};

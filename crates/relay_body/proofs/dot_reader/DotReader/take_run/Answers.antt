@@ -1,10 +1,9 @@
-use Rattle.relay_body.proofs.ReadingLemmas.{run_ends_line, run_stays}
+use Rattle.relay_body.proofs.RunReadingLemmas.{uses_run}
 use Rattle.relay_body.proofs.dot_reader.DotReader.take_run.Goals as goal
 
-pub returns-in_ok-keep-in-Some-clause-uses : goal.returns-in_ok-keep-in-Some-clause-uses
-returns-in_ok-keep-in-Some-clause-uses c =
-    run_ends_line c.args.self.now c.keep.new.self c.args.rest.now c.in-Some.place c.requires.runs c.in-Some.ensures.within c.in-Some.ensures.first c.in_ok-keep-in-Some.ensures.keeps
-
-pub returns-in_ok-keep-in-None-clause-uses : goal.returns-in_ok-keep-in-None-clause-uses
-returns-in_ok-keep-in-None-clause-uses c =
-    run_stays c.args.self.now c.behind-self.result c.keep-in-None.new.self c.args.rest.now c.requires.runs c.requires.some c.in-None.ensures.first c.behind-self.ensures c.in_ok-keep-in-None.ensures.keeps
+pub returns-clause-uses : goal.returns-clause-uses
+returns-clause-uses c =
+    uses_run c.args.self.now c.behind_run-self.result c.keep.new.self c.args.rest.now c.run_len-used.result
+    (c.run_len-used.ensures.some, c.run_len-used.ensures.within) c.run_len-used.ensures.none c.requires.runs
+    (record { at_line_end = c.behind_run-self.ensures.line; within = c.behind_run-self.ensures.within })
+    c.in_ok-keep.ensures.keeps

@@ -1,5 +1,5 @@
 use Rattle.relay_body.proofs.RunLemmas.{none_found, run_found}
-use Rattle.relay_body.proofs.dot_writer.run_end.Goals as goal
+use Rattle.relay_body.proofs.run.run_end.Goals as goal
 
 pub returns-in-Some : goal.returns-in-Some
 returns-in-Some c =
