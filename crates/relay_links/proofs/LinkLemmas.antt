@@ -73,6 +73,7 @@ module _ {D : Type 0} (honest : Type 0) (words : DiskWords D) (start : Start) (a
     front = h.said.output;
     unwritten = [];
     output = sym (append-nil h.said.output);
+    whole = λ _. refl;
     written = h.written;
     added = h.added;
     leaves = as_taken fault h.said h.added records other (subst (HasTaken honest words start at h.said h.added) (sym same) h.taken);
@@ -206,6 +207,7 @@ module _ {D : Type 0} (honest : Type 0) (words : DiskWords D) (start : Start) (a
       front = h.said.output ++ front;
       unwritten = rest;
       output = r.talks.output ∙ ap (λ l. h.said.output ++ l) parts ∙ sym (append_assoc h.said.output front rest);
+      whole = λ e. cc;
       written = Appends-trans start.held held new_held h.said.output front h.written wrote;
       added = gained.0;
       leaves = gained.1;
@@ -221,6 +223,7 @@ module _ {D : Type 0} (honest : Type 0) (words : DiskWords D) (start : Start) (a
     front = h.said.output;
     unwritten = c.unwritten;
     output = c.output;
+    whole = λ e. cc;
     written = h.written;
     added = h.added ++ (change.Accept c.accept ∷ []);
     leaves = record {
@@ -298,6 +301,7 @@ module _ {D : Type 0} (honest : Type 0) (words : DiskWords D) (at number : ℕ) 
     front = front;
     unwritten = rest;
     output = parts;
+    whole = λ e. cc;
     written = wrote;
     added = [];
     leaves = taken_nothing keeps;

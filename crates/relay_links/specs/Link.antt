@@ -109,7 +109,8 @@ module _ {D : Type 0} (honest : Type 0) (words : DiskWords D) (start : Start) (a
   Leaves Full said added records = HasTaken said added records
   Leaves Device said added records = HasHalted said added records
 
-  -- what was written is a beginning of the output of a dialogue, whose input is a beginning of what was read
+  -- what was written is a beginning of the output of a dialogue, whose input is a beginning of what was read: all of it where
+  -- nothing more could be read
   pub record HasBegun (left held : Option (List ℕ)) (records : Kept D) (fault : LinkFault) : Type 0 where
     pub said : Said
     pub dialogue : IsDialogue (setup_of_config start.config) said
@@ -118,6 +119,7 @@ module _ {D : Type 0} (honest : Type 0) (words : DiskWords D) (start : Start) (a
     pub front : List ℕ
     pub unwritten : List ℕ
     pub output : said.output ≡ front ++ unwritten
+    pub whole : fault ≡ Input → unwritten ≡ []
     pub written : Appends start.held held front
     pub added : List Change
     pub leaves : Leaves fault said added records

@@ -20,7 +20,8 @@ const READS: u64 = 1_099_511_627_776;
 /// Serves the session that `connect` has opened: writes the greeting, reads commands and mail from
 /// `reader`, and writes the replies to `writer`, all of them before the next read and behind each
 /// message that the node takes. It ends at a close, and at the end of the input, and the session is then
-/// gone. After a fault a beginning of the replies was written. All mail counts as accepted at `now`.
+/// gone. After a fault a beginning of the replies was written, and all of them where nothing more could be
+/// read. All mail counts as accepted at `now`.
 pub fn serve_link<D: Disk, R: Read, W: Write>(
     alloc: Global,
     node: &mut Node<D>,

@@ -43,6 +43,7 @@ refused honest words at left held peer node changes keeps = record {
   front = [];
   unwritten = (greeted_only node.config.host).output;
   output = refl;
+  whole = λ e. cc;
   written = Appends-nil held;
   added = [];
   leaves = record {
