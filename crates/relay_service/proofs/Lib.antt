@@ -1,2 +1,3 @@
 mod ClientLemmas
 mod LineLemmas
+mod PushingLemmas

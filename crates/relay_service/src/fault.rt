@@ -1,3 +1,5 @@
+ghost use Rattle.std.specs.Prelude.{◌≡◌, ◌⊎◌};
+
 use relay_links::LinkFault;
 use relay_node::{Cause, NodeFault};
 use relay_routes::ConfigFault;
@@ -46,21 +48,29 @@ pub enum Fault {
 
 impl Fault {
     /// The fault of a file that can't be read.
-    pub fn of_input(error: &io::Error) -> Self {
+    pub fn of_input(error: &io::Error) -> Self
+        ensures { (result ≡ Fault.NoMemory) ⊎ (result ≡ Fault.Input) }
+    {
         Fault::unless_memory(error, Fault::Input)
     }
 
     /// The fault of a spool's file that can't be opened.
-    pub fn of_device(error: &io::Error) -> Self {
+    pub fn of_device(error: &io::Error) -> Self
+        ensures { (result ≡ Fault.NoMemory) ⊎ (result ≡ Fault.Device) }
+    {
         Fault::unless_memory(error, Fault::Device)
     }
 
     /// The fault of a writer.
-    pub fn of_output(error: &io::Error) -> Self {
+    pub fn of_output(error: &io::Error) -> Self
+        ensures { (result ≡ Fault.NoMemory) ⊎ (result ≡ Fault.Output) }
+    {
         Fault::unless_memory(error, Fault::Output)
     }
 
-    fn unless_memory(error: &io::Error, other: Fault) -> Self {
+    fn unless_memory(error: &io::Error, other: Fault) -> Self
+        ensures { (result ≡ Fault.NoMemory) ⊎ (result ≡ other) }
+    {
         if error.kind() == io::ErrorKind::OutOfMemory {
             Fault::NoMemory
         } else {
@@ -70,12 +80,22 @@ impl Fault {
 }
 
 impl From<AllocError> for Fault {
+    ghost use Rattle.std.specs.Prelude.{◌≡◌};
+    ghost use Rattle.relay_service.specs.declared.fault.Fault.TheVariants.{NoMemory};
+
+    ghost from_gives = { λ _ fault. fault ≡ NoMemory };
+
     fn from(_fault: AllocError) -> Fault {
         Fault::NoMemory
     }
 }
 
 impl From<ConfigFault> for Fault {
+    ghost use Rattle.std.specs.Prelude.{◌≡◌};
+    ghost use Rattle.relay_service.specs.Fault.{fault_of_config};
+
+    ghost from_gives = { λ given fault. fault ≡ fault_of_config given };
+
     fn from(fault: ConfigFault) -> Fault {
         match fault {
             ConfigFault::NoMemory => Fault::NoMemory,
@@ -85,6 +105,11 @@ impl From<ConfigFault> for Fault {
 }
 
 impl From<Cause> for Fault {
+    ghost use Rattle.std.specs.Prelude.{◌≡◌};
+    ghost use Rattle.relay_service.specs.Fault.{fault_of_cause};
+
+    ghost from_gives = { λ given fault. fault ≡ fault_of_cause given };
+
     fn from(cause: Cause) -> Fault {
         match cause {
             Cause::Spool(fault) => Fault::from(fault),
@@ -94,6 +119,11 @@ impl From<Cause> for Fault {
 }
 
 impl From<SpoolFault> for Fault {
+    ghost use Rattle.std.specs.Prelude.{◌≡◌};
+    ghost use Rattle.relay_service.specs.Fault.{fault_of_spool};
+
+    ghost from_gives = { λ given fault. fault ≡ fault_of_spool given };
+
     fn from(fault: SpoolFault) -> Fault {
         match fault {
             SpoolFault::Device => Fault::Device,
@@ -107,6 +137,11 @@ impl From<SpoolFault> for Fault {
 }
 
 impl From<NodeFault> for Fault {
+    ghost use Rattle.std.specs.Prelude.{◌≡◌};
+    ghost use Rattle.relay_service.specs.Fault.{fault_of_node};
+
+    ghost from_gives = { λ given fault. fault ≡ fault_of_node given };
+
     fn from(fault: NodeFault) -> Fault {
         match fault {
             NodeFault::NoMemory => Fault::NoMemory,
@@ -122,6 +157,11 @@ impl From<NodeFault> for Fault {
 }
 
 impl From<LinkFault> for Fault {
+    ghost use Rattle.std.specs.Prelude.{◌≡◌};
+    ghost use Rattle.relay_service.specs.Fault.{fault_of_link};
+
+    ghost from_gives = { λ given fault. fault ≡ fault_of_link given };
+
     fn from(fault: LinkFault) -> Fault {
         match fault {
             LinkFault::Input => Fault::Input,

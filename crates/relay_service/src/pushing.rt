@@ -1,5 +1,14 @@
 //! Mail that is handed on to its next hops.
-ghost use Rattle.std.specs.Prelude.{◌≡◌, ◌≢◌, MatchResult};
+ghost use Rattle.std.specs.Prelude.{◌≡◌, ◌≢◌, ℕ, None, true, List, MatchResult};
+ghost use Rattle.relay_attempts.specs.Reply.{Told};
+ghost use Rattle.relay_attempts.specs.Work.{works_of};
+ghost use Rattle.relay_attempts.specs.declared.work.Work.TheVariants as work;
+ghost use Rattle.relay_book.specs.declared.change.Change.{Change};
+ghost use Rattle.relay_disk.specs.File.{file_words};
+ghost use Rattle.relay_node.specs.Attempts.{Tells};
+ghost use Rattle.relay_records.specs.Records.{Keeps};
+ghost use Rattle.relay_service.specs.Pushing.{HandsOn, WorksOff, WorksTo};
+ghost use Rattle.relay_slots.specs.Slots.{OthersStay, slot_at};
 
 use crate::attempt_line::Attempt;
 use crate::clock::clock_moment;
@@ -41,10 +50,31 @@ pub(crate) fn push_due<R: Clock + Net<Stream = TcpStream>, W: Write, E: Write>(
     node: &mut Node<FileDisk>,
     writer: &mut W,
     log: &mut Log<'_, E>,
-) -> Result<(), Fault> {
+) -> Result<(), Fault>
+    ensures { (changes : List Change) → Keeps ⊥ file_words node.old.records changes
+        → (now : ℕ) × WorksOff ⊥ file_words now
+        (works_of node.old.config.routes node.old.attempts now node.old.records.queue)
+        changes node.old node.new result }
+{
     let now = clock_moment(rt);
     let works = node.due(alloc, now)?;
-    for work in works.as_slice() {
+    do_works(alloc, rt, node, works.as_slice(), now, writer, log)
+}
+
+/// Does each of these works once, in order.
+fn do_works<R: Clock + Net<Stream = TcpStream>, W: Write, E: Write>(
+    alloc: Global,
+    rt: &R,
+    node: &mut Node<FileDisk>,
+    works: &[Work],
+    now: Moment,
+    writer: &mut W,
+    log: &mut Log<'_, E>,
+) -> Result<(), Fault>
+    ensures { (changes : List Change) → Keeps ⊥ file_words node.old.records changes
+        → WorksOff ⊥ file_words now works.now changes node.old node.new result }
+{
+    for work in works {
         do_work(alloc, rt, node, work, now, writer, log)?;
     }
     Ok(())
@@ -59,7 +89,10 @@ fn do_work<R: Clock + Net<Stream = TcpStream>, W: Write, E: Write>(
     now: Moment,
     writer: &mut W,
     log: &mut Log<'_, E>,
-) -> Result<(), Fault> {
+) -> Result<(), Fault>
+    ensures { (changes : List Change) → Keeps ⊥ file_words node.old.records changes
+        → WorksTo ⊥ file_words now work.now changes node.old node.new result }
+{
     match work {
         Work::NoRoute(number) => give_up(node, *number, now, writer, log),
         Work::Try(number, hop) => try_hop(alloc, rt, node, *number, hop, now, writer, log),
@@ -73,7 +106,10 @@ fn give_up<W: Write, E: Write>(
     now: Moment,
     writer: &mut W,
     log: &mut Log<'_, E>,
-) -> Result<(), Fault> {
+) -> Result<(), Fault>
+    ensures { (changes : List Change) → Keeps ⊥ file_words node.old.records changes
+        → WorksTo ⊥ file_words now (work.NoRoute number) changes node.old node.new result }
+{
     match node.give_up_unroutable(number, now) {
         Ok(_) => {
             log.attempt(&Attempt {
@@ -98,16 +134,18 @@ fn try_hop<R: Clock + Net<Stream = TcpStream>, W: Write, E: Write>(
     now: Moment,
     writer: &mut W,
     log: &mut Log<'_, E>,
-) -> Result<(), Fault> {
+) -> Result<(), Fault>
+    ensures { (changes : List Change) → Keeps ⊥ file_words node.old.records changes
+        → WorksTo ⊥ file_words now (work.Try number hop.now) changes node.old node.new result }
+{
     let attempt = match node.start(number, hop, now) {
         Ok(started) => started.attempt,
         Err(fault) => return left_over(fault),
     };
-    let end = match hand_on(alloc, rt, node, attempt, hop) {
-        Ok(Pushed::Ended | Pushed::Unwritten) => "ended",
-        Ok(Pushed::Lost) => "lost",
-        Err(LinkFault::Device) => return Err(Fault::Device),
-        Err(_) => {
+    let pushed = match hand_on(alloc, rt, node, attempt, hop) {
+        Ok(pushed) => pushed,
+        Err(fault) => {
+            unless_device(fault)?;
             log.attempt(&Attempt {
                 number,
                 hop: Some(hop.as_slice()),
@@ -117,6 +155,7 @@ fn try_hop<R: Clock + Net<Stream = TcpStream>, W: Write, E: Write>(
             return Ok(());
         }
     };
+    let end = end_text(pushed);
     log.attempt(&Attempt {
         number,
         hop: Some(hop.as_slice()),
@@ -133,7 +172,14 @@ fn hand_on<R: Clock + Net<Stream = TcpStream>>(
     node: &mut Node<FileDisk>,
     attempt: usize,
     hop: &HostName,
-) -> Result<Pushed, LinkFault> {
+) -> Result<Pushed, LinkFault>
+    ensures pushed { (changes : List Change) (told : Told) → Keeps ⊥ file_words node.old.records changes
+        → Tells node.old.config.host changes node.old.attempts attempt told
+        → HandsOn ⊥ file_words node.old.config.host changes told node.new.records result }
+    ensures gone { node.new.records.spool.live ≡ true → slot_at node.new.attempts attempt ≡ None }
+    ensures rest { OthersStay node.old.attempts node.new.attempts attempt
+        × (node.new.config ≡ node.old.config) × (node.new.seats ≡ node.old.seats) }
+{
     let Some(at) = node.config().routes.place_of(hop.as_slice()) else {
         return lose_link(node, attempt, clock_moment(rt));
     };
@@ -143,6 +189,14 @@ fn hand_on<R: Clock + Net<Stream = TcpStream>>(
             push_link(alloc, node, attempt, &mut &stream, &mut &stream, now)
         }
         Err(_) => lose_link(node, attempt, clock_moment(rt)),
+    }
+}
+
+/// How an attempt has ended, as its line says it.
+fn end_text(pushed: Pushed) -> &'static str {
+    match pushed {
+        Pushed::Ended | Pushed::Unwritten => "ended",
+        Pushed::Lost => "lost",
     }
 }
 
@@ -170,5 +224,15 @@ fn left_over(fault: NodeFault) -> Result<(), Fault>
     match fault {
         NodeFault::Stopped => Err(Fault::Device),
         _ => Ok(()),
+    }
+}
+
+/// What a fault of a link is to the other works: only a device that failed ends them.
+fn unless_device(fault: LinkFault) -> Result<(), Fault>
+    ensures { MatchResult result (λ _. fault ≢ LinkFault.Device) (λ _. fault ≡ LinkFault.Device) }
+{
+    match fault {
+        LinkFault::Device => Err(Fault::Device),
+        LinkFault::Input | LinkFault::Output | LinkFault::NoMemory | LinkFault::Full => Ok(()),
     }
 }

@@ -1,0 +1,51 @@
+-- Why a run ends with status 1: what the faults of the crates below are to a run.
+use Rattle.relay_spool.specs.declared.fault.SpoolFault.{SpoolFault}
+use Rattle.relay_spool.specs.declared.fault.SpoolFault.TheVariants as spool_fault
+use Rattle.relay_routes.specs.declared.fault.ConfigFault.{ConfigFault}
+use Rattle.relay_routes.specs.declared.fault.ConfigFault.TheVariants as config_fault
+use Rattle.relay_records.specs.declared.fault.Cause.{Cause}
+use Rattle.relay_records.specs.declared.fault.Cause.TheVariants.{Spool, BadRecord as NoFittingRecord}
+use Rattle.relay_records.specs.declared.fault.NodeFault.{NodeFault}
+use Rattle.relay_records.specs.declared.fault.NodeFault.TheVariants as node_fault
+use Rattle.relay_links.specs.declared.fault.LinkFault.{LinkFault}
+use Rattle.relay_links.specs.declared.fault.LinkFault.TheVariants as link_fault
+use Rattle.relay_service.specs.declared.fault.Fault.{Fault}
+use Rattle.relay_service.specs.declared.fault.Fault.TheVariants.{Config, NotASpool, Damaged, NotEmpty, Full}
+use Rattle.relay_service.specs.declared.fault.Fault.TheVariants.{BadRecord, Device, NoMemory, Input, Output}
+
+-- want of memory is one fault, wherever it comes
+abbrev pub fault_of_config : ConfigFault → Fault
+fault_of_config config_fault.NotToml = Config config_fault.NotToml
+fault_of_config (config_fault.Missing key) = Config (config_fault.Missing key)
+fault_of_config (config_fault.BadValue key) = Config (config_fault.BadValue key)
+fault_of_config config_fault.NoMemory = NoMemory
+
+abbrev pub fault_of_spool : SpoolFault → Fault
+fault_of_spool spool_fault.Device = Device
+fault_of_spool spool_fault.NotASpool = NotASpool
+fault_of_spool (spool_fault.Damaged place) = Damaged place
+fault_of_spool spool_fault.NoMemory = NoMemory
+fault_of_spool spool_fault.NotEmpty = NotEmpty
+fault_of_spool spool_fault.Full = Full
+
+abbrev pub fault_of_cause : Cause → Fault
+fault_of_cause (Spool fault) = fault_of_spool fault
+fault_of_cause (NoFittingRecord number) = BadRecord number
+
+-- profile: what a node is asked for is there, and it has room, so its other refusals are none of the world's
+abbrev pub fault_of_node : NodeFault → Fault
+fault_of_node node_fault.NoMemory = NoMemory
+fault_of_node node_fault.Stopped = Device
+fault_of_node node_fault.Unknown = Device
+fault_of_node node_fault.TooMany = Device
+fault_of_node node_fault.NotDue = Device
+fault_of_node node_fault.Busy = Device
+fault_of_node (node_fault.Open cause) = fault_of_cause cause
+fault_of_node node_fault.Full = Full
+
+abbrev pub fault_of_link : LinkFault → Fault
+fault_of_link link_fault.Input = Input
+fault_of_link link_fault.Output = Output
+fault_of_link link_fault.NoMemory = NoMemory
+fault_of_link link_fault.Full = Full
+fault_of_link link_fault.Device = Device
