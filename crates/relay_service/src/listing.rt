@@ -1,5 +1,6 @@
 //! The spool that a configuration names: made, and listed.
 use crate::fault::Fault;
+use crate::line::gathering;
 use crate::settings::{configuration, spool_file};
 use relay_disk::{Disk, FileDisk};
 use relay_node::Node;
@@ -31,7 +32,7 @@ pub fn list<F: Files<File = File>, W: Write>(
 ) -> Result<(), Fault> {
     for _ in 0..OPENINGS {
         if let Some(node) = open_unless_it_grew(alloc, files, path)? {
-            return write_held(alloc, &node, writer);
+            return write_held(alloc, &node, &mut gathering(alloc, writer)?);
         }
     }
     Err(Fault::Device)

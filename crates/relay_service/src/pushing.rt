@@ -13,6 +13,7 @@ ghost use Rattle.relay_slots.specs.Slots.{OthersStay, slot_at};
 use crate::attempt_line::Attempt;
 use crate::clock::clock_moment;
 use crate::fault::Fault;
+use crate::line::gathering;
 use crate::log::Log;
 use crate::settings::{configuration, locked_node};
 use crate::sockets::connect;
@@ -40,10 +41,10 @@ pub fn push<R: Files<File = File> + Clock + Net<Stream = TcpStream>, W: Write, E
 ) -> Result<(), Fault> {
     let config = configuration(alloc, rt, path)?;
     let mut node = locked_node(alloc, rt, config)?;
-    push_due(alloc, rt, &mut node, writer, log)
+    push_due(alloc, rt, &mut node, &mut gathering(alloc, writer)?, log)
 }
 
-/// Does each work that is due at the clock's moment once, in order.
+/// Does each work that is due at the clock's moment once, in order. The line of a work is flushed before the next begins.
 pub(crate) fn push_due<R: Clock + Net<Stream = TcpStream>, W: Write, E: Write>(
     alloc: Global,
     rt: &R,

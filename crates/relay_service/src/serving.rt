@@ -7,6 +7,7 @@ ghost use Rattle.relay_records.specs.Records.{Keeps};
 use crate::client_line::Connection;
 use crate::clock::clock_moment;
 use crate::fault::Fault;
+use crate::line::gathering;
 use crate::log::Log;
 use crate::pushing::push_due;
 use crate::settings::{configuration, locked_node};
@@ -45,9 +46,10 @@ pub fn serve<
     let at = config.listen;
     let mut node = locked_node(alloc, rt, config)?;
     let listener = listener(rt, at)?;
+    let mut lines = gathering(alloc, writer)?;
     log.listens(at);
     for _ in 0..rounds {
-        round(alloc, rt, &mut node, &listener, writer, log)?;
+        round(alloc, rt, &mut node, &listener, &mut lines, log)?;
     }
     Ok(())
 }
