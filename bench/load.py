@@ -1,14 +1,15 @@
 #!/usr/bin/env python3
 """Measures relayd over 127.0.0.1: one line a figure, medians of interleaved runs, beside bare syncs on the same disk
-in the same run, and beside Postfix where tests/interop.sh has unpacked it.
+in the same runs, and beside Postfix where tests/interop.sh has unpacked it.
 
     bench/load.py build/relayd [FIGURE ..]
 
 The figures are kept, connections, large and push; all where none is given.
 DISK (build) is the folder whose device is measured, RUNS (5) how many runs a median is of, QUEUE (10000) how many
 messages a push sends, PACKAGES (build/interop) where Postfix is looked for. The client is bench/client.c and the next
-hop bench/sink.c; what they take counts. With SYNC_WAIT each sync takes so many microseconds more, the bare ones too:
-many a machine's disk answers a sync from a cache, which no disk does that keeps what it has synced.
+hop bench/sink.c; what they take counts. With FLOOR=1 the same is measured of bench/floor.c, a relay that does the least:
+what it doesn't reach, no relay does on this machine. With SYNC_WAIT each sync takes so many microseconds more, the bare
+ones too: many a machine's disk answers a sync from a cache, which no disk does that keeps what it has synced.
 """
 import contextlib
 import os
@@ -87,6 +88,17 @@ class Sink:
         self.process.stdout.close()
 
 
+class Floor(Relay):
+    """bench/floor.c in the place of a relay."""
+
+    def route(self, routes):
+        super().route(routes)
+        [(_, self.hop)] = routes.values()
+
+    def words(self, *words):
+        return [self.program, words[0], str(self.port), str(self.hop), str(self.spool), *words[1:]]
+
+
 class HoldingPostfix(Postfix):
     """Postfix that puts what it takes on hold, and so tries no delivery."""
 
@@ -109,15 +121,21 @@ class ReleasingPostfix(Postfix):
 
 
 class Bench:
-    """A folder on the measured disk."""
+    """A folder on the measured disk, and the relay that is measured there: our own, or the floor."""
 
-    def __init__(self, program, folder):
-        self.program, self.folder, self.count = program, folder, 0
+    def __init__(self, program, folder, make=Relay):
+        self.program, self.folder, self.make, self.count, self.floor = program, folder, make, 0, None
+
+    def add_floor(self):
+        """The floor beside the relay, in a folder on the same disk."""
+        folder = self.folder / "floors"
+        folder.mkdir()
+        self.floor = Bench(built("floor", folder), folder, Floor)
 
     def new_relay(self, port):
         self.count += 1
         folder = self.folder / f"relay{self.count}"
-        relay = Relay(self.program, folder, {"out.example": ("next.example", port)})
+        relay = self.make(self.program, folder, {"out.example": ("next.example", port)})
         relay.run("init")
         return relay
 
@@ -187,13 +205,13 @@ class Bench:
         return ended - begun
 
 
-def medians(*measures):
-    """The median seconds of each, of interleaved runs."""
-    seconds = [[] for _ in measures]
-    for _ in range(RUNS):
-        for measure, taken in zip(measures, seconds):
-            taken.append(measure())
-    return [statistics.median(taken) for taken in seconds]
+def interleaved(*measures):
+    """The seconds of each in each run: a list a run."""
+    return [[measure() for measure in measures] for _ in range(RUNS)]
+
+
+def median_of(runs, of):
+    return statistics.median(of(run) for run in runs)
 
 
 def tell(name, figure, unit, *ratios):
@@ -201,42 +219,57 @@ def tell(name, figure, unit, *ratios):
     print(f"{name:<52} {figure:12.0f} {unit}   {beside}", flush=True)
 
 
+def tell_beside(bench, name, amount, unit, measure, bare, label, postfix=None):
+    """Measures the relay, bare syncs, and the floor and Postfix where they are to be had, in interleaved runs. A ratio is the
+    median of the runs' own: a disk that is slower for a while is so for both."""
+    floor = bench.floor
+    measures = [lambda: measure(bench), bare]
+    measures += [lambda: measure(floor)] if floor else []
+    measures += [postfix] if postfix else []
+    runs = interleaved(*measures)
+    ratios = [(median_of(runs, lambda run: run[1] / run[0]), label)]
+    ratios += [(median_of(runs, lambda run: run[2] / run[0]), "the floor")] if floor else []
+    ratios += [(median_of(runs, lambda run: run[-1] / run[0]), "Postfix")] if postfix else []
+    tell(name, amount / median_of(runs, lambda run: run[0]), unit, *ratios)
+    if floor:
+        beside = median_of(runs, lambda run: run[1] / run[2]), label
+        tell("  the floor of that", amount / median_of(runs, lambda run: run[2]), unit, beside)
+
+
 def tell_kept(bench, packages):
-    measures = [lambda: bench.kept(500, 1024)[0], lambda: bare_pairs(bench.folder, [ACCEPT] * 500)]
-    if packages:
-        measures.append(lambda: bench.postfix_kept(packages, 500, 1024, bench.postfix_spool()))
-    ours, bare, *postfix = medians(*measures)
-    ratios = [(bare / ours, "two bare syncs"), *[(theirs / ours, "Postfix") for theirs in postfix]]
-    tell("serve: messages of 1 KiB at a kept session", 500 / ours, "messages/s", *ratios)
+    def postfix():
+        return bench.postfix_kept(packages, 500, 1024, bench.postfix_spool())
+
+    tell_beside(bench, "serve: messages of 1 KiB at a kept session", 500, "messages/s",
+                lambda relays: relays.kept(500, 1024)[0], lambda: bare_pairs(bench.folder, [ACCEPT] * 500),
+                "two bare syncs", postfix if packages else None)
 
 
-def tell_one_a_connection(bench):
-    ours, bare = medians(
-        lambda: bench.one_a_connection(300, 1024), lambda: bare_pairs(bench.folder, [ACCEPT, OUTCOME] * 300))
-    name = "serve: messages of 1 KiB, one a connection, sent on"
-    tell(name, 300 / ours, "messages/s", (bare / ours, "four bare syncs"))
+def tell_one_a_connection(bench, _packages):
+    tell_beside(bench, "serve: messages of 1 KiB, one a connection, sent on", 300, "messages/s",
+                lambda relays: relays.one_a_connection(300, 1024),
+                lambda: bare_pairs(bench.folder, [ACCEPT, OUTCOME] * 300), "four bare syncs")
 
 
-def tell_large(bench):
-    ours, bare = medians(
-        lambda: bench.kept(30, 1048576)[0], lambda: bare_pairs(bench.folder, [1048576 + 172] * 30))
-    name = "serve: messages of 1 MiB at a kept session"
-    tell(name, 30 * 1.048576 / ours, "MB/s", (bare / ours, "two bare syncs"))
+def tell_large(bench, _packages):
+    tell_beside(bench, "serve: messages of 1 MiB at a kept session", 30 * 1.048576, "MB/s",
+                lambda relays: relays.kept(30, 1048576)[0],
+                lambda: bare_pairs(bench.folder, [1048576 + 172] * 30), "two bare syncs")
 
 
 def tell_push(bench, packages):
-    measures = [lambda: bench.pushed(QUEUE, 1024), lambda: bare_pairs(bench.folder, [OUTCOME] * QUEUE)]
-    if packages:
-        measures.append(lambda: bench.postfix_pushed(packages, QUEUE, 1024))
-    ours, bare, *postfix = medians(*measures)
-    ratios = [(bare / ours, "two bare syncs"), *[(theirs / ours, "Postfix") for theirs in postfix]]
-    tell(f"push: {QUEUE:,} queued messages of 1 KiB", QUEUE / ours, "messages/s", *ratios)
+    def postfix():
+        return bench.postfix_pushed(packages, QUEUE, 1024)
+
+    tell_beside(bench, f"push: {QUEUE:,} queued messages of 1 KiB", QUEUE, "messages/s",
+                lambda relays: relays.pushed(QUEUE, 1024), lambda: bare_pairs(bench.folder, [OUTCOME] * QUEUE),
+                "two bare syncs", postfix if packages else None)
 
 
 FIGURES = {
     "kept": tell_kept,
-    "connections": lambda bench, packages: tell_one_a_connection(bench),
-    "large": lambda bench, packages: tell_large(bench),
+    "connections": tell_one_a_connection,
+    "large": tell_large,
     "push": tell_push,
 }
 
@@ -269,6 +302,8 @@ def main():
     packages = postfix_packages()
     with tempfile.TemporaryDirectory(prefix="load.", dir=os.environ.get("DISK", "build")) as folder:
         bench = Bench(program, pathlib.Path(folder).resolve())
+        if "FLOOR" in os.environ:
+            bench.add_floor()
         for tell_figure in tellers:
             tell_figure(bench, packages)
 

@@ -1,4 +1,4 @@
-// A next hop for measurements: answers every command well, a thread for each connection, until so many contents have
+// A next hop for measurements: answers every command well, up to 32 connections side by side, until so many contents have
 // come. It writes its port as a line, and ends behind the last content.
 //
 //   sink COUNT
@@ -13,18 +13,31 @@
 #include <sys/socket.h>
 #include <unistd.h>
 
-// What was read from a connection and isn't used yet.
+#define SIDE_BY_SIDE 32
+
+// A connection: what was read from it and isn't used yet, and the replies that aren't written yet.
 struct link {
 	int socket;
-	size_t size;
-	char held[1 << 17];
+	size_t size, said;
+	char held[1 << 17], replies[1 << 12];
 };
 
 static atomic_long awaited;
+static int listener;
 
-// Reads more behind what is held; whether there was some.
+// Writes the replies; whether all of them went out.
+static int flush(struct link *link)
+{
+	size_t said = link->said;
+	link->said = 0;
+	return said == 0 || write(link->socket, link->replies, said) == (ssize_t)said;
+}
+
+// Reads more behind what is held, when all replies are written; whether there was some.
 static int more(struct link *link)
 {
+	if (!flush(link))
+		return 0;
 	ssize_t count = read(link->socket, link->held + link->size, sizeof link->held - link->size);
 	if (count <= 0)
 		return 0;
@@ -38,10 +51,15 @@ static void drop(struct link *link, size_t count)
 	memmove(link->held, link->held + count, link->size);
 }
 
+// Says a reply. Those to commands that came together go out together (RFC 2920).
 static int say(struct link *link, const char *text)
 {
 	size_t length = strlen(text);
-	return write(link->socket, text, length) == (ssize_t)length;
+	if (link->said + length > sizeof link->replies && !flush(link))
+		return 0;
+	memcpy(link->replies + link->said, text, length);
+	link->said += length;
+	return 1;
 }
 
 // Reads a dot text to its end, and forgets it. An empty one has no line before its period.
@@ -70,9 +88,9 @@ static int pass_content(struct link *link)
 // Takes a content; whether the connection goes on. The program ends behind the last one, when its reply is written.
 static int take_content(struct link *link)
 {
-	if (!say(link, "354 go on\r\n") || !pass_content(link))
+	if (!say(link, "354 go on\r\n") || !flush(link) || !pass_content(link))
 		return 0;
-	int is_said = say(link, "250 taken\r\n");
+	int is_said = say(link, "250 taken\r\n") && flush(link);
 	if (atomic_fetch_sub(&awaited, 1) == 1)
 		exit(0);
 	return is_said;
@@ -87,14 +105,14 @@ static int answer(struct link *link, const char *line)
 		return take_content(link);
 	if (strncasecmp(line, "QUIT", 4) == 0) {
 		say(link, "221 closing\r\n");
+		flush(link);
 		return 0;
 	}
 	return say(link, "250 ok\r\n");
 }
 
-static void *converse(void *given)
+static void converse(struct link *link)
 {
-	struct link *link = given;
 	char line[8];
 	int goes_on = say(link, "220 sink.example ready\r\n");
 	while (goes_on) {
@@ -107,31 +125,41 @@ static void *converse(void *given)
 		drop(link, (size_t)(end - link->held) + 2);
 		goes_on = answer(link, line);
 	}
-	close(link->socket);
-	free(link);
+}
+
+// Takes one connection after another. Each thread waits for its own, so that none has to be started for a connection.
+static void *take_connections(void *given)
+{
+	struct link *link = given;
+	int on = 1;
+	for (;;) {
+		link->socket = accept(listener, NULL, NULL);
+		if (link->socket < 0)
+			exit(1);
+		link->size = link->said = 0;
+		setsockopt(link->socket, IPPROTO_TCP, TCP_NODELAY, &on, sizeof on);
+		converse(link);
+		close(link->socket);
+	}
 	return NULL;
 }
 
 int main(int count, char **words)
 {
+	static struct link links[SIDE_BY_SIDE];
 	struct sockaddr_in place = {.sin_family = AF_INET, .sin_addr.s_addr = htonl(INADDR_LOOPBACK)};
 	socklen_t length = sizeof place;
-	int listener = socket(AF_INET, SOCK_STREAM, 0), on = 1;
+	listener = socket(AF_INET, SOCK_STREAM, 0);
 	if (count != 2 || bind(listener, (struct sockaddr *)&place, length) || listen(listener, 128)
 	    || getsockname(listener, (struct sockaddr *)&place, &length))
 		return 1;
 	awaited = atol(words[1]);
 	printf("%d\n", ntohs(place.sin_port));
 	fflush(stdout);
-	for (;;) {
-		struct link *link = malloc(sizeof *link);
+	for (int number = 1; number < SIDE_BY_SIDE; number++) {
 		pthread_t thread;
-		if (!link || (link->socket = accept(listener, NULL, NULL)) < 0)
+		if (pthread_create(&thread, NULL, take_connections, &links[number]))
 			return 1;
-		link->size = 0;
-		setsockopt(link->socket, IPPROTO_TCP, TCP_NODELAY, &on, sizeof on);
-		if (pthread_create(&thread, NULL, converse, link))
-			return 1;
-		pthread_detach(thread);
 	}
+	take_connections(&links[0]);
 }
