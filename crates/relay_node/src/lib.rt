@@ -3,6 +3,7 @@
 #![tactic(auto)]
 
 mod accept;
+mod again;
 mod attempts;
 mod intake;
 pub mod laws;
@@ -12,6 +13,7 @@ mod receive;
 mod reply;
 mod seat;
 
+pub use again::NotReopened;
 pub use node::{Connected, Node};
 pub use receive::Received;
 pub use relay_attempts::{Replied, Started, Work};

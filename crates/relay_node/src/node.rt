@@ -126,21 +126,9 @@ impl<D: Disk> Node<D> {
         ensures failures { MatchResult result (λ node. FailsNot D.words disk node.records.spool.disk)
             (λ refused. FailsFor D.words disk refused.disk refused.cause) }
     {
-        let Ok(seats) = Slots::new(alloc) else {
-            return Err(out_of_memory(disk));
-        };
-        match Records::open(alloc, disk) {
-            Ok(records) => match Attempts::new(alloc, &config.routes, &records) {
-                Ok(attempts) => Ok(Node {
-                    alloc,
-                    config,
-                    seats,
-                    attempts,
-                    records,
-                }),
-                Err(_) => Err(out_of_memory(records.into_disk())),
-            },
-            Err(refused) => Err(refused),
+        match Node::open_again(alloc, config, disk) {
+            Ok(node) => Ok(node),
+            Err(not) => Err(not.refused),
         }
     }
 
@@ -156,6 +144,21 @@ impl<D: Disk> Node<D> {
             records,
         } = self;
         records.into_disk()
+    }
+
+    /// The configuration and the disk, live or stopped. It takes no memory.
+    pub fn into_parts(self) -> (Config, D)
+        ensures config { result.0 ≡ self.config }
+        ensures disk { result.1 ≡ self.records.spool.disk }
+    {
+        let Node {
+            alloc: _,
+            config,
+            seats: _seats,
+            attempts: _attempts,
+            records,
+        } = self;
+        (config, records.into_disk())
     }
 
     /// The configuration that the node was made with.
@@ -324,7 +327,7 @@ impl<D: Disk> Node<D> {
 }
 
 /// The refusal of a disk for want of memory.
-fn out_of_memory<D>(disk: D) -> NotOpened<D>
+pub(crate) fn out_of_memory<D>(disk: D) -> NotOpened<D>
     ensures { (result.cause ≡ Cause.Spool SpoolFault.NoMemory) × (result.disk ≡ disk) }
 {
     NotOpened {

@@ -1,0 +1,60 @@
+//! A node that is opened again under the same configuration.
+ghost use Rattle.std.specs.Prelude.{◌≡◌, IfErr, IfOk, MatchResult};
+ghost use Rattle.relay_disk.specs.Device.{FailsNot};
+ghost use Rattle.relay_node.specs.Node.{IsIdle};
+ghost use Rattle.relay_records.specs.Open.{FailsFor, Opens, RefusesImage};
+ghost use Rattle.relay_spool.specs.Spool.{OnlyReads};
+
+use crate::node::{Node, out_of_memory};
+use relay_attempts::Attempts;
+use relay_disk::Disk;
+use relay_records::{NotOpened, Records};
+use relay_routes::Config;
+use relay_slots::Slots;
+use std::alloc::Global;
+
+/// A disk that wasn't opened, with the reason, and the configuration under which it was to be.
+#[derive(Debug, Drop)]
+pub struct NotReopened<D> {
+    pub config: Config,
+    pub refused: NotOpened<D>,
+}
+
+impl<D: Disk> Node<D> {
+    /// As [`Node::open`]; the configuration comes back with a disk that is refused.
+    pub fn open_again(alloc: Global, config: Config, disk: D) -> Result<Self, NotReopened<D>>
+        ensures opens { IfOk result (λ node. Opens D.honest D.words disk node.records) }
+        ensures idle { IfOk result (IsIdle config) }
+        ensures config { IfErr result (λ not. not.config ≡ config) }
+        ensures refused { IfErr result
+            (λ not. RefusesImage D.honest (D.words.seen disk) not.refused.cause) }
+        ensures keeps { D.honest → MatchResult result
+            (λ node. OnlyReads D.words disk node.records.spool.disk)
+            (λ not. OnlyReads D.words disk not.refused.disk) }
+        ensures failures { MatchResult result (λ node. FailsNot D.words disk node.records.spool.disk)
+            (λ not. FailsFor D.words disk not.refused.disk not.refused.cause) }
+    {
+        let Ok(seats) = Slots::new(alloc) else {
+            return Err(NotReopened {
+                config,
+                refused: out_of_memory(disk),
+            });
+        };
+        match Records::open(alloc, disk) {
+            Ok(records) => match Attempts::new(alloc, &config.routes, &records) {
+                Ok(attempts) => Ok(Node {
+                    alloc,
+                    config,
+                    seats,
+                    attempts,
+                    records,
+                }),
+                Err(_) => Err(NotReopened {
+                    config,
+                    refused: out_of_memory(records.into_disk()),
+                }),
+            },
+            Err(refused) => Err(NotReopened { config, refused }),
+        }
+    }
+}
