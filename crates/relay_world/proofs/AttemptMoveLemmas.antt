@@ -23,6 +23,7 @@ use Rattle.relay_world.proofs.FrameLemmas.{ChangesStay, MessagesStay, TellsOn}
 use Rattle.relay_world.proofs.PieceLemmas.{read_stays}
 use Rattle.relay_world.proofs.AttemptLemmas.{KnowsAttempt, other_place, other_slot}
 use Rattle.relay_world.proofs.MoveLemmas.{link_cases, client_was, link_kept, Joins, Moves, moved_keeps, put_cases, still_served}
+use Rattle.relay_world.proofs.UndecidedLemmas.{not_broken, up_not_down}
 use Rattle.relay_world.proofs.OpenLemmas.{same_Up}
 
 module _ {D : Type 0} (honest : Type 0) (words : DiskWords D) (old new : World D) (lists later : List (List Change)) (number : ℕ)
@@ -93,6 +94,7 @@ module _ {D : Type 0} (honest : Type 0) (words : DiskWords D) (old new : World D
       even = moves.even;
       list = moves.list;
       links = link_cases old.links new.links number link moves.links;
+      stays = moves.links.others;
       attempts = λ place attempt at off.
           moves.attempts.others place (other_place honest words old lists number bound of place attempt at off) ∙ at;
       config = refl;
@@ -193,6 +195,9 @@ module _ {D : Type 0} (honest : Type 0) (words : DiskWords D) (old new : World D
             its_node = yours.its_node;
             its_session = yours.its_session;
           }));
+      settled = λ was there broken.
+          absurd (not_broken old.links number of.link was of.link_is knows.whole there broken);
+      may_be_in = λ disk undecided down. absurd (up_not_down after disk (Some undecided) down);
     }
 
     pub attempt_moved : IsBound honest words new later

@@ -37,6 +37,8 @@ breaking_keeps {D} honest words old new lists number bound breaks =
       };
       server = refl;
       client = refl;
+      serves = λ was end serves. record { server = serves; up = refl; up_read = refl; down = refl; broken = refl };
+      tries = λ was. record { client = refl; up = refl; down = refl; down_read = refl; broken = refl };
     }))
   where
     broken : Link

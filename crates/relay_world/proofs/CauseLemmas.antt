@@ -35,7 +35,7 @@ late accepted at ByTransfer true test leaves = not_end leaves
 late accepted at ByEnd true test leaves = leb-true (accepted + patience) at test
 late accepted at way false test leaves = absurd (false≢true (ap is_some leaves))
 
-has_cause : (accepted at : ℕ) (way : Way) (verdict : Verdict) → way_of (fate_of accepted at verdict) ≡ Some way
+pub has_cause : (accepted at : ℕ) (way : Way) (verdict : Verdict) → way_of (fate_of accepted at verdict) ≡ Some way
     → HasCause accepted at way verdict
 has_cause accepted at ByTransfer (Taken dsn) leaves = tt
 has_cause accepted at ByEnd (Taken dsn) leaves = not_transfer leaves

@@ -90,12 +90,12 @@ child_stored P answers (first ∷ offers) offer number places one all has =
 
 module _ {D : Type 0} where
   -- the errand of an attempt
-  abbrev errand_by : (host : Host D) (changes : List Change) (link : Link) (attempt : Attempt)
+  abbrev pub errand_by : (host : Host D) (changes : List Change) (link : Link) (attempt : Attempt)
       → PassesOn host changes link attempt → Errand
   errand_by host changes link attempt passes =
       errand_of host.config.host passes.accept.envelope passes.accept.stored_text passes.course.dot_text attempt.places.items
 
-  errand_is : (host : Host D) (changes : List Change) (link : Link) (attempt : Attempt)
+  pub errand_is : (host : Host D) (changes : List Change) (link : Link) (attempt : Attempt)
       (passes : PassesOn host changes link attempt) → IsErrand (errand_by host changes link attempt passes)
   errand_is host changes link attempt passes = record {
     host = (named host.config).is_word;
@@ -108,7 +108,7 @@ module _ {D : Type 0} where
   }
 
   -- both ends of a link are joined
-  joined_by : (host other : Host D) (changes others : List Change) (ledger : List Line) (number : ℕ) (link : Link)
+  pub joined_by : (host other : Host D) (changes others : List Change) (ledger : List Line) (number : ℕ) (link : Link)
       (attempt : Attempt) (end : ServerEnd) (passes : PassesOn host changes link attempt)
       (serves : ServesLink other others ledger number link end)
       → AreJoined (setup_of_config other.config) (errand_by host changes link attempt passes) serves.said

@@ -38,5 +38,7 @@ module _ {D : Type 0} (honest : Type 0) (words : DiskWords D) where
         one_of = exactly_one changes keeps.list.fitting;
         held = held_as host changes keeps;
         images = λ is standing up. (up_keeps host changes keeps standing up).images is;
+        images_down = λ is disk undecided down.
+            subst (λ holder. HolderKeeps honest words host.config holder changes) down keeps.holds is;
         left = λ at number place way leaves. left_for host.config.host changes at number place way keeps.reports leaves;
       }

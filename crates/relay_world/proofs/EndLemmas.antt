@@ -1,5 +1,5 @@
 -- A session that is gone keeps a world bound.
-use Rattle.std.proofs.Common.{◌≡◌, ◌≢◌, ◌≤◌, ℕ, List, length, None, Some, refl, sym, subst, ap, ◌∙◌}
+use Rattle.std.proofs.Common.{◌≡◌, ◌≢◌, ◌≤◌, ℕ, true, List, length, None, Some, refl, sym, subst, ap, ◌∙◌}
 use Rattle.std.specs.Prelude.{slice_get}
 use Rattle.std.specs.List.{AllByRecursion}
 use Rattle.std.proofs.lemmas.Option.{none-some, same_Some}
@@ -17,7 +17,8 @@ use Rattle.relay_world.specs.Steps.{EndingKeeps}
 use Rattle.relay_world.specs.World.{Host, Up, link_at}
 use Rattle.relay_world.proofs.FrameLemmas.{TellsOn}
 use Rattle.relay_world.proofs.PieceLemmas.{passes_as}
-use Rattle.relay_world.proofs.MoveLemmas.{link_cases, client_was, links_kept, Joins, Moves, moved_keeps, same_attempts, same_slots, still_tried}
+use Rattle.relay_world.proofs.MoveLemmas.{link_cases, client_was, links_kept, Joins, Moves, Settled, moved_keeps, same_attempts, same_slots, still_tried}
+use Rattle.relay_world.proofs.UndecidedLemmas.{up_not_down}
 use Rattle.relay_world.proofs.OpenLemmas.{lines_within, list_there, node_kept, same_Up, still_says}
 
 pub ending_keeps : {D : Type 0} (honest : Type 0) (words : DiskWords D) → EndingKeeps honest words
@@ -108,6 +109,7 @@ ending_keeps {D} honest words old new lists number bound ends =
       even = bound.even ∙ sym ends.rest.3;
       list = record { at = listed.1; others = λ other off. refl };
       links = link_cases old.links new.links number link ends.links;
+      stays = ends.links.others;
       attempts = λ place attempt at off. same_attempts old.attempts new.attempts ends.rest.0 place attempt at;
       config = refl;
       stay = λ k c is. is;
@@ -145,6 +147,21 @@ ending_keeps {D} honest words old new lists number bound ends =
           passes = passes_as tried.host tried.changes ends.of.link link tried.attempt refl refl refl tried.passes;
         }
 
+    -- the session was going on, so nothing undecided rests on its end; and the client end is what it was
+    settled : ends.of.link.broken ≡ true
+        → Settled honest words old new lists lists node number host moved changes changes link ends.of.link
+    settled broken = record {
+      serves = λ end serves off ended.
+          absurd (none-some ends.of.session (sym ended ∙ ap (λ (e : ServerEnd). e.session)
+          (same_Some end ends.of.end (sym serves ∙ ends.of.serves)) ∙ ends.of.goes_on));
+      tries = λ place attempt client at off dropped. record {
+        now = link;
+        now_is = ends.links.at;
+        stays = record { client = refl; up = refl; down = refl; down_read = refl; broken = broken };
+        attempt_at = same_attempts old.attempts new.attempts ends.rest.0 place attempt at;
+      };
+    }
+
     joins : Joins honest words old new lists lists node number host moved changes changes link
     joins = record {
       served = λ end is. subst (λ e. IsServed new lists number link e) (same_Some (record ends.of.end { session = None }) end is) (record {
@@ -165,4 +182,9 @@ ending_keeps {D} honest words old new lists number bound ends =
       apart = λ other its at session off is mine yours.
           let same = same_Some (record ends.of.end { session = None }) yours.end yours.serves in
           none-some session (ap (λ (e : ServerEnd). e.session) same ∙ yours.its_session);
+      settled = λ was there broken.
+          let same : ends.of.link ≡ was = same_Some ends.of.link was (sym ends.of.link_is ∙ there) in
+          subst (λ l. Settled honest words old new lists lists node number host moved changes changes link l) same
+          (settled (ap (λ (l : Link). l.broken) same ∙ broken));
+      may_be_in = λ disk undecided down. absurd (up_not_down ends.after disk (Some undecided) down);
     }

@@ -22,6 +22,7 @@ use Rattle.relay_world.proofs.FrameLemmas.{TellsOn, changes_stay}
 use Rattle.relay_world.proofs.PieceLemmas.{with_at, with_at-length, with_at-put}
 use Rattle.relay_world.proofs.MoveLemmas.{Joins, Moves, moved_keeps, same_attempts, same_slots}
 use Rattle.relay_world.proofs.RecordLemmas.{Recording, accepts_same, keeps_now, lines_now, other_steps, steps_now}
+use Rattle.relay_world.proofs.UndecidedLemmas.{up_not_down}
 use Rattle.relay_world.proofs.OpenLemmas.{list_there, node_kept, same_Up}
 
 -- no link at all
@@ -116,6 +117,7 @@ giving_up_keeps {D} honest words old new lists node message change_now bound giv
       even = with_at-length lists node grown ∙ bound.even ∙ sym gives.rest.3;
       list = with_at-put lists node grown changes listed.1;
       links = λ other its is. inr (not_zero other its is, ap (λ l. link_at l other) (sym gives.rest.0) ∙ is);
+      stays = λ other off. ap (λ l. link_at l other) gives.rest.0;
       attempts = λ place attempt at off. same_attempts old.attempts new.attempts gives.rest.1 place attempt at;
       config = refl;
       stay = changes_stay changes added;
@@ -146,4 +148,6 @@ giving_up_keeps {D} honest words old new lists node message change_now bound giv
             is_there = ap (λ l. link_at l attempt.link) gives.rest.0 ∙ has.is_there;
             client = has.client;
           };
+      settled = λ was there broken. absurd (none-some was there);
+      may_be_in = λ disk undecided down. absurd (up_not_down (without_note gives.after) disk (Some undecided) down);
     }

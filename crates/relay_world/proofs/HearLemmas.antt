@@ -38,6 +38,7 @@ use Rattle.relay_world.specs.Steps.{RecordsHeard, HasHeard, HearingKeeps, IsPut,
 use Rattle.relay_world.specs.World.{Host, Up, World, link_at}
 use Rattle.relay_world.proofs.FrameLemmas.{TellsOn, accepts_on_more, changes_stay, get_last, steps_in_more, steps_more, stored_on}
 use Rattle.relay_world.proofs.MoveLemmas.{link_cases, client_was, links_kept, Joins, Moves, moved_keeps, same_attempts, same_slots, still_tried}
+use Rattle.relay_world.proofs.UndecidedLemmas.{not_broken, up_not_down}
 use Rattle.relay_world.proofs.OpenLemmas.{lines_within, number_within, list_there, node_kept, off_by, same_Up, still_says}
 use Rattle.relay_world.proofs.PieceLemmas.{read_more, all_append, still_answered, still_numbered, reports_more, with_at, with_at-length, with_at-put, same_number, kept_without_note, passes_as, read_stays, few_within, read_within}
 
@@ -213,6 +214,9 @@ module _ {D : Type 0} (honest : Type 0) (words : DiskWords D) (old new : World D
         heard.links (client_was old.links number heard.of.link heard.of.link_is heard.of.link.client refl) old.attempts new.attempts
         heard.rest.0 bound.attempts;
     apart = λ other its at session off is mine yours. joins_apart other its at session off is mine yours;
+    settled = λ was there broken.
+        absurd (not_broken old.links number heard.of.link was heard.of.link_is heard.whole there broken);
+    may_be_in = λ disk undecided down. absurd (up_not_down after disk (Some undecided) down);
   }
     where
       session_by : (close : Bool) (session : ℕ) → session_after close heard.of.session ≡ Some session → heard.of.session ≡ session
@@ -272,6 +276,7 @@ module _ {D : Type 0} (honest : Type 0) (words : DiskWords D) (old new : World D
         even = bound.even ∙ sym heard.rest.2;
         list = record { at = listed.1; others = λ other off. refl };
         links = link_cases old.links new.links number (heard_link heard.of.link heard.of.end heard.of.session heard.received) heard.links;
+        stays = heard.links.others;
         attempts = λ place attempt at off. same_attempts old.attempts new.attempts heard.rest.0 place attempt at;
         config = refl;
         stay = λ k c is. is;
@@ -406,6 +411,7 @@ module _ {D : Type 0} (honest : Type 0) (words : DiskWords D) (old new : World D
       even = with_at-length lists heard.of.end.node grown ∙ bound.even ∙ sym heard.rest.2;
       list = with_at-put lists heard.of.end.node grown listed.0 listed.1;
       links = link_cases old.links new.links number (heard_link heard.of.link heard.of.end heard.of.session heard.received) heard.links;
+      stays = heard.links.others;
       attempts = λ place attempt at off. same_attempts old.attempts new.attempts heard.rest.0 place attempt at;
       config = refl;
       stay = changes_stay listed.0 (change.Accept queues.accept);

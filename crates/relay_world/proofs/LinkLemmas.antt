@@ -1,5 +1,7 @@
 -- A link that changes alone keeps a world bound, where it is bound itself.
-use Rattle.std.proofs.Common.{inl, inr, ◌≡◌, ℕ, List, length, Some, sym, subst, ap, ◌∙◌}
+use Rattle.std.proofs.Common.{inl, inr, ◌≡◌, ℕ, true, List, length, Some, refl, sym, subst, ap, ◌∙◌}
+use Rattle.std.proofs.lemmas.Bool.{cases_eq}
+use Rattle.std.proofs.lemmas.Option.{same_Some}
 use Rattle.relay_disk.specs.Device.{DiskWords}
 use Rattle.relay_book.specs.declared.change.Change.{Change}
 use Rattle.relay_world.specs.declared.link.Link.{Link}
@@ -8,6 +10,7 @@ use Rattle.relay_world.specs.Bound.{HasSession, IsBound, IsServed, IsTried, Read
 use Rattle.relay_world.specs.Steps.{IsPutAt}
 use Rattle.relay_world.specs.World.{World, link_at}
 use Rattle.relay_world.proofs.MoveLemmas.{client_was, link_cases, link_kept}
+use Rattle.relay_world.proofs.UndecidedLemmas.{ClientStays, Remains, ServerStays, still_may_be_in}
 use Rattle.relay_world.proofs.OpenLemmas.{lines_within}
 
 module _ {D : Type 0} (honest : Type 0) (words : DiskWords D) (old : World D) (lists : List (List Change)) (number : ℕ)
@@ -20,6 +23,9 @@ module _ {D : Type 0} (honest : Type 0) (words : DiskWords D) (old : World D) (l
     pub reads : ReadsWithin now
     pub server : now.server ≡ link.server
     pub client : now.client ≡ link.client
+    -- what is undecided rests on the link only where that was broken, and then both ends stay
+    pub serves : link.broken ≡ true → (end : ServerEnd) → link.server ≡ Some end → ServerStays link now end
+    pub tries : link.broken ≡ true → ClientStays link now
 
   -- an end of a link that stays, among other links
   pub served_still : (other : ℕ) (its : Link) (end : ServerEnd) → IsServed old lists other its end
@@ -64,11 +70,53 @@ module _ {D : Type 0} (honest : Type 0) (words : DiskWords D) (old : World D) (l
     | inr there ↦ (its, there.1, has)
   ]
 
+  remains : Relinks → (node : ℕ) → Remains old (record old { links = links }) node
+  remains relinks node = record {
+    serves = λ other its end is broken serves its_node ended. elim (cases_eq other number) [
+      | inl same ↦
+          let its_link : link ≡ its = same_Some link its (sym link_is ∙ ap (λ n. link_at old.links n) (sym same) ∙ is) in
+          record {
+            now = now;
+            now_is = ap (λ n. link_at links n) same ∙ put.at;
+            stays = subst (λ l. ServerStays l now end) its_link
+                (relinks.serves (ap (λ (l : Link). l.broken) its_link ∙ broken) end
+                (ap (λ (l : Link). l.server) its_link ∙ serves));
+            accepts = refl;
+          }
+      | inr off ↦ record {
+        now = its;
+        now_is = put.others other off ∙ is;
+        stays = record { server = serves; up = refl; up_read = refl; down = refl; broken = broken };
+        accepts = refl;
+      }
+    ];
+    tries = λ other place its attempt is broken client at its_node dropped. elim (cases_eq other number) [
+      | inl same ↦
+          let its_link : link ≡ its = same_Some link its (sym link_is ∙ ap (λ n. link_at old.links n) (sym same) ∙ is) in
+          record {
+            now = now;
+            now_is = ap (λ n. link_at links n) same ∙ put.at;
+            stays = subst (λ l. ClientStays l now) its_link
+                (relinks.tries (ap (λ (l : Link). l.broken) its_link ∙ broken));
+            attempt_at = at;
+          }
+      | inr off ↦ record {
+        now = its;
+        now_is = put.others other off ∙ is;
+        stays = record { client = refl; up = refl; down = refl; down_read = refl; broken = broken };
+        attempt_at = at;
+      }
+    ];
+  }
+
   pub relinked : Relinks → IsBound honest words (record old { links = links }) lists
   relinked relinks = record {
     even = bound.even;
     hosts = λ n host changes stands.
         bound.hosts n host changes (record { host_at = stands.host_at; list_at = stands.list_at });
+    may_be_in = λ n host changes disk undecided stands down.
+        still_may_be_in old (record old { links = links }) n host host changes refl (remains relinks n) undecided
+        (bound.may_be_in n host changes disk undecided (record { host_at = stands.host_at; list_at = stands.list_at }) down);
     servers = λ other its end is serves. elim (link_cases old.links links number now put other its is) [
       | inl here ↦ subst (λ n. IsServed (record old { links = links }) lists n its end) (sym here.0)
           (subst (λ l. IsServed (record old { links = links }) lists number l end) here.1

@@ -21,7 +21,7 @@ use Rattle.relay_world.specs.Steps.{AttemptOf, DroppingKeeps, LosingKeeps, IsPut
 use Rattle.relay_world.specs.World.{link_at}
 use Rattle.relay_world.proofs.AttemptLemmas.{KnowsAttempt, known, still_tells}
 use Rattle.relay_world.proofs.AttemptMoveLemmas.{attempt_moved}
-use Rattle.relay_world.proofs.ReadLemmas.{dropped_ends, lost_ends}
+use Rattle.relay_world.proofs.FateLemmas.{dropped_ends, lost_ends}
 use Rattle.relay_world.proofs.OutcomeLemmas.{GoesOnAs, found_here, message_now, recorded}
 use Rattle.relay_world.proofs.OpenLemmas.{lines_within}
 

@@ -1,5 +1,5 @@
 -- A world in which one node, its list and one link have moved on stays bound, where what moved is bound.
-use Rattle.std.proofs.Common.{◌≡◌, ◌≢◌, ◌⊎◌, inl, inr, ◌≤◌, ℕ, List, length, Option, None, Some, refl, sym, subst, ap, ◌∙◌}
+use Rattle.std.proofs.Common.{◌≡◌, ◌≢◌, ◌⊎◌, inl, inr, ◌≤◌, ℕ, true, List, length, Option, None, Some, refl, sym, subst, ap, ◌∙◌}
 use Rattle.std.specs.Prelude.{slice_get}
 use Rattle.std.specs.List.{AllByRecursion}
 use Rattle.std.proofs.lemmas.Bool.{cases_eq}
@@ -8,13 +8,15 @@ use Rattle.relay_disk.specs.Device.{DiskWords}
 use Rattle.relay_server.specs.Dialogue.{Said}
 use Rattle.relay_book.specs.declared.change.Change.{Change}
 use Rattle.relay_world.specs.declared.attempt.Attempt.{Attempt}
+use Rattle.relay_world.specs.declared.attempt.Fate.TheVariants.{Dropped}
 use Rattle.relay_world.specs.declared.link.Link.{Link}
 use Rattle.relay_world.specs.declared.link.ServerEnd.{ServerEnd}
-use Rattle.relay_world.specs.Bound.{HasLink, HasSession, HasSlot, HostKeeps, IsBound, IsServed, IsTried, PassesOn, ReadsWithin, SaysThere, ServesLink, StandsAt, link_of}
+use Rattle.relay_world.specs.Bound.{HasLink, HasSession, HasSlot, HostKeeps, IsBound, IsServed, IsTried, MayBeIn, PassesOn, ReadsWithin, SaysThere, ServesLink, StandsAt, link_of}
 use Rattle.relay_world.specs.Ledger.{accepts_on, steps_in, steps_of}
 use Rattle.relay_world.specs.Steps.{IsPut, IsPutAt}
-use Rattle.relay_world.specs.World.{Host, World, link_at}
+use Rattle.relay_world.specs.World.{Down, Host, Undecided, World, link_at}
 use Rattle.relay_world.proofs.FrameLemmas.{ChangesStay, MessagesStay, TellsOn, passes_on, serves_on}
+use Rattle.relay_world.proofs.UndecidedLemmas.{Remains, ServesStill, TriesStill, still_may_be_in}
 
 -- what stands in a row with one value put: that value at its place, and elsewhere what was there
 pub put_cases : {A : Type 0} (old new : List A) (place : ℕ) (value : A) → IsPut old new place value → (other : ℕ) (x : A)
@@ -90,6 +92,7 @@ module _ {D : Type 0} (honest : Type 0) (words : DiskWords D) (old new : World D
     pub list : IsPut lists later node grown
     pub links : (other : ℕ) (its : Link) → link_at new.links other ≡ Some its
         → ((other ≡ number) × (link ≡ its)) ⊎ ((other ≢ number) × (link_at old.links other ≡ Some its))
+    pub stays : (other : ℕ) → other ≢ number → link_at new.links other ≡ link_at old.links other
     pub attempts : (place : ℕ) (attempt : Attempt) → slice_get old.attempts place ≡ Some attempt → attempt.link ≢ number
         → slice_get new.attempts place ≡ Some attempt
     pub config : moved.config ≡ host.config
@@ -106,6 +109,13 @@ module _ {D : Type 0} (honest : Type 0) (words : DiskWords D) (old new : World D
         → attempt.link ≢ number → HasSlot attempt node slot → TellsOn host moved changes grown slot
     pub keeps : HostKeeps honest words moved grown
 
+  -- the ends that other nodes have of the link, which is broken, stay
+  pub record Settled (was : Link) : Type 0 where
+    pub serves : (end : ServerEnd) → was.server ≡ Some end → end.node ≢ node → end.session ≡ None
+        → ServesStill old new number was end
+    pub tries : (place : ℕ) (attempt : Attempt) → was.client ≡ Some place → slice_get old.attempts place ≡ Some attempt
+        → attempt.node ≢ node → attempt.fate ≡ Dropped → TriesStill old new number place was attempt
+
   -- what the link that moved is
   pub record Joins : Type 0 where
     pub served : (end : ServerEnd) → link.server ≡ Some end → IsServed new later number link end
@@ -117,6 +127,10 @@ module _ {D : Type 0} (honest : Type 0) (words : DiskWords D) (old new : World D
         → HasSession its at session → HasSession link at session → ⊥
     pub attempts : (place : ℕ) (attempt : Attempt) → slice_get new.attempts place ≡ Some attempt
         → HasLink new.links place attempt
+    -- what is undecided elsewhere rests on the link only where that was broken, and then its end stays
+    pub settled : (was : Link) → link_at old.links number ≡ Some was → was.broken ≡ true → Settled was
+    pub may_be_in : (disk : D) (undecided : Undecided) → moved.holder ≡ Down disk (Some undecided)
+        → MayBeIn new node moved grown undecided
 
   module _ (bound : IsBound honest words old lists) (moves : Moves) where
     hosts_keep : (n : ℕ) (h : Host D) (cs : List Change) → StandsAt new later n h cs → HostKeeps honest words h cs
@@ -237,7 +251,67 @@ module _ {D : Type 0} (honest : Type 0) (words : DiskWords D) (old new : World D
           }
         ]
 
+    -- an end of another link, at a node that stays, is what it was
+    serves_still : (other : ℕ) (its : Link) (end : ServerEnd) → other ≢ number → link_at old.links other ≡ Some its
+        → its.broken ≡ true → its.server ≡ Some end → ServesStill old new other its end
+    serves_still other its end off is broken serves = record {
+      now = its;
+      now_is = moves.stays other off ∙ is;
+      stays = record { server = serves; up = refl; up_read = refl; down = refl; broken = broken };
+      accepts = moves.accepts other off;
+    }
+
+    tries_still : (other place : ℕ) (its : Link) (attempt : Attempt) → other ≢ number → link_at old.links other ≡ Some its
+        → its.broken ≡ true → its.client ≡ Some place → slice_get old.attempts place ≡ Some attempt
+        → TriesStill old new other place its attempt
+    tries_still other place its attempt off is broken client at =
+        let tried : IsTried old lists other its place = bound.clients other place its is client in
+        let its_link : attempt.link ≡ other =
+        ap (λ (a : Attempt). a.link) (same_Some attempt tried.attempt (sym at ∙ tried.attempt_at)) ∙ tried.its_link in
+        record {
+          now = its;
+          now_is = moves.stays other off ∙ is;
+          stays = record { client = refl; up = refl; down = refl; down_read = refl; broken = broken };
+          attempt_at = moves.attempts place attempt at (λ same. off (sym its_link ∙ same));
+        }
+
     module _ (joins : Joins) where
+      -- what is undecided at a node that stays rests on what it did
+      remains : (n : ℕ) → n ≢ node → Remains old new n
+      remains n off = record {
+        serves = λ other its end is broken serves its_node ended. elim (cases_eq other number) [
+          | inl same ↦
+              let here : link_at old.links number ≡ Some its = ap (λ k. link_at old.links k) (sym same) ∙ is in
+              subst (λ k. ServesStill old new k its end) (sym same)
+              ((joins.settled its here broken).serves end serves (λ at. off (sym its_node ∙ at)) ended)
+          | inr apart ↦ serves_still other its end apart is broken serves
+        ];
+        tries = λ other place its attempt is broken client at its_node dropped. elim (cases_eq other number) [
+          | inl same ↦
+              let here : link_at old.links number ≡ Some its = ap (λ k. link_at old.links k) (sym same) ∙ is in
+              subst (λ k. TriesStill old new k place its attempt) (sym same)
+              ((joins.settled its here broken).tries place attempt client at (λ same_node. off (sym its_node ∙ same_node)) dropped)
+          | inr apart ↦ tries_still other place its attempt apart is broken client at
+        ];
+      }
+
+      all_decided : (n : ℕ) (h : Host D) (cs : List Change) (disk : D) (undecided : Undecided) → StandsAt new later n h cs
+          → h.holder ≡ Down disk (Some undecided) → MayBeIn new n h cs undecided
+      all_decided n h cs disk undecided stands down =
+          elim (put_cases old.hosts new.hosts node moved moves.hosts n h stands.host_at) [
+            | inl here ↦
+                let same : grown ≡ cs =
+                same_Some grown cs (sym moves.list.at ∙ ap (λ k. slice_get later k) (sym here.0) ∙ stands.list_at) in
+                subst (λ k. MayBeIn new k h cs undecided) (sym here.0)
+                (subst (λ l. MayBeIn new node h l undecided) same
+                (subst (λ x. MayBeIn new node x grown undecided) here.1
+                (joins.may_be_in disk undecided (ap (λ (x : Host D). x.holder) here.1 ∙ down))))
+            | inr there ↦
+                still_may_be_in old new n h h cs refl (remains n there.0) undecided
+                (bound.may_be_in n h cs disk undecided
+                (record { host_at = there.1; list_at = sym (moves.list.others n there.0) ∙ stands.list_at }) down)
+          ]
+
       all_served : (other : ℕ) (its : Link) (end : ServerEnd) → link_at new.links other ≡ Some its → its.server ≡ Some end
           → IsServed new later other its end
       all_served other its end is serves = elim (moves.links other its is) [
@@ -290,6 +364,7 @@ module _ {D : Type 0} (honest : Type 0) (words : DiskWords D) (old new : World D
       moved_keeps = record {
         even = moves.even;
         hosts = hosts_keep;
+        may_be_in = all_decided;
         servers = all_served;
         clients = all_tried;
         attempts = joins.attempts;

@@ -27,6 +27,7 @@ use Rattle.relay_world.specs.Steps.{OpeningKeeps, opened_link}
 use Rattle.relay_world.specs.World.{Down, Holder, Host, Up, World, link_at}
 use Rattle.relay_world.proofs.FrameLemmas.{TellsOn}
 use Rattle.relay_world.proofs.MoveLemmas.{link_cases, links_kept, Joins, Moves, moved_keeps, same_attempts, same_slots}
+use Rattle.relay_world.proofs.UndecidedLemmas.{up_not_down}
 
 pub off_by : (a b : ℕ) → a ≢ b → nat_eq a b ≡ false
 off_by a b off = elim (eqb_tells a b) [ inl same ↦ absurd (off same.1) | inr other ↦ other.0 ]
@@ -36,7 +37,7 @@ number_within links zero link is = omega arith
 number_within links (suc n) link is = let within = slice_get_within links n link is in omega (arith, within)
 
 -- no line tells of a link beyond the last
-none_accepted : (number count : ℕ) (ledger : List Line) → count < number → AllByRecursion (λ line. link_of line ≤ count) ledger
+pub none_accepted : (number count : ℕ) (ledger : List Line) → count < number → AllByRecursion (λ line. link_of line ≤ count) ledger
     → accepts_on number ledger ≡ []
 none_accepted number count [] beyond lines = refl
 none_accepted number count (Accepted node change places link ∷ ledger) beyond lines =
@@ -201,6 +202,7 @@ module _ {D : Type 0} (honest : Type 0) (words : DiskWords D) where
         even = bound.even ∙ sym opens.rest.3;
         list = record { at = listed.1; others = λ other off. refl };
         links = link_cases old.links new.links number link opens.links;
+        stays = opens.links.others;
         attempts = λ place attempt at off. same_attempts old.attempts new.attempts opens.rest.0 place attempt at;
         config = refl;
         stay = λ k c is. is;
@@ -231,6 +233,8 @@ module _ {D : Type 0} (honest : Type 0) (words : DiskWords D) where
         attempts = links_kept old.links new.links number link opens.links
             (λ was there. let within = number_within old.links number was there in absurd (omega (arith, within)))
             old.attempts new.attempts opens.rest.0 bound.attempts;
+        settled = λ was there broken. let within = number_within old.links number was there in absurd (omega (arith, within));
+        may_be_in = λ disk undecided down. absurd (up_not_down opens.after disk (Some undecided) down);
         apart = λ other its at session off is mine yours.
             let same_end : its_end ≡ yours.end = same_Some its_end yours.end yours.serves in
             let same_node : node ≡ at = ap (λ (e : ServerEnd). e.node) same_end ∙ yours.its_node in

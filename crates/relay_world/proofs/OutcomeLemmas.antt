@@ -14,7 +14,8 @@ use Rattle.relay_world.specs.declared.attempt.Fate.{Fate}
 use Rattle.relay_world.specs.declared.attempt.Fate.TheVariants.{Running}
 use Rattle.relay_world.specs.declared.link.Link.{Link}
 use Rattle.relay_world.specs.Bound.{IsBound, PassesOn, ReadsWithin}
-use Rattle.relay_world.specs.Steps.{AttemptOf, IsPutAt, RecordsOutcome, left_lines, report_told, without_note}
+use Rattle.relay_world.specs.Ledger.{left_lines, report_told}
+use Rattle.relay_world.specs.Steps.{AttemptOf, IsPutAt, RecordsOutcome, without_note}
 use Rattle.relay_world.specs.World.{Up, World}
 use Rattle.relay_world.proofs.FrameLemmas.{changes_stay}
 use Rattle.relay_world.proofs.PieceLemmas.{with_at, with_at-length, with_at-put}

@@ -1,8 +1,7 @@
 -- Replies that an attempt reads keep a world bound.
-use Rattle.std.proofs.Common.{◌≡◌, ◌≤◌, ◌+◌, ℕ, Bool, true, false, List, [], ◌++◌, length, take, Option, None, Some, refl, sym, subst, ap, ◌∙◌}
+use Rattle.std.proofs.Common.{◌≡◌, ◌≤◌, ◌+◌, ℕ, false, List, [], ◌++◌, length, take, Option, None, Some, refl, sym, subst, ap, ◌∙◌}
 use Rattle.std.specs.Prelude.{slice_get}
 use Rattle.std.specs.List.{AllByRecursion}
-use Rattle.std.proofs.lemmas.Bool.{false≢true}
 use Rattle.std.proofs.lemmas.List.{append-nil}
 use Rattle.relay_disk.specs.Device.{DiskWords}
 use Rattle.relay_book.specs.declared.change.Change.{Change}
@@ -14,35 +13,18 @@ use Rattle.relay_client.proofs.Theorems.{followed_is_course}
 use Rattle.relay_attempts.specs.Reply.{HasEnded, Told, outcome_at, told_more}
 use Rattle.relay_outcomes.specs.Outcomes.{AddsOutcome}
 use Rattle.relay_node.specs.Attempts.{ReadsOn, Replies, RepliesBy, Tells}
-use Rattle.relay_world.specs.declared.attempt.Fate.{Fate}
-use Rattle.relay_world.specs.declared.attempt.Fate.TheVariants.{Running, Replied as RepliedBy, Lost, Dropped}
+use Rattle.relay_world.specs.declared.attempt.Fate.TheVariants.{Replied as RepliedBy}
 use Rattle.relay_world.specs.Bound.{HasFate, IsBound, PassesOn, link_of, told_by}
 use Rattle.relay_world.specs.Ledger.{accepts_on, steps_in}
 use Rattle.relay_world.specs.Steps.{HasRead, IsPut, ReadingKeeps, RecordsOutcome, RecordsRead, read_link, waiting_down}
 use Rattle.relay_world.specs.World.{Up, World}
+use Rattle.relay_world.proofs.FateLemmas.{replied_ends}
 use Rattle.relay_world.proofs.PieceLemmas.{few_within, read_more, read_within}
 use Rattle.relay_world.proofs.AttemptLemmas.{KnowsAttempt, known, still_tells}
 use Rattle.relay_world.proofs.AttemptMoveLemmas.{attempt_moved}
 use Rattle.relay_world.proofs.MoveLemmas.{same_attempts}
 use Rattle.relay_world.proofs.OutcomeLemmas.{GoesOnAs, found_here, message_now, recorded}
 use Rattle.relay_world.proofs.OpenLemmas.{lines_within}
-
-is_running : Fate → Bool
-is_running (Running slot) = true
-is_running _ = false
-
--- an attempt that replies have ended, or the loss of its link, or its node, doesn't run
-pub replied_ends : (number slot : ℕ) → RepliedBy number ≡ Running slot → ⊥
-unfolding is_running
-replied_ends number slot same = false≢true (ap is_running same)
-
-pub lost_ends : (number slot : ℕ) → Lost number ≡ Running slot → ⊥
-unfolding is_running
-lost_ends number slot same = false≢true (ap is_running same)
-
-pub dropped_ends : (slot : ℕ) → Dropped ≡ Running slot → ⊥
-unfolding is_running
-dropped_ends slot same = false≢true (ap is_running same)
 
 module _ {D : Type 0} (honest : Type 0) (words : DiskWords D) (old new : World D) (lists : List (List Change)) (number count : ℕ)
     (bound : IsBound honest words old lists) (read : HasRead honest words old new number count)

@@ -18,15 +18,15 @@ use Rattle.relay_outcomes.specs.Outcomes.{AddsOutcome, reported_as}
 use Rattle.relay_node.specs.Node.{Standing}
 use Rattle.relay_world.specs.declared.line.Line.{Line}
 use Rattle.relay_world.specs.Bound.{HostKeeps, IsBound, NodeKeeps, link_of}
-use Rattle.relay_world.specs.Ledger.{Leaves, accepts_on, report_number, steps_in, steps_of}
-use Rattle.relay_world.specs.Steps.{left_lines, report_told, without_note}
+use Rattle.relay_world.specs.Ledger.{Leaves, accepts_on, left_lines, report_number, report_told, steps_in, steps_of}
+use Rattle.relay_world.specs.Steps.{without_note}
 use Rattle.relay_world.specs.World.{Host, Up, World}
 use Rattle.relay_world.proofs.FrameLemmas.{accepts_on_more, get_last, steps_in_more, steps_more}
 use Rattle.relay_world.proofs.PieceLemmas.{all_append, kept_without_note, reports_more, same_number}
 use Rattle.relay_world.proofs.OpenLemmas.{lines_within, off_by}
 
 -- what a ledger's lines of an outcome tell: its steps, of its node alone, and no accept
-left_steps : (node message link report : ℕ) (left : List (ℕ × Way))
+pub left_steps : (node message link report : ℕ) (left : List (ℕ × Way))
     → steps_in node (left_lines node message link report left) ≡ map (λ one. Leaves one.1 message one.0 report) left
 left_steps node message link report [] = refl
 left_steps node message link report (one ∷ left) =
@@ -34,7 +34,7 @@ left_steps node message link report (one ∷ left) =
     (same_number node)
     ∙ ap (λ l. Leaves one.1 message one.0 report ∷ l) (left_steps node message link report left)
 
-left_elsewhere : (node other message link report : ℕ) (left : List (ℕ × Way)) → other ≢ node
+pub left_elsewhere : (node other message link report : ℕ) (left : List (ℕ × Way)) → other ≢ node
     → steps_in other (left_lines node message link report left) ≡ []
 left_elsewhere node other message link report [] off = refl
 left_elsewhere node other message link report (one ∷ left) off =
@@ -42,17 +42,17 @@ left_elsewhere node other message link report (one ∷ left) off =
     (off_by node other (λ same. off (sym same)))
     ∙ left_elsewhere node other message link report left off
 
-none_left_accepted : (node number message link report : ℕ) (left : List (ℕ × Way))
+pub none_left_accepted : (node number message link report : ℕ) (left : List (ℕ × Way))
     → accepts_on number (left_lines node message link report left) ≡ []
 none_left_accepted node number message link report [] = refl
 none_left_accepted node number message link report (one ∷ left) = none_left_accepted node number message link report left
 
-left_within : (node message link report count : ℕ) (left : List (ℕ × Way)) → link ≤ count
+pub left_within : (node message link report count : ℕ) (left : List (ℕ × Way)) → link ≤ count
     → AllByRecursion (λ line. link_of line ≤ count) (left_lines node message link report left)
 left_within node message link report count [] few = tt
 left_within node message link report count (one ∷ left) few = (few, left_within node message link report count left few)
 
-report_is : (number : ℕ) (report : List ℕ) → report_told number (is_text report) ≡ report_number number report
+pub report_is : (number : ℕ) (report : List ℕ) → report_told number (is_text report) ≡ report_number number report
 report_is number [] = refl
 report_is number (octet ∷ report) = refl
 

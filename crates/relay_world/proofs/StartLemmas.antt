@@ -38,6 +38,7 @@ use Rattle.relay_world.specs.World.{Host, Up, World, link_at}
 use Rattle.relay_world.proofs.FrameLemmas.{TellsOn}
 use Rattle.relay_world.proofs.AttemptLemmas.{still_tells}
 use Rattle.relay_world.proofs.MoveLemmas.{link_cases, Joins, Moves, moved_keeps, put_cases, still_served}
+use Rattle.relay_world.proofs.UndecidedLemmas.{not_broken, up_not_down}
 use Rattle.relay_world.proofs.OpenLemmas.{lines_within, number_within, list_there, node_kept, same_Up}
 
 if_some_few : (is : Bool) (n count : ℕ) (rest : List ℕ) → length rest ≤ count → length (cond is (n ∷ []) [] ++ rest) ≤ suc count
@@ -181,6 +182,7 @@ module _ {D : Type 0} (honest : Type 0) (words : DiskWords D) where
         even = bound.even ∙ sym starts.rest.2;
         list = record { at = listed.1; others = λ other off. refl };
         links = link_cases old.links new.links number link starts.links;
+        stays = starts.links.others;
         attempts = λ place attempt at off. old_attempt place attempt at;
         config = refl;
         stay = λ k c is. is;
@@ -252,6 +254,15 @@ module _ {D : Type 0} (honest : Type 0) (words : DiskWords D) where
             its_session = yours.its_session;
           }))
       apart (inr fresh) other its at session off is mine yours = none-some yours.end (sym fresh.1 ∙ yours.serves)
+
+      was_whole : (link_at old.links number ≡ Some blank)
+          ⊎ ((number ≡ suc (length old.links)) × (blank.server ≡ None) × (blank.up_read ≡ 0))
+          → (was : Link) → link_at old.links number ≡ Some was → was.broken ≡ true → ⊥
+      was_whole (inl there) was at broken = not_broken old.links number blank was there starts.is_blank.whole at broken
+      was_whole (inr fresh) was at broken =
+          let few_links = number_within old.links number was at in
+          let number_is = fresh.0 in
+          omega (arith, few_links, number_is)
 
       tells_now : Tells host.config.host changes starts.after.attempts starts.started.attempt
           (told_by starts.attempt accept [] [])
@@ -378,6 +389,8 @@ module _ {D : Type 0} (honest : Type 0) (words : DiskWords D) where
             });
         reads = reads starts.is_blank.there;
         slots = slots_now;
+        settled = λ was there broken. absurd (was_whole starts.is_blank.there was there broken);
+        may_be_in = λ disk undecided down. absurd (up_not_down starts.after disk (Some undecided) down);
         apart = apart starts.is_blank.there;
         attempts = λ place attempt at.
             elim (put_cases old.attempts new.attempts (length old.attempts) starts.attempt starts.attempts place attempt at) [

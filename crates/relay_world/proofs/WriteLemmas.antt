@@ -1,5 +1,6 @@
 -- Octets that outside writes keep a world bound.
-use Rattle.std.proofs.Common.{inl, inr, ◌≡◌, ℕ, List, Some, refl, sym, subst, ap, ◌∙◌}
+use Rattle.std.proofs.Common.{inl, inr, ◌≡◌, ℕ, false, List, Some, refl, sym, subst, ap, ◌∙◌}
+use Rattle.std.proofs.lemmas.Bool.{false≢true}
 use Rattle.std.proofs.lemmas.Option.{none-some}
 use Rattle.relay_disk.specs.Device.{DiskWords}
 use Rattle.relay_book.specs.declared.change.Change.{Change}
@@ -13,6 +14,7 @@ use Rattle.relay_world.proofs.LinkLemmas.{relinked}
 
 module _ {D : Type 0} (honest : Type 0) (words : DiskWords D) (old : World D) (lists : List (List Change)) (number : ℕ) (octets : List ℕ)
     (bound : IsBound honest words old lists) (link written : Link) (link_is : link_at old.links number ≡ Some link)
+    (whole : link.broken ≡ false)
     (links : List Link) (put : IsPutAt old.links links number written) where
   -- what was written keeps the link's ends
   served_now : WritesAs link octets written → (end : ServerEnd) → written.server ≡ Some end
@@ -84,9 +86,12 @@ module _ {D : Type 0} (honest : Type 0) (words : DiskWords D) (old : World D) (l
         reads = reads_now writes;
         server = same_server writes;
         client = same_client writes;
+        serves = λ broken end serves. absurd (false≢true (sym whole ∙ broken));
+        tries = λ broken. absurd (false≢true (sym whole ∙ broken));
       })
 
 pub writing_keeps : {D : Type 0} (honest : Type 0) (words : DiskWords D) → WritingKeeps honest words
 writing_keeps honest words old new lists number octets bound has =
     subst (λ w. IsBound honest words w lists) (sym has.new_is)
-    (written_keeps honest words old lists number octets bound has.link has.written has.link_is has.links has.put has.writes)
+    (written_keeps honest words old lists number octets bound has.link has.written has.link_is has.whole has.links has.put
+    has.writes)

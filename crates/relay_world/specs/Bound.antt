@@ -1,6 +1,6 @@
 -- What ties the values of two relays together: each node to its list of changes, each end of a link to what it has read and
 -- written, and the ledger to the lists of changes.
-use Rattle.std.specs.Prelude.{◌≡◌, ◌⊎◌, ℕ, ◌≤◌, Bool, true, false, List, [], ◌∷◌, ◌++◌, length, map, take, Option, Some, None, slice_get}
+use Rattle.std.specs.Prelude.{◌≡◌, ◌⊎◌, ℕ, ◌+◌, ◌≤◌, Bool, true, false, List, [], ◌∷◌, ◌++◌, length, map, take, Option, Some, None, slice_get}
 use Rattle.std.specs.List.{AllByRecursion}
 use Rattle.relay_octets.specs.Beginning.{Begins}
 use Rattle.relay_disk.specs.Device.{DiskWords}
@@ -16,7 +16,9 @@ use Rattle.relay_book.specs.declared.change.Verdict.{Verdict}
 use Rattle.relay_book.specs.Marks.{change_at, message_at}
 use Rattle.relay_book.specs.Queue.{Fitting}
 use Rattle.relay_book.specs.Record.{IsAccept, encode}
-use Rattle.relay_records.specs.Records.{Keeps, StandsForOrWith}
+use Rattle.relay_book.specs.StandsFor.{StandsFor}
+use Rattle.relay_records.specs.declared.noted.Noted.{Noted}
+use Rattle.relay_records.specs.Records.{Keeps}
 use Rattle.relay_report.specs.Report.{Reported}
 use Rattle.relay_course.specs.Course.{IsCourse}
 use Rattle.relay_course.specs.Laws.{AreWithin}
@@ -34,8 +36,8 @@ use Rattle.relay_world.specs.declared.line.Line.{Line}
 use Rattle.relay_world.specs.declared.line.Line.TheVariants.{Accepted, Left}
 use Rattle.relay_world.specs.declared.link.Link.{Link}
 use Rattle.relay_world.specs.declared.link.ServerEnd.{ServerEnd}
-use Rattle.relay_world.specs.Ledger.{accepts_on, steps_in, steps_of}
-use Rattle.relay_world.specs.World.{Down, Holder, Host, Undecided, Up, World, link_at}
+use Rattle.relay_world.specs.Ledger.{accepts_on, lines_by, lines_of, steps_by, steps_in, steps_of}
+use Rattle.relay_world.specs.World.{Down, FromClient, FromLoss, FromNoHop, FromReplies, Holder, Host, Origin, Undecided, Up, World, link_at}
 
 -- the records are those of this list of changes
 pub record IsListOf (records : List (List ℕ)) (changes : List Change) : Type 0 where
@@ -50,13 +52,13 @@ ReportsBehind host front (change ∷ changes) = Reported host front change × Re
 -- the change that the next opening decides has this record
 abbrev pub IsUndecided : Option Undecided → Change → Type 0
 IsUndecided None change = ⊥
-IsUndecided (Some undecided) change = undecided.octets ≡ encode change
+IsUndecided (Some undecided) change = undecided.note.octets ≡ encode change
 
 -- the bodies stand for these changes, or for these and the undecided one
 abbrev pub StandsForUnlessDecided : List Change → Option Undecided → List (List ℕ) → Type 0
 StandsForUnlessDecided changes undecided bodies =
-    StandsForOrWith changes None bodies
-    ⊎ ((change : Change) × IsUndecided undecided change × StandsForOrWith changes (Some change) bodies)
+    StandsFor bodies changes
+    ⊎ ((change : Change) × IsUndecided undecided change × StandsFor bodies (changes ++ change ∷ []))
 
 module _ {D : Type 0} (honest : Type 0) (words : DiskWords D) where
   -- a node that is up runs by this configuration, and keeps these changes
@@ -183,6 +185,56 @@ pub record IsTried {D : Type 0} (world : World D) (lists : List (List Change)) (
   pub stands : StandsAt world lists attempt.node host changes
   pub passes : PassesOn host changes link attempt
 
+-- An undecided change of a node may be in its spool: the records below say that with it all would be bound too, of that node and
+-- of the one link that the change came from, which is broken.
+module _ {D : Type 0} (world : World D) (node : ℕ) (host : Host D) (changes : List Change) (change : Change) (note : Noted) where
+  -- It came from a client: the link's server end, at this node and without a session, is served with the change, once it has read
+  -- what the note tells.
+  pub record MayBeHeard (number : ℕ) : Type 0 where
+    pub link : Link
+    pub link_is : link_at world.links number ≡ Some link
+    pub broken : link.broken ≡ true
+    pub end : ServerEnd
+    pub serves : link.server ≡ Some end
+    pub its_node : end.node ≡ node
+    pub ended : end.session ≡ None
+    pub within : link.up_read + note.used ≤ length link.up
+    pub with_it : ServesLink host (changes ++ change ∷ []) (world.ledger ++ lines_by node note (FromClient number)) number
+        (record link { up_read = link.up_read + note.used }) end
+
+  -- It is the outcome of an attempt of this node that was dropped, and with the change has this fate, once it has read what the
+  -- note tells.
+  pub record MayHaveEnded (number place : ℕ) (fate : Fate) : Type 0 where
+    pub link : Link
+    pub link_is : link_at world.links number ≡ Some link
+    pub broken : link.broken ≡ true
+    pub client : link.client ≡ Some place
+    pub attempt : Attempt
+    pub attempt_at : slice_get world.attempts place ≡ Some attempt
+    pub its_node : attempt.node ≡ node
+    pub dropped : attempt.fate ≡ Dropped
+    pub within : link.down_read + note.used ≤ length link.down
+    pub with_it : PassesOn host (changes ++ change ∷ []) (record link { down_read = link.down_read + note.used })
+        (record attempt { fate = fate })
+
+  -- it came so, and with it that end of the link would be bound
+  abbrev pub MayHaveCome : Origin → Type 0
+  MayHaveCome (FromClient number) = MayBeHeard number
+  MayHaveCome (FromReplies number place message) = MayHaveEnded number place (Replied note.number)
+  MayHaveCome (FromLoss number place message) = MayHaveEnded number place (Lost note.number)
+  MayHaveCome (FromNoHop message) = Unit {0}
+
+-- a change that comes next at a node that keeps these has this record, and the ledger's lines of it are its steps
+pub record MayBeIn {D : Type 0} (world : World D) (node : ℕ) (host : Host D) (changes : List Change) (undecided : Undecided)
+    : Type 0 where
+  pub change : Change
+  pub octets : undecided.note.octets ≡ encode change
+  pub number : undecided.note.number ≡ length changes + 1
+  pub fitting : Fitting (changes ++ change ∷ [])
+  pub reported : Reported host.config.host changes change
+  pub steps : steps_in node (lines_of node undecided) ≡ steps_by changes change
+  pub came : MayHaveCome world node host changes change undecided.note undecided.origin
+
 -- each end has read no more than the other wrote
 pub record ReadsWithin (link : Link) : Type 0 where
   pub up : link.up_read ≤ length link.up
@@ -217,6 +269,10 @@ pub record IsBound {D : Type 0} (honest : Type 0) (words : DiskWords D) (world :
   pub even : length lists ≡ length world.hosts
   pub hosts : (node : ℕ) (host : Host D) (changes : List Change) → StandsAt world lists node host changes
       → HostKeeps honest words host changes
+  -- whether the next opening of a node that is down finds an undecided change or not, all is bound
+  pub may_be_in : (node : ℕ) (host : Host D) (changes : List Change) (disk : D) (undecided : Undecided)
+      → StandsAt world lists node host changes → host.holder ≡ Down disk (Some undecided)
+      → MayBeIn world node host changes undecided
   pub servers : (number : ℕ) (link : Link) (end : ServerEnd) → link_at world.links number ≡ Some link
       → link.server ≡ Some end → IsServed world lists number link end
   pub clients : (number place : ℕ) (link : Link) → link_at world.links number ≡ Some link → link.client ≡ Some place

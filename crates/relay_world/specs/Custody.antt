@@ -1,6 +1,6 @@
 -- Custody of each recipient that a node acknowledged (RFC 5321, section 6.1): it is held, or the next hop has taken it, or it has
 -- ended for a cause, and then the report that is due was queued in the same change.
-use Rattle.std.specs.Prelude.{◌≡◌, ◌↔◌, ℕ, zero, suc, ◌+◌, ◌<◌, ◌≤◌, List, [], ◌∷◌, ◌++◌, length, take, Some, slice_get}
+use Rattle.std.specs.Prelude.{◌≡◌, ◌↔◌, ℕ, zero, suc, ◌+◌, ◌<◌, ◌≤◌, List, [], ◌∷◌, ◌++◌, length, take, Some, Option, slice_get}
 use Rattle.std.specs.List.{Contains}
 use Rattle.relay_octets.specs.Beginning.{Begins}
 use Rattle.relay_disk.specs.Device.{DiskWords}
@@ -23,8 +23,8 @@ use Rattle.relay_node.specs.Node.{Standing}
 use Rattle.relay_report.specs.Report.{Reported}
 use Rattle.relay_world.specs.declared.link.Link.{Link}
 use Rattle.relay_world.specs.declared.link.ServerEnd.{ServerEnd}
-use Rattle.relay_world.specs.Bound.{IsBound, StandsAt}
-use Rattle.relay_world.specs.World.{Host, Up, World, link_at}
+use Rattle.relay_world.specs.Bound.{IsBound, StandsAt, StandsForUnlessDecided}
+use Rattle.relay_world.specs.World.{Down, Host, Undecided, Up, World, link_at}
 
 -- The node wrote on a link that a message of so many places is queued under this number: a dialogue with what it has read there,
 -- all of whose output was written, ends with that answer.
@@ -85,6 +85,9 @@ pub record KeepsCustody {D : Type 0} (honest : Type 0) (words : DiskWords D) (wo
       → Contains {X = ℕ × ℕ} (held_of standing.records.queue) (number, place) ↔ Held changes number place
   pub images : honest → (standing : Standing D) → host.holder ≡ Up standing
       → EveryImageHas words standing.records.spool.disk (λ bodies. StandsFor bodies changes)
+  -- of a node that is down every image stands for its changes, or for these and the one that its next opening decides
+  pub images_down : honest → (disk : D) (undecided : Option Undecided) → host.holder ≡ Down disk undecided
+      → EveryImageHas words disk (StandsForUnlessDecided changes undecided)
   -- each that has left has left for a cause, with the report that is due
   pub left : (at number place : ℕ) (way : Way) → LeavesAt changes at number place way
       → LeftFor host.config.host changes at number place way

@@ -1,12 +1,14 @@
 -- The ledger of a run: what each change of a node's list makes of the custody of mail, in order.
-use Rattle.std.specs.Prelude.{ℕ, suc, nat_eq, List, [], ◌∷◌, ◌++◌, length, map, if◌then◌else◌}
+use Rattle.std.specs.Prelude.{ℕ, suc, nat_eq, Bool, true, false, List, [], ◌∷◌, ◌++◌, length, map, if◌then◌else◌}
 use Rattle.std.specs.List.{flat_map}
 use Rattle.relay_book.specs.declared.change.Change.{Change}
 use Rattle.relay_book.specs.declared.change.Change.TheVariants.{Accept, Outcome}
 use Rattle.relay_book.specs.declared.fate.Way.{Way}
 use Rattle.relay_book.specs.Marks.{leaving}
+use Rattle.relay_records.specs.declared.noted.Noted.{Noted}
 use Rattle.relay_world.specs.declared.line.Line.{Line}
 use Rattle.relay_world.specs.declared.line.Line.TheVariants.{Accepted, Left}
+use Rattle.relay_world.specs.World.{FromClient, FromLoss, FromNoHop, FromReplies, Origin, Undecided}
 
 -- a message was accepted with so many places; or a place of a message left, and a report was queued under this number (0: none)
 pub data Step : Type 0 where
@@ -53,3 +55,25 @@ if_accepted_on link (Left way node number place other report) = []
 -- the accepts on a link, in order
 abbrev pub accepts_on : ℕ → List Line → List (ℕ × ℕ)
 accepts_on link ledger = flat_map (if_accepted_on link) ledger
+
+-- the number of a change where it queued a report, and else 0
+abbrev pub report_told : ℕ → Bool → ℕ
+report_told number true = number
+report_told number false = 0
+
+-- the lines of what left by an outcome of a message
+abbrev pub left_lines : ℕ → ℕ → ℕ → ℕ → List (ℕ × Way) → List Line
+left_lines node message link report left = map (λ one. Left one.1 node message one.0 link report) left
+
+-- what the ledger will tell of a noted change of a node, by what the change came from
+abbrev pub lines_by : ℕ → Noted → Origin → List Line
+lines_by node note (FromClient link) = Accepted node note.number note.accepted link ∷ []
+lines_by node note (FromReplies link place message) =
+    left_lines node message link (report_told note.number note.report) note.left.items
+lines_by node note (FromLoss link place message) =
+    left_lines node message link (report_told note.number note.report) note.left.items
+lines_by node note (FromNoHop message) = left_lines node message 0 (report_told note.number note.report) note.left.items
+
+-- the lines of an undecided change of a node
+abbrev pub lines_of : ℕ → Undecided → List Line
+lines_of node undecided = lines_by node undecided.note undecided.origin

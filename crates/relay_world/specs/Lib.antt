@@ -4,3 +4,11 @@ pub mod Bound
 pub mod Custody
 pub mod Content
 pub mod Steps
+pub mod Stops
+pub mod HangUp
+pub mod Children
+pub mod Passing
+pub mod Once
+pub mod Transfers
+pub mod Copies
+pub mod Promise

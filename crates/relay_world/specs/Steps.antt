@@ -1,8 +1,7 @@
 -- What an event does to two relays and their links.
-use Rattle.std.specs.Prelude.{◌≡◌, ◌≢◌, ◌⊎◌, ◌≤◌, ℕ, ◌+◌, suc, Bool, true, false, List, [], ◌∷◌, ◌++◌, length, map, take, drop, Option, Some, None, slice_get}
+use Rattle.std.specs.Prelude.{◌≡◌, ◌≢◌, ◌⊎◌, ◌≤◌, ℕ, ◌+◌, suc, Bool, true, false, List, [], ◌∷◌, ◌++◌, length, take, drop, Option, Some, None, slice_get}
 use Rattle.relay_disk.specs.Device.{DiskWords}
 use Rattle.relay_book.specs.declared.change.Change.{Change}
-use Rattle.relay_book.specs.declared.fate.Way.{Way}
 use Rattle.relay_attempts.specs.declared.reply.Replied.{Replied}
 use Rattle.relay_attempts.specs.Reply.{IsLost, Told}
 use Rattle.relay_attempts.specs.declared.start.Started.{Started}
@@ -18,11 +17,11 @@ use Rattle.relay_slots.specs.Slots.{OthersStay}
 use Rattle.relay_world.specs.declared.attempt.Attempt.{Attempt}
 use Rattle.relay_world.specs.declared.attempt.Fate.{Fate}
 use Rattle.relay_world.specs.declared.attempt.Fate.TheVariants.{Running, Replied as RepliedBy, Lost as LostBy, Dropped}
-use Rattle.relay_world.specs.declared.line.Line.{Line}
-use Rattle.relay_world.specs.declared.line.Line.TheVariants.{Accepted, Left}
+use Rattle.relay_world.specs.declared.line.Line.TheVariants.{Accepted}
 use Rattle.relay_world.specs.declared.link.Link.{Link}
 use Rattle.relay_world.specs.declared.link.ServerEnd.{ServerEnd}
 use Rattle.relay_world.specs.Bound.{IsBound}
+use Rattle.relay_world.specs.Ledger.{left_lines, report_told}
 use Rattle.relay_world.specs.World.{Host, Up, World, link_at}
 
 -- the value is put at this place: in the place of another, or behind the last; all others are the same
@@ -188,15 +187,6 @@ read_link link replied = record link {
   up = link.up ++ replied.out.items;
   down_read = link.down_read + replied.used;
 }
-
--- the number of a change where it queued a report, and else 0
-abbrev pub report_told : ℕ → Bool → ℕ
-report_told number true = number
-report_told number false = 0
-
--- the lines of what left by an outcome of a message
-abbrev pub left_lines : ℕ → ℕ → ℕ → ℕ → List (ℕ × Way) → List Line
-left_lines node message link report left = map (λ one. Left one.1 node message one.0 link report) left
 
 -- what a node has recorded of an attempt that ended: its outcome, under this number, whose note was taken
 pub record RecordsOutcome {D : Type 0} (old new : World D) (number : ℕ) (of : AttemptOf old number) (after : Standing D)

@@ -2,15 +2,24 @@
 -- attempts, and the ledger.
 use Rattle.std.specs.Prelude.{ℕ, suc, zero, List, Option, None, slice_get}
 use Rattle.relay_routes.specs.declared.config.Config.{Config}
+use Rattle.relay_records.specs.declared.noted.Noted.{Noted}
 use Rattle.relay_node.specs.Node.{Standing}
 use Rattle.relay_world.specs.declared.attempt.Attempt.{Attempt}
 use Rattle.relay_world.specs.declared.line.Line.{Line}
 use Rattle.relay_world.specs.declared.link.Link.{Link}
 
--- the note of an append that a stop left open: the record, and how many octets of its piece the call had used
+-- What a change came from: octets of a client, heard on a link; replies that the attempt at a place among the attempts read on
+-- its link, or the loss of that link, and the attempt's message; or the places of a message that had no hop.
+pub data Origin : Type 0 where
+  FromClient : (link : ℕ) → Origin
+  FromReplies : (link place message : ℕ) → Origin
+  FromLoss : (link place message : ℕ) → Origin
+  FromNoHop : (message : ℕ) → Origin
+
+-- the change of an append that a stop left open: its note, and what it came from
 pub record Undecided : Type 0 where
-  pub octets : List ℕ
-  pub used : ℕ
+  pub note : Noted
+  pub origin : Origin
 
 -- a node is up, or it is down: then it is its disk, and perhaps a change that its next opening decides
 pub data Holder (D : Type 0) : Type 0 where

@@ -1,6 +1,8 @@
 //! What follows for the mail of two relays that are bound, and which events keep them so.
 ghost use Rattle.relay_world.specs.Content.{ContentIsKept};
 ghost use Rattle.relay_world.specs.Custody.{CustodyIsKept};
+ghost use Rattle.relay_world.specs.HangUp.{HangingUpEnds, HangingUpKeeps};
+ghost use Rattle.relay_world.specs.Stops.{DownIsNotRefused, ReopeningKeeps, StayingDownKeeps, StoppingGivingUpKeeps, StoppingHearingKeeps, StoppingKeeps, StoppingLosingKeeps, StoppingReadingKeeps};
 ghost use Rattle.relay_world.specs.Steps.{BreakingKeeps, DroppingKeeps, EndingKeeps, GivingUpKeeps, HearingKeeps, LosingKeeps, OpeningKeeps, ReadingKeeps, StartingKeeps, WritingKeeps};
 
 use relay_disk::Disk;
@@ -63,4 +65,54 @@ pub fn breaking_keeps<D: Disk>()
 /// Places without a hop that are given up keep a world bound, with their outcome as one change more.
 pub fn giving_up_keeps<D: Disk>()
     ensures { GivingUpKeeps D.honest D.words }
+{}
+
+/// A node that stops between two calls keeps a world bound.
+pub fn stopping_keeps<D: Disk>()
+    ensures { StoppingKeeps D.honest D.words }
+{}
+
+/// A node that stops while it adds the accept of what it heard keeps a world bound: the accept is undecided until its next opening.
+pub fn stopping_hearing_keeps<D: Disk>()
+    ensures { StoppingHearingKeeps D.honest D.words }
+{}
+
+/// A node that stops while it adds the outcome of an attempt, to which replies led, keeps a world bound.
+pub fn stopping_reading_keeps<D: Disk>()
+    ensures { StoppingReadingKeeps D.honest D.words }
+{}
+
+/// A node that stops while it adds the outcome of an attempt whose link was lost keeps a world bound.
+pub fn stopping_losing_keeps<D: Disk>()
+    ensures { StoppingLosingKeeps D.honest D.words }
+{}
+
+/// A node that stops while it gives up places without a hop keeps a world bound.
+pub fn stopping_giving_up_keeps<D: Disk>()
+    ensures { StoppingGivingUpKeeps D.honest D.words }
+{}
+
+/// A node that is down, and whose disk isn't opened, keeps a world bound.
+pub fn staying_down_keeps<D: Disk>()
+    ensures { StayingDownKeeps D.honest D.words }
+{}
+
+/// A node that is opened again on an honest disk keeps a world bound: without the change that was undecided, or with it.
+pub fn reopening_keeps<D: Disk>()
+    ensures { D.honest → ReopeningKeeps D.honest D.words }
+{}
+
+/// A node that is down isn't refused for the octets of its disk, where that is honest.
+pub fn down_is_not_refused<D: Disk>()
+    ensures { D.honest → DownIsNotRefused D.honest D.words }
+{}
+
+/// Sessions of a node that are gone at once, and attempts of it that are dropped, keep a world bound.
+pub fn hanging_up_keeps<D: Disk>()
+    ensures { HangingUpKeeps D.honest D.words }
+{}
+
+/// A node whose sessions are all gone, and whose attempts are all dropped, has no session, and none runs.
+pub fn hanging_up_ends<D: Disk>()
+    ensures { HangingUpEnds D }
 {}

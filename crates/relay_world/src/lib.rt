@@ -6,6 +6,7 @@ mod attempt;
 pub mod laws;
 mod line;
 mod link;
+pub mod passing;
 
 pub use attempt::{Attempt, Fate};
 pub use line::Line;

@@ -1,0 +1,211 @@
+-- What change an event has added to a node's list, and whether it says that a place was Taken.
+use Rattle.std.proofs.Common.{◌≡◌, inr, ℕ, Bool, List, [], ◌∷◌, ◌++◌, length, map, take, Option, None, Some, refl, sym, subst, ap, ◌∙◌, cond}
+use Rattle.std.specs.Prelude.{slice_get}
+use Rattle.std.specs.List.{Contains}
+use Rattle.std.proofs.Math.Numerals.{add-one}
+use Rattle.std.proofs.lemmas.List.{append_cancel_left}
+use Rattle.std.proofs.lemmas.Option.{same_Some}
+use Rattle.relay_disk.specs.Device.{DiskWords}
+use Rattle.relay_book.specs.declared.change.Change.{Change}
+use Rattle.relay_book.specs.declared.change.Change.TheVariants as change
+use Rattle.relay_book.specs.declared.change.Outcome.{Outcome}
+use Rattle.relay_book.specs.declared.change.Ruling.{Ruling}
+use Rattle.relay_book.specs.declared.change.Verdict.TheVariants.{NoRoute, Taken}
+use Rattle.relay_book.specs.declared.fate.Way.{Way}
+use Rattle.relay_book.specs.Marks.{leaving}
+use Rattle.relay_book.specs.Record.{encode}
+use Rattle.relay_records.specs.declared.noted.Noted.{Noted}
+use Rattle.relay_records.specs.Note.{IsNoted}
+use Rattle.relay_routes.specs.declared.config.Config.{Config}
+use Rattle.relay_course.specs.VerdictTable.{all_later}
+use Rattle.relay_outcomes.specs.Outcomes.{AddsOutcome, reported_as}
+use Rattle.relay_attempts.specs.Hops.{stranded_places}
+use Rattle.relay_attempts.specs.Outcomes.{AddsUnroutable, rulings_of, unroutable, unrouted}
+use Rattle.relay_attempts.specs.Reply.{IsLost, Told, outcome_at}
+use Rattle.relay_node.specs.Attempts.{RepliesBy, Tells}
+use Rattle.relay_node.specs.Node.{Standing}
+use Rattle.relay_world.specs.declared.attempt.Fate.TheVariants.{Replied}
+use Rattle.relay_world.specs.declared.line.Line.TheVariants.{Accepted}
+use Rattle.relay_world.specs.Bound.{HostKeeps, IsBound, IsListOf, NodeKeeps, told_by}
+use Rattle.relay_world.specs.Ledger.{Accepts, Leaves, Step, steps_by, steps_in, steps_of}
+use Rattle.relay_world.specs.Once.{IsTriedOnce}
+use Rattle.relay_world.specs.Steps.{HasGivenUp, HasHeard, HasLost, HasRead, IsPut, RecordsHeard, RecordsRead, waiting_down, without_note}
+use Rattle.relay_world.specs.World.{Host, Up, World}
+use Rattle.relay_world.proofs.AmongLemmas.{found_in, of_map, ruled_by}
+use Rattle.relay_world.proofs.AttemptLemmas.{KnowsAttempt, known}
+use Rattle.relay_world.proofs.FrameLemmas.{steps_in_more, steps_more}
+use Rattle.relay_world.proofs.GrowLemmas.{one_more, some_more}
+use Rattle.relay_world.proofs.OpenLemmas.{list_there, node_kept}
+use Rattle.relay_world.proofs.PassingLemmas.{none_taken}
+use Rattle.relay_world.proofs.PieceLemmas.{same_number}
+use Rattle.relay_world.proofs.TakerLemmas.{AddsTo, HasTakers, ListsAdd, lists_put, lists_stay}
+
+-- what leaves is no accept
+pub none_accepts : (message report number places : ℕ) (left : List (ℕ × Way))
+    → map (λ one. Leaves one.1 message one.0 report) left ≡ Accepts number places ∷ [] → ⊥
+none_accepts message report number places [] same = cc
+none_accepts message report number places (one ∷ left) same = cc
+
+pub same_outcome : (one other : Outcome) → change.Outcome one ≡ change.Outcome other → one ≡ other
+same_outcome one other same = cc
+
+-- an outcome of a lost attempt, and one of places without a hop, say of no place that it was Taken
+pub lost_takes_none : (places : List ℕ) (place : ℕ) (dsn : Bool)
+    → Contains (rulings_of places (all_later places)) (record { place = place; verdict = Taken dsn }) → ⊥
+lost_takes_none places place dsn has =
+    let ruling : Ruling = record { place = place; verdict = Taken dsn } in
+    let there = found_in (rulings_of places (all_later places)) ruling has in
+    none_taken places there.0 dsn (ruled_by places (all_later places) there.0 ruling there.1).1
+
+pub unrouted_takes_none : (places : List ℕ) (place : ℕ) (dsn : Bool)
+    → Contains (unrouted places) (record { place = place; verdict = Taken dsn }) → ⊥
+unrouted_takes_none places place dsn has =
+    let ruling : Ruling = record { place = place; verdict = Taken dsn } in
+    let there = found_in (unrouted places) ruling has in
+    let one = of_map (λ (p : ℕ). record { place = p; verdict = NoRoute }) places there.0 ruling there.1 in
+    let same : NoRoute ≡ Taken dsn = ap (λ (r : Ruling). r.verdict) one.2 in
+    cc
+
+pub noted_octets : (noted : Option Noted) (note : Noted) (changes : List Change) (one : Change) (used : ℕ) → noted ≡ Some note
+    → IsNoted noted changes one used → note.octets ≡ encode one
+noted_octets noted note changes one used is has =
+    ap (λ (n : Noted). n.octets) (same_Some note has.note (sym is ∙ has.is)) ∙ has.octets
+
+module _ {D : Type 0} (honest : Type 0) (words : DiskWords D) (old new : World D) (lists later : List (List Change))
+    (bound : IsBound honest words old lists) (once : IsTriedOnce old lists) (now : IsBound honest words new later) where
+  abbrev Adds : Type 0
+  Adds = ListsAdd honest words old new lists later bound once now
+
+  abbrev Takers : ℕ → List Change → Change → Type 0
+  Takers node before one = HasTakers honest words old new lists later bound once now node before one
+
+  -- a node's list has an outcome more, which was noted
+  outcome_added : (node : ℕ) (host : Host D) (after : Standing D) (noted : Noted) (name : List ℕ) (outcome : Outcome)
+      (used number : ℕ) (changes : List Change) → slice_get lists node ≡ Some changes → slice_get old.hosts node ≡ Some host
+      → after.records.noted ≡ Some noted
+      → IsPut old.hosts new.hosts node
+      (record host { holder = Up (without_note after); records = host.records ++ noted.octets ∷ [] })
+      → (adds : AddsOutcome honest words name changes outcome used after.records number)
+      → Takers node changes (reported_as outcome adds.report) → Adds
+  outcome_added node host after noted name outcome used number changes list at note_is put adds takers =
+      let one : Change = reported_as outcome adds.report in
+      lists_put honest words old new lists later bound once now node host
+      (record host { holder = Up (without_note after); records = host.records ++ noted.octets ∷ [] }) at put
+      (λ before more first second is more_is.
+      let same : changes ≡ before = same_Some changes before (sym list ∙ first) in
+      subst (λ l. AddsTo honest words old new lists later bound once now node l more) same
+      (inr (
+        one,
+        one_more host.records noted.octets changes more one (subst (λ l. IsListOf host.records l) (sym same) is)
+            adds.adds.keeps.fitting (noted_octets after.records.noted noted changes one used note_is adds.adds.noted) more_is,
+        takers,
+      )))
+
+  -- what a node has heard adds an accept, or nothing
+  pub heard_adds : (number count : ℕ) (hears : HasHeard honest words old new number count) (change_now : Option ℕ)
+      → RecordsHeard old new hears.of.end.node number hears.of.host hears.after change_now → Adds
+  heard_adds number count hears None records =
+      lists_stay honest words old new lists later bound once now hears.of.end.node hears.of.host
+      (record hears.of.host { holder = Up hears.after }) hears.of.host_at records.0 refl
+  heard_adds number count hears (Some change_now) records =
+      lists_put honest words old new lists later bound once now hears.of.end.node hears.of.host
+      (record hears.of.host {
+        holder = Up (without_note hears.after);
+        records = hears.of.host.records ++ records.0.octets ∷ [];
+      }) hears.of.host_at records.2
+      (λ before more first second is more_is.
+      let added = some_more hears.of.host.records records.0.octets before more is more_is in
+      inr (added.0, added.1, λ outcome place dsn same has. absurd (by before more first second added.0 added.1 outcome same)))
+    where
+      by : (before more : List Change) → slice_get lists hears.of.end.node ≡ Some before
+          → slice_get later hears.of.end.node ≡ Some more → (one : Change) → more ≡ before ++ one ∷ [] → (outcome : Outcome)
+          → one ≡ change.Outcome outcome → ⊥
+      by before more first second one is outcome same =
+          let node : ℕ = hears.of.end.node in
+          let accept : Step = Accepts change_now records.0.accepted in
+          let ledger : steps_in node new.ledger ≡ steps_in node old.ledger ++ accept ∷ [] =
+          ap (λ l. steps_in node l) records.3
+          ∙ steps_in_more node old.ledger (Accepted node change_now records.0.accepted number ∷ [])
+          ∙ ap (λ b. steps_in node old.ledger ++ (cond b (accept ∷ []) [] ++ [])) (same_number node) in
+          let steps : steps_of before ++ steps_by before one ≡ steps_of before ++ accept ∷ [] =
+          sym (steps_more before one) ∙ sym (ap steps_of is) ∙ sym (now.ledger node more second) ∙ ledger
+          ∙ ap (λ l. l ++ accept ∷ []) (bound.ledger node before first) in
+          let only : steps_by before one ≡ accept ∷ [] = append_cancel_left (steps_of before) _ _ steps in
+          none_accepts outcome.message _ change_now records.0.accepted (leaving before (change.Outcome outcome))
+          (ap (λ c. steps_by before c) (sym same) ∙ only)
+
+  -- replies that have ended an attempt add its outcome
+  pub read_adds : (number count : ℕ) (reads : HasRead honest words old new number count) → Adds
+  read_adds number count reads = by reads.replied.change
+      (reads.replies knows.changes told knows.its_node.keeps
+      (subst (λ (c : Config). Tells c.host knows.changes reads.of.before.attempts reads.of.slot told)
+      (sym knows.its_node.config_is) knows.tells)) reads.records
+    where
+      knows : KnowsAttempt honest words old lists number reads.of
+      knows = known honest words old lists number bound reads.of
+
+      told : Told
+      told = told_by reads.of.attempt knows.was.accept (take reads.of.link.down_read reads.of.link.down) knows.was.output
+
+      by : (made : Option ℕ)
+          → RepliesBy honest words reads.of.before.config.host old.clock knows.changes reads.of.slot told
+          (waiting_down count reads.of.link) reads.of.before reads.after reads.replied made
+          → RecordsRead old new number reads.of reads.after made → Adds
+      by None on records =
+          lists_stay honest words old new lists later bound once now reads.of.attempt.node reads.of.host
+          (record reads.of.host { holder = Up reads.after }) reads.of.host_at records.0 refl
+      by (Some change_now) ended records =
+          outcome_added reads.of.attempt.node reads.of.host reads.after records.noted reads.of.before.config.host
+          (outcome_at old.clock told ended.verdicts) reads.replied.used change_now knows.changes knows.list_at reads.of.host_at
+          records.note_is records.hosts ended.adds (λ outcome place dsn same has. record {
+            at = reads.of.place;
+            attempt = record reads.of.attempt { fate = Replied change_now };
+            is_there = records.attempts.at;
+            its_node = refl;
+            replied = ap (λ n. Replied n) (ended.adds.number_is ∙ add-one (length knows.changes));
+          })
+
+  -- the loss of an attempt adds an outcome by which each place may be tried again
+  pub lost_adds : (number change_now : ℕ) (loses : HasLost honest words old new number change_now) → Adds
+  lost_adds number change_now loses =
+      outcome_added loses.of.attempt.node loses.of.host loses.after loses.records.noted loses.of.before.config.host
+      (outcome_at old.clock told (all_later told.places)) 0 change_now knows.changes knows.list_at loses.of.host_at
+      loses.records.note_is loses.records.hosts ended.adds (λ outcome place dsn same has.
+      absurd (lost_takes_none told.places place dsn
+      (subst (λ (o : Outcome). Contains o.rulings (record { place = place; verdict = Taken dsn }))
+      (sym (same_outcome _ outcome same)) has)))
+    where
+      knows : KnowsAttempt honest words old lists number loses.of
+      knows = known honest words old lists number bound loses.of
+
+      told : Told
+      told = told_by loses.of.attempt knows.was.accept (take loses.of.link.down_read loses.of.link.down) knows.was.output
+
+      ended : IsLost honest words loses.of.before.config.host old.clock knows.changes loses.of.slot told loses.after.records
+          loses.after.attempts change_now
+      ended = loses.loses knows.changes told knows.its_node.keeps
+          (subst (λ (c : Config). Tells c.host knows.changes loses.of.before.attempts loses.of.slot told)
+          (sym knows.its_node.config_is) knows.tells)
+
+  -- and places that are given up one by which they have no hop
+  pub given_adds : (node message change_now : ℕ) (gives : HasGivenUp honest words old new node message change_now) → Adds
+  given_adds node message change_now gives =
+      outcome_added node gives.host gives.after gives.noted gives.before.config.host
+      (unroutable gives.before.config.routes message old.clock given_up.message) 0 change_now listed.0 listed.1 gives.host_at
+      gives.note_is gives.hosts given_up.adds (λ outcome place dsn same has.
+      absurd (unrouted_takes_none (stranded_places gives.before.config.routes given_up.message) place dsn
+      (subst (λ (o : Outcome). Contains o.rulings (record { place = place; verdict = Taken dsn }))
+      (sym (same_outcome _ outcome same)) has)))
+    where
+      listed : (list : List Change) × (slice_get lists node ≡ Some list)
+      listed = list_there old.hosts lists node gives.host bound.even gives.host_at
+
+      kept : HostKeeps honest words gives.host listed.0
+      kept = bound.hosts node gives.host listed.0 (record { host_at = gives.host_at; list_at = listed.1 })
+
+      its_node : NodeKeeps honest words gives.host.config gives.before listed.0
+      its_node = node_kept honest words gives.host listed.0 gives.before kept gives.up
+
+      given_up : AddsUnroutable honest words gives.before.config.host gives.before.config.routes message old.clock listed.0
+          gives.before.records gives.after.records change_now
+      given_up = gives.gives_up listed.0 its_node.keeps

@@ -1,0 +1,141 @@
+-- A run of events keeps two relays bound, and each place tried once.
+use Rattle.std.proofs.Common.{◌≡◌, ℕ, zero, suc, List, [], Some, sym, subst, ap, ◌∙◌}
+use Rattle.std.specs.Prelude.{slice_get}
+use Rattle.std.proofs.lemmas.Option.{none-some}
+use Rattle.relay_disk.specs.Device.{DiskWords}
+use Rattle.relay_book.specs.declared.change.Change.{Change}
+use Rattle.relay_book.specs.declared.change.Change.TheVariants as change
+use Rattle.relay_book.specs.declared.change.Verdict.{Verdict}
+use Rattle.relay_book.specs.declared.change.Verdict.TheVariants.{Taken}
+use Rattle.relay_world.specs.Bound.{IsBound}
+use Rattle.relay_world.specs.Passing.{Rules}
+use Rattle.relay_world.specs.Ledger.{accepts_on}
+use Rattle.relay_world.specs.Once.{BreaksOff, Drops, Ends, GivesUp, Happens, Hears, IsNotOpened, IsTriedOnce, Loses, OnceAtFirst, OnceIsKept, Opens, Reads, Reopens, RunsKeepBoth, Starts, Stops, StopsInGivingUp, StopsInHearing, StopsInLosing, StopsInReading, Writes}
+use Rattle.relay_world.specs.World.{World}
+use Rattle.relay_world.proofs.BreakLemmas.{breaking_keeps}
+use Rattle.relay_world.proofs.EndLemmas.{ending_keeps}
+use Rattle.relay_world.proofs.EventLemmas.{broken, dropped, ended, given_up, heard, lost, opened, read_by, written}
+use Rattle.relay_world.proofs.AddedLemmas.{read_adds}
+use Rattle.relay_world.proofs.GiveUpLemmas.{giving_up_keeps}
+use Rattle.relay_world.proofs.HearLemmas.{hearing_keeps}
+use Rattle.relay_world.proofs.LoseLemmas.{dropping_keeps, losing_keeps}
+use Rattle.relay_world.proofs.OpenLemmas.{opening_keeps}
+use Rattle.relay_world.proofs.OnceLemmas.{once_started}
+use Rattle.relay_world.proofs.ReopenLemmas.{reopening_keeps}
+use Rattle.relay_world.proofs.ReopenOnceLemmas.{reopened}
+use Rattle.relay_world.proofs.StopHearLemmas.{stopping_hearing_keeps}
+use Rattle.relay_world.proofs.StopLemmas.{staying_down_keeps, stopping_giving_up_keeps, stopping_keeps}
+use Rattle.relay_world.proofs.StopOnceLemmas.{stayed_down, stopped, stopped_giving_up, stopped_hearing, stopped_losing, stopped_reading}
+use Rattle.relay_world.proofs.StopReadLemmas.{stopping_losing_keeps, stopping_reading_keeps}
+use Rattle.relay_world.proofs.UndecidedLemmas.{up_not_down}
+use Rattle.relay_world.proofs.ReadLemmas.{reading_keeps}
+use Rattle.relay_world.proofs.StartLemmas.{starting_keeps}
+use Rattle.relay_world.proofs.WriteLemmas.{writing_keeps}
+
+-- no change gives a place a verdict where there is none
+none_ruled : (changes : List Change) (number place : ℕ) (verdict : Verdict) → changes ≡ []
+    → Rules changes number place verdict → ⊥
+none_ruled changes zero place verdict empty rules = none-some (change.Outcome rules.outcome) rules.found
+none_ruled changes (suc k) place verdict empty rules =
+    none-some (change.Outcome rules.outcome) (ap (λ l. slice_get l k) (sym empty) ∙ rules.found)
+
+pub once_at_first : {D : Type 0} (words : DiskWords D) → OnceAtFirst words
+once_at_first words world lists empty up attempts ledger = record {
+  once = λ one other node message place mine yours.
+      absurd (none-some mine.attempt (ap (λ l. slice_get l one) (sym attempts) ∙ mine.is_there));
+  hops = λ at attempt is. absurd (none-some attempt (ap (λ l. slice_get l at) (sym attempts) ∙ is));
+  takers = λ node number place changes dsn is rules.
+      absurd (none_ruled changes number place (Taken dsn) (empty node changes is) rules);
+  given_up = λ node message host disk undecided at down origin.
+      let standing = up node host at in
+      absurd (up_not_down standing.0 disk (Some undecided) (sym standing.1 ∙ down));
+  outside = λ number link is none. ap (λ l. accepts_on number l) ledger;
+}
+
+pub once_is_kept : {D : Type 0} (honest : Type 0) (words : DiskWords D) → OnceIsKept honest words
+once_is_kept honest words old new lists later bound once (Opens node peer opens) now =
+    opened honest words old new lists later bound once now node peer opens
+once_is_kept honest words old new lists later bound once (Writes number octets writes) now =
+    written honest words old new lists later bound once now number octets writes
+once_is_kept honest words old new lists later bound once (Hears number count hears) now =
+    heard honest words old new lists later bound once now number count hears
+once_is_kept honest words old new lists later bound once (Ends number ends) now =
+    ended honest words old new lists later bound once now number ends
+once_is_kept honest words old new lists later bound once (Reads number count reads) now =
+    read_by honest words old new lists later bound once now number count reads reads.replied.change reads.records
+    (read_adds honest words old new lists later bound once now number count reads)
+once_is_kept honest words old new lists later bound once (Loses number change loses) now =
+    lost honest words old new lists later bound once now number change loses
+once_is_kept honest words old new lists later bound once (Drops number drops) now =
+    dropped honest words old new lists later bound once now number drops
+once_is_kept honest words old new lists later bound once (BreaksOff number breaks) now =
+    broken honest words old new lists later bound once now number breaks
+once_is_kept honest words old new lists later bound once (Starts number message hop starts) now =
+    once_started honest words old new lists later number message hop bound once now starts
+once_is_kept honest words old new lists later bound once (GivesUp node message change gives) now =
+    given_up honest words old new lists later bound once now node message change gives
+once_is_kept honest words old new lists later bound once (Stops node stops) now =
+    stopped honest words old new lists later bound once now node stops
+once_is_kept honest words old new lists later bound once (StopsInHearing number count stops) now =
+    stopped_hearing honest words old new lists later bound once now number count stops
+once_is_kept honest words old new lists later bound once (StopsInReading number count stops) now =
+    stopped_reading honest words old new lists later bound once now number count stops
+once_is_kept honest words old new lists later bound once (StopsInLosing number stops) now =
+    stopped_losing honest words old new lists later bound once now number stops
+once_is_kept honest words old new lists later bound once (StopsInGivingUp node message stops) now =
+    stopped_giving_up honest words old new lists later bound once now node message stops
+once_is_kept honest words old new lists later bound once (IsNotOpened node stays) now =
+    stayed_down honest words old new lists later bound once now node stays
+once_is_kept honest words old new lists later bound once (Reopens node reopens) now =
+    reopened honest words old new lists later bound once now node reopens
+
+-- an event keeps a world bound, by lists that may have grown
+event_keeps : {D : Type 0} (honest : Type 0) (words : DiskWords D) (old new : World D) (lists : List (List Change))
+    → ((disk : D) → words.may_leave disk (words.seen disk)) → honest → IsBound honest words old lists
+    → Happens honest words old new → (later : List (List Change)) × IsBound honest words new later
+event_keeps honest words old new lists sees is bound (Opens node peer opens) =
+    (lists, opening_keeps honest words old new lists node peer bound opens)
+event_keeps honest words old new lists sees is bound (Writes number octets writes) =
+    (lists, writing_keeps honest words old new lists number octets bound writes)
+event_keeps honest words old new lists sees is bound (Hears number count hears) =
+    hearing_keeps honest words old new lists number count bound hears
+event_keeps honest words old new lists sees is bound (Ends number ends) =
+    (lists, ending_keeps honest words old new lists number bound ends)
+event_keeps honest words old new lists sees is bound (Reads number count reads) =
+    reading_keeps honest words old new lists number count bound reads
+event_keeps honest words old new lists sees is bound (Loses number change loses) =
+    losing_keeps honest words old new lists number change bound loses
+event_keeps honest words old new lists sees is bound (Drops number drops) =
+    (lists, dropping_keeps honest words old new lists number bound drops)
+event_keeps honest words old new lists sees is bound (BreaksOff number breaks) =
+    (lists, breaking_keeps honest words old new lists number bound breaks)
+event_keeps honest words old new lists sees is bound (Starts number message hop starts) =
+    (lists, starting_keeps honest words old new lists number message hop bound starts)
+event_keeps honest words old new lists sees is bound (GivesUp node message change gives) =
+    giving_up_keeps honest words old new lists node message change bound gives
+event_keeps honest words old new lists sees is bound (Stops node stops) =
+    (lists, stopping_keeps honest words old new lists node bound stops)
+event_keeps honest words old new lists sees is bound (StopsInHearing number count stops) =
+    (lists, stopping_hearing_keeps honest words old new lists number count bound stops)
+event_keeps honest words old new lists sees is bound (StopsInReading number count stops) =
+    (lists, stopping_reading_keeps honest words old new lists number count bound stops)
+event_keeps honest words old new lists sees is bound (StopsInLosing number stops) =
+    (lists, stopping_losing_keeps honest words old new lists number bound stops)
+event_keeps honest words old new lists sees is bound (StopsInGivingUp node message stops) =
+    (lists, stopping_giving_up_keeps honest words old new lists node message bound stops)
+event_keeps honest words old new lists sees is bound (IsNotOpened node stays) =
+    (lists, staying_down_keeps honest words old new lists node bound stays)
+event_keeps honest words old new lists sees is bound (Reopens node reopens) =
+    reopening_keeps honest words sees is old new lists node bound reopens
+
+pub runs_keep_both : {D : Type 0} (honest : Type 0) (words : DiskWords D)
+    → ((disk : D) → words.may_leave disk (words.seen disk)) → RunsKeepBoth honest words
+runs_keep_both honest words sees is zero old new lists bound once same = (
+  lists,
+  subst (λ w. IsBound honest words w lists) (sym same) bound,
+  subst (λ w. IsTriedOnce w lists) (sym same) once,
+)
+runs_keep_both honest words sees is (suc count) old new lists bound once happen =
+    let after = event_keeps honest words old happen.0 lists sees is bound happen.1 in
+    let still = once_is_kept honest words old happen.0 lists after.0 bound once happen.1 after.1 in
+    runs_keep_both honest words sees is count happen.0 new after.0 after.1 still happen.2

@@ -1,0 +1,133 @@
+-- One attempt at a time: of the attempts of a node to pass a place of a message on, one at most goes on or has passed it on.
+use Rattle.std.specs.Prelude.{◌≡◌, ℕ, zero, suc, Bool, true, List, [], None, Some, slice_get}
+use Rattle.std.specs.List.{AllByRecursion, Contains}
+use Rattle.relay_disk.specs.Device.{DiskWords}
+use Rattle.relay_attempts.specs.Hops.{goes_to}
+use Rattle.relay_book.specs.declared.change.Accept.{Accept}
+use Rattle.relay_book.specs.declared.change.Change.{Change}
+use Rattle.relay_book.specs.declared.change.Change.TheVariants as change
+use Rattle.relay_book.specs.declared.change.Outcome.{Outcome}
+use Rattle.relay_book.specs.declared.change.Verdict.TheVariants.{Taken}
+use Rattle.relay_book.specs.Marks.{message_at}
+use Rattle.relay_book.specs.Record.{IsChange, encode}
+use Rattle.relay_node.specs.Node.{Standing}
+use Rattle.relay_world.specs.declared.attempt.Attempt.{Attempt}
+use Rattle.relay_world.specs.declared.attempt.Fate.{Fate}
+use Rattle.relay_world.specs.declared.attempt.Fate.TheVariants.{Running, Replied, Lost, Dropped}
+use Rattle.relay_world.specs.declared.link.Link.{Link}
+use Rattle.relay_world.specs.Bound.{IsBound, StandsAt}
+use Rattle.relay_world.specs.Ledger.{accepts_on}
+use Rattle.relay_world.specs.Passing.{Rules}
+use Rattle.relay_world.specs.Steps.{Breaks, DropsAttempt, EndsSession, HasGivenUp, HasHeard, HasLost, HasOpened, HasRead, HasStarted, HasWritten}
+use Rattle.relay_world.specs.Stops.{HasReopened, HasStopped, StaysDown, StopsGivingUp, StopsHearing, StopsLosing, StopsReading}
+use Rattle.relay_world.specs.World.{Down, FromNoHop, Host, Undecided, Up, World, link_at}
+
+-- an attempt of this fate claims a place: it goes on, or its replies ended it and the place was taken
+abbrev pub Claims : List Change → ℕ → Fate → Type 0
+Claims changes place (Running slot) = Unit {0}
+Claims changes place (Replied number) = (dsn : Bool) × Rules changes number place (Taken dsn)
+Claims changes place (Lost number) = ⊥
+Claims changes place Dropped = ⊥
+
+-- the attempt there among the attempts is for this place of the message of a node, and claims it
+pub record ClaimsAt {D : Type 0} (world : World D) (lists : List (List Change)) (at node message place : ℕ) : Type 0 where
+  pub attempt : Attempt
+  pub is_there : slice_get world.attempts at ≡ Some attempt
+  pub its_node : attempt.node ≡ node
+  pub its_message : attempt.message ≡ message
+  pub tries : Contains attempt.places.items place
+  pub changes : List Change
+  pub list_at : slice_get lists node ≡ Some changes
+  pub claims : Claims changes place attempt.fate
+
+-- each place that the attempt is for goes to its hop, by the table of its node
+pub record GoesToHop {D : Type 0} (world : World D) (lists : List (List Change)) (attempt : Attempt) : Type 0 where
+  pub host : Host D
+  pub changes : List Change
+  pub stands : StandsAt world lists attempt.node host changes
+  pub accept : Accept
+  pub accepted : message_at changes attempt.message ≡ Some accept
+  pub each : AllByRecursion
+      (λ place. goes_to host.config.routes accept.envelope.recipients attempt.hop place ≡ true) attempt.places.items
+
+-- replies ended an attempt of the node, with the change of this number as its outcome
+pub record IsEndedBy {D : Type 0} (world : World D) (node number : ℕ) : Type 0 where
+  pub at : ℕ
+  pub attempt : Attempt
+  pub is_there : slice_get world.attempts at ≡ Some attempt
+  pub its_node : attempt.node ≡ node
+  pub replied : attempt.fate ≡ Replied number
+
+-- the record is of a change by which no place is Taken
+pub record TakesNone (octets : List ℕ) : Type 0 where
+  pub one : Change
+  pub valid : IsChange one
+  pub octets_are : octets ≡ encode one
+  pub none : (outcome : Outcome) (place : ℕ) (dsn : Bool) → one ≡ change.Outcome outcome
+      → Contains outcome.rulings (record { place = place; verdict = Taken dsn }) → ⊥
+
+-- No place is tried twice at a time, or again behind an attempt that passed it on.
+pub record IsTriedOnce {D : Type 0} (world : World D) (lists : List (List Change)) : Type 0 where
+  pub once : (one other node message place : ℕ) → ClaimsAt world lists one node message place
+      → ClaimsAt world lists other node message place → one ≡ other
+  -- a place has one hop, so who tries it is found by message and hop
+  pub hops : (at : ℕ) (attempt : Attempt) → slice_get world.attempts at ≡ Some attempt → GoesToHop world lists attempt
+  -- who says Taken is an attempt that its replies ended
+  pub takers : (node number place : ℕ) (changes : List Change) (dsn : Bool) → slice_get lists node ≡ Some changes
+      → Rules changes number place (Taken dsn) → IsEndedBy world node number
+  -- and no undecided change of places that had no hop does
+  pub given_up : (node message : ℕ) (host : Host D) (disk : D) (undecided : Undecided)
+      → slice_get world.hosts node ≡ Some host → host.holder ≡ Down disk (Some undecided)
+      → undecided.origin ≡ FromNoHop message → TakesNone undecided.note.octets
+  -- on a link that no node serves no node has accepted anything
+  pub outside : (number : ℕ) (link : Link) → link_at world.links number ≡ Some link → link.server ≡ None
+      → accepts_on number world.ledger ≡ []
+
+-- the one world has become the other by an event
+pub data Happens {D : Type 0} (honest : Type 0) (words : DiskWords D) (old new : World D) : Type 0 where
+  Opens : (node : ℕ) (peer : List ℕ) → HasOpened old new node peer → Happens honest words old new
+  Writes : (number : ℕ) (octets : List ℕ) → HasWritten old new number octets → Happens honest words old new
+  Hears : (number count : ℕ) → HasHeard honest words old new number count → Happens honest words old new
+  Ends : (number : ℕ) → EndsSession old new number → Happens honest words old new
+  Reads : (number count : ℕ) → HasRead honest words old new number count → Happens honest words old new
+  Loses : (number change : ℕ) → HasLost honest words old new number change → Happens honest words old new
+  Drops : (number : ℕ) → DropsAttempt old new number → Happens honest words old new
+  BreaksOff : (number : ℕ) → Breaks old new number → Happens honest words old new
+  Starts : (number message : ℕ) (hop : List ℕ) → HasStarted honest words old new number message hop
+      → Happens honest words old new
+  GivesUp : (node message change : ℕ) → HasGivenUp honest words old new node message change → Happens honest words old new
+  Stops : (node : ℕ) → HasStopped honest words old new node → Happens honest words old new
+  StopsInHearing : (number count : ℕ) → StopsHearing honest words old new number count → Happens honest words old new
+  StopsInReading : (number count : ℕ) → StopsReading honest words old new number count → Happens honest words old new
+  StopsInLosing : (number : ℕ) → StopsLosing honest words old new number → Happens honest words old new
+  StopsInGivingUp : (node message : ℕ) → StopsGivingUp honest words old new node message → Happens honest words old new
+  IsNotOpened : (node : ℕ) → StaysDown honest words old new node → Happens honest words old new
+  Reopens : (node : ℕ) → HasReopened honest words old new node → Happens honest words old new
+
+-- Where each node is up, and nothing has come, was tried and accepted yet, it is so.
+abbrev pub OnceAtFirst : {D : Type 0} → DiskWords D → Type 0
+OnceAtFirst {D} words =
+    (world : World D) (lists : List (List Change))
+    → ((node : ℕ) (changes : List Change) → slice_get lists node ≡ Some changes → changes ≡ [])
+    → ((node : ℕ) (host : Host D) → slice_get world.hosts node ≡ Some host
+    → (standing : Standing D) × (host.holder ≡ Up standing))
+    → world.attempts ≡ [] → world.ledger ≡ [] → IsTriedOnce world lists
+
+-- Each event keeps it so, by whatever lists both worlds are bound.
+abbrev pub OnceIsKept : {D : Type 0} → Type 0 → DiskWords D → Type 0
+OnceIsKept {D} honest words =
+    (old new : World D) (lists later : List (List Change)) → IsBound honest words old lists → IsTriedOnce old lists
+    → Happens honest words old new → IsBound honest words new later → IsTriedOnce new later
+
+-- so many events, one behind another, have made the other world of the one
+abbrev pub Happen : {D : Type 0} → Type 0 → DiskWords D → ℕ → World D → World D → Type 0
+Happen honest words zero old new = new ≡ old
+Happen {D} honest words (suc count) old new =
+    (next : World D) × Happens honest words old next × Happen honest words count next new
+
+-- Behind any number of events a bound world in which each place is tried once is still both, where disks are honest.
+abbrev pub RunsKeepBoth : {D : Type 0} → Type 0 → DiskWords D → Type 0
+RunsKeepBoth {D} honest words =
+    honest → (count : ℕ) (old new : World D) (lists : List (List Change)) → IsBound honest words old lists
+    → IsTriedOnce old lists → Happen honest words count old new
+    → (later : List (List Change)) × IsBound honest words new later × IsTriedOnce new later

@@ -1,0 +1,271 @@
+-- What a stop of a node, and its opening, do to two relays and their links. A node that stops in a call leaves one change
+-- undecided, and its next opening tells by its next number whether the change is there.
+use Rattle.std.specs.Prelude.{◌≡◌, ◌≢◌, ◌⊎◌, ℕ, ◌+◌, ◌≤◌, ◌<◌, true, List, [], ◌∷◌, ◌++◌, length, Option, Some, None, slice_get}
+use Rattle.relay_disk.specs.Device.{DiskWords, ImagesWithin}
+use Rattle.relay_server.specs.Dialogue.{Said}
+use Rattle.relay_book.specs.declared.change.Change.{Change}
+use Rattle.relay_records.specs.declared.noted.Noted.{Noted}
+use Rattle.relay_records.specs.declared.fault.Cause.{Cause}
+use Rattle.relay_records.specs.ListLaws.{IsNoFaultOfImage}
+use Rattle.relay_records.specs.Open.{Opens, RefusesImage}
+use Rattle.relay_records.specs.Records.{Keeps, Kept}
+use Rattle.relay_attempts.specs.Outcomes.{CutsUnroutable}
+use Rattle.relay_attempts.specs.Reply.{CutsLoss, CutsReply, Told}
+use Rattle.relay_node.specs.Attempts.{Tells}
+use Rattle.relay_node.specs.Node.{CutsTalk, IsIdle, SaysAt, Standing}
+use Rattle.relay_world.specs.declared.attempt.Attempt.{Attempt}
+use Rattle.relay_world.specs.declared.attempt.Fate.{Fate}
+use Rattle.relay_world.specs.declared.attempt.Fate.TheVariants.{Dropped, Lost, Replied, Running}
+use Rattle.relay_world.specs.declared.link.Link.{Link}
+use Rattle.relay_world.specs.declared.link.ServerEnd.{ServerEnd}
+use Rattle.relay_world.specs.Bound.{HasSession, HasSlot, IsBound, StandsAt}
+use Rattle.relay_world.specs.Ledger.{lines_of}
+use Rattle.relay_world.specs.Steps.{AttemptOf, IsPut, IsPutAt, SessionOf, waiting_down, waiting_up}
+use Rattle.relay_world.specs.World.{Down, FromClient, FromLoss, FromNoHop, FromReplies, Host, Origin, Undecided, Up, World, link_at}
+
+-- Nothing else of a node goes on when it stops: its sessions on other links and its other attempts end first, in events of their
+-- own that leave the node as it was, and those links break. So an event is of one node and of one link at most.
+
+-- but on the link of this number no session of the node goes on
+abbrev pub NoSessionBut : {D : Type 0} → World D → ℕ → ℕ → Type 0
+NoSessionBut world node number =
+    (other : ℕ) (link : Link) (session : ℕ) → other ≢ number → link_at world.links other ≡ Some link
+    → HasSession link node session → ⊥
+
+-- but for this place among the attempts none of the node runs
+abbrev pub NoAttemptBut : {D : Type 0} → World D → ℕ → ℕ → Type 0
+NoAttemptBut world node place =
+    (other : ℕ) (attempt : Attempt) (slot : ℕ) → other ≢ place → slice_get world.attempts other ≡ Some attempt
+    → HasSlot attempt node slot → ⊥
+
+-- no session of the node goes on, and no attempt of it runs
+abbrev pub NoSession : {D : Type 0} → World D → ℕ → Type 0
+NoSession world node =
+    (number : ℕ) (link : Link) (session : ℕ) → link_at world.links number ≡ Some link → HasSession link node session → ⊥
+
+abbrev pub NoAttempt : {D : Type 0} → World D → ℕ → Type 0
+NoAttempt world node =
+    (place : ℕ) (attempt : Attempt) (slot : ℕ) → slice_get world.attempts place ≡ Some attempt → HasSlot attempt node slot → ⊥
+
+-- no attempt runs at the client end of the link
+abbrev pub NoneRunsOn : {D : Type 0} → World D → Link → Type 0
+NoneRunsOn world link =
+    (place : ℕ) (attempt : Attempt) (slot : ℕ) → link.client ≡ Some place → slice_get world.attempts place ≡ Some attempt
+    → attempt.fate ≡ Running slot → ⊥
+
+-- what a stop made of a node: its disk, of which a further stop leaves no image that the stop of this one doesn't leave
+abbrev pub IsLeftBy : {D : Type 0} → Type 0 → DiskWords D → Kept D → D → Type 0
+IsLeftBy honest words stopped disk = honest → ImagesWithin words stopped.spool.disk disk
+
+-- all but the nodes is the same
+abbrev pub OnlyHostsChange : {D : Type 0} → World D → World D → Type 0
+OnlyHostsChange old new =
+    (new.links ≡ old.links) × (new.attempts ≡ old.attempts) × (new.ledger ≡ old.ledger) × (new.clock ≡ old.clock)
+    × (length new.hosts ≡ length old.hosts)
+
+-- A node has stopped between two calls, on which nothing went on.
+pub record HasStopped {D : Type 0} (honest : Type 0) (words : DiskWords D) (old new : World D) (node : ℕ) : Type 0 where
+  pub host : Host D
+  pub host_at : slice_get old.hosts node ≡ Some host
+  pub before : Standing D
+  pub up : host.holder ≡ Up before
+  pub no_session : NoSession old node
+  pub no_attempt : NoAttempt old node
+  pub disk : D
+  pub left : IsLeftBy honest words before.records disk
+  pub hosts : IsPut old.hosts new.hosts node (record host { holder = Down disk None })
+  pub rest : OnlyHostsChange old new
+
+-- the link without a session, broken
+abbrev pub cut_off_link : Link → ServerEnd → Link
+cut_off_link link end = record link { server = Some (record end { session = None }); broken = true }
+
+-- A node has stopped in a call that heard octets of a link, of those that wait as many as were carried, while an accept was
+-- added. What the call would have written isn't on the link, which is broken now, if it wasn't before.
+pub record StopsHearing {D : Type 0} (honest : Type 0) (words : DiskWords D) (old new : World D) (number count : ℕ) : Type 0 where
+  pub of : SessionOf old number
+  pub no_session : NoSessionBut old of.end.node number
+  pub no_attempt : NoAttempt old of.end.node
+  pub none_runs : NoneRunsOn old of.link
+  pub stopped : Kept D
+  pub cuts : (changes : List Change) (said : Said) → Keeps honest words of.before.records changes
+      → SaysAt of.before.config of.before.seats of.session of.end.peer said
+      → CutsTalk honest words of.before.config changes of.end.peer old.clock said (waiting_up count of.link) of.before.records
+      stopped
+  pub noted : Noted
+  pub note_is : stopped.noted ≡ Some noted
+  pub disk : D
+  pub left : IsLeftBy honest words stopped disk
+  pub hosts : IsPut old.hosts new.hosts of.end.node
+      (record of.host { holder = Down disk (Some (record { note = noted; origin = FromClient number })) })
+  pub links : IsPutAt old.links new.links number (cut_off_link of.link of.end)
+  pub rest : (new.attempts ≡ old.attempts) × (new.ledger ≡ old.ledger) × (new.clock ≡ old.clock)
+      × (length new.hosts ≡ length old.hosts)
+
+-- The node of an attempt has stopped while the attempt's outcome was added: the attempt is dropped, and its link is broken.
+pub record DropsAtStop {D : Type 0} (honest : Type 0) (words : DiskWords D) (old new : World D) (number : ℕ)
+    (of : AttemptOf old number) (stopped : Kept D) (origin : Origin) : Type 0 where
+  pub no_session : NoSession old of.attempt.node
+  pub no_attempt : NoAttemptBut old of.attempt.node of.place
+  pub noted : Noted
+  pub note_is : stopped.noted ≡ Some noted
+  pub disk : D
+  pub left : IsLeftBy honest words stopped disk
+  pub hosts : IsPut old.hosts new.hosts of.attempt.node
+      (record of.host { holder = Down disk (Some (record { note = noted; origin = origin })) })
+  pub links : IsPutAt old.links new.links number (record of.link { broken = true })
+  pub attempts : IsPut old.attempts new.attempts of.place (record of.attempt { fate = Dropped })
+  pub rest : (new.ledger ≡ old.ledger) × (new.clock ≡ old.clock) × (length new.hosts ≡ length old.hosts)
+
+-- A node has stopped in a call of an attempt that read replies on a link, of those that wait as many as were carried, while the
+-- outcome to which they led was added.
+pub record StopsReading {D : Type 0} (honest : Type 0) (words : DiskWords D) (old new : World D) (number count : ℕ) : Type 0 where
+  pub of : AttemptOf old number
+  pub stopped : Kept D
+  pub cuts : (changes : List Change) (told : Told) → Keeps honest words of.before.records changes
+      → Tells of.before.config.host changes of.before.attempts of.slot told
+      → CutsReply honest words of.before.config.host old.clock changes of.slot told (waiting_down count of.link) stopped
+  pub drops : DropsAtStop honest words old new number of stopped (FromReplies number of.place of.attempt.message)
+
+-- A node has stopped in the call that told it of the loss of an attempt's link, while the outcome was added.
+pub record StopsLosing {D : Type 0} (honest : Type 0) (words : DiskWords D) (old new : World D) (number : ℕ) : Type 0 where
+  pub of : AttemptOf old number
+  pub stopped : Kept D
+  pub cuts : (changes : List Change) (told : Told) → Keeps honest words of.before.records changes
+      → Tells of.before.config.host changes of.before.attempts of.slot told
+      → CutsLoss honest words of.before.config.host old.clock changes of.slot told stopped
+  pub drops : DropsAtStop honest words old new number of stopped (FromLoss number of.place of.attempt.message)
+
+-- A node has stopped in a call that gave up the places of a message without a hop, while their outcome was added.
+pub record StopsGivingUp {D : Type 0} (honest : Type 0) (words : DiskWords D) (old new : World D) (node message : ℕ) : Type 0
+  where
+    pub host : Host D
+    pub host_at : slice_get old.hosts node ≡ Some host
+    pub before : Standing D
+    pub up : host.holder ≡ Up before
+    pub no_session : NoSession old node
+    pub no_attempt : NoAttempt old node
+    pub stopped : Kept D
+    pub cuts : (changes : List Change) → Keeps honest words before.records changes
+        → CutsUnroutable honest words before.config.host before.config.routes message old.clock changes before.records stopped
+    pub noted : Noted
+    pub note_is : stopped.noted ≡ Some noted
+    pub disk : D
+    pub left : IsLeftBy honest words stopped disk
+    pub hosts : IsPut old.hosts new.hosts node
+        (record host { holder = Down disk (Some (record { note = noted; origin = FromNoHop message })) })
+    pub rest : OnlyHostsChange old new
+
+-- A node that is down stays so: its disk was refused, or stopped again, and leaves no image that it didn't leave before.
+pub record StaysDown {D : Type 0} (honest : Type 0) (words : DiskWords D) (old new : World D) (node : ℕ) : Type 0 where
+  pub host : Host D
+  pub host_at : slice_get old.hosts node ≡ Some host
+  pub disk : D
+  pub undecided : Option Undecided
+  pub down : host.holder ≡ Down disk undecided
+  pub again : D
+  pub left : honest → ImagesWithin words disk again
+  pub hosts : IsPut old.hosts new.hosts node (record host { holder = Down again undecided })
+  pub rest : OnlyHostsChange old new
+
+-- an outcome is found: so many octets more were read on the link, and the attempt at this place has this fate
+pub record FindsOutcome {D : Type 0} (old new : World D) (number place used : ℕ) (fate : Fate) : Type 0 where
+  pub link : Link
+  pub link_is : link_at old.links number ≡ Some link
+  pub links : IsPutAt old.links new.links number (record link { down_read = link.down_read + used })
+  pub attempt : Attempt
+  pub attempt_at : slice_get old.attempts place ≡ Some attempt
+  pub attempts : IsPut old.attempts new.attempts place (record attempt { fate = fate })
+
+-- an accept is found: so many octets more were read on the link
+pub record FindsAccept {D : Type 0} (old new : World D) (number used : ℕ) : Type 0 where
+  pub link : Link
+  pub link_is : link_at old.links number ≡ Some link
+  pub links : IsPutAt old.links new.links number (record link { up_read = link.up_read + used })
+  pub attempts : new.attempts ≡ old.attempts
+
+-- A change is found, by what it came from. Its link stays broken, since nobody was handed what the call would have written.
+abbrev pub Finds : {D : Type 0} → World D → World D → Noted → Origin → Type 0
+Finds old new note (FromClient number) = FindsAccept old new number note.used
+Finds old new note (FromReplies number place message) = FindsOutcome old new number place note.used (Replied note.number)
+Finds old new note (FromLoss number place message) = FindsOutcome old new number place note.used (Lost note.number)
+Finds old new note (FromNoHop message) = (new.links ≡ old.links) × (new.attempts ≡ old.attempts)
+
+-- the node has the undecided change
+pub record HasFound {D : Type 0} (old new : World D) (node : ℕ) (host : Host D) (after : Standing D) (undecided : Undecided)
+    : Type 0 where
+  pub hosts : IsPut old.hosts new.hosts node
+      (record host { holder = Up after; records = host.records ++ undecided.note.octets ∷ [] })
+  pub ledger : new.ledger ≡ old.ledger ++ lines_of node undecided
+  pub finds : Finds old new undecided.note undecided.origin
+
+-- the node has the changes from before
+pub record HasNotFound {D : Type 0} (old new : World D) (node : ℕ) (host : Host D) (after : Standing D) : Type 0 where
+  pub hosts : IsPut old.hosts new.hosts node (record host { holder = Up after })
+  pub links : new.links ≡ old.links
+  pub attempts : new.attempts ≡ old.attempts
+  pub ledger : new.ledger ≡ old.ledger
+
+-- The change is there exactly where the next number is above its own.
+abbrev pub Decides : {D : Type 0} → World D → World D → ℕ → Host D → Standing D → Option Undecided → Type 0
+Decides old new node host after None = HasNotFound old new node host after
+Decides old new node host after (Some undecided) =
+    ((after.records.queue.next ≤ undecided.note.number) × HasNotFound old new node host after)
+    ⊎ ((undecided.note.number < after.records.queue.next) × HasFound old new node host after undecided)
+
+-- A node that was down is opened.
+pub record HasReopened {D : Type 0} (honest : Type 0) (words : DiskWords D) (old new : World D) (node : ℕ) : Type 0 where
+  pub host : Host D
+  pub host_at : slice_get old.hosts node ≡ Some host
+  pub disk : D
+  pub undecided : Option Undecided
+  pub down : host.holder ≡ Down disk undecided
+  pub after : Standing D
+  pub opens : Opens honest words disk after.records
+  pub idle : IsIdle host.config after
+  pub decides : Decides old new node host after undecided
+  pub rest : (new.clock ≡ old.clock) × (length new.hosts ≡ length old.hosts)
+
+-- Each of these events keeps a world bound.
+abbrev pub StoppingKeeps : {D : Type 0} → Type 0 → DiskWords D → Type 0
+StoppingKeeps {D} honest words =
+    (old new : World D) (lists : List (List Change)) (node : ℕ) → IsBound honest words old lists
+    → HasStopped honest words old new node → IsBound honest words new lists
+
+abbrev pub StoppingHearingKeeps : {D : Type 0} → Type 0 → DiskWords D → Type 0
+StoppingHearingKeeps {D} honest words =
+    (old new : World D) (lists : List (List Change)) (number count : ℕ) → IsBound honest words old lists
+    → StopsHearing honest words old new number count → IsBound honest words new lists
+
+abbrev pub StoppingReadingKeeps : {D : Type 0} → Type 0 → DiskWords D → Type 0
+StoppingReadingKeeps {D} honest words =
+    (old new : World D) (lists : List (List Change)) (number count : ℕ) → IsBound honest words old lists
+    → StopsReading honest words old new number count → IsBound honest words new lists
+
+abbrev pub StoppingLosingKeeps : {D : Type 0} → Type 0 → DiskWords D → Type 0
+StoppingLosingKeeps {D} honest words =
+    (old new : World D) (lists : List (List Change)) (number : ℕ) → IsBound honest words old lists
+    → StopsLosing honest words old new number → IsBound honest words new lists
+
+abbrev pub StoppingGivingUpKeeps : {D : Type 0} → Type 0 → DiskWords D → Type 0
+StoppingGivingUpKeeps {D} honest words =
+    (old new : World D) (lists : List (List Change)) (node message : ℕ) → IsBound honest words old lists
+    → StopsGivingUp honest words old new node message → IsBound honest words new lists
+
+abbrev pub StayingDownKeeps : {D : Type 0} → Type 0 → DiskWords D → Type 0
+StayingDownKeeps {D} honest words =
+    (old new : World D) (lists : List (List Change)) (node : ℕ) → IsBound honest words old lists
+    → StaysDown honest words old new node → IsBound honest words new lists
+
+abbrev pub ReopeningKeeps : {D : Type 0} → Type 0 → DiskWords D → Type 0
+ReopeningKeeps {D} honest words =
+    (old new : World D) (lists : List (List Change)) (node : ℕ) → IsBound honest words old lists
+    → HasReopened honest words old new node
+    → (later : List (List Change)) × IsBound honest words new later
+
+-- A node that is down can be opened: what refuses its disk is the device, want of memory, or its size, and never the octets.
+abbrev pub DownIsNotRefused : {D : Type 0} → Type 0 → DiskWords D → Type 0
+DownIsNotRefused {D} honest words =
+    (world : World D) (lists : List (List Change)) (node : ℕ) (host : Host D) (changes : List Change) (disk : D)
+    (undecided : Option Undecided) (cause : Cause) → IsBound honest words world lists → StandsAt world lists node host changes
+    → host.holder ≡ Down disk undecided → RefusesImage honest (words.seen disk) cause → IsNoFaultOfImage cause
