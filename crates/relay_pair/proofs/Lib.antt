@@ -1,0 +1,13 @@
+mod PutLemmas
+mod TickLemmas
+mod BoundLemmas
+mod OpenLemmas
+mod BeginLemmas
+mod CallLemmas
+mod HearLemmas
+mod CutLemmas
+mod StartLemmas
+mod GiveUpLemmas
+mod RestartLemmas
+mod MarkLemmas
+mod SweepLemmas

@@ -1,0 +1,16 @@
+pub mod Fault
+pub mod Relay
+pub mod Refusal
+pub mod Marks
+pub mod Begin
+pub mod Call
+pub mod Hear
+pub mod Break
+pub mod Read
+pub mod Step
+pub mod Kept
+pub mod Start
+pub mod GiveUp
+pub mod Stop
+pub mod Holder
+pub mod Sweep
