@@ -1,7 +1,12 @@
 -- A file as a disk.
-use Rattle.std.specs.Prelude.{ℕ, Bool, [], None}
+use Rattle.std.specs.Prelude.{ℕ, ℤ, Bool, [], None}
+use Rattle.std.specs.Fd.{file_raw_fd}
 use Rattle.relay_disk.specs.declared.file.FileDisk.{FileDisk}
 use Rattle.relay_disk.specs.Device.{DiskWords}
+
+-- the number by which the system knows the open file: 0, 1 and 2 are those of the standard streams
+abbrev pub descriptor_of : FileDisk → ℤ
+descriptor_of disk = file_raw_fd disk.file
 
 -- how many calls on the file have failed
 abbrev pub failures_of : FileDisk → ℕ

@@ -1,11 +1,12 @@
 // A file of the operating system as a disk. Nothing can be said of what a real file holds, so it is
 // not honest.
-ghost use Rattle.std.specs.Prelude.{◌≡◌, false, IfOk};
+ghost use Rattle.std.specs.Prelude.{◌≡◌, false, pos, ◌<ℤ◌, IfOk};
 
 use crate::disk::counted;
 use crate::{Disk, DiskFault};
 use std::fs::{File, OpenOptions, TryLockError};
 use std::io;
+use std::os::fd::{AsRawFd, RawFd};
 use std::os::unix::fs::{FileExt, OpenOptionsExt};
 use std::path::Path;
 use std::rt::Files;
@@ -13,6 +14,9 @@ use std::rt::Files;
 /// Who may read and write a file that `FileDisk::open` makes: its owner alone, since the mail of
 /// others stands in it.
 const OWNER_ALONE: u32 = 0o600;
+
+/// The greatest descriptor of a standard stream: that of standard error.
+const STANDARD_ERROR: RawFd = 2;
 
 /// An open file. Reads and writes are positioned, and `sync` hands its octets and its length to the device.
 ///
@@ -27,13 +31,16 @@ pub struct FileDisk {
 }
 
 impl FileDisk {
-    ghost use Rattle.relay_disk.specs.File.{failures_of, sync_failed};
+    ghost use Rattle.relay_disk.specs.File.{descriptor_of, failures_of, sync_failed};
 
     /// Opens the file at this path, or makes an empty one where none is, which only its owner may
-    /// read and write. Its folder is synced, so that a file that was made outlives a stop.
+    /// read and write. Its folder is synced, so that a file that was made outlives a stop. A file that
+    /// the system gives the descriptor of a standard stream is refused, since what is written to that
+    /// stream would be written into it: that happens where the stream was closed.
     pub fn open<R: Files<File = File>>(rt: &R, path: &str) -> io::Result<FileDisk>
         ensures failures { IfOk result (λ disk. failures_of disk ≡ 0) }
         ensures syncs { IfOk result (λ disk. sync_failed disk ≡ false) }
+        ensures apart { IfOk result (λ disk. pos 2 <ℤ descriptor_of disk) }
     {
         let file = OpenOptions::new()
             .read(true)
@@ -41,7 +48,30 @@ impl FileDisk {
             .create(true)
             .mode(OWNER_ALONE)
             .open(rt, path)?;
+        let disk = FileDisk::apart(file)?;
         File::open(rt, folder_of(path))?.sync_all()?;
+        Ok(disk)
+    }
+
+    /// Opens the file at this path for reading alone: it has to be there, and each write and each cut
+    /// fails. It is refused as by `open` where it has the descriptor of a standard stream.
+    pub fn open_to_read<R: Files<File = File>>(rt: &R, path: &str) -> io::Result<FileDisk>
+        ensures failures { IfOk result (λ disk. failures_of disk ≡ 0) }
+        ensures syncs { IfOk result (λ disk. sync_failed disk ≡ false) }
+        ensures apart { IfOk result (λ disk. pos 2 <ℤ descriptor_of disk) }
+    {
+        FileDisk::apart(File::open(rt, path)?)
+    }
+
+    // The disk of an open file, unless this has the descriptor of a standard stream.
+    fn apart(file: File) -> io::Result<FileDisk>
+        ensures failures { IfOk result (λ disk. failures_of disk ≡ 0) }
+        ensures syncs { IfOk result (λ disk. sync_failed disk ≡ false) }
+        ensures apart { IfOk result (λ disk. pos 2 <ℤ descriptor_of disk) }
+    {
+        if file.as_raw_fd() <= STANDARD_ERROR {
+            return Err(io::Error::from(io::ErrorKind::Unsupported));
+        }
         Ok(FileDisk {
             file,
             failures: 0,

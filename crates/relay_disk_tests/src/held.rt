@@ -1,0 +1,17 @@
+use relay_disk::MemoryDisk;
+use relay_spool::Spool;
+
+/// A spool, and the bodies with which it was opened.
+#[derive(Drop)]
+pub struct Mounted {
+    pub spool: Spool<MemoryDisk>,
+    pub bodies: Vec<Vec<u8>>,
+}
+
+/// What a step leaves to the next one.
+#[derive(Drop)]
+pub enum Held {
+    Nothing,
+    Disk(MemoryDisk),
+    Spool(Mounted),
+}

@@ -1,0 +1,126 @@
+//! Steps that turn what is held into another thing; other steps are those of a disk or of a spool.
+//!
+//! - `disk OCTETS`: a disk in memory with this image;
+//! - `anew`: a disk in memory with the image of the one in hand;
+//! - `stop PICK`: what a stop leaves of the disk, by the pick;
+//! - `create`, `open`: a spool on the disk in hand, which answers how many bodies and octets it has;
+//! - `bodiless`: nothing of the disk in hand, which answers whether it holds no spool, or one without a body;
+//! - `unmount`: the disk of the spool.
+use crate::answer::{of_fault, of_question, word};
+use crate::device::{ask_disk, ask_spool, number_of};
+use crate::held::{Held, Mounted};
+use crate::octets::octets_of;
+use relay_disk::{MemoryDisk, Reboot};
+use relay_spool::{Opened, Refused, Spool, SpoolFault};
+use std::alloc::{AllocError, Global};
+use std::test::Fail;
+
+/// Takes a step, and says what it answers.
+pub fn take_step(
+    alloc: Global,
+    held: Held,
+    step: &str,
+    number: u64,
+) -> Result<(Held, String), Fail> {
+    let (name, text) = step.split_once(' ').unwrap_or((step, ""));
+    match held {
+        Held::Nothing => Ok((new_disk(alloc, text)?, word(alloc, "ok")?)),
+        Held::Disk(disk) => take_step_on_disk(alloc, disk, name, text, number),
+        Held::Spool(mounted) => take_step_on_spool(alloc, mounted, name, text),
+    }
+}
+
+fn new_disk(alloc: Global, text: &str) -> Result<Held, AllocError> {
+    let image = octets_of(alloc, text)?;
+    Ok(Held::Disk(MemoryDisk::with_image(alloc, image.as_slice())?))
+}
+
+fn take_step_on_disk(
+    alloc: Global,
+    disk: MemoryDisk,
+    name: &str,
+    text: &str,
+    number: u64,
+) -> Result<(Held, String), Fail> {
+    match name {
+        "anew" => Ok((again(alloc, &disk)?, word(alloc, "ok")?)),
+        "stop" => Ok((stopped(disk, number_of(text, number))?, word(alloc, "ok")?)),
+        "create" => created(alloc, disk),
+        "open" => opened(alloc, disk),
+        "bodiless" => Ok((Held::Nothing, of_question(alloc, is_bodiless(alloc, disk))?)),
+        _ => {
+            let mut disk = disk;
+            let answer = ask_disk(alloc, &mut disk, name, text, number)?;
+            Ok((Held::Disk(disk), answer))
+        }
+    }
+}
+
+fn again(alloc: Global, disk: &MemoryDisk) -> Result<Held, AllocError> {
+    Ok(Held::Disk(MemoryDisk::with_image(alloc, disk.image())?))
+}
+
+fn stopped(disk: MemoryDisk, pick: u64) -> Result<Held, Fail> {
+    match disk.after_stop(pick) {
+        Ok(stopped) => Ok(Held::Disk(stopped)),
+        Err(_) => Err(Fail::new("no memory")),
+    }
+}
+
+fn created(alloc: Global, disk: MemoryDisk) -> Result<(Held, String), Fail> {
+    match Spool::create(alloc, disk) {
+        Ok(spool) => mounted(alloc, spool, Vec::new(alloc)),
+        Err(refused) => refuse(alloc, refused),
+    }
+}
+
+fn opened(alloc: Global, disk: MemoryDisk) -> Result<(Held, String), Fail> {
+    match Spool::open(alloc, disk) {
+        Ok(Opened { spool, bodies }) => mounted(alloc, spool, bodies),
+        Err(refused) => refuse(alloc, refused),
+    }
+}
+
+/// Whether a disk holds no spool, or one without a body.
+fn is_bodiless(alloc: Global, disk: MemoryDisk) -> bool {
+    match Spool::open(alloc, disk) {
+        Ok(opened) => opened.bodies.is_empty(),
+        Err(refused) => refused.fault == SpoolFault::NotASpool,
+    }
+}
+
+fn mounted(
+    alloc: Global,
+    spool: Spool<MemoryDisk>,
+    bodies: Vec<Vec<u8>>,
+) -> Result<(Held, String), Fail> {
+    let answer = format!(in alloc; "{} in {}", bodies.len(), spool.size())?;
+    Ok((Held::Spool(Mounted { spool, bodies }), answer))
+}
+
+fn refuse(alloc: Global, refused: Refused<MemoryDisk>) -> Result<(Held, String), Fail> {
+    let Refused { fault, disk } = refused;
+    Ok((Held::Disk(disk), of_fault(alloc, fault)?))
+}
+
+fn take_step_on_spool(
+    alloc: Global,
+    mounted: Mounted,
+    name: &str,
+    text: &str,
+) -> Result<(Held, String), Fail> {
+    if name == "unmount" {
+        return Ok((unmounted(mounted), word(alloc, "ok")?));
+    }
+    let mut mounted = mounted;
+    let answer = ask_spool(alloc, &mut mounted, name, text)?;
+    Ok((Held::Spool(mounted), answer))
+}
+
+fn unmounted(mounted: Mounted) -> Held {
+    let Mounted {
+        spool,
+        bodies: _bodies,
+    } = mounted;
+    Held::Disk(spool.into_disk())
+}
