@@ -1,5 +1,6 @@
 -- Numbered slots: what stands in each.
-use Rattle.std.specs.Prelude.{◌≡◌, ◌≢◌, ◌<◌, ℕ, List, [], ◌∷◌, Option, None, Some, slice_index_or}
+use Rattle.std.specs.Prelude.{◌≡◌, ◌≢◌, ◌<◌, ℕ, List, [], ◌∷◌, length, Option, None, Some, slice_index_or}
+use Rattle.relay_slots.specs.declared.slots.TheConstants.{SLOT_COUNT}
 
 -- what stands in the slot of this number; there is nothing behind the last
 abbrev pub slot_at : {A : Type 0} → List (Option A) → ℕ → Option A
@@ -15,12 +16,23 @@ AreFree [] = Unit {0}
 AreFree (None ∷ slots) = AreFree slots
 AreFree (Some value ∷ slots) = ⊥
 
--- something stands in each of the 64 slots
+-- there are 64 slots
+abbrev pub HasPlaces : {A : Type 0} → List (Option A) → Type 0
+HasPlaces slots = length slots ≡ SLOT_COUNT
+
+-- there are 64 slots, and something stands in each
 abbrev pub IsFull : {A : Type 0} → List (Option A) → Type 0
-IsFull slots = (number : ℕ) → number < 64 → slot_at slots number ≢ None
+IsFull slots =
+    HasPlaces slots × ((number : ℕ) → number < SLOT_COUNT → slot_at slots number ≢ None)
 
 -- the least number of a free slot
 pub record IsLeastFree {A : Type 0} (slots : List (Option A)) (number : ℕ) : Type 0 where
-  pub within : number < 64
+  pub within : number < SLOT_COUNT
   pub free : slot_at slots number ≡ None
   pub least : (lower : ℕ) → lower < number → slot_at slots lower ≢ None
+
+-- In a free table of 64 slots each number is free, the least of them is 0, and so it isn't full.
+abbrev pub FreeHasPlaces : Type 0 → Type 0
+FreeHasPlaces A =
+    (slots : List (Option A)) → AreFree slots → HasPlaces slots
+    → IsLeastFree slots 0 × (IsFull slots → ⊥)

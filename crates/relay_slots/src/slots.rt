@@ -1,12 +1,12 @@
 ghost use Rattle.std.specs.Prelude.{◌≡◌, ◌<◌, None, Some, length, slice_set, MatchOption, IfOk};
-ghost use Rattle.relay_slots.specs.Slots.{AreFree, IsFull, IsLeastFree, slot_at};
+ghost use Rattle.relay_slots.specs.Slots.{AreFree, HasPlaces, IsFull, IsLeastFree, slot_at};
 
 use std::alloc::{AllocError, Global};
 use std::marker::Model;
 use std::mem;
 
-/// How many slots there are.
-const COUNT: usize = 64;
+/// How many slots there are, and so how many of what they hold are open at a time.
+pub const SLOT_COUNT: usize = 64;
 
 /// Slots, numbered from 0 to 63, of which each is free or holds a value. All are there from the start, so that none takes
 /// memory later.
@@ -24,21 +24,23 @@ impl<T: Drop> Drop for Slots<T> {
 
 impl<T> Model for Slots<T> {
     ghost use Rattle.std.specs.Prelude.{◌≡◌, List, Option, length};
+    ghost use Rattle.relay_slots.specs.declared.slots.TheConstants.{SLOT_COUNT};
 
     ghost Value = { List (Option T) };
 
     ghost view = { λ slots. slots.slots.items };
 
-    ghost invariant = { λ slots. length slots.slots.items ≡ 64 };
+    ghost invariant = { λ slots. length slots.slots.items ≡ SLOT_COUNT };
 }
 
 impl<T: Drop> Slots<T> {
     /// Free slots. It fails where memory runs out.
     pub fn new(alloc: Global) -> Result<Self, AllocError>
-        ensures { IfOk result AreFree }
+        ensures free { IfOk result AreFree }
+        ensures places { IfOk result HasPlaces }
     {
-        let mut slots = Vec::with_capacity(alloc, COUNT)?;
-        while slots.len() < COUNT {
+        let mut slots = Vec::with_capacity(alloc, SLOT_COUNT)?;
+        while slots.len() < SLOT_COUNT {
             slots.push(None)?;
         }
         Ok(Slots { slots })
