@@ -8,9 +8,8 @@ use Rattle.relay_book.specs.declared.change.Outcome.{Outcome as OutcomeFields}
 use Rattle.relay_book.specs.declared.change.Ruling.{Ruling}
 use Rattle.relay_book.specs.declared.change.Verdict.{Verdict}
 use Rattle.relay_book.specs.declared.change.Verdict.TheVariants.{Taken, Refused, Later, CantSend, NoRoute}
-use Rattle.relay_book.specs.declared.change.Change.{Change}
 use Rattle.relay_book.specs.declared.change.Change.TheVariants.{Accept, Outcome}
-use Rattle.relay_book.specs.Record.{IsAccept, IsChange, IsOutcome, IsRuling, IsVerdict, accept_octets, counted, encode, notify_number, octets_2, octets_4, octets_8, outcome_octets, recipient_octets, ret_number, ruling_octets, sized_2, sized_4, verdict_octets, written}
+use Rattle.relay_book.specs.Record.{IsAccept, IsOutcome, IsRuling, IsVerdict, accept_octets, counted, notify_number, octets_2, octets_4, octets_8, outcome_octets, recipient_octets, ret_number, ruling_octets, sized_2, sized_4, verdict_octets, written}
 use Rattle.relay_book.specs.StandsFor.{RecordIsShort}
 use Rattle.relay_book.proofs.FitLemmas.{hop_fits, limit_fits, path_fits, reverse_path_fits, written_envid_fits, written_orcpt_fits}
 

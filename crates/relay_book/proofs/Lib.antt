@@ -9,6 +9,7 @@ mod MailFieldLemmas
 mod TailLemmas
 mod AcceptLemmas
 mod OutcomeLemmas
+mod BeginLemmas
 mod ChangeFieldLemmas
 mod PlaceLemmas
 mod EntryLemmas
@@ -17,6 +18,8 @@ mod CustodyLemmas
 mod MarkLaws
 mod TimeLemmas
 mod TimeLaws
+mod DueListLaws
+mod QueuedLaws
 mod StandLemmas
 mod LiveLemmas
 mod ToldLemmas

@@ -25,7 +25,15 @@ none_short text short = record {
 behind_code : (text : List ℕ) (code : ℕ) (behind : List ℕ) (other : ℕ) (field rest : List ℕ) → text ≡ octets_2 code ++ behind → code < 2 ^ 16 → IsRefusal other field
     → text ≡ refusal_octets other field ++ rest → behind ≡ length field ∷ (field ++ rest)
 behind_code text code behind other field rest is small valid e =
-    (code_2 code other behind (length field ∷ (field ++ rest)) small valid.code_fits (sym is ∙ spelled text other field rest e)).1
+    (code_2 code other behind (length field ∷ (field ++ rest)) small (omega (arith, valid.high)) (sym is ∙ spelled text other field rest e)).1
+
+-- a code that no reply has
+pub none_of_code : (text : List ℕ) (code : ℕ) (behind : List ℕ) → text ≡ octets_2 code ++ behind → code < 2 ^ 16 → ((200 ≤ code) × (code < 600) → ⊥) → HasNoRefusal text
+none_of_code text code behind is small out = record {
+  none = λ other field rest valid e.
+      let same = (code_2 code other behind (length field ∷ (field ++ rest)) small (omega (arith, valid.high)) (sym is ∙ spelled text other field rest e)).0 in
+      out (omega (arith, same, valid.low), omega (arith, same, valid.high));
+}
 
 pub none_without_length : (text : List ℕ) (code : ℕ) (behind : List ℕ) → text ≡ octets_2 code ++ behind → code < 2 ^ 16 → length behind ≡ 0 → HasNoRefusal text
 none_without_length text code behind is small empty = record {

@@ -11,7 +11,7 @@ use Rattle.relay_book.specs.declared.change.Change.{Change}
 use Rattle.relay_book.specs.declared.change.Change.TheVariants.{Accept, Outcome}
 use Rattle.relay_book.specs.declared.message.Message.{Message}
 use Rattle.relay_book.specs.Record.{IsAccept, IsOutcome, is_null}
-use Rattle.relay_book.specs.Queue.{Queue, FitsFrom, FitsMessage, FitsQueue, Fitting, accepted, empty_queue, if_held, is_held, message_after, message_of, queue_of, report_of, reported, ruled, step}
+use Rattle.relay_book.specs.Queue.{Queue, FitsFrom, FitsMessage, FitsQueue, Fitting, accepted, empty_queue, is_held, message_after, message_of, queue_of, report_of, reported, ruled, step}
 use Rattle.relay_book.specs.Marks.{MessageStays, QueuedMayBeStored, ReportMayBeStored, change_at, own_accept}
 use Rattle.relay_book.proofs.PlaceLemmas.{none_some, some_is}
 use Rattle.relay_book.proofs.ChangeLemmas.{message_other, message_within, own_from}

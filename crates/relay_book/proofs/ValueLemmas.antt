@@ -1,5 +1,5 @@
 -- Values of fields are one for each number or text.
-use Rattle.std.proofs.Common.{◌≡◌, ℕ, ◌==◌, ◌||◌, Bool, true, false, List, [], ◌∷◌, ◌++◌, drop, length, Option, None, Some, refl, sym, ap, ◌∙◌, append_assoc, if◌then◌else◌}
+use Rattle.std.proofs.Common.{◌≡◌, ℕ, ◌==◌, ◌||◌, Bool, true, false, List, [], ◌∷◌, ◌++◌, drop, length, Option, None, Some, refl, sym, ap, ◌∙◌, append_assoc, if◌then◌else◌, arith}
 use Rattle.std.proofs.lemmas.Bool.{false≢true}
 use Rattle.relay_envelope.specs.declared.parameters.Ret.{Ret}
 use Rattle.relay_envelope.specs.declared.parameters.Ret.TheVariants.{Full, Hdrs}
@@ -151,7 +151,7 @@ tag_first NoRoute rest = refl
 pub refusal_is_one : (code other : ℕ) (text field x y : List ℕ) → IsRefusal code text → IsRefusal other field → refusal_octets code text ++ x ≡ refusal_octets other field ++ y
     → (code ≡ other) × (text ≡ field) × (x ≡ y)
 refusal_is_one code other text field x y valid also e =
-    let first = code_2 code other (length text ∷ (text ++ x)) (length field ∷ (field ++ y)) valid.code_fits also.code_fits
+    let first = code_2 code other (length text ∷ (text ++ x)) (length field ∷ (field ++ y)) (omega (arith, valid.high)) (omega (arith, also.high))
     (sym (append_assoc (octets_2 code) (length text ∷ text) x) ∙ e ∙ append_assoc (octets_2 other) (length field ∷ field) y) in
     let second = same_head (length text) (length field) (text ++ x) (field ++ y) first.1 in
     let third = fronts (length field) text field x y second.0 refl second.1 in

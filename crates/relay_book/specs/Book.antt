@@ -71,7 +71,8 @@ IsTold keys number place = place.held ≡ true → Contains {X = ℕ × ℕ} key
 abbrev pub AreTold : List (ℕ × ℕ) → ℕ → List Place → Type 0
 AreTold keys number places = AllByRecursion (IsTold keys number) places
 
--- the keys tell when each place is due; they may tell more
+-- the keys tell when each place is due; they may tell more, and a key that was left behind makes
+-- no place due
 abbrev pub AllTold : List (ℕ × ℕ) → List (ℕ × Message) → Type 0
 AllTold keys entries = AllByRecursion (λ entry. AreTold keys entry.0 entry.1.places) entries
 

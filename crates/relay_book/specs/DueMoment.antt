@@ -7,10 +7,17 @@ use Rattle.relay_book.specs.declared.change.Verdict.TheVariants.{Taken, Refused,
 use Rattle.relay_book.specs.declared.change.Change.{Change}
 use Rattle.relay_book.specs.declared.change.Change.TheVariants.{Accept, Outcome}
 
--- profile: half an hour behind the first, twice as long behind each further one, and four hours at most, in
+-- profile: the wait behind the first Later verdict, half an hour, and the longest, four hours, in
 -- seconds
+abbrev pub first_wait : ℕ
+first_wait = 1800
+
+abbrev pub longest_wait : ℕ
+longest_wait = 14400
+
+-- behind each further one twice as long
 abbrev pub wait_after : ℕ → ℕ
-wait_after laters = min (1800 * 2 ^ (laters - 1)) 14400
+wait_after laters = min (first_wait * 2 ^ (laters - 1)) longest_wait
 
 -- by the moment of acceptance and those of the Later verdicts, the last first
 abbrev pub due_moment_of : ℕ → List ℕ → ℕ

@@ -1,6 +1,6 @@
 -- The fields of records, one after another, and what no valid value begins. (Readers cut them; others judge
 -- them.)
-use Rattle.std.specs.Prelude.{◌≡◌, ◌≢◌, ℕ, ◌≤◌, ◌<◌, ◌^◌, true, List, ◌∷◌, ◌++◌, drop, length}
+use Rattle.std.specs.Prelude.{◌≡◌, ◌≢◌, ◌⊎◌, ℕ, ◌≤◌, ◌<◌, ◌^◌, true, List, ◌∷◌, ◌++◌, drop, length}
 use Rattle.std.specs.List.{flat_map, AllByRecursion}
 use Rattle.relay_envelope.specs.declared.envelope.Recipient.{Recipient}
 use Rattle.relay_envelope.specs.declared.envelope.Envelope.{Envelope}
@@ -139,3 +139,44 @@ pub record SpellsOutcome (text : List ℕ) (message at : ℕ) (hop : List ℕ) (
 -- the text is no outcome
 pub record SpellsNoOutcome (text : List ℕ) : Type 0 where
   pub none : (outcome : OutcomeFields) → IsOutcome outcome → text ≢ outcome_octets outcome
+
+-- a count of 1 to 100, and what follows it
+pub record HasCount (text : List ℕ) : Type 0 where
+  pub count : ℕ
+  pub rest : List ℕ
+  pub text_is : text ≡ count ∷ rest
+  pub some : 1 ≤ count
+  pub within : count ≤ 100
+
+-- an accept's moment, what MAIL said, and how many recipients
+pub record BeginsWithMail (text : List ℕ) : Type 0 where
+  pub at : ℕ
+  pub said : List ℕ
+  pub path : List ℕ
+  pub ret : ℕ
+  pub envid : List ℕ
+  pub recipients : List ℕ
+  pub text_is : text ≡ octets_8 at ++ said
+  pub at_fits : at < 2 ^ 64
+  pub mail : SpellsFields said path ret envid recipients
+  pub counts : HasCount recipients
+
+-- an outcome's message, moment and hop, and how many verdicts
+pub record BeginsWithHop (text : List ℕ) : Type 0 where
+  pub message : ℕ
+  pub at : ℕ
+  pub hop : List ℕ
+  pub rulings : List ℕ
+  pub head : SpellsHead text message at hop rulings
+  pub counts : HasCount rulings
+
+-- the octet of a kind, and fields that begin so
+pub record IsOfKind (kind : ℕ) (Begins : List ℕ → Type 0) (text : List ℕ) : Type 0 where
+  pub fields : List ℕ
+  pub text_is : text ≡ kind ∷ fields
+  pub begins : Begins fields
+
+-- the octets that are read before any memory is wanted are spelled as those of a record: its kind,
+-- and all fields up to how many recipients or verdicts it has
+pub record MayBeRecord (text : List ℕ) : Type 0 where
+  pub begins : IsOfKind 1 BeginsWithMail text ⊎ IsOfKind 2 BeginsWithHop text

@@ -162,11 +162,15 @@ pub record FitsMessage (message : Message) (outcome : OutcomeFields) : Type 0 wh
   pub hop : (outcome.hop ≡ []) ↔ AllNoRoute outcome.rulings
   pub report : (outcome.report ≡ []) ↔ (list_any (reports_at message outcome.at) outcome.rulings ≡ false)
 
--- a change fits a queue; profile: its number is at most 2^62
+-- profile: the greatest number of a change
+abbrev pub last_number : ℕ
+last_number = 2 ^ 62
+
+-- a change fits a queue, and its number is at most the greatest
 abbrev pub FitsQueue : Queue → Change → Type 0
-FitsQueue queue (Accept accept) = (queue.next ≤ 2 ^ 62) × IsAccept accept
+FitsQueue queue (Accept accept) = (queue.next ≤ last_number) × IsAccept accept
 FitsQueue queue (Outcome outcome) =
-    (queue.next ≤ 2 ^ 62)
+    (queue.next ≤ last_number)
     × MatchOption (message_of queue.messages outcome.message) ⊥ (λ message. FitsMessage message outcome)
     × IsOutcome outcome
 

@@ -104,9 +104,19 @@ encode (Outcome outcome) = 2 ∷ outcome_octets outcome
 abbrev pub is_null : List ℕ → Bool
 is_null path = bytes_eq path (codes "<>")
 
--- profile: a stored text has at most 2^25 octets, and 2^26 where its reverse path is null, as a report's is
+-- profile: the most octets of a report, of another stored text, and of a refusal's text
+abbrev pub report_limit : ℕ
+report_limit = 2 ^ 26
+
+abbrev pub stored_text_limit : ℕ
+stored_text_limit = 2 ^ 25
+
+abbrev pub refusal_limit : ℕ
+refusal_limit = 200
+
+-- the most octets of a stored text: a report's reverse path is null
 abbrev pub text_limit : List ℕ → ℕ
-text_limit reverse_path = if is_null reverse_path then 2 ^ 26 else 2 ^ 25
+text_limit reverse_path = if is_null reverse_path then report_limit else stored_text_limit
 
 -- an accept that may be stored
 pub record IsAccept (accept : AcceptFields) : Type 0 where
@@ -114,11 +124,13 @@ pub record IsAccept (accept : AcceptFields) : Type 0 where
   pub envelope : IsEnvelope accept.envelope
   pub text : length accept.stored_text ≤ text_limit accept.envelope.reverse_path
 
--- profile: of a refusal the code is kept in two octets, and of its text at most 200 octets, each printable
+-- a refusal's code is one that a reply may have: three digits, the first 2 to 5 (RFC 5321, section
+-- 4.2); profile: of its text so many octets are kept at most, each printable
 pub record IsRefusal (code : ℕ) (text : List ℕ) : Type 0 where
-  pub code_fits : code < 2 ^ 16
+  pub low : 200 ≤ code
+  pub high : code < 600
   pub printable : AllPass (is_in_range 32 126) text
-  pub text_fits : length text ≤ 200
+  pub text_fits : length text ≤ refusal_limit
 
 -- a verdict that may be stored
 abbrev pub IsVerdict : Verdict → Type 0
@@ -146,7 +158,7 @@ pub record IsOutcome (outcome : OutcomeFields) : Type 0 where
   pub some : 1 ≤ length outcome.rulings
   pub within : length outcome.rulings ≤ 100
   pub rulings : AllByRecursion IsRuling outcome.rulings
-  pub report : length outcome.report ≤ 2 ^ 26
+  pub report : length outcome.report ≤ report_limit
 
 -- a change that may be stored, by its fields alone
 abbrev pub IsChange : Change → Type 0

@@ -4,7 +4,7 @@ ghost use Rattle.std.specs.List.{Contains, flat_map, list_any};
 ghost use Rattle.std.specs.Option.{option_copied, option_map_or};
 ghost use Rattle.relay_book.specs.Book.{AllTold, AreTold, IsTold, Rise, is_held_until, marks_at};
 ghost use Rattle.relay_book.specs.Marks.{leaving_of};
-ghost use Rattle.relay_book.specs.Queue.{FitsQueue, due_of, empty_queue, held_of, is_due_at, message_of, ruled, step};
+ghost use Rattle.relay_book.specs.Queue.{FitsQueue, due_of, empty_queue, held_of, is_due_at, last_number, message_of, ruled, step};
 ghost use Rattle.relay_book.specs.Ready.{IsReady, entry_of, message_in};
 ghost use Rattle.relay_book.specs.Record.{IsAccept};
 
@@ -19,6 +19,7 @@ use crate::change::{Accept, Change, Outcome};
 use crate::fate::Way;
 use crate::fault::BookFault;
 use crate::judge::{fits_message, is_accept, is_outcome};
+use crate::limits::LAST_NUMBER;
 use crate::message::{Message, Place};
 use crate::ready::{Made, Ready};
 use entries::{keep_queued, slot_after};
@@ -32,9 +33,6 @@ use std::collections::BTreeSet;
 use std::marker::Model;
 use std::mem;
 
-/// The greatest number of a change.
-const LAST_NUMBER: u64 = 1 << 62;
-
 /// The queue of a node: the messages with a held place, and when these are due.
 #[derive(Drop)]
 pub struct Book {
@@ -43,7 +41,9 @@ pub struct Book {
     /// How many entries have ended: they are cleared away together, since one by one each would move all
     /// behind it.
     ended: usize,
-    /// When each held place is due, with its message's number.
+    /// When each held place is due, with its message's number. There may be more keys, so `due` asks the
+    /// places themselves: those of a change that was made ready and isn't committed stay until the next
+    /// `prepare`, and for good where another change is committed in between.
     waiting: BTreeSet<(u64, u64), Global>,
     /// What was told for a change that isn't committed. Where it never is, the next one makes it forgotten.
     fresh: Vec<(u64, u64)>,
@@ -131,13 +131,14 @@ impl Book {
     }
 
     /// Makes room for a change and makes ready what it queues, so that `commit` can't fail. It answers
-    /// `BadRecord` exactly where the change doesn't fit, and else fails where memory runs out. The queue is
-    /// unchanged.
+    /// `BadRecord` exactly where the change doesn't fit, however little memory there is, and fails
+    /// with `NoMemory` where a change that fits finds no memory. The queue is unchanged.
     pub fn prepare(&mut self, alloc: Global, change: Change) -> Result<Ready, BookFault>
         ensures queue { self.new.queue ≡ self.old.queue }
         ensures ready { IfOk result (λ ready. IsReady self.new ready) }
         ensures change { IfOk result (λ ready. ready.change ≡ change) }
         ensures bad { IsErrOf result BookFault.BadRecord → ¬ FitsQueue self.old.queue change }
+        ensures memory { IsErrOf result BookFault.NoMemory → FitsQueue self.old.queue change }
     {
         self.forget_fresh(alloc);
         match change {
@@ -169,12 +170,13 @@ impl Book {
         }
     }
 
-    /// Prepares a change and commits it. A fault leaves the queue unchanged.
+    /// Prepares a change and commits it. A fault is `prepare`'s, and leaves the queue unchanged.
     pub fn apply(&mut self, alloc: Global, change: Change) -> Result<(), BookFault>
         ensures ok { OnOk result (self.new.queue ≡ step self.old.queue change) }
         ensures err { OnErr result (self.new.queue ≡ self.old.queue) }
         ensures fits { OnOk result (FitsQueue self.old.queue change) }
         ensures bad { IsErrOf result BookFault.BadRecord → ¬ FitsQueue self.old.queue change }
+        ensures memory { IsErrOf result BookFault.NoMemory → FitsQueue self.old.queue change }
     {
         let ready = self.prepare(alloc, change)?;
         self.commit(ready);
@@ -207,6 +209,8 @@ impl Book {
         ensures ready { IfOk result (λ ready. IsReady self.new ready) }
         ensures change { IfOk result (λ ready. ready.change ≡ Change.Accept accept) }
         ensures bad { IsErrOf result BookFault.BadRecord → ¬ FitsQueue self.old.queue (Change.Accept accept) }
+        ensures memory { IsErrOf result BookFault.NoMemory
+            → FitsQueue self.old.queue (Change.Accept accept) }
     {
         if !is_accept(&accept) {
             return Err(BookFault::BadRecord);
@@ -221,6 +225,8 @@ impl Book {
         ensures ready { IfOk result (λ ready. IsReady self.new ready) }
         ensures change { IfOk result (λ ready. ready.change ≡ Change.Accept accept) }
         ensures bad { IsErrOf result BookFault.BadRecord → ¬ FitsQueue self.old.queue (Change.Accept accept) }
+        ensures memory { IsErrOf result BookFault.NoMemory
+            → FitsQueue self.old.queue (Change.Accept accept) }
     {
         if self.next > LAST_NUMBER {
             return Err(BookFault::BadRecord);
@@ -241,6 +247,8 @@ impl Book {
         ensures change { IfOk result (λ ready. ready.change ≡ Change.Outcome outcome) }
         ensures bad { IsErrOf result BookFault.BadRecord
             → ¬ FitsQueue self.old.queue (Change.Outcome outcome) }
+        ensures memory { IsErrOf result BookFault.NoMemory
+            → FitsQueue self.old.queue (Change.Outcome outcome) }
     {
         if !self.fits(&outcome) {
             return Err(BookFault::BadRecord);
@@ -289,7 +297,7 @@ impl Book {
     /// Takes a number, for a message or for none. It takes no memory.
     fn add(&mut self, message: Option<Message>)
         requires room { 0 < self.old.room }
-        requires few { self.old.queue.next ≤ 2 ^ 62 }
+        requires few { self.old.queue.next ≤ last_number }
         requires told { AllTold self.old.told (entry_of self.old.queue.next message) }
         ensures next { self.new.queue.next ≡ self.old.queue.next + 1 }
         ensures messages { self.new.queue.messages
@@ -306,7 +314,7 @@ impl Book {
     #[tactic(auto, using(crate::proofs::LiveLemmas::new_last, crate::proofs::LiveLemmas::live_last, crate::proofs::LiveLemmas::rise_last, crate::proofs::ToldLemmas::all_told_last))]
     fn push(&mut self, message: Message)
         requires room { 0 < self.old.room }
-        requires few { self.old.queue.next ≤ 2 ^ 62 }
+        requires few { self.old.queue.next ≤ last_number }
         requires told { AreTold self.old.told self.old.queue.next message.places }
         ensures next { self.new.queue.next ≡ self.old.queue.next + 1 }
         ensures messages { self.new.queue.messages
@@ -319,7 +327,7 @@ impl Book {
     /// Lets a number go by.
     #[tactic(auto, using(crate::proofs::LiveLemmas::rise_next))]
     fn pass(&mut self)
-        requires few { self.old.queue.next ≤ 2 ^ 62 }
+        requires few { self.old.queue.next ≤ last_number }
         ensures next { self.new.queue.next ≡ self.old.queue.next + 1 }
         ensures messages { self.new.queue.messages ≡ self.old.queue.messages }
     {
@@ -429,7 +437,9 @@ impl Book {
         }
     }
 
-    /// Forgets that a place of a message was due, unless one still is.
+    /// Forgets that a place of a message was due, unless one still is. No clause says that its key is
+    /// gone: a key that stays behind costs memory, and a look at its message when it comes up, and makes
+    /// no place due.
     fn forget(&mut self, due: u64, number: u64)
         ensures queue { self.new.queue ≡ self.old.queue }
         ensures room { self.new.room ≡ self.old.room }

@@ -38,7 +38,7 @@ pub enum Verdict {
     },
     /// The hop refused it for good.
     Refused {
-        /// The reply's code.
+        /// The reply's code: 200 to 599.
         code: u16,
         /// The text of the reply's last line: at most 200 octets of 32 to 126.
         text: Octets,

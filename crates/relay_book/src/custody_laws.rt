@@ -1,6 +1,6 @@
 //! What is true of the custody of each recipient, by the list of changes.
-ghost use Rattle.relay_book.specs.DueLaw.{FoldDue};
-ghost use Rattle.relay_book.specs.HeldLaw.{FoldFinds};
+ghost use Rattle.relay_book.specs.DueLaw.{FoldDue, QueueListsDue, QueueTellsDue};
+ghost use Rattle.relay_book.specs.HeldLaw.{FoldFinds, QueuedIsHeld};
 ghost use Rattle.relay_book.specs.Marks.{ExactlyOne, FoldHolds, FoldKnows, LeavingIsListed, MessageStays, OneMoreHolds, QueueLeaves, QueuedMayBeStored, ReportMayBeStored};
 
 /// The queue of a list of changes holds exactly what is held.
@@ -41,6 +41,23 @@ pub fn fold_knows()
 /// The due moment of each held place is by its acceptance and its Later verdicts.
 pub fn fold_due()
     ensures { FoldDue }
+{}
+
+/// The queue of a list has a place due at a moment exactly where the place is held and the list has it
+/// due then.
+pub fn queue_tells_due()
+    ensures { QueueTellsDue }
+{}
+
+/// What the queue of a list has due by a moment are the held places that the list has due then, in
+/// order.
+pub fn queue_lists_due()
+    ensures { QueueListsDue }
+{}
+
+/// A queued message has a held place.
+pub fn queued_is_held()
+    ensures { QueuedIsHeld }
 {}
 
 /// A message stays what it was accepted as, whatever changes follow.

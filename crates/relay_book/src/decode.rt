@@ -3,7 +3,7 @@ ghost use Rattle.std.specs.Prelude.{◌≡◌, ◌≢◌, ◌<◌, ◌^◌, leng
 ghost use Rattle.relay_envelope.specs.Envelope.{IsRecipient, IsReversePath, may_be_envid, envelope_from};
 ghost use Rattle.relay_envelope.specs.Mail.{mail_value};
 ghost use Rattle.relay_book.specs.Record.{IsAccept, IsChange, IsNoRecord, IsOutcome, MayBeHop, accept_octets, encode, outcome_octets, sized_4, text_limit};
-ghost use Rattle.relay_book.specs.Fields.{BeginsAccept, BeginsRecord, HasNoHead, IsNoSized, SpellsHead, SpellsAccept, SpellsNoAccept, SpellsNoOutcome, SpellsOutcome};
+ghost use Rattle.relay_book.specs.Fields.{BeginsAccept, BeginsRecord, BeginsWithHop, BeginsWithMail, HasNoHead, IsNoSized, MayBeRecord, SpellsHead, SpellsAccept, SpellsNoAccept, SpellsNoOutcome, SpellsOutcome};
 
 mod mail;
 mod recipient;
@@ -24,11 +24,15 @@ use std::alloc::Global;
 use tail::behind;
 
 /// The change of which these octets are the record, with one copy of each text. It fails with `BadRecord`
-/// exactly where they are no record of a change, and where memory runs out.
-#[tactic(auto, using(crate::proofs::ChangeFieldLemmas::no_octet, crate::proofs::ChangeFieldLemmas::no_kind, crate::proofs::ChangeFieldLemmas::no_accept, crate::proofs::ChangeFieldLemmas::no_outcome))]
+/// exactly where they are no record of a change, and where memory runs out. Memory is wanted first for
+/// the recipients or the verdicts: what stands before them, and how many they are, is read first, and
+/// octets that spell no such fields are refused however little memory there is. What is behind, and
+/// whether the fields are valid, may be left unjudged where memory runs out.
+#[tactic(auto, using(crate::proofs::ChangeFieldLemmas::no_octet, crate::proofs::ChangeFieldLemmas::no_kind, crate::proofs::ChangeFieldLemmas::no_accept, crate::proofs::ChangeFieldLemmas::no_outcome, crate::proofs::BeginLemmas::may_be_accept, crate::proofs::BeginLemmas::may_be_outcome))]
 pub fn decode_change(alloc: Global, text: &[u8]) -> Result<Change, BookFault>
     ensures change { IfOk result (λ change. IsChange change × (text.now ≡ encode change)) }
     ensures bad { IsErrOf result BookFault.BadRecord → IsNoRecord text.now }
+    ensures memory { IsErrOf result BookFault.NoMemory → MayBeRecord text.now }
 {
     let Some((kind, fields)) = text.split_first() else {
         return Err(BookFault::BadRecord);
@@ -51,6 +55,7 @@ pub fn decode_change(alloc: Global, text: &[u8]) -> Result<Change, BookFault>
 pub fn decode_record(alloc: Global, octets: Vec<u8>) -> Result<Change, BookFault>
     ensures change { IfOk result (λ change. IsChange change × (octets.items ≡ encode change)) }
     ensures bad { IsErrOf result BookFault.BadRecord → IsNoRecord octets.items }
+    ensures memory { IsErrOf result BookFault.NoMemory → MayBeRecord octets.items }
 {
     match head_of(alloc, octets.as_slice())? {
         Some((at, envelope, head)) => Ok(Change::Accept(Accept {
@@ -63,11 +68,12 @@ pub fn decode_record(alloc: Global, octets: Vec<u8>) -> Result<Change, BookFault
 }
 
 /// What the record of an accept says before its stored text, and none for another record.
-#[tactic(auto, using(crate::proofs::ChangeFieldLemmas::no_accept, crate::proofs::AcceptLemmas::begins_record))]
+#[tactic(auto, using(crate::proofs::ChangeFieldLemmas::no_accept, crate::proofs::AcceptLemmas::begins_record, crate::proofs::BeginLemmas::may_be_accept))]
 fn head_of(alloc: Global, octets: &[u8]) -> Result<Option<AcceptHead>, BookFault>
     ensures accept { IfOk result (λ found. IfSome found
         (λ parts. BeginsRecord octets.now parts.0 parts.1 parts.2)) }
     ensures bad { IsErrOf result BookFault.BadRecord → IsNoRecord octets.now }
+    ensures memory { IsErrOf result BookFault.NoMemory → MayBeRecord octets.now }
 {
     let Some((kind, fields)) = octets.split_first() else {
         return Ok(None);
@@ -97,11 +103,12 @@ fn read_last(text: &[u8]) -> Option<&[u8]>
 type AcceptFields<'a> = (u64, &'a [u8], u8, &'a [u8], Recipients, &'a [u8]);
 
 /// Cuts an accept into its fields.
-#[tactic(auto, using(crate::proofs::AcceptLemmas::no_moment, crate::proofs::AcceptLemmas::no_mail_fields, crate::proofs::AcceptLemmas::no_recipients, crate::proofs::AcceptLemmas::no_stored_text, crate::proofs::AcceptLemmas::accept_spelled))]
+#[tactic(auto, using(crate::proofs::AcceptLemmas::no_moment, crate::proofs::AcceptLemmas::no_mail_fields, crate::proofs::AcceptLemmas::no_recipients, crate::proofs::AcceptLemmas::no_stored_text, crate::proofs::AcceptLemmas::accept_spelled, crate::proofs::BeginLemmas::begins_with_mail))]
 fn split_accept(alloc: Global, text: &[u8]) -> Result<AcceptFields<'_>, BookFault>
     ensures fields { IfOk result (λ parts.
         SpellsAccept text.now parts.0 parts.1.now parts.2 parts.3.now parts.4 parts.5.now) }
     ensures bad { IsErrOf result BookFault.BadRecord → SpellsNoAccept text.now }
+    ensures memory { IsErrOf result BookFault.NoMemory → BeginsWithMail text.now }
 {
     let Some((at, rest)) = read_8(text) else {
         return Err(BookFault::BadRecord);
@@ -120,10 +127,11 @@ fn split_accept(alloc: Global, text: &[u8]) -> Result<AcceptFields<'_>, BookFaul
 type AcceptHead = (Moment, Envelope, usize);
 
 /// What the accept says before its stored text that the text spells.
-#[tactic(auto, using(crate::proofs::AcceptLemmas::bad_mail, crate::proofs::AcceptLemmas::bad_moment, crate::proofs::AcceptLemmas::bad_text, crate::proofs::AcceptLemmas::begins_accept, crate::proofs::AcceptLemmas::stored_within))]
+#[tactic(auto, using(crate::proofs::AcceptLemmas::bad_mail, crate::proofs::AcceptLemmas::bad_moment, crate::proofs::AcceptLemmas::bad_text, crate::proofs::AcceptLemmas::begins_accept, crate::proofs::AcceptLemmas::stored_within, crate::proofs::BeginLemmas::spelled_with_mail))]
 fn read_accept_head(alloc: Global, text: &[u8]) -> Result<AcceptHead, BookFault>
     ensures accept { IfOk result (λ parts. BeginsAccept text.now parts.0 parts.1 parts.2) }
     ensures bad { IsErrOf result BookFault.BadRecord → SpellsNoAccept text.now }
+    ensures memory { IsErrOf result BookFault.NoMemory → BeginsWithMail text.now }
 {
     let (at, path, ret, envid, recipients, stored_text) = split_accept(alloc, text)?;
     let Some(mail) = mail_of(path, ret, envid) else {
@@ -142,10 +150,11 @@ fn read_accept_head(alloc: Global, text: &[u8]) -> Result<AcceptHead, BookFault>
 }
 
 /// The accept that the text spells.
-#[tactic(auto, using(crate::proofs::AcceptLemmas::begun_is_accept, crate::proofs::AcceptLemmas::begun_is_text))]
+#[tactic(auto, using(crate::proofs::AcceptLemmas::begun_is_accept, crate::proofs::AcceptLemmas::begun_is_text, crate::proofs::BeginLemmas::begun_with_mail))]
 fn read_accept(alloc: Global, text: &[u8]) -> Result<Accept, BookFault>
     ensures accept { IfOk result (λ accept. IsAccept accept × (text.now ≡ accept_octets accept)) }
     ensures bad { IsErrOf result BookFault.BadRecord → SpellsNoAccept text.now }
+    ensures memory { IsErrOf result BookFault.NoMemory → BeginsWithMail text.now }
 {
     let (at, envelope, head) = read_accept_head(alloc, text)?;
     Ok(Accept {
@@ -171,11 +180,12 @@ fn read_head(text: &[u8]) -> Option<(u64, u64, &[u8], &[u8])>
 }
 
 /// Cuts an outcome into its fields.
-#[tactic(auto, using(crate::proofs::OutcomeLemmas::no_head, crate::proofs::OutcomeLemmas::no_rulings, crate::proofs::OutcomeLemmas::no_report, crate::proofs::OutcomeLemmas::outcome_spelled))]
+#[tactic(auto, using(crate::proofs::OutcomeLemmas::no_head, crate::proofs::OutcomeLemmas::no_rulings, crate::proofs::OutcomeLemmas::no_report, crate::proofs::OutcomeLemmas::outcome_spelled, crate::proofs::BeginLemmas::begins_with_hop))]
 fn split_outcome(alloc: Global, text: &[u8]) -> Result<OutcomeFields<'_>, BookFault>
     ensures fields { IfOk result (λ parts.
         SpellsOutcome text.now parts.0 parts.1 parts.2.now parts.3 parts.4.now) }
     ensures bad { IsErrOf result BookFault.BadRecord → SpellsNoOutcome text.now }
+    ensures memory { IsErrOf result BookFault.NoMemory → BeginsWithHop text.now }
 {
     let Some((message, at, hop, rest)) = read_head(text) else {
         return Err(BookFault::BadRecord);
@@ -188,10 +198,11 @@ fn split_outcome(alloc: Global, text: &[u8]) -> Result<OutcomeFields<'_>, BookFa
 }
 
 /// The outcome that the text spells.
-#[tactic(auto, using(crate::proofs::OutcomeLemmas::bad_moment, crate::proofs::OutcomeLemmas::bad_hop, crate::proofs::OutcomeLemmas::bad_report, crate::proofs::OutcomeLemmas::is_outcome, crate::proofs::OutcomeLemmas::outcome_is))]
+#[tactic(auto, using(crate::proofs::OutcomeLemmas::bad_moment, crate::proofs::OutcomeLemmas::bad_hop, crate::proofs::OutcomeLemmas::bad_report, crate::proofs::OutcomeLemmas::is_outcome, crate::proofs::OutcomeLemmas::outcome_is, crate::proofs::BeginLemmas::spelled_with_hop))]
 fn read_outcome(alloc: Global, text: &[u8]) -> Result<Outcome, BookFault>
     ensures outcome { IfOk result (λ outcome. IsOutcome outcome × (text.now ≡ outcome_octets outcome)) }
     ensures bad { IsErrOf result BookFault.BadRecord → SpellsNoOutcome text.now }
+    ensures memory { IsErrOf result BookFault.NoMemory → BeginsWithHop text.now }
 {
     let (message, at, hop, rulings, report) = split_outcome(alloc, text)?;
     let Ok(at) = Moment::new(at) else {

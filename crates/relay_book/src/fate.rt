@@ -2,6 +2,7 @@ ghost use Rattle.std.specs.Prelude.{◌≡◌};
 ghost use Rattle.relay_book.specs.DueReport.{fate_of, way_of};
 
 use crate::change::Verdict;
+use crate::limits::PATIENCE;
 use relay_trace::Moment;
 
 /// What a verdict makes of a held place.
@@ -23,9 +24,6 @@ pub enum Way {
     /// It failed.
     ByEnd,
 }
-
-/// For how many seconds behind its acceptance a place is tried.
-const PATIENCE: u64 = 432_000;
 
 /// What a verdict at a moment makes of a place that was accepted at another. It takes no memory.
 pub fn fate_of(accepted: Moment, at: Moment, verdict: &Verdict) -> Fate

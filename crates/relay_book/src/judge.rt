@@ -8,7 +8,9 @@ ghost use Rattle.relay_book.specs.Queue.{AllNoRoute, AreRulings, FitsMessage, ho
 use crate::change::{Accept, Outcome, Ruling, Verdict};
 use crate::due_report::due_report_of;
 use crate::fate::fate_of;
-use crate::limits::{REFUSAL_LIMIT, REPORT_LIMIT, is_printable, may_be_hop, text_limit};
+use crate::limits::{
+    REFUSAL_LIMIT, REPORT_LIMIT, is_printable, is_reply_code, may_be_hop, text_limit,
+};
 use crate::message::{Message, Place};
 use relay_envelope::is_envelope;
 use relay_trace::{LAST_SECOND, Moment};
@@ -86,10 +88,10 @@ fn is_verdict(verdict: &Verdict) -> bool
     }
 }
 
-fn is_refusal(_code: u16, text: &[u8]) -> bool
-    ensures { IsTrue result ↔ IsRefusal _code text.now }
+fn is_refusal(code: u16, text: &[u8]) -> bool
+    ensures { IsTrue result ↔ IsRefusal code text.now }
 {
-    text.len() <= REFUSAL_LIMIT && is_printable(text)
+    is_reply_code(code) && text.len() <= REFUSAL_LIMIT && is_printable(text)
 }
 
 /// Whether an outcome fits its message: it rules on held places, which rise, names a hop unless no place had

@@ -25,6 +25,9 @@ pub use due_report::{DueReport, due_report_of};
 pub use encode::encode_change;
 pub use fate::{Fate, Way, fate_of};
 pub use fault::BookFault;
+pub use limits::{
+    FIRST_WAIT, LAST_NUMBER, LONGEST_WAIT, PATIENCE, REFUSAL_LIMIT, REPORT_LIMIT, STORED_TEXT_LIMIT,
+};
 pub use message::{Message, Place, Places};
 pub use question::Question;
 pub use ready::Ready;

@@ -1,25 +1,41 @@
-//! What texts of records may be.
-ghost use Rattle.std.specs.Prelude.{◌≡◌, ◌↔◌, IsTrue};
+//! The limits of changes, and what texts of records may be.
+ghost use Rattle.std.specs.Prelude.{◌≡◌, ◌<◌, ◌≤◌, ◌↔◌, IsTrue};
 ghost use Rattle.std.specs.List.{AllPass};
 ghost use Rattle.std.specs.Int.{is_in_range};
 ghost use Rattle.relay_book.specs.Record.{MayBeHop, text_limit};
 
 use relay_envelope::is_host_name;
 
-/// The most octets of a report.
-pub(crate) const REPORT_LIMIT: usize = 1 << 26;
+/// The greatest number of a change.
+pub const LAST_NUMBER: u64 = 1 << 62;
+
+/// The most octets of a report, and of a stored text whose reverse path is null.
+pub const REPORT_LIMIT: usize = 1 << 26;
+
+/// The most octets of a stored text whose reverse path isn't null.
+pub const STORED_TEXT_LIMIT: usize = 1 << 25;
 
 /// The most octets of a refusal's text.
-pub(crate) const REFUSAL_LIMIT: usize = 200;
+pub const REFUSAL_LIMIT: usize = 200;
+
+/// For how many seconds behind its acceptance a place is tried (RFC 5321, section 4.5.4.1).
+pub const PATIENCE: u64 = 432_000;
+
+/// How many seconds a place waits behind its first Later verdict; behind each further one it waits
+/// twice as long.
+pub const FIRST_WAIT: u64 = 1_800;
+
+/// The longest wait behind a Later verdict, in seconds.
+pub const LONGEST_WAIT: u64 = 14_400;
 
 /// The most octets of a stored text: a report may have more.
 pub(crate) fn text_limit(reverse_path: &[u8]) -> usize
     ensures { result ≡ text_limit reverse_path.now }
 {
     if matches!(reverse_path, b"<>") {
-        1 << 26
+        REPORT_LIMIT
     } else {
-        1 << 25
+        STORED_TEXT_LIMIT
     }
 }
 
@@ -31,6 +47,13 @@ pub(crate) fn may_be_hop(text: &[u8]) -> bool
         [] => true,
         [_, ..] => is_host_name(text),
     }
+}
+
+/// Whether a reply may have this code: three digits, the first 2 to 5 (RFC 5321, section 4.2).
+pub(crate) fn is_reply_code(code: u16) -> bool
+    ensures { IsTrue result ↔ ((200 ≤ code) × (code < 600)) }
+{
+    200 <= code && code < 600
 }
 
 /// Whether each octet is printable.

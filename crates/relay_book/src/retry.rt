@@ -1,8 +1,9 @@
 ghost use Rattle.std.specs.Prelude.{◌≡◌, ◌≤◌};
-ghost use Rattle.relay_book.specs.DueMoment.{wait_after};
+ghost use Rattle.relay_book.specs.DueMoment.{longest_wait, wait_after};
 ghost use Rattle.relay_book.specs.Queue.{place_after};
 
 use crate::fate::Fate;
+use crate::limits::{FIRST_WAIT, LONGEST_WAIT};
 use crate::message::Place;
 use relay_trace::Moment;
 
@@ -11,13 +12,13 @@ fn wait_after(laters: u8) -> u64
     requires some { 1 ≤ laters }
     requires few { laters ≤ 4 }
     ensures value { result ≡ wait_after laters }
-    ensures within { result ≤ 14400 }
+    ensures within { result ≤ longest_wait }
 {
     match laters {
-        1 => 1_800,
-        2 => 3_600,
-        3 => 7_200,
-        _ => 14_400,
+        1 => FIRST_WAIT,
+        2 => 2 * FIRST_WAIT,
+        3 => 4 * FIRST_WAIT,
+        _ => LONGEST_WAIT,
     }
 }
 

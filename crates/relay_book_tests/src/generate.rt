@@ -187,13 +187,17 @@ fn push_verdict(record: &mut Vec<u8>, draw: &mut Draw) -> Result<(), AllocError>
     Ok(())
 }
 
-/// Adds the code of a refusal, and its text behind its length.
+/// Adds the code of a refusal, 200 to 599, and its text behind its length.
 fn push_refusal(record: &mut Vec<u8>, draw: &mut Draw) -> Result<(), AllocError> {
-    push(record, draw.octet(256))?;
-    push(record, draw.octet(256))?;
+    push_code(record, draw.below(400).wrapping_add(200))?;
     let length = draw.octet(201);
     push(record, length)?;
     push_octets(record, draw, u64::from(length), 95, b' ')
+}
+
+/// Adds a code of two octets.
+fn push_code(record: &mut Vec<u8>, code: u64) -> Result<(), AllocError> {
+    record.extend_from_slice(&u16::try_from(code).unwrap_or(0).to_be_bytes())
 }
 
 fn push_report(alloc: Global, record: &mut Vec<u8>, draw: &mut Draw) -> Result<(), AllocError> {

@@ -18,6 +18,7 @@ impl Book {
         ensures err { OnErr result (self.new.queue ≡ self.old.queue) }
         ensures fits { OnOk result (FitsQueue self.old.queue change) }
         ensures bad { IsErrOf result BookFault.BadRecord → ¬ FitsQueue self.old.queue change }
+        ensures memory { IsErrOf result BookFault.NoMemory → FitsQueue self.old.queue change }
     {
         let ready = self.prepare_decoded(alloc, change)?;
         self.commit(ready);
@@ -31,6 +32,7 @@ impl Book {
         ensures ready { IfOk result (λ ready. IsReady self.new ready) }
         ensures change { IfOk result (λ ready. ready.change ≡ change) }
         ensures bad { IsErrOf result BookFault.BadRecord → ¬ FitsQueue self.old.queue change }
+        ensures memory { IsErrOf result BookFault.NoMemory → FitsQueue self.old.queue change }
     {
         self.forget_fresh(alloc);
         match change {

@@ -8,7 +8,7 @@ ghost use Rattle.relay_envelope.specs.Envelope.{IsRecipient, may_be_notify, may_
 ghost use Rattle.relay_envelope.specs.Path.{is_forward, path_text, value_of};
 ghost use Rattle.relay_envelope.specs.Mail.{rcpt_value};
 ghost use Rattle.relay_book.specs.Record.{counted, notify_number, recipient_octets, written};
-ghost use Rattle.relay_book.specs.Fields.{SpellsFields, HasFields, HasNoFields, AreSoMany, AreSome, HasNoCounted, HasNoRow, HasNone, IsNoRecipient};
+ghost use Rattle.relay_book.specs.Fields.{SpellsFields, HasFields, HasNoFields, AreSoMany, AreSome, HasCount, HasNoCounted, HasNoRow, HasNone, IsNoRecipient};
 
 use crate::fault::BookFault;
 use crate::field::read_sized_2;
@@ -141,11 +141,12 @@ fn read_row(alloc: Global, count: u8, text: &[u8]) -> Result<(Recipients, &[u8])
 }
 
 /// 1 to 100 recipients behind their count, and what follows them.
-#[tactic(auto, using(crate::proofs::RowLemmas::no_count, crate::proofs::RowLemmas::no_such_count, crate::proofs::RowLemmas::no_counted_row, crate::proofs::RowLemmas::is_counted))]
+#[tactic(auto, using(crate::proofs::RowLemmas::no_count, crate::proofs::RowLemmas::no_such_count, crate::proofs::RowLemmas::no_counted_row, crate::proofs::RowLemmas::is_counted, crate::proofs::BeginLemmas::has_count))]
 pub(crate) fn read_recipients(alloc: Global, text: &[u8]) -> Result<(Recipients, &[u8]), BookFault>
     ensures counted { IfOk result (λ parts. AreSome IsRecipient parts.0
         × (text.now ≡ counted recipient_octets parts.0 ++ parts.1.now)) }
     ensures bad { IsErrOf result BookFault.BadRecord → HasNoCounted IsRecipient recipient_octets text.now }
+    ensures memory { IsErrOf result BookFault.NoMemory → HasCount text.now }
 {
     let Some((count, rest)) = text.split_first() else {
         return Err(BookFault::BadRecord);

@@ -3,23 +3,26 @@ ghost use Rattle.std.specs.Prelude.{◌≡◌, ◌++◌, ◌∷◌, MatchOption,
 ghost use Rattle.std.specs.List.{flat_map, AllPass};
 ghost use Rattle.std.specs.Int.{is_in_range};
 ghost use Rattle.relay_book.specs.Record.{IsRefusal, IsRuling, IsVerdict, counted, ruling_octets, verdict_octets};
-ghost use Rattle.relay_book.specs.Fields.{AreSoMany, AreSome, HasNoCounted, HasNoRefusal, HasNoRow, HasNone, refusal_octets};
+ghost use Rattle.relay_book.specs.Fields.{AreSoMany, AreSome, HasCount, HasNoCounted, HasNoRefusal, HasNoRow, HasNone, refusal_octets};
 
 use crate::change::{Ruling, Rulings, Verdict};
 use crate::fault::BookFault;
 use crate::field::read_2;
-use crate::limits::{REFUSAL_LIMIT, is_printable};
+use crate::limits::{REFUSAL_LIMIT, is_printable, is_reply_code};
 use relay_octets::Octets;
 use std::alloc::Global;
 
 /// A refusal's code and its text, and what follows them.
-#[tactic(auto, using(crate::proofs::RefusalLemmas::none_short, crate::proofs::RefusalLemmas::none_without_length, crate::proofs::RefusalLemmas::none_cut, crate::proofs::RefusalLemmas::none_long, crate::proofs::RefusalLemmas::none_bad))]
+#[tactic(auto, using(crate::proofs::RefusalLemmas::none_short, crate::proofs::RefusalLemmas::none_of_code, crate::proofs::RefusalLemmas::none_without_length, crate::proofs::RefusalLemmas::none_cut, crate::proofs::RefusalLemmas::none_long, crate::proofs::RefusalLemmas::none_bad))]
 fn read_refusal(text: &[u8]) -> Option<(u16, &[u8], &[u8])>
     ensures { MatchOption result (HasNoRefusal text.now)
         (λ parts. IsRefusal parts.0 parts.1.now
         × (text.now ≡ refusal_octets parts.0 parts.1.now ++ parts.2.now)) }
 {
     let (code, behind) = read_2(text)?;
+    if !is_reply_code(code) {
+        return None;
+    }
     let (len, behind) = behind.split_first()?;
     let len = *len as usize;
     if len > behind.len() {
@@ -108,11 +111,12 @@ fn read_row(alloc: Global, count: u8, text: &[u8]) -> Result<(Rulings, &[u8]), B
 }
 
 /// 1 to 100 verdicts behind their count, and what follows them.
-#[tactic(auto, using(crate::proofs::RowLemmas::no_count, crate::proofs::RowLemmas::no_such_count, crate::proofs::RowLemmas::no_counted_row, crate::proofs::RowLemmas::is_counted))]
+#[tactic(auto, using(crate::proofs::RowLemmas::no_count, crate::proofs::RowLemmas::no_such_count, crate::proofs::RowLemmas::no_counted_row, crate::proofs::RowLemmas::is_counted, crate::proofs::BeginLemmas::has_count))]
 pub(crate) fn read_rulings(alloc: Global, text: &[u8]) -> Result<(Rulings, &[u8]), BookFault>
     ensures counted { IfOk result (λ parts. AreSome IsRuling parts.0
         × (text.now ≡ counted ruling_octets parts.0 ++ parts.1.now)) }
     ensures bad { IsErrOf result BookFault.BadRecord → HasNoCounted IsRuling ruling_octets text.now }
+    ensures memory { IsErrOf result BookFault.NoMemory → HasCount text.now }
 {
     let Some((count, rest)) = text.split_first() else {
         return Err(BookFault::BadRecord);
