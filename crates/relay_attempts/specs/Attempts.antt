@@ -6,7 +6,7 @@ use Rattle.relay_routes.specs.Routes.{RouteTable}
 use Rattle.relay_book.specs.declared.message.Message.{Message}
 use Rattle.relay_book.specs.Queue.{Queue, message_of}
 use Rattle.relay_records.specs.declared.fault.NodeFault.{NodeFault}
-use Rattle.relay_records.specs.declared.fault.NodeFault.TheVariants.{NoMemory, Stopped, Unknown, TooMany, NotDue, Busy, Open, Full}
+use Rattle.relay_records.specs.declared.fault.NodeFault.TheVariants.{NoMemory, Stopped, Unknown, TooMany, NotDue, Busy}
 use Rattle.relay_records.specs.Records.{Kept}
 use Rattle.relay_client.specs.Attempt.{Follows}
 use Rattle.relay_attempts.specs.declared.runs.Run.{Run}
@@ -76,5 +76,4 @@ module _ (host : List ℕ) (table : RouteTable) (number : ℕ) (hop : List ℕ) 
   RefusesToStart records runs NoMemory =
       (records.spool.live ≡ true) × (begin : MayBegin records.queue runs) × (is_running runs number hop ≡ false)
       × (due_places_in table hop now begin.message ≢ [])
-  RefusesToStart records runs (Open cause) = ⊥
-  RefusesToStart records runs Full = ⊥
+  RefusesToStart records runs other = ⊥

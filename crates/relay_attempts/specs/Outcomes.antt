@@ -11,8 +11,8 @@ use Rattle.relay_book.specs.declared.message.Message.{Message}
 use Rattle.relay_book.specs.Queue.{message_of}
 use Rattle.relay_records.specs.Records.{IsStopped, Kept}
 use Rattle.relay_records.specs.declared.fault.NodeFault.{NodeFault}
-use Rattle.relay_records.specs.declared.fault.NodeFault.TheVariants.{NoMemory, Stopped, Unknown, TooMany, NotDue, Busy, Open, Full}
-use Rattle.relay_outcomes.specs.Outcomes.{AddsOutcome, CutsOutcome, HasNoRoom}
+use Rattle.relay_records.specs.declared.fault.NodeFault.TheVariants.{NoMemory, Stopped, Unknown, NotDue, Full}
+use Rattle.relay_outcomes.specs.Outcomes.{AddsOutcome, CutsOutcome, GrowsBy, HasNoRoom}
 use Rattle.relay_attempts.specs.Hops.{stranded_places}
 
 -- the places, each with its verdict
@@ -47,8 +47,14 @@ module _ {D : Type 0} (honest : Type 0) (words : DiskWords D) (host : List ℕ) 
     pub found : message_of old.queue.messages number ≡ Some message
     pub cuts : CutsOutcome honest words host changes (unroutable table number at message) 0 new
 
--- Why none has ended.
+-- What its end did to the records, whatever list they keep, and why none has ended.
 module _ {D : Type 0} (words : DiskWords D) (host : List ℕ) (table : RouteTable) (number at : ℕ) where
+  -- exactly its held places without a hop have ended, with the report that is due of them, by the change of this number
+  pub record EndsUnroutable (old new : Kept D) (added : ℕ) : Type 0 where
+    pub message : Message
+    pub found : message_of old.queue.messages number ≡ Some message
+    pub grows : GrowsBy words host (unroutable table number at message) old new added
+
   -- the message is queued, and each of its held places has a hop
   pub record HasHops (old : Kept D) : Type 0 where
     pub message : Message
@@ -66,8 +72,6 @@ module _ {D : Type 0} (words : DiskWords D) (host : List ℕ) (table : RouteTabl
   RefusesToGiveUp old new Stopped = ((old.spool.live ≡ false) × (new ≡ old)) ⊎ IsStopped words old new
   RefusesToGiveUp old new Unknown =
       (old.spool.live ≡ true) × (message_of old.queue.messages number ≡ None) × (new ≡ old)
-  RefusesToGiveUp old new TooMany = ⊥
   RefusesToGiveUp old new NotDue = (old.spool.live ≡ true) × HasHops old × (new ≡ old)
-  RefusesToGiveUp old new Busy = ⊥
-  RefusesToGiveUp old new (Open cause) = ⊥
   RefusesToGiveUp old new Full = (old.spool.live ≡ true) × (new ≡ old) × HasNoRoomFor old
+  RefusesToGiveUp old new other = ⊥

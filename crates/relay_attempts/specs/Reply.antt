@@ -10,8 +10,7 @@ use Rattle.relay_book.specs.declared.message.Message.{Message}
 use Rattle.relay_book.specs.Queue.{Queue, message_of}
 use Rattle.relay_records.specs.Records.{IsStopped, Kept}
 use Rattle.relay_records.specs.declared.fault.NodeFault.{NodeFault}
-use Rattle.relay_records.specs.declared.fault.NodeFault.TheVariants.{NoMemory, Stopped, Unknown, TooMany}
-use Rattle.relay_records.specs.declared.fault.NodeFault.TheVariants.{NotDue, Busy, Open, Full}
+use Rattle.relay_records.specs.declared.fault.NodeFault.TheVariants.{NoMemory, Stopped, Unknown, Full}
 use Rattle.relay_outcomes.specs.Outcomes.{AddsOutcome, CutsOutcome, GrowsBy, HasNoRoom}
 use Rattle.relay_course.specs.Course.{IsCourse}
 use Rattle.relay_course.specs.VerdictTable.{all_later}
@@ -110,6 +109,11 @@ pub record HasNoRoomAtEnd {D : Type 0} (host : List ℕ) (now : ℕ) (told : Tol
   pub ends : ReadsToEnd host told piece
   pub room : HasNoRoom host (outcome_at now told ends.verdicts) old
 
+-- there is no room for the outcome of the loss of its connection
+pub record HasNoRoomAtLoss {D : Type 0} (host : List ℕ) (now : ℕ) (told : Told) (old : Kept D) : Type 0 where
+  pub course : IsItsCourse host told true (all_later told.places)
+  pub room : HasNoRoom host (outcome_at now told (all_later told.places)) old
+
 -- The words below are of the same, whatever is told of the attempt.
 module _ {D : Type 0} (words : DiskWords D) (host : List ℕ) (now number : ℕ) where
   -- it has ended: of its message, hop and places an outcome was added, as the change of this number
@@ -150,8 +154,5 @@ RefusesToHear words number before after old new Stopped =
     ⊎ (IsGone number before after old × IsStopped words old new)
 RefusesToHear words number before after old new Unknown =
     (old.spool.live ≡ true) × (slot_at before.runs number ≡ None) × (after ≡ before) × (new ≡ old)
-RefusesToHear words number before after old new TooMany = ⊥
-RefusesToHear words number before after old new NotDue = ⊥
-RefusesToHear words number before after old new Busy = ⊥
-RefusesToHear words number before after old new (Open cause) = ⊥
 RefusesToHear words number before after old new Full = IsGone number before after old × (new ≡ old)
+RefusesToHear words number before after old new other = ⊥

@@ -2,7 +2,7 @@
 ghost use Rattle.std.specs.Prelude.{◌≡◌, [], ℕ, List, IfOk};
 ghost use Rattle.relay_book.specs.Queue.{Queue};
 ghost use Rattle.relay_routes.specs.Routes.{RouteTable};
-ghost use Rattle.relay_slots.specs.Slots.{AreFree};
+ghost use Rattle.relay_slots.specs.Slots.{AreFree, HasPlaces};
 ghost use Rattle.std.specs.List.{flat_map};
 ghost use Rattle.relay_attempts.specs.Attempts.{KnowsStranded, Serves};
 ghost use Rattle.relay_attempts.specs.Work.{works_of};
@@ -52,7 +52,7 @@ impl Model for Attempts {
 impl Attempts {
     /// No attempt, for a node without messages. It fails where memory runs out.
     pub fn idle(alloc: Global) -> Result<Self, AllocError>
-        ensures idle { IfOk result (λ attempts. AreFree attempts.runs) }
+        ensures idle { IfOk result (λ attempts. AreFree attempts.runs × HasPlaces attempts.runs) }
         ensures serves { IfOk result (λ attempts. (host : List ℕ) (table : RouteTable) (queue : Queue)
             → queue.messages ≡ [] → Serves host table attempts queue) }
     {
@@ -68,7 +68,7 @@ impl Attempts {
         table: &Table,
         records: &Records<D>,
     ) -> Result<Self, AllocError>
-        ensures idle { IfOk result (λ attempts. AreFree attempts.runs) }
+        ensures idle { IfOk result (λ attempts. AreFree attempts.runs × HasPlaces attempts.runs) }
         ensures serves { IfOk result (λ attempts. (host : List ℕ)
             → Serves host table.now attempts records.now.queue) }
     {

@@ -1,7 +1,8 @@
 //! Messages that have nowhere to go.
 ghost use Rattle.std.specs.Prelude.{◌≡◌, ◌≤◌, List, Err, IfErr, IfOk, length};
 ghost use Rattle.relay_attempts.specs.Attempts.{Serves};
-ghost use Rattle.relay_attempts.specs.Outcomes.{AddsUnroutable, CutsUnroutable, RefusesToGiveUp, unroutable, unrouted};
+ghost use Rattle.relay_attempts.specs.Outcomes.{AddsUnroutable, CutsUnroutable, EndsUnroutable, RefusesToGiveUp};
+ghost use Rattle.relay_attempts.specs.Outcomes.{unroutable, unrouted};
 ghost use Rattle.relay_book.specs.declared.change.Change.{Change};
 ghost use Rattle.relay_records.specs.Records.{Keeps};
 
@@ -36,6 +37,8 @@ impl Attempts {
             → result ≡ Err NodeFault.Stopped
             → CutsUnroutable D.honest D.words config.now.host config.now.routes number now changes
             records.old records.new }
+        ensures ends { IfOk result (EndsUnroutable D.words config.now.host config.now.routes number now
+            records.old records.new) }
         ensures refused { IfErr result (RefusesToGiveUp D.words config.now.host config.now.routes number now
             records.old records.new) }
         ensures runs { self.new.runs ≡ self.old.runs }

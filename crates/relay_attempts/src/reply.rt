@@ -2,10 +2,8 @@
 ghost use Rattle.std.specs.Prelude.{◌≡◌, List, Err, IfErr, IfOk, length};
 ghost use Rattle.relay_attempts.specs.Attempts.{Serves};
 ghost use Rattle.relay_attempts.specs.Reply.{CutsReply, HasHeard, HasNoRoomAtEnd, RefusesToHear, Replies, TellsAt, Told};
-ghost use Rattle.relay_attempts.specs.Reply.{CutsLoss, EndsBy, IsLost, outcome_at};
+ghost use Rattle.relay_attempts.specs.Reply.{CutsLoss, EndsBy, HasNoRoomAtLoss, IsLost};
 ghost use Rattle.relay_book.specs.declared.change.Change.{Change};
-ghost use Rattle.relay_course.specs.VerdictTable.{all_later};
-ghost use Rattle.relay_outcomes.specs.Outcomes.{HasNoRoom};
 ghost use Rattle.relay_records.specs.Records.{Keeps};
 ghost use Rattle.relay_slots.specs.Slots.{OthersStay};
 
@@ -121,8 +119,7 @@ impl Attempts {
             → result ≡ Err NodeFault.Stopped
             → CutsLoss D.honest D.words config.now.host now changes attempt told records.new }
         ensures full { (told : Told) → TellsAt config.now.host records.old.queue self.old.runs attempt told
-            → result ≡ Err NodeFault.Full
-            → HasNoRoom config.now.host (outcome_at now told (all_later told.places)) records.old }
+            → result ≡ Err NodeFault.Full → HasNoRoomAtLoss config.now.host now told records.old }
         ensures ends { IfOk result (EndsBy D.words config.now.host now attempt self.old.runs self.new.runs
             records.old records.new) }
         ensures refused { IfErr result (RefusesToHear D.words attempt self.old self.new

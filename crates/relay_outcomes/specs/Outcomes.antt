@@ -10,7 +10,7 @@ use Rattle.relay_book.specs.Queue.{Queue, AllNoRoute, AreRulings, FitsQueue, mes
 use Rattle.relay_book.specs.Record.{IsRuling, MayBeHop, encode}
 use Rattle.relay_records.specs.Records.{Adds, Cuts, Grows, IsStopped, Kept}
 use Rattle.relay_records.specs.declared.fault.NodeFault.{NodeFault}
-use Rattle.relay_records.specs.declared.fault.NodeFault.TheVariants.{NoMemory, Stopped, Unknown, TooMany, NotDue, Busy, Open, Full}
+use Rattle.relay_records.specs.declared.fault.NodeFault.TheVariants.{NoMemory, Stopped, Full}
 use Rattle.relay_report.specs.Report.{Reported, ReportedFrom}
 
 -- the outcome with this report
@@ -70,9 +70,5 @@ pub data HasNoRoom {D : Type 0} (host : List ℕ) (outcome : Outcome) (old : Kep
 abbrev pub RefusesOutcome : {D : Type 0} → DiskWords D → List ℕ → Outcome → Kept D → Kept D → NodeFault → Type 0
 RefusesOutcome words host outcome old new NoMemory = new ≡ old
 RefusesOutcome words host outcome old new Stopped = IsStopped words old new
-RefusesOutcome words host outcome old new Unknown = ⊥
-RefusesOutcome words host outcome old new TooMany = ⊥
-RefusesOutcome words host outcome old new NotDue = ⊥
-RefusesOutcome words host outcome old new Busy = ⊥
-RefusesOutcome words host outcome old new (Open cause) = ⊥
 RefusesOutcome words host outcome old new Full = (new ≡ old) × HasNoRoom host outcome old
+RefusesOutcome words host outcome old new other = ⊥

@@ -8,7 +8,7 @@ use Rattle.relay_book.specs.Queue.{Queue, FitsQueue, Fitting, queue_of, step}
 use Rattle.relay_book.specs.StandsFor.{StandsFor}
 use Rattle.relay_records.specs.declared.noted.Noted.{Noted}
 use Rattle.relay_records.specs.declared.fault.NodeFault.{NodeFault}
-use Rattle.relay_records.specs.declared.fault.NodeFault.TheVariants.{NoMemory, Stopped, Unknown, TooMany, NotDue, Busy, Open, Full}
+use Rattle.relay_records.specs.declared.fault.NodeFault.TheVariants.{NoMemory, Stopped, Full}
 use Rattle.relay_records.specs.Note.{IsNoted}
 
 -- what a caller sees of records: the spool, the queue that its bodies leave, and the note of the last append
@@ -82,9 +82,5 @@ pub record IsStopped {D : Type 0} (words : DiskWords D) (old new : Kept D) : Typ
 abbrev pub RefusesToAdd : {D : Type 0} → DiskWords D → Kept D → Kept D → NodeFault → Type 0
 RefusesToAdd words old new NoMemory = new ≡ old
 RefusesToAdd words old new Stopped = IsStopped words old new
-RefusesToAdd words old new Unknown = ⊥
-RefusesToAdd words old new TooMany = ⊥
-RefusesToAdd words old new NotDue = ⊥
-RefusesToAdd words old new Busy = ⊥
-RefusesToAdd words old new (Open cause) = ⊥
 RefusesToAdd words old new Full = new ≡ old
+RefusesToAdd words old new other = ⊥

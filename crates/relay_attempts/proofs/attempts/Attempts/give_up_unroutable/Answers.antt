@@ -1,5 +1,7 @@
-use Rattle.std.proofs.Common.{◌≡◌, Some, true, rules}
+use Rattle.std.proofs.Common.{◌≡◌, Some, subst, true, rules}
+use Rattle.relay_book.specs.declared.change.Outcome.{Outcome}
 use Rattle.relay_book.specs.Queue.{message_of}
+use Rattle.relay_outcomes.specs.Outcomes.{GrowsBy}
 use Rattle.relay_attempts.specs.Hops.{is_any, stranded_places}
 use Rattle.relay_attempts.proofs.OutcomeLemmas.{given_up_serves, refused_to_give_up, unroutable_may_come}
 use Rattle.relay_attempts.proofs.attempts.Attempts.give_up_unroutable.Goals as goal
@@ -18,6 +20,18 @@ returns-in-Ok-conclude-clause-serves g c =
     given_up_serves c.args.config.now.host c.args.config.now.routes c.args.records.now.queue c.conclude.new.records.queue c.args.number c.args.now c.in-Some.message.now
     c.in-Ok.outcome grows.report c.args.self.now c.conclude.new.self c.in-Ok.ensures found grows.grows.queue c.conclude.ensures.runs
     (c.conclude.ensures.known c.requires.serves.stranded) c.requires.serves
+
+pub returns-in-Ok-conclude-clause-ends : goal.returns-in-Ok-conclude-clause-ends
+returns-in-Ok-conclude-clause-ends g c =
+    let found : message_of c.args.records.now.queue.messages c.args.number ≡ Some c.in-Some.message.now = search rules in
+    record {
+      message = c.in-Some.message.now;
+      found = found;
+      grows =
+          subst
+          (λ (o : Outcome). GrowsBy g.D.Disk.words c.args.config.now.host o c.args.records.now c.conclude.new.records c.in-Ok-conclude.added)
+          c.in-Ok.ensures c.in-Ok-conclude.ensures.grows;
+    }
 
 pub returns-in-Err-clause-refused : goal.returns-in-Err-clause-refused
 returns-in-Err-clause-refused g c =

@@ -36,7 +36,7 @@ conclude-requires-clause-comes g c =
     let its : slot_at c.args.self.now.runs c.args.attempt ≡ Some c.in-Some.run' = search rules in
     let runs = c.requires.serves.runs c.args.attempt c.in-Some.run' its in
     let course =
-    c.in-Ok.ensures c.args.config.now.host runs.message.accept.stored_text c.in-Some.run'.places.items runs.input runs.output
+    c.in-Ok.ensures.lost c.args.config.now.host runs.message.accept.stored_text c.in-Some.run'.places.items runs.input runs.output
     runs.message.accept.envelope runs.follows in
     ended_may_come c.args.config.now.host c.args.config.now.routes c.args.records.now.queue c.in-Some.run' runs c.args.now
     c.in-Ok.verdicts c.in-Ok-outcome.outcome c.in-Ok-outcome.ensures.outcome c.in-Ok-outcome.ensures.number
@@ -48,7 +48,7 @@ returns-in-Ok-conclude-clause-lost g c = λ changes told keeps tells.
     let its : slot_at c.args.self.now.runs c.args.attempt ≡ Some c.in-Some.run' = search rules in
     let gone : c.conclude.new.self.runs ≡ slice_set c.args.self.now.runs c.args.attempt None = search rules in
     let loss : IsItsCourse c.args.config.now.host told true c.in-Ok.verdicts =
-    c.in-Ok.ensures c.args.config.now.host told.text told.places told.input told.output told.envelope
+    c.in-Ok.ensures.lost c.args.config.now.host told.text told.places told.input told.output told.envelope
     (follows_told c.args.config.now.host c.args.records.now.queue c.args.self.now.runs c.args.attempt told c.in-Some.run' tells its) in
     let later =
     loss_is_later c.args.config.now.host c.args.records.now.queue c.args.self.now.runs c.args.attempt told c.in-Some.run' tells its
@@ -72,7 +72,7 @@ returns-in-Ok-conclude-clause-ends g c =
     let gone : c.conclude.new.self.runs ≡ slice_set c.args.self.now.runs c.args.attempt None = search rules in
     let runs = c.requires.serves.runs c.args.attempt c.in-Some.run' its in
     let course =
-    c.in-Ok.ensures c.args.config.now.host runs.message.accept.stored_text c.in-Some.run'.places.items runs.input runs.output
+    c.in-Ok.ensures.lost c.args.config.now.host runs.message.accept.stored_text c.in-Some.run'.places.items runs.input runs.output
     runs.message.accept.envelope runs.follows in
     record {
       live = search rules;
@@ -104,7 +104,7 @@ pub returns-in-Err-clause-cut : goal.returns-in-Err-clause-cut
 returns-in-Err-clause-cut g c = λ changes told keeps tells is.
     let its : slot_at c.args.self.now.runs c.args.attempt ≡ Some c.in-Some.run' = search rules in
     let loss : IsItsCourse c.args.config.now.host told true c.in-Ok.verdicts =
-    c.in-Ok.ensures c.args.config.now.host told.text told.places told.input told.output told.envelope
+    c.in-Ok.ensures.lost c.args.config.now.host told.text told.places told.input told.output told.envelope
     (follows_told c.args.config.now.host c.args.records.now.queue c.args.self.now.runs c.args.attempt told c.in-Some.run' tells its) in
     let later =
     loss_is_later c.args.config.now.host c.args.records.now.queue c.args.self.now.runs c.args.attempt told c.in-Some.run' tells its
@@ -125,7 +125,7 @@ pub returns-in-Err-clause-full : goal.returns-in-Err-clause-full
 returns-in-Err-clause-full g c = λ told tells is.
     let its : slot_at c.args.self.now.runs c.args.attempt ≡ Some c.in-Some.run' = search rules in
     let loss : IsItsCourse c.args.config.now.host told true c.in-Ok.verdicts =
-    c.in-Ok.ensures c.args.config.now.host told.text told.places told.input told.output told.envelope
+    c.in-Ok.ensures.lost c.args.config.now.host told.text told.places told.input told.output told.envelope
     (follows_told c.args.config.now.host c.args.records.now.queue c.args.self.now.runs c.args.attempt told c.in-Some.run' tells its) in
     let later =
     loss_is_later c.args.config.now.host c.args.records.now.queue c.args.self.now.runs c.args.attempt told c.in-Some.run' tells its
@@ -134,9 +134,13 @@ returns-in-Err-clause-full g c = λ told tells is.
     outcome_told c.args.config.now.host c.args.records.now.queue c.args.self.now.runs c.args.attempt told c.in-Some.run' tells its
     c.in-Some.run' c.args.now c.in-Ok.verdicts c.in-Ok-outcome.outcome c.in-Ok-outcome.ensures.outcome refl refl refl
     ∙ ap (λ (vs : List Verdict). outcome_at c.args.now told vs) later in
-    subst (λ (o : Outcome). HasNoRoom c.args.config.now.host o c.args.records.now) outcome
-    (full_for_outcome g.D.Disk.words c.args.config.now.host c.in-Ok-outcome.outcome c.args.records.now c.conclude.new.records
-    c.in-Err.fault (fault_is _ c.in-Err.fault Full is) c.in-Err.ensures.refused)
+    record {
+      course = loss_told c.args.config.now.host c.args.records.now.queue c.args.self.now.runs c.args.attempt told c.in-Some.run' tells its;
+      room =
+          subst (λ (o : Outcome). HasNoRoom c.args.config.now.host o c.args.records.now) outcome
+          (full_for_outcome g.D.Disk.words c.args.config.now.host c.in-Ok-outcome.outcome c.args.records.now c.conclude.new.records
+          c.in-Err.fault (fault_is _ c.in-Err.fault Full is) c.in-Err.ensures.refused);
+    }
 
 pub returns-in-Err-clause-refused : goal.returns-in-Err-clause-refused
 returns-in-Err-clause-refused g c =
