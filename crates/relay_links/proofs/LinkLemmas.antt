@@ -1,5 +1,5 @@
 -- What a link has done, call by call.
-use Rattle.std.proofs.Common.{◌≡◌, inl, inr, ℕ, suc, ◌+◌, List, [], ◌∷◌, ◌++◌, length, Bool, true, false, Option, None, Some, refl, sym, ap, ◌∙◌, subst, append_assoc, append-nil, take, drop, take-append-drop, arith}
+use Rattle.std.proofs.Common.{◌≡◌, ◌<◌, ◌^◌, inl, inr, ℕ, suc, ◌+◌, List, [], ◌∷◌, ◌++◌, length, Bool, true, false, Option, None, Some, refl, sym, ap, ◌∙◌, subst, append_assoc, append-nil, take, drop, take-append-drop, arith}
 use Rattle.std.proofs.lemmas.List.{length-append}
 use Rattle.std.specs.List.{AllByRecursion}
 use Rattle.std.specs.Io.KnownBytes.{Appends, Consumes, IsAtEnd, Keeps as Known}
@@ -46,26 +46,29 @@ next_number before added = ap (λ n. n + 1) (length-append before added) ∙ plu
 used_first : (said waiting : List ℕ) (used : ℕ) → said ++ waiting ≡ (said ++ take used waiting) ++ drop used waiting
 used_first said waiting used = ap (λ l. said ++ l) (sym (take-append-drop used waiting)) ∙ sym (append_assoc said (take used waiting) (drop used waiting))
 
--- the other sessions and the configuration stay from call to call
-pub others_stay : {D : Type 0} (old mid new : Standing D) (number : ℕ) → OthersStay old.seats mid.seats number × (mid.config ≡ old.config) → OthersStay mid.seats new.seats number × (new.config ≡ mid.config) → OthersStay old.seats new.seats number × (new.config ≡ old.config)
-others_stay old mid new number before now = (λ other differs. now.0 other differs ∙ before.0 other differs, now.1 ∙ before.1)
+-- the other sessions, the configuration and the attempts stay from call to call
+abbrev pub RestStays : {D : Type 0} → Standing D → Standing D → ℕ → Type 0
+RestStays old new number = OthersStay old.seats new.seats number × (new.config ≡ old.config) × (new.attempts ≡ old.attempts)
+
+pub others_stay : {D : Type 0} (old mid new : Standing D) (number : ℕ) → RestStays old mid number → RestStays mid new number → RestStays old new number
+others_stay old mid new number before now = (λ other differs. now.0 other differs ∙ before.0 other differs, now.1 ∙ before.1, now.2 ∙ before.2)
 
 module _ {D : Type 0} (honest : Type 0) (words : DiskWords D) (start : Start) (at number : ℕ) where
   -- what a session has said is a dialogue
   dialogue_at : (node : Standing D) (said : Said) → SaysAt start.config node.seats number start.peer said → IsDialogue (setup_of_config start.config) said
   dialogue_at node said s = what_stands_is_a_dialogue (setup_of_config start.config) s.seat.session said s.says.stands
 
-  -- of a fault that isn't the device's the node keeps what it has taken
-  as_taken : (fault : LinkFault) (said : Said) (added : List Change) (records : Kept D) → (fault ≡ Device → ⊥) → HasTaken honest words start at said added records → Leaves honest words start at fault said added records
-  as_taken Input said added records other taken = taken
-  as_taken Output said added records other taken = taken
-  as_taken NoMemory said added records other taken = taken
-  as_taken Full said added records other taken = taken
-  as_taken Device said added records other taken = absurd (other refl)
+  -- of a fault that isn't the device's the node keeps what it has taken; it is full where changes have no numbers any more
+  as_taken : (fault : LinkFault) (said : Said) (added : List Change) (records : Kept D) → (fault ≡ Device → ⊥) → (fault ≡ Full → 2 ^ 62 < records.queue.next) → HasTaken honest words start at said added records → Leaves honest words start at fault said added records
+  as_taken Input said added records other full taken = taken
+  as_taken Output said added records other full taken = taken
+  as_taken NoMemory said added records other full taken = taken
+  as_taken Full said added records other full taken = record { come = taken.come; keeps = taken.keeps; number = full refl }
+  as_taken Device said added records other full taken = absurd (other refl)
 
   -- a fault behind what was said, of a node whose records are the same
-  pub breaks : (left held : Option (List ℕ)) (waiting : List ℕ) (node : Standing D) (records : Kept D) (fault : LinkFault) → HasSaid honest words start at number left held waiting node → records ≡ node.records → (fault ≡ Device → ⊥) → HasBegun honest words start at left held records fault
-  breaks left held waiting node records fault h same other = record {
+  pub breaks : (left held : Option (List ℕ)) (waiting : List ℕ) (node : Standing D) (records : Kept D) (fault : LinkFault) → HasSaid honest words start at number left held waiting node → records ≡ node.records → (fault ≡ Device → ⊥) → (fault ≡ Full → 2 ^ 62 < records.queue.next) → HasBegun honest words start at left held records fault
+  breaks left held waiting node records fault h same other full = record {
     said = h.said;
     dialogue = dialogue_at node h.said h.says;
     unread = waiting;
@@ -76,7 +79,7 @@ module _ {D : Type 0} (honest : Type 0) (words : DiskWords D) (start : Start) (a
     whole = λ _. refl;
     written = h.written;
     added = h.added;
-    leaves = as_taken fault h.said h.added records other (subst (HasTaken honest words start at h.said h.added) (sym same) h.taken);
+    leaves = as_taken fault h.said h.added records other full (subst (HasTaken honest words start at h.said h.added) (sym same) h.taken);
   }
 
   -- octets were read, which wait
@@ -243,15 +246,16 @@ module _ {D : Type 0} (honest : Type 0) (words : DiskWords D) (start : Start) (a
   -- the node has refused
   pub refuses : (left held : Option (List ℕ)) (waiting : List ℕ) (old new : Standing D) (fault : NodeFault) → (h : HasSaid honest words start at number left held waiting old) → RefusesToReceive words number old new fault
       → (fault ≡ node_fault.Stopped → CutsTalk honest words old.config (start.changes ++ h.added) start.peer at h.said waiting old.records new.records) → HasBegun honest words start at left held new.records (link_fault_of fault)
-  refuses left held waiting old new node_fault.NoMemory h gone cut = breaks left held waiting old new.records NoMemory h gone.records (λ e. absurd cc)
+  refuses left held waiting old new node_fault.NoMemory h gone cut = breaks left held waiting old new.records NoMemory h gone.records (λ e. absurd cc) (λ e. absurd cc)
   refuses left held waiting old new node_fault.Stopped h stopped cut =
       halts left held waiting old new.records h (subst (λ (config : Config). CutsTalk honest words config (start.changes ++ h.added) start.peer at h.said waiting old.records new.records) h.config (cut refl))
-  refuses left held waiting old new node_fault.Unknown h same cut = breaks left held waiting old new.records Input h (ap (λ (node : Standing D). node.records) same) (λ e. absurd cc)
+  refuses left held waiting old new node_fault.Unknown h same cut = breaks left held waiting old new.records Input h (ap (λ (node : Standing D). node.records) same) (λ e. absurd cc) (λ e. absurd cc)
   refuses left held waiting old new node_fault.TooMany h never cut = absurd never
   refuses left held waiting old new node_fault.NotDue h never cut = absurd never
   refuses left held waiting old new node_fault.Busy h never cut = absurd never
   refuses left held waiting old new (node_fault.Open cause) h never cut = absurd never
-  refuses left held waiting old new node_fault.Full h gone cut = breaks left held waiting old new.records Full h gone.0.records (λ e. absurd cc)
+  refuses left held waiting old new node_fault.Full h gone cut =
+      breaks left held waiting old new.records Full h gone.0.records (λ e. absurd cc) (λ _. subst (λ (records : Kept D). 2 ^ 62 < records.queue.next) (sym gone.0.records) gone.1)
 
   -- the replies to what was received are written
   pub received_on : (left held new_held : Option (List ℕ)) (waiting : List ℕ) (old new : Standing D) (received : Received) (h : HasSaid honest words start at number left held waiting old) → Receives honest words old.config (start.changes ++ h.added) start.peer at number h.said waiting old new received

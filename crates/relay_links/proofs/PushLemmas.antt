@@ -1,5 +1,5 @@
 -- What a link of an attempt has done, call by call.
-use Rattle.std.proofs.Common.{◌≡◌, ℕ, List, [], ◌∷◌, ◌++◌, length, Bool, true, false, true≢false, Option, None, Some, refl, sym, ap, ap₂, ◌∙◌, subst, append_assoc, append-nil, take, drop, take-append-drop, arith}
+use Rattle.std.proofs.Common.{◌≡◌, ℕ, List, [], ◌∷◌, ◌++◌, length, Bool, true, false, true≢false, Option, None, Some, Result, Ok, Err, inl, inr, refl, sym, ap, ap₂, ◌∙◌, subst, append_assoc, append-nil, take, drop, take-append-drop, arith}
 use Rattle.std.proofs.lemmas.List.{take_all}
 use Rattle.std.specs.Io.KnownBytes.{Appends, Consumes}
 use Rattle.std.proofs.KnownBytes.{Appends-nil, Appends-trans, Consumes-nil, Consumes-trans}
@@ -9,21 +9,24 @@ use Rattle.relay_book.specs.declared.change.Change.{Change}
 use Rattle.relay_book.specs.declared.change.Verdict.{Verdict}
 use Rattle.relay_records.specs.declared.fault.NodeFault.{NodeFault}
 use Rattle.relay_records.specs.declared.fault.NodeFault.TheVariants as node_fault
-use Rattle.relay_records.specs.Records.{Keeps, Kept}
-use Rattle.relay_outcomes.specs.Outcomes.{AddsOutcome, CutsOutcome}
+use Rattle.relay_records.specs.Records.{IsStopped, Keeps, Kept}
+use Rattle.relay_outcomes.specs.Outcomes.{AddsOutcome, CutsOutcome, GrowsBy, HasNoRoom}
 use Rattle.relay_course.specs.Course.{IsCourse}
 use Rattle.relay_course.specs.VerdictTable.{all_later}
 use Rattle.relay_client.proofs.Theorems.{followed_is_course}
 use Rattle.relay_attempts.specs.declared.reply.Replied.{Replied}
 use Rattle.relay_attempts.specs.declared.runs.Run.{Run}
-use Rattle.relay_attempts.specs.Reply.{CutsLoss, CutsReply, IsLost, Told, outcome_at, told_more, HasEnded as EndsOf}
-use Rattle.relay_node.specs.Attempts.{IsDropped, ReadsOn, RefusesToReply, Replies, RepliesBy, Tells}
+use Rattle.relay_attempts.specs.Reply.{CutsLoss, CutsReply, EndsBy, HasNoRoomAtEnd, HasNoRoomAtLoss, IsLost, Makes, ReadsToEnd, Told, outcome_at, told_more, HasEnded as EndsOf}
+use Rattle.relay_node.specs.Attempts.{IsDropped, ReadsOn, RefusesToReply, Replies, RepliesBy, Tells, UsesReply}
 use Rattle.relay_node.specs.Node.{Standing}
 use Rattle.relay_links.specs.declared.fault.LinkFault.{LinkFault}
 use Rattle.relay_links.specs.declared.fault.LinkFault.TheVariants.{Input, Output, NoMemory, Full, Device}
+use Rattle.relay_links.specs.declared.push.Pushed.{Pushed}
 use Rattle.relay_links.specs.declared.push.Pushed.TheVariants.{Lost}
+use Rattle.relay_links.specs.declared.push.Way.{Way}
+use Rattle.relay_links.specs.declared.push.Way.TheVariants as way
 use Rattle.relay_links.specs.Link.{link_fault_of}
-use Rattle.relay_links.specs.Push.{Concludes, Goes, HasDropped, HasEnded, HasFailed, HasLost, HasStopped, IsAt, IsCut, PushStart, push_start_at}
+use Rattle.relay_links.specs.Push.{Concludes, Ends, Goes, HasDropped, HasEnded, HasFailed, HasFilled, HasGrown, HasLost, HasStopped, IsAt, IsCut, LeavesRecords, Moves, PushStart, push_start_at}
 
 -- octets that wait are those that are used, and those behind them
 used_first : (read waiting : List ℕ) (used : ℕ) → read ++ waiting ≡ (read ++ take used waiting) ++ drop used waiting
@@ -60,6 +63,69 @@ gone_by_fault {D} words number old new fault refused stopped unknown live = by_l
     by_live : (is_live : Bool) → old.records.spool.live ≡ is_live → slot_at new.attempts number ≡ None
     by_live true e = by_fault fault (refused e) unknown
     by_live false e = absurd (true≢false (sym live ∙ (ap (λ (node : Standing D). node.records.spool.live) (stopped e) ∙ e)))
+
+pub same_fault : {T : Type 0} (fault other : NodeFault) → ◌≡◌ {A = Result T NodeFault} (Err fault) (Err other) → fault ≡ other
+same_fault fault other e = cc
+
+-- the records behind a fault of the node
+pub left_by_fault : {D : Type 0} (words : DiskWords D) (number : ℕ) (old new : Standing D) (fault : NodeFault) → (old.records.spool.live ≡ true → RefusesToReply words number old new fault) → (old.records.spool.live ≡ false → (fault ≡ node_fault.Stopped) × (new ≡ old))
+    → LeavesRecords words old new (link_fault_of fault)
+left_by_fault {D} words number old new fault refused stopped = by_live old.records.spool.live refl
+  where
+    by_fault : (fault : NodeFault) → RefusesToReply words number old new fault → LeavesRecords words old new (link_fault_of fault)
+    by_fault node_fault.NoMemory gone = gone.records
+    by_fault node_fault.Stopped halted = inl halted
+    by_fault node_fault.Unknown same = ap (λ (node : Standing D). node.records) same
+    by_fault node_fault.TooMany never = absurd never
+    by_fault node_fault.NotDue never = absurd never
+    by_fault node_fault.Busy never = absurd never
+    by_fault (node_fault.Open cause) never = absurd never
+    by_fault node_fault.Full gone = gone.records
+
+    by_live : (is_live : Bool) → old.records.spool.live ≡ is_live → LeavesRecords words old new (link_fault_of fault)
+    by_live true e = by_fault fault (refused e)
+    by_live false e =
+        subst (λ (f : NodeFault). LeavesRecords words old new (link_fault_of f)) (sym (stopped e).0)
+        (inr (e, ap (λ (node : Standing D). node.records) (stopped e).1))
+
+-- a reply that made a change has grown the records, and any other has left them
+pub grown_by : {D : Type 0} (words : DiskWords D) (now number : ℕ) (old new : Standing D) (made : Option ℕ) (change : ℕ) → made ≡ Some change → Makes words old.config.host now number old.attempts new.attempts old.records new.records made → HasGrown words old new
+grown_by {D} words now number old new made change is makes =
+    let ends = subst (Makes words old.config.host now number old.attempts new.attempts old.records new.records) is makes in
+    (_, change, ends.grows)
+
+pub same_by : {D : Type 0} (words : DiskWords D) (now number : ℕ) (old new : Standing D) (made : Option ℕ) → made ≡ None → Makes words old.config.host now number old.attempts new.attempts old.records new.records made → new.records ≡ old.records
+same_by {D} words now number old new made is makes =
+    (subst (Makes words old.config.host now number old.attempts new.attempts old.records new.records) is makes).2
+
+-- what was done to equal records of a node of the same name
+module _ {D : Type 0} (words : DiskWords D) (old mid new : Standing D) (config : mid.config ≡ old.config) (same : mid.records ≡ old.records) where
+  grown_since : HasGrown words mid new → HasGrown words old new
+  grown_since grown = (
+    grown.0,
+    grown.1,
+    subst (λ (records : Kept D). GrowsBy words old.config.host grown.0 records new.records grown.1) same
+        (subst (λ host. GrowsBy words host grown.0 mid.records new.records grown.1) (ap (λ config. config.host) config) grown.2),
+  )
+
+  left_since : (fault : LinkFault) → LeavesRecords words mid new fault → LeavesRecords words old new fault
+  left_since Input left = left ∙ same
+  left_since Output left = left ∙ same
+  left_since NoMemory left = left ∙ same
+  left_since Full left = left ∙ same
+  left_since Device (inl stopped) = inl (subst (λ (records : Kept D). IsStopped words records new.records) same stopped)
+  left_since Device (inr before) = inr (subst (λ (records : Kept D). records.spool.live ≡ false) same before.0, before.1 ∙ same)
+
+  pub moves_since : (result : Result Way LinkFault) → Moves words mid new result → Moves words old new result
+  moves_since (Ok way.On) moved = moved ∙ same
+  moves_since (Ok way.Ended) moved = grown_since moved
+  moves_since (Ok way.Unwritten) moved = grown_since moved
+  moves_since (Ok way.Broken) moved = moved ∙ same
+  moves_since (Err fault) moved = left_since fault moved
+
+  pub ends_since : (result : Result Pushed LinkFault) → Ends words mid new result → Ends words old new result
+  ends_since (Ok pushed) ended = grown_since ended
+  ends_since (Err fault) ended = left_since fault ended
 
 -- a number is some number
 pub some_number : (change : Option ℕ) (number : ℕ) → change ≡ Some number → change ≡ None → ⊥
@@ -159,29 +225,44 @@ module _ {D : Type 0} (honest : Type 0) (words : DiskWords D) (start : PushStart
     keeps = subst (λ (kept : Kept D). Keeps honest words kept start.changes) (sym same) h.keeps;
   }
 
-  -- the device failed while the outcome was added
-  halts : (left held : Option (List ℕ)) (waiting : List ℕ) (old : Standing D) (new : Kept D) (h : IsAt honest words start at number left held waiting [] old) → CutsReply honest words start.host at start.changes number (told_more start.told h.input (h.written ++ [])) waiting new → HasStopped honest words start at left held new
-  halts left held waiting old new h c =
+  -- the course came to its end behind octets that waited
+  comes_to_end : (left held : Option (List ℕ)) (waiting : List ℕ) (old : Standing D) (h : IsAt honest words start at number left held waiting [] old) (ends : ReadsToEnd start.host (told_more start.told h.input (h.written ++ [])) waiting) → Goes honest words start at left held ends.out false (Some ends.verdicts)
+  comes_to_end left held waiting old h ends =
       let told = start.told in
       record {
-        unwritten = c.ends.out;
-        lost = false;
-        verdicts = c.ends.verdicts;
-        goes = record {
-          input = h.input ++ take c.ends.used waiting;
-          unused = drop c.ends.used waiting;
-          written = h.written;
-          reads = subst (Consumes start.left left) (used_first h.input waiting c.ends.used) h.reads;
-          writes = h.writes;
-          course =
-              subst (λ input. IsCourse start.host told.envelope told.text told.places input false (told.output ++ (h.written ++ c.ends.out)) (Some c.ends.verdicts)) (append_assoc told.input h.input (take c.ends.used waiting))
-              (subst (λ output. IsCourse start.host told.envelope told.text told.places ((told.input ++ h.input) ++ take c.ends.used waiting) false output (Some c.ends.verdicts)) outputs c.ends.course);
-        };
-        cut = record { used = c.ends.used; cuts = c.cuts };
+        input = h.input ++ take ends.used waiting;
+        unused = drop ends.used waiting;
+        written = h.written;
+        reads = subst (Consumes start.left left) (used_first h.input waiting ends.used) h.reads;
+        writes = h.writes;
+        course =
+            subst (λ input. IsCourse start.host told.envelope told.text told.places input false (told.output ++ (h.written ++ ends.out)) (Some ends.verdicts)) (append_assoc told.input h.input (take ends.used waiting))
+            (subst (λ output. IsCourse start.host told.envelope told.text told.places ((told.input ++ h.input) ++ take ends.used waiting) false output (Some ends.verdicts)) outputs ends.course);
       }
     where
-      outputs : (start.told.output ++ (h.written ++ [])) ++ c.ends.out ≡ start.told.output ++ (h.written ++ c.ends.out)
-      outputs = append_assoc start.told.output (h.written ++ []) c.ends.out ∙ ap (λ l. start.told.output ++ (l ++ c.ends.out)) (append-nil h.written)
+      outputs : (start.told.output ++ (h.written ++ [])) ++ ends.out ≡ start.told.output ++ (h.written ++ ends.out)
+      outputs = append_assoc start.told.output (h.written ++ []) ends.out ∙ ap (λ l. start.told.output ++ (l ++ ends.out)) (append-nil h.written)
+
+  -- the device failed while the outcome was added
+  halts : (left held : Option (List ℕ)) (waiting : List ℕ) (old : Standing D) (new : Kept D) (h : IsAt honest words start at number left held waiting [] old) → CutsReply honest words start.host at start.changes number (told_more start.told h.input (h.written ++ [])) waiting new → HasStopped honest words start at left held new
+  halts left held waiting old new h c = record {
+    unwritten = c.ends.out;
+    lost = false;
+    verdicts = c.ends.verdicts;
+    goes = comes_to_end left held waiting old h c.ends;
+    cut = record { used = c.ends.used; cuts = c.cuts };
+  }
+
+  -- there was no room for the outcome
+  fills : (left held : Option (List ℕ)) (waiting : List ℕ) (old : Standing D) (new : Kept D) (h : IsAt honest words start at number left held waiting [] old) → HasNoRoomAtEnd start.host at (told_more start.told h.input (h.written ++ [])) waiting old.records → new ≡ old.records → HasFilled honest words start at left held new
+  fills left held waiting old new h none same = record {
+    unwritten = none.ends.out;
+    lost = false;
+    verdicts = none.ends.verdicts;
+    goes = comes_to_end left held waiting old h none.ends;
+    room = subst (λ (kept : Kept D). HasNoRoom start.host (outcome_at at start.told none.ends.verdicts) kept) (sym same) none.room;
+    keeps = subst (λ (kept : Kept D). Keeps honest words kept start.changes) (sym same) h.keeps;
+  }
 
   -- an attempt of which something is told is there
   is_there : (left held : Option (List ℕ)) (waiting unwritten : List ℕ) (node : Standing D) → IsAt honest words start at number left held waiting unwritten node → slot_at node.attempts number ≡ None → ⊥
@@ -192,22 +273,26 @@ module _ {D : Type 0} (honest : Type 0) (words : DiskWords D) (start : PushStart
 
   -- the node has refused octets, or a loss
   refuses : (left held : Option (List ℕ)) (waiting unwritten : List ℕ) (old new : Standing D) (fault : NodeFault) → IsAt honest words start at number left held waiting unwritten old → RefusesToReply words number old new fault
-      → (fault ≡ node_fault.Stopped → HasStopped honest words start at left held new.records) → (fault ≡ node_fault.Unknown → slot_at old.attempts number ≡ None) → HasFailed honest words start at left held new.records (link_fault_of fault)
-  refuses left held waiting unwritten old new node_fault.NoMemory h gone cut unknown = drops left held waiting unwritten old new.records h gone.records
-  refuses left held waiting unwritten old new node_fault.Stopped h stopped cut unknown = cut refl
-  refuses left held waiting unwritten old new node_fault.Unknown h same cut unknown = is_there left held waiting unwritten old h (unknown refl)
-  refuses left held waiting unwritten old new node_fault.TooMany h never cut unknown = absurd never
-  refuses left held waiting unwritten old new node_fault.NotDue h never cut unknown = absurd never
-  refuses left held waiting unwritten old new node_fault.Busy h never cut unknown = absurd never
-  refuses left held waiting unwritten old new (node_fault.Open cause) h never cut unknown = absurd never
-  refuses left held waiting unwritten old new node_fault.Full h gone cut unknown = drops left held waiting unwritten old new.records h gone.records
+      → (fault ≡ node_fault.Stopped → HasStopped honest words start at left held new.records) → (fault ≡ node_fault.Full → new.records ≡ old.records → HasFilled honest words start at left held new.records)
+      → (fault ≡ node_fault.Unknown → slot_at old.attempts number ≡ None) → HasFailed honest words start at left held new.records (link_fault_of fault)
+  refuses left held waiting unwritten old new node_fault.NoMemory h gone cut full unknown = drops left held waiting unwritten old new.records h gone.records
+  refuses left held waiting unwritten old new node_fault.Stopped h stopped cut full unknown = cut refl
+  refuses left held waiting unwritten old new node_fault.Unknown h same cut full unknown = is_there left held waiting unwritten old h (unknown refl)
+  refuses left held waiting unwritten old new node_fault.TooMany h never cut full unknown = absurd never
+  refuses left held waiting unwritten old new node_fault.NotDue h never cut full unknown = absurd never
+  refuses left held waiting unwritten old new node_fault.Busy h never cut full unknown = absurd never
+  refuses left held waiting unwritten old new (node_fault.Open cause) h never cut full unknown = absurd never
+  refuses left held waiting unwritten old new node_fault.Full h gone cut full unknown = full refl gone.records
 
   -- the node has refused octets
   pub refuses_octets : (left held : Option (List ℕ)) (waiting : List ℕ) (old new : Standing D) (fault : NodeFault) (h : IsAt honest words start at number left held waiting [] old) → RefusesToReply words number old new fault
-      → (fault ≡ node_fault.Stopped → CutsReply honest words old.config.host at start.changes number (told_more start.told h.input (h.written ++ [])) waiting new.records) → (fault ≡ node_fault.Unknown → slot_at old.attempts number ≡ None) → HasFailed honest words start at left held new.records (link_fault_of fault)
-  refuses_octets left held waiting old new fault h refused cut unknown =
+      → (fault ≡ node_fault.Stopped → CutsReply honest words old.config.host at start.changes number (told_more start.told h.input (h.written ++ [])) waiting new.records)
+      → (fault ≡ node_fault.Full → HasNoRoomAtEnd old.config.host at (told_more start.told h.input (h.written ++ [])) waiting old.records)
+      → (fault ≡ node_fault.Unknown → slot_at old.attempts number ≡ None) → HasFailed honest words start at left held new.records (link_fault_of fault)
+  refuses_octets left held waiting old new fault h refused cut full unknown =
       refuses left held waiting [] old new fault h refused
       (λ stopped. halts left held waiting old new.records h (subst (λ host. CutsReply honest words host at start.changes number (told_more start.told h.input (h.written ++ [])) waiting new.records) h.host (cut stopped)))
+      (λ is same. fills left held waiting old new.records h (subst (λ host. HasNoRoomAtEnd host at (told_more start.told h.input (h.written ++ [])) waiting old.records) h.host (full is)) same)
       unknown
 
   -- the connection is lost
@@ -230,8 +315,10 @@ module _ {D : Type 0} (honest : Type 0) (words : DiskWords D) (start : PushStart
 
   -- the node has refused a loss
   pub refuses_loss : (left held : Option (List ℕ)) (waiting unwritten : List ℕ) (old new : Standing D) (fault : NodeFault) (h : IsAt honest words start at number left held waiting unwritten old) → RefusesToReply words number old new fault
-      → (fault ≡ node_fault.Stopped → CutsLoss honest words old.config.host at start.changes number (told_more start.told h.input (h.written ++ unwritten)) new.records) → (fault ≡ node_fault.Unknown → slot_at old.attempts number ≡ None) → HasFailed honest words start at left held new.records (link_fault_of fault)
-  refuses_loss left held waiting unwritten old new fault h refused cut unknown =
+      → (fault ≡ node_fault.Stopped → CutsLoss honest words old.config.host at start.changes number (told_more start.told h.input (h.written ++ unwritten)) new.records)
+      → (fault ≡ node_fault.Full → HasNoRoomAtLoss old.config.host at (told_more start.told h.input (h.written ++ unwritten)) old.records)
+      → (fault ≡ node_fault.Unknown → slot_at old.attempts number ≡ None) → HasFailed honest words start at left held new.records (link_fault_of fault)
+  refuses_loss left held waiting unwritten old new fault h refused cut full unknown =
       refuses left held waiting unwritten old new fault h refused
       (λ stopped.
       let here = subst (λ host. CutsLoss honest words host at start.changes number (told_more start.told h.input (h.written ++ unwritten)) new.records) h.host (cut stopped) in
@@ -248,6 +335,23 @@ module _ {D : Type 0} (honest : Type 0) (words : DiskWords D) (start : PushStart
           course = here.course;
         };
         cut = record { used = 0; cuts = here.cuts };
+      })
+      (λ is same.
+      let here = subst (λ host. HasNoRoomAtLoss host at (told_more start.told h.input (h.written ++ unwritten)) old.records) h.host (full is) in
+      record {
+        unwritten = unwritten;
+        lost = true;
+        verdicts = all_later start.told.places;
+        goes = record {
+          input = h.input;
+          unused = waiting;
+          written = h.written;
+          reads = h.reads;
+          writes = h.writes;
+          course = here.course;
+        };
+        room = subst (λ (kept : Kept D). HasNoRoom start.host (outcome_at at start.told (all_later start.told.places)) kept) (sym same) here.room;
+        keeps = subst (λ (kept : Kept D). Keeps honest words kept start.changes) (sym same) h.keeps;
       })
       unknown
 

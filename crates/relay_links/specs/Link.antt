@@ -1,5 +1,5 @@
 -- What a link over a reader and a writer has done: a dialogue, and a change of the node for each offer that was queued.
-use Rattle.std.specs.Prelude.{◌≡◌, ◌⊎◌, ℕ, Option, Some, List, [], ◌∷◌, ◌++◌, length, Bool, true, false, Result, MatchResult}
+use Rattle.std.specs.Prelude.{◌≡◌, ◌⊎◌, ◌<◌, ◌^◌, ℕ, Option, Some, List, [], ◌∷◌, ◌++◌, length, Bool, true, false, Result, MatchResult}
 use Rattle.std.specs.Io.KnownBytes.{Appends, Consumes, IsAtEnd}
 use Rattle.relay_disk.specs.Device.{DiskWords}
 use Rattle.relay_routes.specs.declared.config.Config.{Config}
@@ -101,12 +101,18 @@ module _ {D : Type 0} (honest : Type 0) (words : DiskWords D) (start : Start) (a
     pub added_are : added ≡ earlier ++ last ∷ []
     pub halted : Halted honest words records (start.changes ++ earlier) (Some last)
 
+  -- the same, and changes have no numbers any more
+  pub record HasFilled (said : Said) (added : List Change) (records : Kept D) : Type 0 where
+    pub come : HaveCome said added records.spool.size
+    pub keeps : Keeps honest words records (start.changes ++ added)
+    pub number : 2 ^ 62 < records.queue.next
+
   -- what a fault leaves of the node
   abbrev pub Leaves : LinkFault → Said → List Change → Kept D → Type 0
   Leaves Input said added records = HasTaken said added records
   Leaves Output said added records = HasTaken said added records
   Leaves NoMemory said added records = HasTaken said added records
-  Leaves Full said added records = HasTaken said added records
+  Leaves Full said added records = HasFilled said added records
   Leaves Device said added records = HasHalted said added records
 
   -- what was written is a beginning of the output of a dialogue, whose input is a beginning of what was read: all of it where

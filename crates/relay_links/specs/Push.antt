@@ -1,11 +1,12 @@
 -- What a link of an attempt over a reader and a writer has done: a course, and at its end one outcome.
-use Rattle.std.specs.Prelude.{◌≡◌, ℕ, Bool, true, false, List, [], ◌++◌, Option, Some, None, Result, Ok, Err}
+use Rattle.std.specs.Prelude.{◌≡◌, ◌⊎◌, ℕ, Bool, true, false, List, [], ◌++◌, Option, Some, None, Result, Ok, Err}
 use Rattle.std.specs.Io.KnownBytes.{Appends, Consumes}
 use Rattle.relay_disk.specs.Device.{DiskWords}
 use Rattle.relay_book.specs.declared.change.Change.{Change}
 use Rattle.relay_book.specs.declared.change.Verdict.{Verdict}
-use Rattle.relay_records.specs.Records.{Keeps, Kept}
-use Rattle.relay_outcomes.specs.Outcomes.{AddsOutcome, CutsOutcome}
+use Rattle.relay_book.specs.declared.change.Outcome.{Outcome}
+use Rattle.relay_records.specs.Records.{IsStopped, Keeps, Kept}
+use Rattle.relay_outcomes.specs.Outcomes.{AddsOutcome, CutsOutcome, GrowsBy, HasNoRoom}
 use Rattle.relay_course.specs.Course.{IsCourse}
 use Rattle.relay_course.specs.VerdictTable.{all_later}
 use Rattle.relay_attempts.specs.Reply.{Told, outcome_at, told_more}
@@ -92,6 +93,16 @@ module _ {D : Type 0} (honest : Type 0) (words : DiskWords D) (start : PushStart
     pub goes : Goes left held unwritten false None
     pub keeps : Keeps honest words records start.changes
 
+  -- the attempt is gone without an outcome, since there is no room for that of its course, or of its loss; the node keeps the
+  -- changes of before
+  pub record HasFilled (left held : Option (List ℕ)) (records : Kept D) : Type 0 where
+    pub unwritten : List ℕ
+    pub lost : Bool
+    pub verdicts : List Verdict
+    pub goes : Goes left held unwritten lost (Some verdicts)
+    pub room : HasNoRoom start.host (outcome_at at start.told verdicts) records
+    pub keeps : Keeps honest words records start.changes
+
   -- the device failed while the outcome of the course, or of its loss, was added
   pub record HasStopped (left held : Option (List ℕ)) (records : Kept D) : Type 0 where
     pub unwritten : List ℕ
@@ -105,7 +116,7 @@ module _ {D : Type 0} (honest : Type 0) (words : DiskWords D) (start : PushStart
   HasFailed left held records Input = ⊥
   HasFailed left held records Output = ⊥
   HasFailed left held records NoMemory = HasDropped left held records
-  HasFailed left held records Full = HasDropped left held records
+  HasFailed left held records Full = HasFilled left held records
   HasFailed left held records Device = HasStopped left held records
 
   -- a link has ended, or a fault has come
@@ -125,6 +136,30 @@ module _ {D : Type 0} (honest : Type 0) (words : DiskWords D) (start : PushStart
   abbrev pub WaysTo : ℕ → Option (List ℕ) → Option (List ℕ) → Standing D → Result Way LinkFault → Type 0
   WaysTo number left held node (Ok step) = TakesWay number left held node step
   WaysTo number left held node (Err fault) = HasFailed left held node.records fault
+
+-- What a link of an attempt did to the records, whatever list they keep: an outcome was added, with the report that is due of
+-- it, and the spool has grown by the link of that record alone.
+abbrev pub HasGrown : {D : Type 0} → DiskWords D → Standing D → Standing D → Type 0
+HasGrown words old new =
+    (outcome : Outcome) × (number : ℕ) × GrowsBy words old.config.host outcome old.records new.records number
+
+-- A fault of the device has stopped them, or they were stopped before; at any other fault they are the same.
+abbrev pub LeavesRecords : {D : Type 0} → DiskWords D → Standing D → Standing D → LinkFault → Type 0
+LeavesRecords words old new Device =
+    IsStopped words old.records new.records ⊎ ((old.records.spool.live ≡ false) × (new.records ≡ old.records))
+LeavesRecords words old new other = new.records ≡ old.records
+
+-- what a link that has ended, or one that has gone some way, did to them
+abbrev pub Ends : {D : Type 0} → DiskWords D → Standing D → Standing D → Result Pushed LinkFault → Type 0
+Ends words old new (Ok pushed) = HasGrown words old new
+Ends words old new (Err fault) = LeavesRecords words old new fault
+
+abbrev pub Moves : {D : Type 0} → DiskWords D → Standing D → Standing D → Result Way LinkFault → Type 0
+Moves words old new (Ok way.On) = new.records ≡ old.records
+Moves words old new (Ok way.Ended) = HasGrown words old new
+Moves words old new (Ok way.Unwritten) = HasGrown words old new
+Moves words old new (Ok way.Broken) = new.records ≡ old.records
+Moves words old new (Err fault) = LeavesRecords words old new fault
 
 -- The attempt of a number is gone, unless it goes on, or its connection is lost of which the node wasn't told. Of a node that is
 -- stopped nothing is said.

@@ -4,7 +4,7 @@ ghost use Rattle.relay_book.specs.declared.change.Change.{Change};
 ghost use Rattle.relay_node.specs.Attempts.{Tells};
 ghost use Rattle.relay_records.specs.Records.{Keeps};
 ghost use Rattle.relay_slots.specs.Slots.{OthersStay, slot_at};
-ghost use Rattle.relay_links.specs.Push.{IsAt, IsGoneBy, PushStart, PushesTo, WaysTo, push_start_at};
+ghost use Rattle.relay_links.specs.Push.{Ends, IsAt, IsGoneBy, Moves, PushStart, PushesTo, WaysTo, push_start_at};
 
 use crate::block::read_block;
 use crate::fault::{LinkFault, link_fault};
@@ -62,6 +62,7 @@ pub fn push_link<D: Disk, R: Read, W: Write>(
         (push_start_at (R.remaining reader.old) (W.contents writer.old) node.old changes told) now
         (R.remaining reader.new) (W.contents writer.new) node.new.records result }
     ensures gone { node.new.records.spool.live ≡ true → slot_at node.new.attempts attempt ≡ None }
+    ensures ends { Ends D.words node.old node.new result }
     ensures rest { OthersStay node.old.attempts node.new.attempts attempt
         × (node.new.config ≡ node.old.config) × (node.new.seats ≡ node.old.seats) }
 {
@@ -89,6 +90,7 @@ fn converse<D: Disk, R: Read, W: Write>(
         → WaysTo D.honest D.words start now attempt (R.remaining reader.new) (W.contents writer.new)
         node.new result }
     ensures gone { IsGoneBy attempt node.new result }
+    ensures moves { Moves D.words node.old node.new result }
     ensures rest { OthersStay node.old.attempts node.new.attempts attempt
         × (node.new.config ≡ node.old.config) × (node.new.seats ≡ node.old.seats) }
 {
@@ -122,6 +124,7 @@ fn exchange_block<D: Disk, R: Read, W: Write>(
         → WaysTo D.honest D.words start now attempt (R.remaining reader.new) (W.contents writer.new)
         node.new result }
     ensures gone { IsGoneBy attempt node.new result }
+    ensures moves { Moves D.words node.old node.new result }
     ensures rest { OthersStay node.old.attempts node.new.attempts attempt
         × (node.new.config ≡ node.old.config) × (node.new.seats ≡ node.old.seats) }
 {
@@ -150,6 +153,7 @@ fn answer<D: Disk, W: Write>(
         → IsAt D.honest D.words start now attempt left (W.contents writer.old) octets.now [] node.old
         → WaysTo D.honest D.words start now attempt left (W.contents writer.new) node.new result }
     ensures gone { IsGoneBy attempt node.new result }
+    ensures moves { Moves D.words node.old node.new result }
     ensures rest { OthersStay node.old.attempts node.new.attempts attempt
         × (node.new.config ≡ node.old.config) × (node.new.seats ≡ node.old.seats) }
 {
@@ -179,6 +183,7 @@ pub fn lose_link<D: Disk>(
         → IsAt D.honest D.words start now attempt left held waiting unwritten node.old
         → PushesTo D.honest D.words start now left held node.new.records result }
     ensures gone { node.new.records.spool.live ≡ true → slot_at node.new.attempts attempt ≡ None }
+    ensures ends { Ends D.words node.old node.new result }
     ensures rest { OthersStay node.old.attempts node.new.attempts attempt
         × (node.new.config ≡ node.old.config) × (node.new.seats ≡ node.old.seats) }
 {

@@ -37,7 +37,8 @@ pub fn serve_link<D: Disk, R: Read, W: Write>(
         (R.remaining reader.new) (W.contents writer.new) node.new.records result }
     ensures gone { node.new.records.spool.live ≡ true → slot_at node.new.seats connected.session ≡ None }
     ensures rest { OthersStay node.old.seats node.new.seats connected.session
-        × (node.new.config ≡ node.old.config) }
+        × (node.new.config ≡ node.old.config)
+        × (node.new.attempts ≡ node.old.attempts) }
 {
     let session = connected.session;
     let result = greet(alloc, node, &connected, reader, writer, now);
@@ -60,7 +61,8 @@ fn greet<D: Disk, R: Read, W: Write>(
         (start_at (R.remaining reader.old) (W.contents writer.old) peer node.old changes) now
         (R.remaining reader.new) (W.contents writer.new) node.new.records result }
     ensures rest { OthersStay node.old.seats node.new.seats connected.now.session
-        × (node.new.config ≡ node.old.config) }
+        × (node.new.config ≡ node.old.config)
+        × (node.new.attempts ≡ node.old.attempts) }
 {
     match send(writer, connected.out.as_slice()) {
         Ok(()) => converse(alloc, node, connected.session, reader, writer, now),
@@ -82,7 +84,8 @@ fn converse<D: Disk, R: Read, W: Write>(
         [] node.old
         → HasEnded D.honest D.words start now (R.remaining reader.new) (W.contents writer.new)
         node.new.records result }
-    ensures rest { OthersStay node.old.seats node.new.seats session × (node.new.config ≡ node.old.config) }
+    ensures rest { OthersStay node.old.seats node.new.seats session × (node.new.config ≡ node.old.config)
+        × (node.new.attempts ≡ node.old.attempts) }
 {
     let Ok(block) = read_block(alloc) else {
         return Err(LinkFault::NoMemory);
@@ -115,7 +118,8 @@ fn exchange_block<D: Disk, R: Read, W: Write>(
         → HasGone D.honest D.words start now session (R.remaining reader.new) (W.contents writer.new)
         [] node.new result }
     ensures block { length block.new ≡ length block.old }
-    ensures rest { OthersStay node.old.seats node.new.seats session × (node.new.config ≡ node.old.config) }
+    ensures rest { OthersStay node.old.seats node.new.seats session × (node.new.config ≡ node.old.config)
+        × (node.new.attempts ≡ node.old.attempts) }
 {
     let count = match reader.read(block) {
         Ok(0) => return Ok(true),
@@ -142,7 +146,8 @@ fn answer_block<D: Disk, W: Write>(
         → HasSaid D.honest D.words start now session left (W.contents writer.old) octets.now node.old
         → HasGone D.honest D.words start now session left (W.contents writer.new)
         [] node.new result }
-    ensures rest { OthersStay node.old.seats node.new.seats session × (node.new.config ≡ node.old.config) }
+    ensures rest { OthersStay node.old.seats node.new.seats session × (node.new.config ≡ node.old.config)
+        × (node.new.attempts ≡ node.old.attempts) }
 {
     let mut used = 0;
     while used < octets.len() {
@@ -171,7 +176,8 @@ fn answer<D: Disk, W: Write>(
         (drop used.new octets.now) node.new result }
     ensures used { IfOk result (λ is_last. (used.new ≤ length octets.now)
         × (is_last ≡ false → used.old < used.new)) }
-    ensures rest { OthersStay node.old.seats node.new.seats session × (node.new.config ≡ node.old.config) }
+    ensures rest { OthersStay node.old.seats node.new.seats session × (node.new.config ≡ node.old.config)
+        × (node.new.attempts ≡ node.old.attempts) }
 {
     let received = match node.receive(session, &octets[*used..], now) {
         Ok(received) => received,
@@ -188,7 +194,8 @@ fn answer<D: Disk, W: Write>(
 fn hang_up<D: Disk>(node: &mut Node<D>, session: usize)
     ensures gone { node.new.records.spool.live ≡ true → slot_at node.new.seats session ≡ None }
     ensures records { node.new.records ≡ node.old.records }
-    ensures rest { OthersStay node.old.seats node.new.seats session × (node.new.config ≡ node.old.config) }
+    ensures rest { OthersStay node.old.seats node.new.seats session × (node.new.config ≡ node.old.config)
+        × (node.new.attempts ≡ node.old.attempts) }
 {
     // A session that has closed is gone already, and a node that is stopped has none.
     let _ = node.ended(session);

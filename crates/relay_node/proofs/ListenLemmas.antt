@@ -1,16 +1,17 @@
 -- What one round with a client does to what was said.
-use Rattle.std.proofs.Common.{◌≡◌, ◌≤◌, ℕ, List, [], ◌∷◌, ◌++◌, take, sym, ap, ◌∙◌, append-nil, append_assoc}
+use Rattle.std.proofs.Common.{◌≡◌, ◌≤◌, ◌<◌, ◌^◌, ℕ, List, [], ◌∷◌, ◌++◌, length, take, refl, sym, ap, ◌∙◌, append-nil, append_assoc, arith}
 use Rattle.std.proofs.lemmas.List.{map-append}
 use Rattle.std.specs.List.{AllByRecursion, slice_range}
 use Rattle.relay_server.specs.declared.offer.Answer.TheVariants as answer
 use Rattle.relay_server.specs.declared.session.Session.{Session}
 use Rattle.relay_server.specs.Dialogue.{Offered, Said}
-use Rattle.relay_server.specs.Session.{Answered, Hears, Stands, open_offers}
+use Rattle.relay_server.specs.declared.session.Next.TheVariants as next
+use Rattle.relay_server.specs.Session.{Answered, Hears, Stands, next_of, open_offers}
 use Rattle.relay_server.specs.Setup.{setup_of_config}
-use Rattle.relay_server.proofs.Theorems.{more_is_more, open_is_new, piece_goes_on}
+use Rattle.relay_server.proofs.Theorems.{more_is_more, offer_is_told, open_is_new, piece_goes_on, what_stands_is_a_dialogue}
 use Rattle.relay_node.specs.declared.intake.Intake.{Intake}
 use Rattle.relay_node.specs.Listening.{HasListened, HasNoRoom}
-use Rattle.relay_node.specs.Room.{refusals}
+use Rattle.relay_node.specs.Room.{ComesToOffer, refusals}
 
 -- a row behind another's end
 pub joins : {A : Type 0} (first second third mid all : List A) → mid ≡ first ++ (second ++ []) → all ≡ mid ++ third → all ≡ first ++ (second ++ third)
@@ -82,4 +83,26 @@ module _ (intake : Intake) (said : Said) where
               ∙ ap (λ x. said.answers ++ x) (sym (append-nil (refusals more) ∙ map-append (λ _. answer.Full) l.refused (offer ∷ [])));
         };
         no_room = all_join (HasNoRoom intake) l.refused (offer ∷ []) l.no_room (no_room, tt);
+      }
+
+  -- where changes have no numbers any more, no offer was refused for want of room
+  none_refused : (refused : List Offered) → 2 ^ 62 < intake.number → AllByRecursion (HasNoRoom intake) refused → refused ≡ []
+  none_refused [] many all = refl
+  none_refused (offer ∷ offers) many all = let low = all.0.number in absurd (omega (arith, many, low))
+
+  -- a message came that no number is left for
+  pub comes_to_offer : (session : Session) (piece : List ℕ) (used : ℕ) (out : List ℕ) → HasListened intake said session (take used piece) out → next_of session ≡ next.Offer → used ≤ length piece → 2 ^ 62 < intake.number
+      → ComesToOffer (setup_of_config intake.config.now) said piece
+  comes_to_offer session piece used out l told within many =
+      let none = none_refused l.refused many l.no_room in
+      let is_open = (offer_is_told session).0 told in
+      record {
+        used = used;
+        within = within;
+        later = l.later;
+        input = l.more.input;
+        offer = is_open.0;
+        offers = l.answers.offers ∙ ap (λ x. said.offers ++ (x ++ open_offers session)) none ∙ ap (λ x. said.offers ++ x) is_open.1;
+        answers = l.answers.answers ∙ ap (λ x. said.answers ++ (refusals x ++ [])) none ∙ append-nil said.answers;
+        dialogue = what_stands_is_a_dialogue (setup_of_config intake.config.now) session l.later l.stands;
       }

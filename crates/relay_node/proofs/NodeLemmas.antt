@@ -1,21 +1,22 @@
 -- The sessions of a node with what was said on them, and a call on one of them.
-use Rattle.std.proofs.Common.{◌≡◌, ℕ, ◌<◌, zero, suc, true, false, List, [], ◌∷◌, length, Option, None, Some, sym, ap, ◌∙◌, subst}
+use Rattle.std.proofs.Common.{◌≡◌, ℕ, ◌<◌, zero, suc, true, false, List, [], ◌∷◌, length, Option, None, Some, refl, sym, ap, ◌∙◌, subst}
 use Rattle.std.specs.Prelude.{slice_set}
 use Rattle.std.proofs.lemmas.List.{get_or-set_same}
 use Rattle.relay_disk.specs.Device.{DiskWords}
 use Rattle.relay_routes.specs.declared.config.Config.{Config}
+use Rattle.relay_server.specs.declared.session.Next.{Next}
 use Rattle.relay_server.specs.declared.session.Next.TheVariants as next
 use Rattle.relay_server.specs.declared.session.Session.{Session}
-use Rattle.relay_server.specs.Dialogue.{Said}
-use Rattle.relay_server.specs.Session.{Stands, next_of}
+use Rattle.relay_server.specs.Dialogue.{Offered, Said}
+use Rattle.relay_server.specs.Session.{Stands, next_of, open_offers}
 use Rattle.relay_server.specs.Setup.{Setup, setup_of_config}
-use Rattle.relay_server.proofs.Theorems.{close_is_closed, closed_is_a_dialogue, what_stands_is_a_dialogue}
+use Rattle.relay_server.proofs.Theorems.{close_is_closed, closed_is_a_dialogue, offer_is_told, what_stands_is_a_dialogue}
 use Rattle.relay_book.specs.declared.change.Change.{Change}
 use Rattle.relay_records.specs.Records.{Kept}
 use Rattle.relay_attempts.specs.declared.runs.Run.{Run}
 use Rattle.relay_node.specs.declared.receive.Received.{Received}
 use Rattle.relay_node.specs.declared.seat.Seat.{Seat}
-use Rattle.relay_node.specs.Node.{GoesOn, HasClosed, HasHistory, HaveHistories, Hears, Receives, Says, SaysAt, Standing}
+use Rattle.relay_node.specs.Node.{GoesOn, HasClosed, HasHistory, HaveHistories, Hears, IsOpen, Receives, Says, SaysAt, Standing}
 use Rattle.relay_slots.specs.Slots.{AreFree, slot_at}
 use Rattle.relay_slots.proofs.Theorems.{taken_is_none}
 
@@ -77,6 +78,21 @@ has_closed setup session said stands told = record {
   unread = λ octets. closed_is_a_dialogue setup session said octets stands (close_is_closed setup session said stands told);
 }
 
+-- a session without an open offer that doesn't close waits for more
+waits_for_more : (session : Session) (told : Next) → next_of session ≡ told → (next_of session ≡ next.Close → ⊥) → open_offers session ≡ [] → next_of session ≡ next.More
+waits_for_more session next.More is going settled = is
+waits_for_more session next.Offer is going settled =
+    let found = (offer_is_told session).0 is in
+    absurd (none_open found.0 (sym settled ∙ found.1))
+  where
+    none_open : (offer : Offered) → [] ≡ offer ∷ [] → ⊥
+    none_open offer e = cc
+waits_for_more session next.Close is going settled = absurd (going is)
+
+-- what goes on isn't closed
+not_closed : true ≡ false → ⊥
+not_closed e = cc
+
 -- the seat that was taken out is the session's
 one_some : (seat other : Seat) → Some seat ≡ Some other → seat ≡ other
 one_some seat other e = cc
@@ -94,12 +110,20 @@ module _ {D : Type 0} (honest : Type 0) (words : DiskWords D) (config : Config) 
     heard : Hears honest words config changes peer at said piece new.session before after received
     heard = subst (λ p. Hears honest words config changes p at said piece new.session before after received) peer_of_taken (hears taken_says)
 
+    -- it waits for more
+    open_at : (mid all : List (Option Seat)) → received.close ≡ false → number < length mid → all ≡ slice_set mid number (Some new) → IsOpen all number
+    open_at mid all going within set seat at =
+        let here = ap (λ (l : List (Option Seat)). slot_at l number) set ∙ get_or-set_same mid number (Some new) None within in
+        subst (λ (s : Seat). next_of s.session ≡ next.More) (one_some new seat (sym here ∙ at))
+        (waits_for_more new.session (next_of new.session) refl (λ told. not_closed (sym (heard.closed.1 told) ∙ going)) heard.says.settled)
+
     -- the session was put back
     pub receives_on : (mid all : List (Option Seat)) → received.close ≡ false → number < length mid → all ≡ slice_set mid number (Some new)
         → Receives honest words config changes peer at number said piece (standing_of config old runs before) (standing_of config all more after) received
     receives_on mid all going within set = record {
       later = heard.later;
       goes_on = subst (GoesOn config all number peer heard.later) (sym going) (says_at config mid all number new peer heard.later within set (peer_kept ∙ peer_of_taken) heard.says);
+      is_open = λ _. open_at mid all going within set;
       talks = heard.talks;
     }
 
@@ -110,6 +134,7 @@ module _ {D : Type 0} (honest : Type 0) (words : DiskWords D) (config : Config) 
       later = heard.later;
       goes_on =
           subst (GoesOn config rest number peer heard.later) (sym is_last)
-          (ap (λ (l : List (Option Seat)). slot_at l number) set ∙ taken_is_none old number, has_closed (setup_of_config config) new.session heard.later heard.says.stands (heard.closed is_last));
+          (ap (λ (l : List (Option Seat)). slot_at l number) set ∙ taken_is_none old number, has_closed (setup_of_config config) new.session heard.later heard.says.stands (heard.closed.0 is_last));
+      is_open = λ going. absurd (not_closed (sym is_last ∙ going));
       talks = heard.talks;
     }

@@ -1,6 +1,6 @@
 -- Replies to attempts and lost connections, by the list of changes.
 use Rattle.std.proofs.Common.{◌≡◌, ◌≢◌, ◌⊎◌, inl, inr, ◌≤◌, ℕ, true, false, List, [], ◌∷◌, ◌++◌, length, take, Option, Some, None, Result, Ok, Err, IfOk, IfErr, OnOk, refl, sym, ap, ◌∙◌, subst}
-use Rattle.relay_disk.specs.Device.{DiskWords}
+use Rattle.relay_disk.specs.Device.{DiskWords, FailsNot}
 use Rattle.relay_slots.specs.Slots.{slot_at}
 use Rattle.relay_routes.specs.declared.config.Config.{Config}
 use Rattle.relay_routes.specs.Routes.{RouteTable}
@@ -76,21 +76,24 @@ module _ {D : Type 0} (honest : Type 0) (words : DiskWords D) (host : List ℕ) 
   replies (Err fault) r = tt
 
 -- what was used, whatever is told
-pub uses : {D : Type 0} (words : DiskWords D) (host : List ℕ) (now number len : ℕ) (before after : List (Option Run)) (old new : Kept D) (result : Result Replied NodeFault) → IfOk result (HasHeard words host now number len before after old new) → IfOk result (UsesReply number len after)
-uses {D = D} words host now number len before after old new (Err fault) heard = tt
-uses {D = D} words host now number len before after old new (Ok replied) heard = record {
+pub uses : {D : Type 0} (words : DiskWords D) (now number len : ℕ) (old new : Standing D) (result : Result Replied NodeFault)
+    → IfOk result (HasHeard words old.config.host now number len old.attempts new.attempts old.records new.records) → IfOk result (UsesReply words now number len old new)
+uses {D = D} words now number len old new (Err fault) heard = tt
+uses {D = D} words now number len old new (Ok replied) heard = record {
   within = heard.within;
   whole = heard.whole;
-  gone = by replied.change heard.makes;
+  gone = gone_by replied.change heard.makes;
+  makes = heard.makes;
+  failures = not_failed replied.change heard.makes;
 }
   where
-    by : (change : Option ℕ) → Makes words host now number before after old new change → change ≢ None → slot_at after number ≡ None
-    by None made some = absurd (some refl)
-    by (Some change) made some = made.gone
+    gone_by : (change : Option ℕ) → Makes words old.config.host now number old.attempts new.attempts old.records new.records change → change ≢ None → slot_at new.attempts number ≡ None
+    gone_by None made some = absurd (some refl)
+    gone_by (Some change) made some = made.gone
 
-pub ends_gone : {D : Type 0} (words : DiskWords D) (host : List ℕ) (now number : ℕ) (before after : List (Option Run)) (old new : Kept D) (result : Result ℕ NodeFault) → IfOk result (EndsBy words host now number before after old new) → OnOk result (slot_at after number ≡ None)
-ends_gone words host now number before after old new (Ok change) ends = ends.gone
-ends_gone words host now number before after old new (Err fault) ends = tt
+    not_failed : (change : Option ℕ) → Makes words old.config.host now number old.attempts new.attempts old.records new.records change → FailsNot words old.records.spool.disk new.records.spool.disk
+    not_failed None made = ap (λ (kept : Kept D). words.failed kept.spool.disk) made.2
+    not_failed (Some change) made = made.grows.grows.failures
 
 -- a fault of a live node
 module _ {D : Type 0} (words : DiskWords D) (number : ℕ) (before after : Attempting) (old new : Standing D) (was : old.attempts ≡ before.runs) (is : new.attempts ≡ after.runs) (config : new.config ≡ old.config)

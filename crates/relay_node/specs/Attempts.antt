@@ -1,6 +1,6 @@
 -- The attempts of a node to pass its mail on, in its list of changes (RFC 5321, section 4.5.4.1).
 use Rattle.std.specs.Prelude.{◌≡◌, ◌≢◌, ◌⊎◌, ℕ, ◌≤◌, true, false, List, [], ◌∷◌, ◌++◌, length, take, Option, None, Some}
-use Rattle.relay_disk.specs.Device.{DiskWords}
+use Rattle.relay_disk.specs.Device.{DiskWords, FailsNot}
 use Rattle.relay_slots.specs.Slots.{IsLeastFree, OthersStay, slot_at}
 use Rattle.relay_routes.specs.declared.config.Config.{Config}
 use Rattle.relay_book.specs.declared.change.Accept.{Accept}
@@ -10,13 +10,13 @@ use Rattle.relay_book.specs.Marks.{message_at}
 use Rattle.relay_book.specs.Queue.{Fitting, message_of, queue_of}
 use Rattle.relay_records.specs.Records.{IsStopped, Kept}
 use Rattle.relay_records.specs.declared.fault.NodeFault.{NodeFault}
-use Rattle.relay_records.specs.declared.fault.NodeFault.TheVariants.{NoMemory, Stopped, Unknown, TooMany, NotDue, Busy, Open, Full}
+use Rattle.relay_records.specs.declared.fault.NodeFault.TheVariants.{NoMemory, Stopped, Unknown, Full}
 use Rattle.relay_client.specs.Attempt.{Follows}
 use Rattle.relay_attempts.specs.declared.reply.Replied.{Replied}
 use Rattle.relay_attempts.specs.declared.runs.Run.{Run}
 use Rattle.relay_attempts.specs.declared.start.Started.{Started}
 use Rattle.relay_attempts.specs.Hops.{due_places_in}
-use Rattle.relay_attempts.specs.Reply.{HasEnded, Told, told_more}
+use Rattle.relay_attempts.specs.Reply.{HasEnded, Makes, Told, told_more}
 use Rattle.relay_attempts.specs.Runs.{is_running}
 use Rattle.relay_node.specs.Node.{Standing}
 
@@ -84,11 +84,15 @@ module _ {D : Type 0} (honest : Type 0) (words : DiskWords D) (host : List ℕ) 
   abbrev pub Replies : List ℕ → Standing D → Standing D → Replied → Type 0
   Replies piece old new replied = RepliesBy piece old new replied replied.change
 
--- octets of a piece of this length were used: all, unless a change was made, and then the attempt is gone
-pub record UsesReply (number len : ℕ) (new : List (Option Run)) (replied : Replied) : Type 0 where
+-- Octets of a piece of this length were used: all, unless a change was made, and then the attempt is gone. The records are
+-- the same, or have grown by that change, and no call of the device has failed.
+pub record UsesReply {D : Type 0} (words : DiskWords D) (now number len : ℕ) (old new : Standing D) (replied : Replied)
+    : Type 0 where
   pub within : replied.used ≤ len
   pub whole : replied.change ≡ None → replied.used ≡ len
-  pub gone : replied.change ≢ None → slot_at new number ≡ None
+  pub gone : replied.change ≢ None → slot_at new.attempts number ≡ None
+  pub makes : Makes words old.config.host now number old.attempts new.attempts old.records new.records replied.change
+  pub failures : FailsNot words old.records.spool.disk new.records.spool.disk
 
 -- the attempt is gone, and the records are unchanged
 pub record IsDropped {D : Type 0} (number : ℕ) (old new : Standing D) : Type 0 where
@@ -100,8 +104,5 @@ abbrev pub RefusesToReply : {D : Type 0} → DiskWords D → ℕ → Standing D 
 RefusesToReply words number old new NoMemory = IsDropped number old new
 RefusesToReply words number old new Stopped = IsStopped words old.records new.records
 RefusesToReply words number old new Unknown = new ≡ old
-RefusesToReply words number old new TooMany = ⊥
-RefusesToReply words number old new NotDue = ⊥
-RefusesToReply words number old new Busy = ⊥
-RefusesToReply words number old new (Open cause) = ⊥
 RefusesToReply words number old new Full = IsDropped number old new
+RefusesToReply words number old new other = ⊥

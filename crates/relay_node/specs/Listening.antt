@@ -50,7 +50,8 @@ pub record HasListened (intake : Intake) (said : Said) (session : Session)
 
 -- the piece is used up, the session closes, or the offer that is open is taken
 abbrev pub EndsBy : Intake → Session → ℕ → ℕ → End → Type 0
-EndsBy intake session used len «end».More = (open_offers session ≡ []) × (used ≡ len)
+EndsBy intake session used len «end».More =
+    (open_offers session ≡ []) × (used ≡ len) × (next_of session ≡ next.More)
 EndsBy intake session used len «end».Close = (open_offers session ≡ []) × (next_of session ≡ next.Close)
 EndsBy intake session used len («end».Taken taken) =
     (0 < used) × ((offer : Offered) × (open_offers session ≡ offer ∷ []) × IsTaken intake offer taken)

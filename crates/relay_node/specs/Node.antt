@@ -1,7 +1,7 @@
 -- A node in its list of changes, and in what was said on its sessions.
-use Rattle.std.specs.Prelude.{◌≡◌, ◌≢◌, ◌⊎◌, ℕ, ◌+◌, ◌≤◌, ◌<◌, ◌^◌, Bool, true, false, List, [], ◌∷◌, ◌++◌, length, take, Option, Some, None}
+use Rattle.std.specs.Prelude.{◌≡◌, ◌≢◌, ◌⊎◌, ◌↔◌, ℕ, ◌+◌, ◌≤◌, ◌<◌, ◌^◌, Bool, true, false, List, [], ◌∷◌, ◌++◌, length, take, Option, Some, None, Result, Err, IfErr}
 use Rattle.std.specs.List.{AllByRecursion}
-use Rattle.relay_disk.specs.Device.{DiskWords}
+use Rattle.relay_disk.specs.Device.{DiskWords, FailsNot}
 use Rattle.relay_spool.specs.declared.fault.SpoolFault.TheVariants as spool_fault
 use Rattle.relay_routes.specs.declared.config.Config.{Config}
 use Rattle.relay_server.specs.declared.offer.Answer.TheVariants.{Queued}
@@ -18,7 +18,7 @@ use Rattle.relay_book.specs.Queue.{Queue, step}
 use Rattle.relay_records.specs.declared.fault.Cause.{Cause}
 use Rattle.relay_records.specs.declared.fault.Cause.TheVariants.{Spool}
 use Rattle.relay_records.specs.declared.fault.NodeFault.{NodeFault}
-use Rattle.relay_records.specs.declared.fault.NodeFault.TheVariants.{NoMemory, Stopped, Unknown, TooMany, NotDue, Busy, Open, Full}
+use Rattle.relay_records.specs.declared.fault.NodeFault.TheVariants.{NoMemory, Stopped, Unknown, TooMany, Full}
 use Rattle.relay_records.specs.Open.{RefusesDisk}
 use Rattle.relay_records.specs.Records.{Adds, Cuts, IsStopped, Kept}
 use Rattle.relay_attempts.specs.declared.runs.Run.{Run}
@@ -26,8 +26,8 @@ use Rattle.relay_node.specs.declared.node.Connected.{Connected}
 use Rattle.relay_node.specs.declared.receive.Received.{Received}
 use Rattle.relay_node.specs.declared.seat.Seat.{Seat}
 use Rattle.relay_node.specs.Acceptance.{Acceptance, acceptance_by}
-use Rattle.relay_node.specs.Room.{AnswersMore, HasRoom, Overfills, size_with}
-use Rattle.relay_slots.specs.Slots.{AreFree, IsLeastFree, OthersStay, slot_at}
+use Rattle.relay_node.specs.Room.{AnswersMore, EndsWithOffer, HasRoom, Overfills, refusals, size_with}
+use Rattle.relay_slots.specs.Slots.{AreFree, HasPlaces, IsLeastFree, OthersStay, slot_at}
 
 -- what callers see of a node: its configuration, its sessions and its running attempts by number, and its records
 pub record Standing (D : Type 0) : Type 0 where
@@ -71,6 +71,11 @@ GoesOn config seats number peer said true =
     (slot_at seats number ≡ None) × HasClosed (setup_of_config config) said
 GoesOn config seats number peer said false = SaysAt config seats number peer said
 
+-- the session of this number waits for more octets: it has not closed
+abbrev pub IsOpen : List (Option Seat) → ℕ → Type 0
+IsOpen seats number =
+    (seat : Seat) → slot_at seats number ≡ Some seat → next_of seat.session ≡ next.More
+
 -- nothing was said but this greeting
 abbrev pub greeted_by : List ℕ → Said
 greeted_by greeting = record { input = []; answers = []; output = greeting; offers = [] }
@@ -91,12 +96,13 @@ module _ {D : Type 0} (honest : Type 0) (words : DiskWords D) (config : Config) 
   abbrev pub FitsIn : Kept D → Offered → Accept → Type 0
   FitsIn old offer accept = HasRoom next_acceptance config.spool_limit old.spool.size offer accept
 
-  -- behind the refused offers one was queued: the change of this number accepts it
+  -- behind the refused offers one was queued: the change of this number accepts it, and no octet behind it was read
   pub record Queues (said later : Said) (refused : List Offered) (used : ℕ) (old new : Kept D)
       (number : ℕ) : Type 0 where
     pub number_is : number ≡ length changes + 1
     pub offer : Offered
     pub answers : AnswersMore said later refused (offer ∷ []) (Queued number ∷ [])
+    pub ends : EndsWithOffer (setup_of_config config) later (said.answers ++ refusals refused)
     pub accept : Accept
     pub fits : FitsIn old offer accept
     pub adds : Adds honest words new changes (change.Accept accept) used
@@ -122,7 +128,7 @@ module _ {D : Type 0} (honest : Type 0) (words : DiskWords D) (config : Config) 
       (received : Received) : Type 0 where
     pub later : Said
     pub says : Says (setup_of_config config) new_session later
-    pub closed : received.close ≡ true → next_of new_session ≡ next.Close
+    pub closed : (received.close ≡ true) ↔ (next_of new_session ≡ next.Close)
     pub talks : TalksOn said later piece old new received
 
   -- the same, on the session of this number of a node
@@ -130,6 +136,7 @@ module _ {D : Type 0} (honest : Type 0) (words : DiskWords D) (config : Config) 
       (received : Received) : Type 0 where
     pub later : Said
     pub goes_on : GoesOn config new.seats number peer later received.close
+    pub is_open : received.close ≡ false → IsOpen new.seats number
     pub talks : TalksOn said later piece old.records new.records received
 
   -- A stop came while a change was added. The call had used octets of the piece, and the dialogue behind
@@ -157,17 +164,35 @@ TakesIn old (Some number) new =
     (accept : Accept) × (number ≡ old.next) × (new ≡ step old (change.Accept accept))
 
 -- octets of the piece were used: where a change was made, one at least, and where none was and nothing
--- closed, all
-pub record UsesOctets (len : ℕ) (received : Received) : Type 0 where
+-- closed, all; no call of the device has failed
+pub record UsesOctets {D : Type 0} (words : DiskWords D) (len : ℕ) (old new : Kept D) (received : Received)
+    : Type 0 where
   pub within : received.used ≤ len
   pub some : received.change ≢ None → 0 < received.used
   pub whole : received.change ≡ None → received.close ≡ false → received.used ≡ len
+  pub failures : FailsNot words old.spool.disk new.spool.disk
 
--- a node without a session, an attempt and a note
+-- whatever was said before, a session was heard: octets were used, mail was accepted or not, and something was said on it
+pub record IsHeard {D : Type 0} (words : DiskWords D) (config : Config) (len : ℕ) (old new : Kept D)
+    (session : Session) (received : Received) : Type 0 where
+  pub used : UsesOctets words len old new received
+  pub takes : TakesIn old.queue received.change new.queue
+  pub history : HasHistory config session
+
+-- A call on the session or the attempt of a number is refused so: by a stopped node always, and nothing
+-- changes; and by a live one as unknown exactly where the number is free, and each fault leaves this.
+pub record RefusesAt {D T : Type 0} (old new : Standing D) (IsFreeNumber : Type 0) (Leaves : NodeFault → Type 0)
+    (result : Result T NodeFault) : Type 0 where
+  pub refused : old.records.spool.live ≡ true → IfErr result Leaves
+  pub stopped : old.records.spool.live ≡ false → (result ≡ Err Stopped) × (new ≡ old)
+  pub unknown : (result ≡ Err Unknown) ↔ ((old.records.spool.live ≡ true) × IsFreeNumber)
+
+-- a node with room for 64 sessions and 64 attempts, and without one, and without a note
 pub record IsIdle {D : Type 0} (config : Config) (node : Standing D) : Type 0 where
   pub config_is : node.config ≡ config
   pub free : AreFree node.seats
   pub none_runs : AreFree node.attempts
+  pub places : HasPlaces node.seats × HasPlaces node.attempts
   pub noted : node.records.noted ≡ None
 
 -- all but the disk is the same
@@ -192,23 +217,13 @@ pub record Connects {D : Type 0} (peer : List ℕ) (old new : Standing D) (conne
 abbrev pub RefusesToConnect : {D : Type 0} → Standing D → Standing D → NodeFault → Type 0
 RefusesToConnect old new NoMemory = new ≡ old
 RefusesToConnect old new Stopped = new ≡ old
-RefusesToConnect old new Unknown = ⊥
 RefusesToConnect old new TooMany = new ≡ old
-RefusesToConnect old new NotDue = ⊥
-RefusesToConnect old new Busy = ⊥
-RefusesToConnect old new (Open cause) = ⊥
-RefusesToConnect old new Full = ⊥
+RefusesToConnect old new other = ⊥
 
--- what a refused `ended` leaves
+-- what an `ended` leaves that is refused by a live node
 abbrev pub RefusesToEnd : {D : Type 0} → Standing D → Standing D → NodeFault → Type 0
-RefusesToEnd old new NoMemory = ⊥
-RefusesToEnd old new Stopped = new ≡ old
 RefusesToEnd old new Unknown = new ≡ old
-RefusesToEnd old new TooMany = ⊥
-RefusesToEnd old new NotDue = ⊥
-RefusesToEnd old new Busy = ⊥
-RefusesToEnd old new (Open cause) = ⊥
-RefusesToEnd old new Full = ⊥
+RefusesToEnd old new other = ⊥
 
 -- the session is gone, and the records are unchanged
 pub record IsGone {D : Type 0} (number : ℕ) (old new : Standing D) : Type 0 where
@@ -220,19 +235,12 @@ abbrev pub RefusesToReceive : {D : Type 0} → DiskWords D → ℕ → Standing 
 RefusesToReceive words number old new NoMemory = IsGone number old new
 RefusesToReceive words number old new Stopped = IsStopped words old.records new.records
 RefusesToReceive words number old new Unknown = new ≡ old
-RefusesToReceive words number old new TooMany = ⊥
-RefusesToReceive words number old new NotDue = ⊥
-RefusesToReceive words number old new Busy = ⊥
-RefusesToReceive words number old new (Open cause) = ⊥
 RefusesToReceive words number old new Full = IsGone number old new × (2 ^ 62 < old.records.queue.next)
+RefusesToReceive words number old new other = ⊥
 
 -- the same of the records alone
 abbrev pub RefusesToHear : {D : Type 0} → DiskWords D → Kept D → Kept D → NodeFault → Type 0
 RefusesToHear words old new NoMemory = new ≡ old
 RefusesToHear words old new Stopped = IsStopped words old new
-RefusesToHear words old new Unknown = ⊥
-RefusesToHear words old new TooMany = ⊥
-RefusesToHear words old new NotDue = ⊥
-RefusesToHear words old new Busy = ⊥
-RefusesToHear words old new (Open cause) = ⊥
 RefusesToHear words old new Full = (new ≡ old) × (2 ^ 62 < old.queue.next)
+RefusesToHear words old new other = ⊥

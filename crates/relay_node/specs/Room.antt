@@ -1,8 +1,9 @@
--- Which offers the spool has room for, and how those without are answered.
-use Rattle.std.specs.Prelude.{◌≡◌, ℕ, ◌+◌, ◌≤◌, ◌<◌, ◌^◌, List, ◌++◌, length, map}
+-- Which offers the spool has room for, how those without are answered, and how a piece comes to an offer.
+use Rattle.std.specs.Prelude.{◌≡◌, ℕ, ◌+◌, ◌≤◌, ◌<◌, ◌^◌, List, [], ◌∷◌, ◌++◌, length, map, take}
 use Rattle.relay_server.specs.declared.offer.Answer.{Answer}
 use Rattle.relay_server.specs.declared.offer.Answer.TheVariants as answer
-use Rattle.relay_server.specs.Dialogue.{Offered, Said}
+use Rattle.relay_server.specs.Dialogue.{IsDialogue, Offered, Said}
+use Rattle.relay_server.specs.Setup.{Setup}
 use Rattle.relay_book.specs.declared.change.Accept.{Accept}
 use Rattle.relay_book.specs.declared.change.Change.TheVariants as change
 use Rattle.relay_book.specs.Record.{encode}
@@ -35,3 +36,22 @@ refusals offers = map (λ _. answer.Full) offers
 pub record AnswersMore (said later : Said) (refused last : List Offered) (given : List Answer) : Type 0 where
   pub offers : later.offers ≡ said.offers ++ (refused ++ last)
   pub answers : later.answers ≡ said.answers ++ (refusals refused ++ given)
+
+-- What was read ends with the message that was offered last: with these answers, which lack its own, it
+-- was a dialogue before, and one with an offer too many ends with the unit of that offer.
+pub record EndsWithOffer (setup : Setup) (later : Said) (answers : List Answer) : Type 0 where
+  pub output : List ℕ
+  pub dialogue
+      : IsDialogue setup (record { input = later.input; answers = answers; output = output; offers = later.offers })
+
+-- Behind what was said octets of the piece were read up to the end of its first message, which has no
+-- answer yet.
+pub record ComesToOffer (setup : Setup) (said : Said) (piece : List ℕ) : Type 0 where
+  pub used : ℕ
+  pub within : used ≤ length piece
+  pub later : Said
+  pub input : later.input ≡ said.input ++ take used piece
+  pub offer : Offered
+  pub offers : later.offers ≡ said.offers ++ offer ∷ []
+  pub answers : later.answers ≡ said.answers
+  pub dialogue : IsDialogue setup later

@@ -1,7 +1,7 @@
 //! Mail that is passed on.
 ghost use Rattle.std.specs.Prelude.{◌≡◌, ◌<◌, ◌↔◌, ◌⊎◌, ℕ, false, List, Err, IfErr, IfOk};
 ghost use Rattle.relay_attempts.specs.Attempts.{RefusesToStart, Serves, Starts};
-ghost use Rattle.relay_attempts.specs.Outcomes.{AddsUnroutable, CutsUnroutable, RefusesToGiveUp};
+ghost use Rattle.relay_attempts.specs.Outcomes.{AddsUnroutable, CutsUnroutable, EndsUnroutable, RefusesToGiveUp};
 ghost use Rattle.relay_attempts.specs.Work.{works_of};
 ghost use Rattle.relay_book.specs.declared.change.Change.{Change};
 ghost use Rattle.relay_book.specs.Book.{Rise};
@@ -74,6 +74,8 @@ impl<D: Disk> Node<D> {
             → result ≡ Err NodeFault.Stopped
             → CutsUnroutable D.honest D.words self.old.config.host self.old.config.routes message now changes
             self.old.records self.new.records }
+        ensures ends { IfOk result (EndsUnroutable D.words self.old.config.host self.old.config.routes
+            message now self.old.records self.new.records) }
         ensures rest { (self.new.config ≡ self.old.config) × (self.new.seats ≡ self.old.seats)
             × (self.new.attempts ≡ self.old.attempts) }
         ensures refused { IfErr result (RefusesToGiveUp D.words self.old.config.host self.old.config.routes

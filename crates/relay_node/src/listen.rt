@@ -1,5 +1,6 @@
 ghost use Rattle.std.specs.Prelude.{◌≡◌, ◌<◌, ◌^◌, ◌⊎◌, [], take, IfOk, IfErr, Err};
 ghost use Rattle.relay_node.specs.Listening.{Ends, HasListened};
+ghost use Rattle.relay_node.specs.Room.{ComesToOffer};
 ghost use Rattle.relay_server.specs.Dialogue.{Said};
 ghost use Rattle.relay_server.specs.Session.{Stands, open_offers};
 ghost use Rattle.relay_server.specs.Setup.{setup_of_config};
@@ -47,6 +48,9 @@ impl Intake<'_> {
             → HasListened self.now said session.new (take listened.used piece.now) listened.out.items) }
         ensures ends { IfOk result (Ends self.now session.new piece.now) }
         ensures full { result ≡ Err NodeFault.Full → 2 ^ 62 < self.now.number }
+        ensures comes { result ≡ Err NodeFault.Full → (said : Said)
+            → Stands (setup_of_config self.now.config.now) session.old said
+            → ComesToOffer (setup_of_config self.now.config.now) said piece.now }
         ensures refused { IfErr result (λ fault. (fault ≡ NodeFault.NoMemory) ⊎ (fault ≡ NodeFault.Full)) }
     {
         let mut used = 0;

@@ -5,13 +5,15 @@ ghost use Rattle.relay_book.specs.declared.change.Change.{Change};
 ghost use Rattle.relay_book.specs.Marks.{Held};
 ghost use Rattle.relay_book.specs.Queue.{held_of};
 ghost use Rattle.relay_disk.specs.Device.{AddsNoImage, FailsNot, Only};
-ghost use Rattle.relay_node.specs.Node.{Connects, CutsTalk, IsFused, IsIdle, Receives, SaysAt, UsesOctets};
+ghost use Rattle.relay_node.specs.Node.{Connects, CutsTalk, IsFused, IsIdle, Receives, RefusesAt, SaysAt, UsesOctets};
 ghost use Rattle.relay_node.specs.Node.{RefusesToConnect, RefusesToEnd, RefusesToMake, RefusesToReceive};
+ghost use Rattle.relay_node.specs.Room.{ComesToOffer};
 ghost use Rattle.relay_slots.specs.Slots.{IsFull, OthersStay, slot_at};
 ghost use Rattle.relay_records.specs.HeldPlace.{IsWaiting, waiting_at};
 ghost use Rattle.relay_records.specs.Open.{FailsFor, Opens, RefusesImage};
 ghost use Rattle.relay_records.specs.Records.{Halted, Keeps, Stays};
 ghost use Rattle.relay_server.specs.Dialogue.{Said};
+ghost use Rattle.relay_server.specs.Setup.{setup_of_config};
 ghost use Rattle.relay_spool.specs.Image.{HasNoBody};
 ghost use Rattle.relay_spool.specs.Spool.{AtEachMoment, OnlyReads};
 
@@ -86,7 +88,8 @@ impl<D: Disk> Node<D> {
     pub fn create(alloc: Global, config: Config, disk: D) -> Result<Self, NotOpened<D>>
         ensures keeps { IfOk result (λ node. Keeps D.honest D.words node.records []) }
         ensures idle { IfOk result (IsIdle config) }
-        ensures size { IfOk result (λ node. node.records.spool.size ≡ 18) }
+        ensures empty { IfOk result (λ node. (node.records.spool.size ≡ 18)
+            × (D.honest → D.words.seen disk ≡ [])) }
         ensures refused { IfErr result
             (λ refused. RefusesToMake D.honest D.words disk refused.disk refused.cause) }
         ensures failures { MatchResult result (λ node. FailsNot D.words disk node.records.spool.disk)
@@ -220,10 +223,8 @@ impl<D: Disk> Node<D> {
         ensures others { OthersStay self.old.seats self.new.seats session }
         ensures rest { (self.new.records ≡ self.old.records) × (self.new.config ≡ self.old.config) }
         ensures attempts { self.new.attempts ≡ self.old.attempts }
-        ensures refused { IfErr result (RefusesToEnd self.old self.new) }
-        ensures stopped { (result ≡ Err NodeFault.Stopped) ↔ (self.old.records.spool.live ≡ false) }
-        ensures unknown { (result ≡ Err NodeFault.Unknown)
-            ↔ ((self.old.records.spool.live ≡ true) × (slot_at self.old.seats session ≡ None)) }
+        ensures refused { RefusesAt self.old self.new (slot_at self.old.seats session ≡ None)
+            (RefusesToEnd self.old self.new) result }
     {
         if !self.records.is_live() {
             return Err(NodeFault::Stopped);
@@ -256,16 +257,13 @@ impl<D: Disk> Node<D> {
             → result ≡ Err NodeFault.Stopped
             → CutsTalk D.honest D.words self.old.config changes peer now said piece.now
             self.old.records self.new.records }
-        ensures used { IfOk result (UsesOctets (length piece.now)) }
+        ensures full { (peer : List ℕ) (said : Said) → SaysAt self.old.config self.old.seats session peer said
+            → result ≡ Err NodeFault.Full → ComesToOffer (setup_of_config self.old.config) said piece.now }
+        ensures used { IfOk result (UsesOctets D.words (length piece.now) self.old.records self.new.records) }
         ensures rest { OthersStay self.old.seats self.new.seats session
-            × (self.new.config ≡ self.old.config) }
-        ensures attempts { self.new.attempts ≡ self.old.attempts }
-        ensures refused { self.old.records.spool.live ≡ true
-            → IfErr result (RefusesToReceive D.words session self.old self.new) }
-        ensures stopped { self.old.records.spool.live ≡ false
-            → (result ≡ Err NodeFault.Stopped) × (self.new ≡ self.old) }
-        ensures unknown { (result ≡ Err NodeFault.Unknown)
-            ↔ ((self.old.records.spool.live ≡ true) × (slot_at self.old.seats session ≡ None)) }
+            × (self.new.config ≡ self.old.config) × (self.new.attempts ≡ self.old.attempts) }
+        ensures refused { RefusesAt self.old self.new (slot_at self.old.seats session ≡ None)
+            (RefusesToReceive D.words session self.old self.new) result }
     {
         if !self.records.is_live() {
             return Err(NodeFault::Stopped);
@@ -339,8 +337,8 @@ pub(crate) fn out_of_memory<D>(disk: D) -> NotOpened<D>
 impl<D: Reboot> Node<D> {
     /// Sets the fuse of the disk: so many calls pass, and each later one fails. Nothing else changes.
     pub fn fuse(&mut self, calls: u64)
-        ensures rest { (self.new.config ≡ self.old.config) × (self.new.seats ≡ self.old.seats) }
-        ensures attempts { self.new.attempts ≡ self.old.attempts }
+        ensures rest { (self.new.config ≡ self.old.config) × (self.new.seats ≡ self.old.seats)
+            × (self.new.attempts ≡ self.old.attempts) }
         ensures same { IsFused self.old.records self.new.records }
         ensures kept { (changes : List Change) → Keeps D.Disk.honest D.Disk.words self.old.records changes
             → Stays D.Disk.honest D.Disk.words self.old.records self.new.records changes }

@@ -1,6 +1,7 @@
 ghost use Rattle.std.specs.Prelude.{◌≡◌, List, length, IfErr, IfOk, IsTrue, Err};
 ghost use Rattle.relay_book.specs.declared.change.Change.{Change};
-ghost use Rattle.relay_node.specs.Node.{CutsTalk, HasHistory, Hears, RefusesToHear, Says, TakesIn, UsesOctets};
+ghost use Rattle.relay_node.specs.Node.{CutsTalk, HasHistory, Hears, IsHeard, RefusesToHear, Says};
+ghost use Rattle.relay_node.specs.Room.{ComesToOffer};
 ghost use Rattle.relay_records.specs.Records.{Keeps};
 ghost use Rattle.relay_server.specs.Dialogue.{Said};
 ghost use Rattle.relay_server.specs.Setup.{setup_of_config};
@@ -48,10 +49,11 @@ pub(crate) fn hear<D: Disk>(
         → Says (setup_of_config config.now) seat.old.session said → result ≡ Err NodeFault.Stopped
         → CutsTalk D.honest D.words config.now changes seat.old.peer now said piece.now
         records.old records.new }
-    ensures used { IfOk result (UsesOctets (length piece.now)) }
-    ensures takes { IfOk result (λ received. TakesIn records.old.queue received.change records.new.queue) }
+    ensures full { (said : Said) → Says (setup_of_config config.now) seat.old.session said
+        → result ≡ Err NodeFault.Full → ComesToOffer (setup_of_config config.now) said piece.now }
+    ensures heard { IfOk result (IsHeard D.words config.now (length piece.now) records.old records.new
+        seat.new.session) }
     ensures refused { IfErr result (RefusesToHear D.words records.old records.new) }
-    ensures history { IfOk result (λ _. HasHistory config.now seat.new.session) }
     ensures peer { seat.new.peer ≡ seat.old.peer }
 {
     let intake = Intake {

@@ -1,10 +1,9 @@
 //! What next hops answer to attempts, and connections that are lost.
-ghost use Rattle.std.specs.Prelude.{◌≡◌, ◌↔◌, ℕ, None, true, false, List, length, Err, IfErr, IfOk, OnOk};
-ghost use Rattle.relay_attempts.specs.Reply.{CutsLoss, CutsReply, HasNoRoomAtEnd, IsLost, Told, outcome_at};
+ghost use Rattle.std.specs.Prelude.{◌≡◌, None, List, length, Err, IfOk};
+ghost use Rattle.relay_attempts.specs.Reply.{CutsLoss, CutsReply, EndsBy, HasNoRoomAtEnd, HasNoRoomAtLoss, IsLost, Told};
 ghost use Rattle.relay_book.specs.declared.change.Change.{Change};
-ghost use Rattle.relay_course.specs.VerdictTable.{all_later};
 ghost use Rattle.relay_node.specs.Attempts.{RefusesToReply, Replies, Tells, UsesReply};
-ghost use Rattle.relay_outcomes.specs.Outcomes.{HasNoRoom};
+ghost use Rattle.relay_node.specs.Node.{RefusesAt};
 ghost use Rattle.relay_records.specs.Records.{Keeps};
 ghost use Rattle.relay_slots.specs.Slots.{OthersStay, slot_at};
 
@@ -35,15 +34,11 @@ impl<D: Disk> Node<D> {
             → Tells self.old.config.host changes self.old.attempts attempt told
             → result ≡ Err NodeFault.Full
             → HasNoRoomAtEnd self.old.config.host now told piece.now self.old.records }
-        ensures used { IfOk result (UsesReply attempt (length piece.now) self.new.attempts) }
+        ensures used { IfOk result (UsesReply D.words now attempt (length piece.now) self.old self.new) }
         ensures rest { OthersStay self.old.attempts self.new.attempts attempt
             × (self.new.config ≡ self.old.config) × (self.new.seats ≡ self.old.seats) }
-        ensures refused { self.old.records.spool.live ≡ true
-            → IfErr result (RefusesToReply D.words attempt self.old self.new) }
-        ensures stopped { self.old.records.spool.live ≡ false
-            → (result ≡ Err NodeFault.Stopped) × (self.new ≡ self.old) }
-        ensures unknown { (result ≡ Err NodeFault.Unknown)
-            ↔ ((self.old.records.spool.live ≡ true) × (slot_at self.old.attempts attempt ≡ None)) }
+        ensures refused { RefusesAt self.old self.new (slot_at self.old.attempts attempt ≡ None)
+            (RefusesToReply D.words attempt self.old self.new) result }
     {
         if !self.records.is_live() {
             return Err(NodeFault::Stopped);
@@ -73,16 +68,13 @@ impl<D: Disk> Node<D> {
         ensures full { (changes : List Change) (told : Told) → Keeps D.honest D.words self.old.records changes
             → Tells self.old.config.host changes self.old.attempts attempt told
             → result ≡ Err NodeFault.Full
-            → HasNoRoom self.old.config.host (outcome_at now told (all_later told.places)) self.old.records }
-        ensures gone { OnOk result (slot_at self.new.attempts attempt ≡ None) }
+            → HasNoRoomAtLoss self.old.config.host now told self.old.records }
+        ensures ends { IfOk result (EndsBy D.words self.old.config.host now attempt
+            self.old.attempts self.new.attempts self.old.records self.new.records) }
         ensures rest { OthersStay self.old.attempts self.new.attempts attempt
             × (self.new.config ≡ self.old.config) × (self.new.seats ≡ self.old.seats) }
-        ensures refused { self.old.records.spool.live ≡ true
-            → IfErr result (RefusesToReply D.words attempt self.old self.new) }
-        ensures stopped { self.old.records.spool.live ≡ false
-            → (result ≡ Err NodeFault.Stopped) × (self.new ≡ self.old) }
-        ensures unknown { (result ≡ Err NodeFault.Unknown)
-            ↔ ((self.old.records.spool.live ≡ true) × (slot_at self.old.attempts attempt ≡ None)) }
+        ensures refused { RefusesAt self.old self.new (slot_at self.old.attempts attempt ≡ None)
+            (RefusesToReply D.words attempt self.old self.new) result }
     {
         if !self.records.is_live() {
             return Err(NodeFault::Stopped);

@@ -1,22 +1,23 @@
 -- What a call of the node does to the link of an attempt.
 use Rattle.std.proofs.Common.{rules, ◌≡◌, ◌∙◌, Err, append-nil, sym, ap, subst, []}
 use Rattle.std.specs.Io.KnownBytes.{Appends}
-use Rattle.relay_links.specs.Push.{HasFailed}
-use Rattle.relay_links.proofs.PushLemmas.{answered_end, answered_on, gone_by_fault, refuses_octets, some_number, tells_here}
+use Rattle.relay_links.specs.Push.{HasFailed, LeavesRecords}
+use Rattle.relay_links.proofs.PushLemmas.{answered_end, answered_on, gone_by_fault, grown_by, left_by_fault, refuses_octets, same_by, same_fault, some_number, tells_here}
 use Rattle.relay_links.proofs.push.answer.Goals as goal
 
 pub returns-in-Err-clause-goes : goal.returns-in-Err-clause-goes
 returns-in-Err-clause-goes g c = λ start left h.
     let tells = tells_here g.D.Disk.honest g.D.Disk.words start c.args.now c.args.attempt left _ _ [] c.args.node.now h in
     subst (HasFailed g.D.Disk.honest g.D.Disk.words start c.args.now left (g.W.Write.contents c.args.writer.now) c.reply.new.self.records) (sym c.link_fault.ensures)
-    (refuses_octets g.D.Disk.honest g.D.Disk.words start c.args.now c.args.attempt left _ c.args.octets.now c.args.node.now c.reply.new.self c.in-Err.fault h (c.in-Err.ensures.refused h.keeps.live)
+    (refuses_octets g.D.Disk.honest g.D.Disk.words start c.args.now c.args.attempt left _ c.args.octets.now c.args.node.now c.reply.new.self c.in-Err.fault h (c.in-Err.ensures.refused.refused h.keeps.live)
     (λ e. c.in-Err.ensures.cut start.changes _ h.keeps tells (ap (λ fault. Err fault) e))
-    (λ e. (c.in-Err.ensures.unknown.0 (ap (λ fault. Err fault) e)).1))
+    (λ e. c.in-Err.ensures.full start.changes _ h.keeps tells (ap (λ fault. Err fault) e))
+    (λ e. (c.in-Err.ensures.refused.unknown.0 (ap (λ fault. Err fault) e)).1))
 
 pub returns-in-Err-clause-gone : goal.returns-in-Err-clause-gone
 returns-in-Err-clause-gone g c =
-    gone_by_fault g.D.Disk.words c.args.attempt c.args.node.now c.reply.new.self c.in-Err.fault c.in-Err.ensures.refused (λ e. (c.in-Err.ensures.stopped e).1)
-    (λ e. (c.in-Err.ensures.unknown.0 (ap (λ fault. Err fault) e)).1)
+    gone_by_fault g.D.Disk.words c.args.attempt c.args.node.now c.reply.new.self c.in-Err.fault c.in-Err.ensures.refused.refused (λ e. (c.in-Err.ensures.refused.stopped e).1)
+    (λ e. (c.in-Err.ensures.refused.unknown.0 (ap (λ fault. Err fault) e)).1)
 
 pub returns-in-Ok-send-clause-goes : goal.returns-in-Ok-send-clause-goes
 returns-in-Ok-send-clause-goes g c = λ start left h.
@@ -54,3 +55,25 @@ returns-clause-goes g c = λ start left h.
       sent.1,
       answered_on g.D.Disk.honest g.D.Disk.words start c.args.now c.args.attempt left _ _ c.args.octets.now c.args.node.now c.reply.new.self c.in-Ok.replied h r sent.0 sent.1 (sym text ∙ sent.2) sent.3 c.in-None.is c.in-Ok.ensures.rest.1,
     )
+
+pub returns-in-Err-clause-moves : goal.returns-in-Err-clause-moves
+returns-in-Err-clause-moves g c =
+    subst (LeavesRecords g.D.Disk.words c.args.node.now c.reply.new.self) (sym c.link_fault.ensures)
+    (left_by_fault g.D.Disk.words c.args.attempt c.args.node.now c.reply.new.self c.in-Err.fault c.in-Err.ensures.refused.refused
+    (λ e. (same_fault c.in-Err.fault _ (c.in-Err.ensures.refused.stopped e).0, (c.in-Err.ensures.refused.stopped e).1)))
+
+pub returns-in-Ok-send-clause-moves : goal.returns-in-Ok-send-clause-moves
+returns-in-Ok-send-clause-moves g c =
+    grown_by g.D.Disk.words c.args.now c.args.attempt c.args.node.now c.reply.new.self c.in-Ok.replied.change _ c.in-Some.is c.in-Ok.ensures.used.makes
+
+pub returns-in-Some-clause-moves : goal.returns-in-Some-clause-moves
+returns-in-Some-clause-moves g c =
+    grown_by g.D.Disk.words c.args.now c.args.attempt c.args.node.now c.reply.new.self c.in-Ok.replied.change _ c.in-Some.is c.in-Ok.ensures.used.makes
+
+pub returns-in-Ok-send-2-clause-moves : goal.returns-in-Ok-send-2-clause-moves
+returns-in-Ok-send-2-clause-moves g c =
+    same_by g.D.Disk.words c.args.now c.args.attempt c.args.node.now c.reply.new.self c.in-Ok.replied.change c.in-None.is c.in-Ok.ensures.used.makes
+
+pub returns-clause-moves : goal.returns-clause-moves
+returns-clause-moves g c =
+    same_by g.D.Disk.words c.args.now c.args.attempt c.args.node.now c.reply.new.self c.in-Ok.replied.change c.in-None.is c.in-Ok.ensures.used.makes

@@ -1,6 +1,6 @@
 -- The link of an attempt goes on read by read.
-use Rattle.std.proofs.Common.{[]}
-use Rattle.relay_links.proofs.PushLemmas.{rest_stays}
+use Rattle.std.proofs.Common.{[], Err, Ok, ◌∙◌}
+use Rattle.relay_links.proofs.PushLemmas.{moves_since, rest_stays}
 use Rattle.relay_links.proofs.push.converse.Goals as goal
 
 pub returns-in-Ok-exchange_block-clause-goes : goal.returns-in-Ok-exchange_block-clause-goes
@@ -12,12 +12,21 @@ returns-in-Ok-exchange_block-clause-gone g c = c.in-Ok-exchange_block.ensures.go
 pub returns-in-Ok-exchange_block-clause-rest : goal.returns-in-Ok-exchange_block-clause-rest
 returns-in-Ok-exchange_block-clause-rest g c = rest_stays c.args.node.now c.loop.node c.exchange_block.new.node c.args.attempt c.loop.invariant.rest c.in-Ok-exchange_block.ensures.rest
 
+pub returns-in-Ok-exchange_block-clause-moves : goal.returns-in-Ok-exchange_block-clause-moves
+returns-in-Ok-exchange_block-clause-moves g c =
+    moves_since g.D.Disk.words c.args.node.now c.loop.node c.exchange_block.new.node c.loop.invariant.rest.1 c.loop.invariant.same (Ok c.in-Ok-exchange_block.way) c.in-Ok-exchange_block.ensures.moves
+
+pub returns-in-Err-clause-moves : goal.returns-in-Err-clause-moves
+returns-in-Err-clause-moves g c =
+    moves_since g.D.Disk.words c.args.node.now c.loop.node c.exchange_block.new.node c.loop.invariant.rest.1 c.loop.invariant.same (Err c.in-Err.fault) c.in-Err.ensures.moves
+
 pub returns-in-Err-clause-goes : goal.returns-in-Err-clause-goes
 returns-in-Err-clause-goes g c = λ start h. c.in-Err.ensures.goes start (c.loop.invariant.so_far start h)
 
 pub loop-preserved : goal.loop-preserved
 loop-preserved g c = record {
   rest = rest_stays c.args.node.now c.loop.node c.exchange_block.new.node c.args.attempt c.loop.invariant.rest c.in-Ok-On.ensures.rest;
+  same = (rw c.in-Ok-On.field-0-is at c.in-Ok-On.ensures.moves) ∙ c.loop.invariant.same;
   so_far = λ start h.
       let goes = c.in-Ok-On.ensures.goes start (c.loop.invariant.so_far start h) in
       rw c.in-Ok-On.field-0-is at goes;

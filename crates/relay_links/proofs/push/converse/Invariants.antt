@@ -7,6 +7,7 @@ use Rattle.relay_links.proofs.push.converse.Given as goal
 abbrev pub invariant-loop : goal.invariant-loop
 invariant-loop g l = record {
   rest : OthersStay l.initial.node.attempts l.node.attempts l.fn.attempt × (l.node.config ≡ l.initial.node.config) × (l.node.seats ≡ l.initial.node.seats);
+  same : l.node.records ≡ l.initial.node.records;
   so_far : (start : PushStart)
       → IsAt g.D.Disk.honest g.D.Disk.words start l.fn.now l.fn.attempt (g.R.Read.remaining l.fn.reader) (g.W.Write.contents l.fn.writer) [] [] l.initial.node
       → IsAt g.D.Disk.honest g.D.Disk.words start l.fn.now l.fn.attempt (g.R.Read.remaining l.reader) (g.W.Write.contents l.writer) [] [] l.node;

@@ -1,6 +1,6 @@
 -- A link of an attempt from its start to its end, or to its loss.
 use Rattle.std.proofs.Common.{[]}
-use Rattle.relay_links.proofs.PushLemmas.{begins, rest_stays}
+use Rattle.relay_links.proofs.PushLemmas.{begins, ends_since, rest_stays}
 use Rattle.relay_links.proofs.push.push_link.Goals as goal
 
 pub returns-in-Ok-Ended-clause-pushed : goal.returns-in-Ok-Ended-clause-pushed
@@ -28,3 +28,11 @@ returns-in-Ok-Broken-clause-pushed g c = λ changes told keeps tells.
 pub returns-in-Err-clause-pushed : goal.returns-in-Err-clause-pushed
 returns-in-Err-clause-pushed g c = λ changes told keeps tells.
     c.in-Err.ensures.goes _ (begins g.D.Disk.honest g.D.Disk.words c.args.now c.args.attempt (g.R.Read.remaining c.args.reader.now) (g.W.Write.contents c.args.writer.now) c.args.node.now changes told keeps tells)
+
+pub returns-in-Ok-On-clause-ends : goal.returns-in-Ok-On-clause-ends
+returns-in-Ok-On-clause-ends g c =
+    ends_since g.D.Disk.words c.args.node.now c.converse.new.node c.lose_link.new.node c.in-Ok-On.ensures.rest.1 (rw c.in-Ok-On.field-0-is at c.in-Ok-On.ensures.moves) _ c.lose_link.ensures.ends
+
+pub returns-in-Ok-Broken-clause-ends : goal.returns-in-Ok-Broken-clause-ends
+returns-in-Ok-Broken-clause-ends g c =
+    ends_since g.D.Disk.words c.args.node.now c.converse.new.node c.lose_link-in-Ok-Broken.new.node c.in-Ok-Broken.ensures.rest.1 (rw c.in-Ok-Broken.field-0-is at c.in-Ok-Broken.ensures.moves) _ c.lose_link-in-Ok-Broken.ensures.ends

@@ -14,7 +14,7 @@ returns-in-Err-clause-goes_on g c = λ start left h.
     let piece_is = between_to_end c.args.octets.now c.args.used.now (length c.args.octets.now) (omega arith) in
     let says = says_here g.D.Disk.honest g.D.Disk.words start c.args.now c.args.session left _ waiting c.args.node.now h in
     subst (HasBegun g.D.Disk.honest g.D.Disk.words start c.args.now left (g.W.Write.contents c.args.writer.now) c.receive.new.self.records) (sym c.link_fault.ensures)
-    (refuses g.D.Disk.honest g.D.Disk.words start c.args.now c.args.session left _ waiting c.args.node.now c.receive.new.self c.in-Err.fault h (c.in-Err.ensures.refused h.taken.keeps.live)
+    (refuses g.D.Disk.honest g.D.Disk.words start c.args.now c.args.session left _ waiting c.args.node.now c.receive.new.self c.in-Err.fault h (c.in-Err.ensures.refused.refused h.taken.keeps.live)
     (λ e. subst (λ (piece : List ℕ). CutsTalk g.D.Disk.honest g.D.Disk.words c.args.node.now.config (start.changes ++ h.added) start.peer c.args.now h.said piece c.args.node.now.records c.receive.new.self.records) piece_is
     (c.in-Err.ensures.cut (start.changes ++ h.added) start.peer h.said h.taken.keeps says (ap (λ fault. Err fault) e))))
 

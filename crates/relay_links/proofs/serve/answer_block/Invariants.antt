@@ -7,7 +7,7 @@ use Rattle.relay_links.proofs.serve.answer_block.Given as goal
 abbrev pub invariant-loop-used : goal.invariant-loop-used
 invariant-loop-used g l = record {
   within : l.used ≤ length l.fn.octets;
-  rest : OthersStay l.initial.node.seats l.node.seats l.fn.session × (l.node.config ≡ l.initial.node.config);
+  rest : OthersStay l.initial.node.seats l.node.seats l.fn.session × (l.node.config ≡ l.initial.node.config) × (l.node.attempts ≡ l.initial.node.attempts);
   so_far : (start : Start) (left : Option (List ℕ))
       → HasSaid g.D.Disk.honest g.D.Disk.words start l.fn.now l.fn.session left (g.W.Write.contents l.fn.writer) l.fn.octets l.initial.node
       → HasSaid g.D.Disk.honest g.D.Disk.words start l.fn.now l.fn.session left (g.W.Write.contents l.writer) (drop l.used l.fn.octets) l.node;

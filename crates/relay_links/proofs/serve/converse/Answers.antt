@@ -6,7 +6,7 @@ use Rattle.relay_links.proofs.LinkLemmas.{breaks, others_stay}
 use Rattle.relay_links.proofs.serve.converse.Goals as goal
 
 pub returns-in_default-clause-served : goal.returns-in_default-clause-served
-returns-in_default-clause-served g c = λ start h. breaks g.D.Disk.honest g.D.Disk.words start c.args.now c.args.session _ _ [] c.args.node.now c.args.node.now.records NoMemory h refl (λ e. absurd cc)
+returns-in_default-clause-served g c = λ start h. breaks g.D.Disk.honest g.D.Disk.words start c.args.now c.args.session _ _ [] c.args.node.now c.args.node.now.records NoMemory h refl (λ e. absurd cc) (λ e. absurd cc)
 
 pub returns-in-Ok-true-clause-served : goal.returns-in-Ok-true-clause-served
 returns-in-Ok-true-clause-served g c = λ start h.
@@ -31,4 +31,4 @@ loop-preserved g c =
     }
 
 pub returns-clause-served : goal.returns-clause-served
-returns-clause-served g c = λ start h. breaks g.D.Disk.honest g.D.Disk.words start c.args.now c.args.session _ _ [] c.loop.node c.loop.node.records Input (c.loop.invariant.so_far start h) refl (λ e. absurd cc)
+returns-clause-served g c = λ start h. breaks g.D.Disk.honest g.D.Disk.words start c.args.now c.args.session _ _ [] c.loop.node c.loop.node.records Input (c.loop.invariant.so_far start h) refl (λ e. absurd cc) (λ e. absurd cc)

@@ -13,7 +13,7 @@ pub returns-in-Err-clause-goes_on : goal.returns-in-Err-clause-goes_on
 returns-in-Err-clause-goes_on g c = λ start h.
     let none = read_nothing _ _ c.in-Err.ensures.bytes in
     let same = reads g.D.Disk.honest g.D.Disk.words start c.args.now c.args.session _ _ _ [] c.args.node.now h none in
-    breaks g.D.Disk.honest g.D.Disk.words start c.args.now c.args.session _ _ [] c.args.node.now c.args.node.now.records Input same refl (λ e. absurd cc)
+    breaks g.D.Disk.honest g.D.Disk.words start c.args.now c.args.session _ _ [] c.args.node.now c.args.node.now.records Input same refl (λ e. absurd cc) (λ e. absurd cc)
 
 pub returns-clause-goes_on : goal.returns-clause-goes_on
 returns-clause-goes_on g c = λ start h.

@@ -1,10 +1,12 @@
 -- Each round reads on behind the octets before; an offer without room is refused.
-use Rattle.std.proofs.Common.{Option, rules, refl, subst}
+use Rattle.std.proofs.Common.{◌≡◌, ◌<◌, ◌^◌, Option, rules, refl, subst}
+use Rattle.relay_server.specs.declared.session.Next.TheVariants as next
+use Rattle.relay_server.specs.Session.{next_of}
 use Rattle.relay_server.specs.Setup.{setup_of_config}
 use Rattle.relay_server.proofs.Theorems.{open_may_be_stored}
 use Rattle.relay_node.specs.declared.intake.Taken.{Taken}
 use Rattle.relay_node.specs.Listening.{Considers}
-use Rattle.relay_node.proofs.ListenLemmas.{listened_and_refused, listened_on, listened_to_nothing}
+use Rattle.relay_node.proofs.ListenLemmas.{comes_to_offer, listened_and_refused, listened_on, listened_to_nothing}
 use Rattle.relay_node.proofs.intake.Intake.listen.Goals as goal
 
 pub rounds-init : goal.rounds-init
@@ -44,6 +46,17 @@ consider-requires-clause-stored c = λ offer is_open.
     listened_on c.args.self.now history.0 c.rounds.session c.hear.new.self c.args.piece.now c.rounds.used c.hear.new.used _ _ (c.rounds.invariant.so_far history.0 history.1) c.rounds.invariant.settled heard.used.no_less
     (λ later stood. heard.hears setup later refl stood) in
     open_may_be_stored setup c.hear.new.self l.later offer l.stands is_open
+
+pub returns-in_err-taken-in-Offer-clause-comes : goal.returns-in_err-taken-in-Offer-clause-comes
+returns-in_err-taken-in-Offer-clause-comes c = λ is said stands.
+    let setup = setup_of_config c.args.self.now.config.now in
+    let heard = c.in_ok-hear.ensures in
+    let told : next_of c.hear.new.self ≡ next.Offer = search rules in
+    let many : 2 ^ 62 < c.args.self.now.number = search rules in
+    let l =
+    listened_on c.args.self.now said c.rounds.session c.hear.new.self c.args.piece.now c.rounds.used c.hear.new.used _ _ (c.rounds.invariant.so_far said stands) c.rounds.invariant.settled heard.used.no_less
+    (λ later stood. heard.hears setup later refl stood) in
+    comes_to_offer c.args.self.now said c.hear.new.self c.args.piece.now c.hear.new.used _ l told heard.used.within many
 
 pub rounds-preserved : goal.rounds-preserved
 rounds-preserved c =

@@ -6,6 +6,6 @@ use Rattle.relay_node.proofs.node.Node.create.Goals as goal
 
 pub invariant_of-result : goal.invariant_of-result
 invariant_of-result g c = (
-  free_histories c.args.config c.in-Ok.seats c.in-Ok.ensures,
+  free_histories c.args.config c.in-Ok.seats c.in-Ok.ensures.free,
   c.in-Ok-idle.ensures.serves c.args.config.host c.args.config.routes c.in-Ok-create.records.queue (ap (λ (q : Queue). q.messages) c.in-Ok-create.ensures.keeps.queue),
 )

@@ -25,15 +25,15 @@ invariant_of-self-in_err-received g c = (
 pub invariant_of-self-then-received : goal.invariant_of-self-then-received
 invariant_of-self-then-received g c = (
   rest_has_histories c.self.inside.config c.self.inside.seats _ c.args.session c.take.ensures.rest c.self.invariant.0,
-  c.note.ensures.serves c.self.inside.config.host c.self.inside.records.queue c.numbers_rise.ensures c.in_ok-received.ensures.takes
+  c.note.ensures.serves c.self.inside.config.host c.self.inside.records.queue c.numbers_rise.ensures c.in_ok-received.ensures.heard.takes
       (same_serves _ _ c.self.inside.attempts c.reserve.new.self _ _ c.reserve.ensures.rest.0 c.reserve.ensures.rest.1 refl c.self.invariant.1),
 )
 
 pub invariant_of-self-2 : goal.invariant_of-self-2
 invariant_of-self-2 g c =
     let before = rest_has_histories c.self.inside.config c.self.inside.seats _ c.args.session c.take.ensures.rest c.self.invariant.0 in (
-      all_have_histories c.self.inside.config c.take.new.self _ c.args.session c.hear.new.seat c.put.ensures before c.in_ok-received.ensures.history,
-      c.note.ensures.serves c.self.inside.config.host c.self.inside.records.queue c.numbers_rise.ensures c.in_ok-received.ensures.takes
+      all_have_histories c.self.inside.config c.take.new.self _ c.args.session c.hear.new.seat c.put.ensures before c.in_ok-received.ensures.heard.history,
+      c.note.ensures.serves c.self.inside.config.host c.self.inside.records.queue c.numbers_rise.ensures c.in_ok-received.ensures.heard.takes
           (same_serves _ _ c.self.inside.attempts c.reserve.new.self _ _ c.reserve.ensures.rest.0 c.reserve.ensures.rest.1 refl c.self.invariant.1),
     )
 
