@@ -1,3 +1,2 @@
 mod ClientLemmas
-mod LineLemmas
 mod PushingLemmas

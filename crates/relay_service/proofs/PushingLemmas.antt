@@ -10,6 +10,7 @@ use Rattle.relay_book.specs.declared.change.Outcome.{Outcome}
 use Rattle.relay_records.specs.declared.fault.NodeFault.{NodeFault}
 use Rattle.relay_records.specs.declared.fault.NodeFault.TheVariants as node_fault
 use Rattle.relay_records.specs.Records.{Keeps, Kept}
+use Rattle.relay_records.specs.declared.noted.Noted.{Noted}
 use Rattle.relay_outcomes.specs.Outcomes.{AddsOutcome}
 use Rattle.relay_course.specs.VerdictTable.{all_later}
 use Rattle.relay_attempts.specs.declared.runs.Run.{Run}
@@ -25,11 +26,11 @@ use Rattle.relay_links.specs.declared.fault.LinkFault.TheVariants as link_fault
 use Rattle.relay_links.specs.declared.push.Pushed.{Pushed}
 use Rattle.relay_links.specs.declared.push.Pushed.TheVariants as pushed
 use Rattle.relay_links.specs.Push.{HasEnded, IsAt, PushesTo, push_start_at}
-use Rattle.relay_service.specs.Pushing.{Concludes, DoesEach, DoesOne, DoesSome, Ends, HandsOn, IsDone, StaysBeside, WorksOff, WorksTo, HasEnded as EndsOn}
+use Rattle.relay_service.specs.Pushing.{Concludes, DoesEach, DoesOne, DoesSome, Ends, HandsOn, IsDone, IsSameButNote, StaysBeside, TellsDevice, WorksOff, WorksTo, HasEnded as EndsOn}
 
--- the same node without its note
-abbrev pub unnoted : {D : Type 0} → Standing D → Standing D
-unnoted node = record node { records = record node.records { noted = None } }
+-- the same node with this note
+abbrev pub noted_as : {D : Type 0} → Option Noted → Standing D → Standing D
+noted_as kept node = record node { records = record node.records { noted = kept } }
 
 -- what is told of an attempt is told by the same name of the host
 pub tells_here : {D : Type 0} (changes : List Change) (old mid : Standing D) (number : ℕ) (told : Told) → mid.config ≡ old.config → Tells old.config.host changes mid.attempts number told → Tells mid.config.host changes mid.attempts number told
@@ -41,8 +42,8 @@ module _ {D : Type 0} (honest : Type 0) (words : DiskWords D) where
   keeps_here changes old mid keeps same = subst (λ (records : Kept D). Keeps honest words records changes) (sym same) keeps
 
   -- what the records keep doesn't rest on the note
-  keeps_unnoted : (records : Kept D) (changes : List Change) → Keeps honest words records changes → Keeps honest words (record records { noted = None }) changes
-  keeps_unnoted records changes keeps =
+  keeps_noted : (kept : Option Noted) (records : Kept D) (changes : List Change) → Keeps honest words records changes → Keeps honest words (record records { noted = kept }) changes
+  keeps_noted kept records changes keeps =
       record { live = keeps.live; fitting = keeps.fitting; queue = keeps.queue; bodies = keeps.bodies; images = keeps.images }
 
   -- an outcome that was added is the one change more
@@ -61,14 +62,14 @@ module _ {D : Type 0} (honest : Type 0) (words : DiskWords D) where
       ]
 
   module _ (now : ℕ) where
-    -- behind a note that was taken, a work is done as before
-    pub done_unnoted : (work : Work) (changes : List Change) (old new : Standing D) → IsDone honest words now work changes old new → IsDone honest words now work changes old (unnoted new)
-    done_unnoted work changes old new done =
+    -- whatever its note says, a work is done as before
+    pub done_noted : (kept : Option Noted) (work : Work) (changes : List Change) (old new : Standing D) → IsDone honest words now work changes old new → IsDone honest words now work changes old (noted_as kept new)
+    done_noted kept work changes old new done =
         let one = done.1 in (
           done.0,
           record {
             does = one.does;
-            keeps = keeps_unnoted new.records done.0 one.keeps;
+            keeps = keeps_noted kept new.records done.0 one.keeps;
             beside = record { config = one.beside.config; seats = one.beside.seats; attempts = one.beside.attempts };
           },
         )
@@ -78,10 +79,10 @@ module _ {D : Type 0} (honest : Type 0) (words : DiskWords D) where
     whatever work changes old new (Ok x) done = done
     whatever work changes old new (Err e) done = inl done
 
-    -- the same, where the note was taken behind it
-    pub whatever_unnoted : {X Y : Type 0} (work : Work) (changes : List Change) (old mid new : Standing D) (result : Result X Y) → IsDone honest words now work changes old mid → new ≡ unnoted mid → WorksTo honest words now work changes old new result
-    whatever_unnoted work changes old mid new result done same =
-        whatever work changes old new result (subst (λ (node : Standing D). IsDone honest words now work changes old node) (sym same) (done_unnoted work changes old mid done))
+    -- the same, where its note is another behind it
+    pub whatever_noted : {X Y : Type 0} (kept : Option Noted) (work : Work) (changes : List Change) (old mid new : Standing D) (result : Result X Y) → IsDone honest words now work changes old mid → new ≡ noted_as kept mid → WorksTo honest words now work changes old new result
+    whatever_noted kept work changes old mid new result done same =
+        whatever work changes old new result (subst (λ (node : Standing D). IsDone honest words now work changes old node) (sym same) (done_noted kept work changes old mid done))
 
     -- nothing was done of a work
     pub stays_due : (work : Work) (changes : List Change) (old new : Standing D) → Keeps honest words old.records changes → new ≡ old → IsDone honest words now work changes old new
@@ -228,7 +229,7 @@ module _ {D : Type 0} (honest : Type 0) (words : DiskWords D) where
     }
 
     -- it has ended
-    pub tried : EndsOn honest words mid.config.host changes (begun_with number hop started.places.items begins.message) new.records → IsDone honest words now (Try number hop) changes old new
+    tried : EndsOn honest words mid.config.host changes (begun_with number hop started.places.items begins.message) new.records → IsDone honest words now (Try number hop) changes old new
     tried h = (
       h.later,
       record {
@@ -245,7 +246,7 @@ module _ {D : Type 0} (honest : Type 0) (words : DiskWords D) where
     )
 
     -- it has no outcome
-    pub dropped : Keeps honest words new.records changes → IsDone honest words now (Try number hop) changes old new
+    dropped : Keeps honest words new.records changes → IsDone honest words now (Try number hop) changes old new
     dropped keeps = (
       changes,
       record {
@@ -254,6 +255,20 @@ module _ {D : Type 0} (honest : Type 0) (words : DiskWords D) where
         beside = beside keeps.live;
       },
     )
+
+    -- it was handed on, and what is said of it then changes no more than the note
+    pub handed_over : {X Y : Type 0} (pushed : Result Pushed LinkFault) (last : Standing D) (result : Result X Y)
+        → HandsOn honest words mid.config.host changes (begun_with number hop started.places.items begins.message) new.records pushed
+        → IsSameButNote new last → TellsDevice pushed result → WorksTo honest words now (Try number hop) changes old last result
+    handed_over (Ok pushed.Ended) last result h same told = whatever_noted now last.records.noted (Try number hop) changes old new last result (tried h) same
+    handed_over (Ok pushed.Unwritten) last result h same told = whatever_noted now last.records.noted (Try number hop) changes old new last result (tried h) same
+    handed_over (Ok pushed.Lost) last result h same told = whatever_noted now last.records.noted (Try number hop) changes old new last result (tried h) same
+    handed_over {X} {Y} (Err fault) last (Ok done) h same told =
+        let begun : Told = begun_with number hop started.places.items begins.message in
+        whatever_noted now {X = X} {Y = Y} last.records.noted (Try number hop) changes old new last (Ok done) (dropped (keeps_but mid.config.host changes begun new.records fault h told)) same
+    handed_over (Err fault) last (Err ended) h same told =
+        inr (ap (λ (node : Standing D). node.records.spool.live) same
+        ∙ subst (λ (f : LinkFault). HandsOn honest words mid.config.host changes (begun_with number hop started.places.items begins.message) new.records (Err f)) told h)
 
   module _ (now : ℕ) where
     -- behind each of these works one more was done

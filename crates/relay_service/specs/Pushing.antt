@@ -1,6 +1,6 @@
 -- Mail that is handed on: what the works of a moment do, one after another (RFC 5321, sections 4.5.4.1 and 6.1).
-use Rattle.std.specs.Prelude.{◌≡◌, ◌⊎◌, ℕ, Bool, false, List, [], ◌∷◌, ◌++◌}
-use Rattle.std.specs.Prelude.{Option, Some, Result, Ok, Err, MatchResult}
+use Rattle.std.specs.Prelude.{◌≡◌, ◌≢◌, ◌⊎◌, ℕ, Bool, false, List, [], ◌∷◌, ◌++◌}
+use Rattle.std.specs.Prelude.{Option, Some, Result, Ok, Err, IfErr, MatchResult}
 use Rattle.relay_disk.specs.Device.{DiskWords}
 use Rattle.relay_slots.specs.Slots.{slot_at}
 use Rattle.relay_book.specs.declared.change.Change.{Change}
@@ -35,6 +35,14 @@ pub record Concludes (host : List ℕ) (changes later : List Change) (outcome : 
   pub report : List ℕ
   pub reported : Reported host changes (reported_as outcome report)
   pub later_is : later ≡ changes ++ reported_as outcome report ∷ []
+
+-- the node is the same but for its note
+abbrev pub IsSameButNote : {D : Type 0} → Standing D → Standing D → Type 0
+IsSameButNote old new = new ≡ record old { records = record old.records { noted = new.records.noted } }
+
+-- of a link's fault a run is told exactly where it is the device's
+abbrev pub TellsDevice : {X Y : Type 0} → Result Pushed LinkFault → Result X Y → Type 0
+TellsDevice pushed result = IfErr pushed (λ fault. MatchResult result (λ _. fault ≢ Device) (λ _. fault ≡ Device))
 
 -- Of an attempt that has begun: what was read and written is its course with these verdicts, at a loss or without one, and the
 -- outcome with these, at this moment, is the one change more.

@@ -41,7 +41,8 @@ pub enum Fault {
     /// Standard output can't be written.
     #[error("output")]
     Output,
-    /// There is no listening at the configured place.
+    /// There is no listening at the configured place, 64 clients in a row couldn't be had, or no descriptor or no
+    /// memory was left for a connection to a next hop.
     #[error("socket")]
     Socket,
 }

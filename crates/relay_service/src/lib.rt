@@ -2,22 +2,16 @@
 //! handed on, by a configuration file.
 #![tactic(auto)]
 
-mod attempt_line;
-mod client_line;
-mod clock;
 mod fault;
-mod line;
+mod gathering;
+mod hops;
 mod listing;
-mod log;
 mod pushing;
 mod serving;
 mod settings;
 mod sockets;
 
-pub use clock::clock_moment;
 pub use fault::Fault;
-pub use line::printable;
 pub use listing::{init, list};
-pub use log::Log;
 pub use pushing::push;
 pub use serving::serve;

@@ -1,7 +1,7 @@
 //! The spool that a configuration names: made, and listed.
 use crate::fault::Fault;
-use crate::line::gathering;
-use crate::settings::{configuration, spool_file};
+use crate::gathering::gathering;
+use crate::settings::{configuration, spool_file, spool_file_to_read};
 use relay_disk::{Disk, FileDisk};
 use relay_node::Node;
 use std::alloc::Global;
@@ -23,7 +23,8 @@ pub fn init<F: Files<File = File>>(alloc: Global, files: &F, path: &str) -> Resu
 const OPENINGS: u32 = 1_000;
 
 /// Writes a line for each recipient that the spool holds, in order: the number of its message, its
-/// place in that, its path, and the moment when it is due, in seconds from 1970.
+/// place in that, its path, and the moment when it is due, in seconds from 1970. The spool's file is
+/// opened for reading alone.
 pub fn list<F: Files<File = File>, W: Write>(
     alloc: Global,
     files: &F,
@@ -47,7 +48,7 @@ fn open_unless_it_grew<F: Files<File = File>>(
     path: &str,
 ) -> Result<Option<Node<FileDisk>>, Fault> {
     let config = configuration(alloc, files, path)?;
-    let mut disk = spool_file(files, &config)?;
+    let mut disk = spool_file_to_read(files, &config)?;
     let size = disk.size();
     match Node::open(alloc, config, disk) {
         Ok(node) => Ok(Some(node)),

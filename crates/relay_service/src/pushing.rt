@@ -7,18 +7,16 @@ ghost use Rattle.relay_book.specs.declared.change.Change.{Change};
 ghost use Rattle.relay_disk.specs.File.{file_words};
 ghost use Rattle.relay_node.specs.Attempts.{Tells};
 ghost use Rattle.relay_records.specs.Records.{Keeps};
-ghost use Rattle.relay_service.specs.Pushing.{HandsOn, WorksOff, WorksTo};
+ghost use Rattle.relay_service.specs.Pushing.{HandsOn, IsSameButNote, TellsDevice, WorksOff, WorksTo};
 ghost use Rattle.relay_slots.specs.Slots.{OthersStay, slot_at};
 
-use crate::attempt_line::Attempt;
-use crate::clock::clock_moment;
 use crate::fault::Fault;
-use crate::line::gathering;
-use crate::log::Log;
+use crate::gathering::gathering;
+use crate::hops::Unreached;
 use crate::settings::{configuration, locked_node};
-use crate::sockets::connect;
 use relay_disk::FileDisk;
 use relay_links::{LinkFault, Pushed, lose_link, push_link};
+use relay_log::{Attempt, HopReader, HopWriter, Log, Loss, Why, clock_moment};
 use relay_node::{Node, NodeFault, Work};
 use relay_routes::HostName;
 use relay_trace::Moment;
@@ -31,17 +29,23 @@ use std::rt::{Clock, Files};
 /// Does each work that is due at the clock's moment once, in order: an attempt for each message and hop, and an
 /// end for places without one. A line for each goes to `writer`: `NUMBER HOP ended`, `NUMBER HOP lost`
 /// where the connection couldn't be made or was lost, or `NUMBER noroute`. A work that no memory or no room
-/// was left for has no line, and stays due. The file of the spool is taken for this process alone.
+/// was left for has no line, and stays due. A next hop that couldn't be connected to, or was silent for too long, is
+/// not tried again: what else is due for it is lost at once. Where no descriptor is left for a connection, the
+/// push ends, and what is due stays due. The file of the spool is taken for this process alone. Where it `logs`, a line for
+/// each work, with what was said of its places, goes to `errors`.
 pub fn push<R: Files<File = File> + Clock + Net<Stream = TcpStream>, W: Write, E: Write>(
     alloc: Global,
     rt: &R,
     path: &str,
     writer: &mut W,
-    log: &mut Log<'_, E>,
+    errors: &mut E,
+    logs: bool,
 ) -> Result<(), Fault> {
     let config = configuration(alloc, rt, path)?;
     let mut node = locked_node(alloc, rt, config)?;
-    push_due(alloc, rt, &mut node, &mut gathering(alloc, writer)?, log)
+    let mut lines = gathering(alloc, writer)?;
+    let mut log = Log::new(alloc, errors, logs);
+    push_due(alloc, rt, &mut node, &mut lines, &mut log)
 }
 
 /// Does each work that is due at the clock's moment once, in order. The line of a work is flushed before the next begins.
@@ -75,8 +79,9 @@ fn do_works<R: Clock + Net<Stream = TcpStream>, W: Write, E: Write>(
     ensures { (changes : List Change) → Keeps ⊥ file_words node.old.records changes
         → WorksOff ⊥ file_words now works.now changes node.old node.new result }
 {
+    let mut unreached = Unreached::new(alloc);
     for work in works {
-        do_work(alloc, rt, node, work, now, writer, log)?;
+        do_work(alloc, rt, node, work, now, &mut unreached, writer, log)?;
     }
     Ok(())
 }
@@ -88,6 +93,7 @@ fn do_work<R: Clock + Net<Stream = TcpStream>, W: Write, E: Write>(
     node: &mut Node<FileDisk>,
     work: &Work,
     now: Moment,
+    unreached: &mut Unreached,
     writer: &mut W,
     log: &mut Log<'_, E>,
 ) -> Result<(), Fault>
@@ -96,7 +102,9 @@ fn do_work<R: Clock + Net<Stream = TcpStream>, W: Write, E: Write>(
 {
     match work {
         Work::NoRoute(number) => give_up(node, *number, now, writer, log),
-        Work::Try(number, hop) => try_hop(alloc, rt, node, *number, hop, now, writer, log),
+        Work::Try(number, hop) => {
+            try_hop(alloc, rt, node, *number, hop, now, unreached, writer, log)
+        }
     }
 }
 
@@ -117,6 +125,7 @@ fn give_up<W: Write, E: Write>(
                 number,
                 hop: None,
                 end: "noroute",
+                why: Why::at_once(None),
                 noted: node.take_noted(),
             });
             said(writeln!(writer, "{number} noroute").and_then(|()| writer.flush()))
@@ -125,7 +134,8 @@ fn give_up<W: Write, E: Write>(
     }
 }
 
-/// Tries a hop for a message, at a connection of its own.
+/// Tries a hop for a message, at a connection of its own. It is made before the attempt begins, so that nothing is recorded
+/// where none can be had.
 fn try_hop<R: Clock + Net<Stream = TcpStream>, W: Write, E: Write>(
     alloc: Global,
     rt: &R,
@@ -133,63 +143,109 @@ fn try_hop<R: Clock + Net<Stream = TcpStream>, W: Write, E: Write>(
     number: u64,
     hop: &HostName,
     now: Moment,
+    unreached: &mut Unreached,
     writer: &mut W,
     log: &mut Log<'_, E>,
 ) -> Result<(), Fault>
     ensures { (changes : List Change) → Keeps ⊥ file_words node.old.records changes
         → WorksTo ⊥ file_words now (work.Try number hop.now) changes node.old node.new result }
 {
+    let at = node.config().routes.place_of(hop.as_slice());
+    let stream = match at {
+        Some(at) => unreached.connect(rt, at)?,
+        None => Err(Loss::Unreachable),
+    };
     let attempt = match node.start(number, hop, now) {
         Ok(started) => started.attempt,
         Err(fault) => return left_over(fault),
     };
-    let pushed = match hand_on(alloc, rt, node, attempt, hop) {
-        Ok(pushed) => pushed,
-        Err(fault) => {
-            unless_device(fault)?;
-            log.attempt(&Attempt {
-                number,
-                hop: Some(hop.as_slice()),
-                end: "without an outcome",
-                noted: None,
-            });
-            return Ok(());
-        }
-    };
-    let end = end_text(pushed);
-    log.attempt(&Attempt {
-        number,
-        hop: Some(hop.as_slice()),
-        end,
-        noted: node.take_noted(),
-    });
-    said(write_end(writer, number, hop.as_slice(), end))
+    let handed = hand_on(alloc, rt, node, attempt, &stream, log.speaks());
+    if let Some(at) = at {
+        unreached.note_silence(at, &handed.why);
+    }
+    conclude(node, number, hop.as_slice(), handed, writer, log)
 }
 
-/// Runs an attempt that has begun over a connection to its hop. One that can't be made is lost.
-fn hand_on<R: Clock + Net<Stream = TcpStream>>(
+/// What has come of an attempt, and why it has settled less than it might.
+#[derive(Drop)]
+struct Handed {
+    pushed: Result<Pushed, LinkFault>,
+    why: Why,
+}
+
+/// Runs an attempt that has begun over the connection to its hop. One that wasn't made is lost.
+fn hand_on<C: Clock>(
     alloc: Global,
-    rt: &R,
+    clock: &C,
     node: &mut Node<FileDisk>,
     attempt: usize,
-    hop: &HostName,
-) -> Result<Pushed, LinkFault>
+    stream: &Result<TcpStream, Loss>,
+    tells: bool,
+) -> Handed
     ensures pushed { (changes : List Change) (told : Told) → Keeps ⊥ file_words node.old.records changes
         → Tells node.old.config.host changes node.old.attempts attempt told
-        → HandsOn ⊥ file_words node.old.config.host changes told node.new.records result }
+        → HandsOn ⊥ file_words node.old.config.host changes told node.new.records result.pushed }
     ensures gone { node.new.records.spool.live ≡ true → slot_at node.new.attempts attempt ≡ None }
     ensures rest { OthersStay node.old.attempts node.new.attempts attempt
         × (node.new.config ≡ node.old.config) × (node.new.seats ≡ node.old.seats) }
 {
-    let Some(at) = node.config().routes.place_of(hop.as_slice()) else {
-        return lose_link(node, attempt, clock_moment(rt));
-    };
-    match connect(rt, at) {
+    match stream {
         Ok(stream) => {
-            let now = clock_moment(rt);
-            push_link(alloc, node, attempt, &mut &stream, &mut &stream, now)
+            let now = clock_moment(clock);
+            let mut reader = HopReader::new(alloc, stream, tells);
+            let mut writer = HopWriter::new(stream);
+            let pushed = push_link(alloc, node, attempt, &mut reader, &mut writer, now);
+            let why = Why::told_by(reader, writer, is_lost(&pushed));
+            Handed { pushed, why }
         }
-        Err(_) => lose_link(node, attempt, clock_moment(rt)),
+        Err(loss) => {
+            let pushed = lose_link(node, attempt, clock_moment(clock));
+            let why = Why::at_once(Some(*loss));
+            Handed { pushed, why }
+        }
+    }
+}
+
+/// Whether the connection was lost before the attempt's end.
+fn is_lost(pushed: &Result<Pushed, LinkFault>) -> bool {
+    matches!(pushed, Ok(Pushed::Lost))
+}
+
+/// Says what has come of an attempt. Only a device that failed ends more than that.
+fn conclude<W: Write, E: Write>(
+    node: &mut Node<FileDisk>,
+    number: u64,
+    hop: &[u8],
+    handed: Handed,
+    writer: &mut W,
+    log: &mut Log<'_, E>,
+) -> Result<(), Fault>
+    ensures rest { IsSameButNote node.old node.new }
+    ensures device { TellsDevice handed.pushed result }
+{
+    match handed.pushed {
+        Ok(pushed) => {
+            let end = end_text(pushed);
+            log.attempt(&Attempt {
+                number,
+                hop: Some(hop),
+                end,
+                why: handed.why,
+                noted: node.take_noted(),
+            });
+            said(write_end(writer, number, hop, end))
+        }
+        Err(fault) => {
+            unless_device(fault)?;
+            log.attempt(&Attempt {
+                number,
+                hop: Some(hop),
+                end: "without an outcome",
+                why: handed.why,
+                noted: None,
+            });
+            Ok(())
+        }
     }
 }
 

@@ -4,16 +4,14 @@ ghost use Rattle.relay_book.specs.declared.change.Change.{Change};
 ghost use Rattle.relay_links.specs.Link.{HasEnded, start_at};
 ghost use Rattle.relay_records.specs.Records.{Keeps};
 
-use crate::client_line::Connection;
-use crate::clock::clock_moment;
 use crate::fault::Fault;
-use crate::line::gathering;
-use crate::log::Log;
+use crate::gathering::gathering;
 use crate::pushing::push_due;
 use crate::settings::{configuration, locked_node};
 use crate::sockets::{listener, next_client};
 use relay_disk::{Disk, FileDisk};
 use relay_links::{LinkFault, serve_link};
+use relay_log::{ClientWriter, Connection, Log, clock_moment};
 use relay_node::{Node, NodeFault};
 use relay_trace::Moment;
 use std::alloc::Global;
@@ -28,8 +26,9 @@ const OCTET_LIMIT: u64 = u64::MAX;
 
 /// Serves so many connections one after another, each to its end, and behind each does the work that is
 /// due, once. What that work leads to waits for the next. The file of the spool is taken for this process
-/// alone, and a line for each work goes to `writer`. Faults are looked for in this order: the
-/// configuration file, its content, the spool, the listener. A connection that breaks ends alone.
+/// alone, and a line for each work goes to `writer`; where it `logs`, a line for each thing that was done goes to `errors`. Faults are looked for in this order: the
+/// configuration file, its content, the spool, the listener. A connection that breaks ends alone. A client that
+/// can't be had counts as none; where 64 in a row can't, that is the fault of a socket.
 pub fn serve<
     R: Files<File = File> + Clock + Net<Listener = TcpListener, Stream = TcpStream>,
     W: Write,
@@ -40,35 +39,39 @@ pub fn serve<
     path: &str,
     rounds: u32,
     writer: &mut W,
-    log: &mut Log<'_, E>,
+    errors: &mut E,
+    logs: bool,
 ) -> Result<(), Fault> {
     let config = configuration(alloc, rt, path)?;
     let at = config.listen;
     let mut node = locked_node(alloc, rt, config)?;
     let listener = listener(rt, at)?;
     let mut lines = gathering(alloc, writer)?;
+    let mut log = Log::new(alloc, errors, logs);
     log.listens(at);
     for _ in 0..rounds {
-        round(alloc, rt, &mut node, &listener, &mut lines, log)?;
+        let (stream, peer) = next_client(rt, &listener)?;
+        serve_stream(alloc, rt, &mut node, stream, peer, &mut log)?;
+        push_behind(alloc, rt, &mut node, &mut lines, &mut log)?;
     }
     Ok(())
 }
 
-/// Serves one connection, and then does the work that is due. A connection that can't be had is none.
-fn round<R: Clock + Net<Stream = TcpStream>, W: Write, E: Write>(
+/// Does the work that is due. Where memory, or a descriptor for a connection, is wanting, the push ends alone.
+fn push_behind<R: Clock + Net<Stream = TcpStream>, W: Write, E: Write>(
     alloc: Global,
     rt: &R,
     node: &mut Node<FileDisk>,
-    listener: &TcpListener,
     writer: &mut W,
     log: &mut Log<'_, E>,
 ) -> Result<(), Fault> {
-    if let Ok((stream, peer)) = next_client(listener) {
-        serve_stream(alloc, rt, node, stream, peer, log)?;
-    }
     match push_due(alloc, rt, node, writer, log) {
         // What is due stays due.
         Err(Fault::NoMemory) => Ok(()),
+        Err(Fault::Socket) => {
+            log.push_ended(Fault::Socket);
+            Ok(())
+        }
         end => end,
     }
 }
@@ -85,18 +88,20 @@ fn serve_stream<C: Clock, E: Write>(
     let first = node.next_number();
     let now = clock_moment(clock);
     let mut reader = (&stream).take(OCTET_LIMIT);
+    let mut writer = ClientWriter::new(&stream);
     let end = serve_client(
         alloc,
         node,
         peer.ip().octets(),
         &mut reader,
-        &mut &stream,
+        &mut writer,
         now,
     );
     let connection = Connection {
         peer,
         end,
         octets: OCTET_LIMIT - reader.limit(),
+        refusals: writer.refusals(),
         first,
     };
     log.client(node, &connection);

@@ -35,7 +35,18 @@ pub(crate) fn spool_file<F: Files<File = File>>(
     }
 }
 
-/// That file, taken for this process alone. One that another process has taken is as one that can't be opened.
+/// That file, for reading alone: it has to be there.
+pub(crate) fn spool_file_to_read<F: Files<File = File>>(
+    files: &F,
+    config: &Config,
+) -> Result<FileDisk, Fault> {
+    match FileDisk::open_to_read(files, config.spool.as_str()) {
+        Ok(disk) => Ok(disk),
+        Err(error) => Err(Fault::of_device(&error)),
+    }
+}
+
+/// The file of the spool, taken for this process alone. One that another process has taken is as one that can't be opened.
 fn locked_spool_file<F: Files<File = File>>(files: &F, config: &Config) -> Result<FileDisk, Fault> {
     let disk = spool_file(files, config)?;
     match disk.try_lock() {

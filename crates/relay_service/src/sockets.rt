@@ -3,6 +3,7 @@
 use crate::fault::Fault;
 use std::io;
 use std::net::{Net, SocketAddr, SocketAddrV4, TcpListener, TcpStream};
+use std::rt::Clock;
 use std::time::Duration;
 
 /// How many seconds a read from a client, or a write to one, may wait (RFC 5321, section 4.5.3.2.7).
@@ -15,6 +16,22 @@ const HOP_SECONDS: u64 = 600;
 /// How many seconds a next hop may take to answer a connection.
 const CONNECT_SECONDS: u64 = 5;
 
+/// How many clients in a row may be missed.
+const MISSES: u32 = 64;
+
+/// How many milliseconds are waited behind a client that was missed. Behind each further one it is twice as long, up to
+/// the longest wait.
+const FIRST_WAIT: u64 = 100;
+
+/// The most milliseconds that are waited behind a client that was missed.
+const LONGEST_WAIT: u64 = 1_000;
+
+/// Linux's error where all of the system's descriptors are taken. The kit's `libc` has no name for it.
+const ENFILE: i32 = 23;
+
+/// Linux's error where there is no room for a socket's buffers.
+const ENOBUFS: i32 = 105;
+
 /// A listener at this place.
 pub(crate) fn listener<N: Net<Listener = TcpListener, Stream = TcpStream>>(
     net: &N,
@@ -26,8 +43,28 @@ pub(crate) fn listener<N: Net<Listener = TcpListener, Stream = TcpStream>>(
     }
 }
 
-/// The next client of a listener, and its place.
-pub(crate) fn next_client(listener: &TcpListener) -> io::Result<(TcpStream, SocketAddrV4)> {
+/// The next client of a listener, and its place. A client that can't be had, since it went away or descriptors or memory are
+/// short, is missed: the next is waited for a little later. Where 64 in a row were missed, it is the fault of a socket.
+pub(crate) fn next_client<C: Clock>(
+    clock: &C,
+    listener: &TcpListener,
+) -> Result<(TcpStream, SocketAddrV4), Fault> {
+    let mut wait = FIRST_WAIT;
+    for _ in 1..MISSES {
+        if let Ok(client) = accept(listener) {
+            return Ok(client);
+        }
+        clock.sleep(Duration::from_millis(wait));
+        wait = wait.saturating_mul(2).min(LONGEST_WAIT);
+    }
+    match accept(listener) {
+        Ok(client) => Ok(client),
+        Err(_) => Err(Fault::Socket),
+    }
+}
+
+/// A client of a listener, and its place.
+fn accept(listener: &TcpListener) -> io::Result<(TcpStream, SocketAddrV4)> {
     match listener.accept()? {
         (stream, SocketAddr::V4(peer)) => {
             set_up(&stream, CLIENT_SECONDS)?;
@@ -46,6 +83,15 @@ pub(crate) fn connect<N: Net<Stream = TcpStream>>(
     let stream = net.connect_timeout(SocketAddr::V4(at), Duration::from_secs(CONNECT_SECONDS))?;
     set_up(&stream, HOP_SECONDS)?;
     Ok(stream)
+}
+
+/// Whether a socket couldn't be had since this process or its system has no descriptor, or no memory, left for
+/// one: then it isn't for the other side.
+pub(crate) fn is_want_of_sockets(error: &io::Error) -> bool {
+    matches!(
+        error.raw_os_error(),
+        Some(libc::EMFILE | ENFILE | libc::ENOMEM | ENOBUFS)
+    )
 }
 
 /// Sets how many seconds a read or a write of the stream may wait, and that octets go at once: all that

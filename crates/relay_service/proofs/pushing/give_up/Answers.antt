@@ -1,7 +1,8 @@
 -- The places of a message without a hop have ended, whatever becomes of the line that says so.
+use Rattle.std.proofs.Common.{None}
 use Rattle.relay_disk.specs.File.{file_words}
 use Rattle.relay_attempts.specs.declared.work.Work.TheVariants.{NoRoute}
-use Rattle.relay_service.proofs.PushingLemmas.{gave_up, whatever_unnoted}
+use Rattle.relay_service.proofs.PushingLemmas.{gave_up, whatever_noted}
 use Rattle.relay_service.proofs.pushing.give_up.Goals as goal
 
 pub returns-in-Ok : goal.returns-in-Ok
@@ -9,5 +10,5 @@ returns-in-Ok g c = λ changes keeps.
     let old = c.args.node.now in
     let mid = c.give_up_unroutable.new.self in
     let rest = c.in-Ok.ensures.rest in
-    whatever_unnoted ⊥ file_words c.args.now (NoRoute c.args.number) changes old mid c.take_noted.new.self c.said.result
+    whatever_noted ⊥ file_words c.args.now None (NoRoute c.args.number) changes old mid c.take_noted.new.self c.said.result
     (gave_up ⊥ file_words c.args.now c.args.number changes old mid _ (c.in-Ok.ensures.gives_up changes keeps) rest.0 rest.1 rest.2) c.take_noted.ensures.rest

@@ -3,7 +3,7 @@ use Rattle.std.proofs.Common.{◌≡◌, ◌≤◌, ℕ, Bool, true, false, List
 use Rattle.std.specs.List.{All, slice_index_or}
 use Rattle.std.proofs.lemmas.List.{take_all}
 use Rattle.std.proofs.lemmas.List.Elements.{All-map}
-use Rattle.relay_service.specs.Line.{IsPrintable, Shows, shown}
+use Rattle.relay_log.specs.Line.{IsPrintable, Shows, shown}
 
 -- a shown octet is printable
 pub shown_is_printable : (octet : ℕ) → IsPrintable (shown octet)

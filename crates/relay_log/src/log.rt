@@ -5,12 +5,13 @@ use crate::line::printable;
 use relay_disk::Disk;
 use relay_node::Node;
 use std::alloc::Global;
+use std::fmt::Display;
 use std::io::{self, Write};
 use std::net::SocketAddrV4;
 
 /// Writes a line for each thing that was done, where it is asked to. A line that can't be made or
-/// written is left out, and the mail goes on. Lines hold nothing of a content, and no words of a client or a
-/// next hop.
+/// written is left out, and the mail goes on. Lines hold nothing of a content and no words of a client;
+/// of a next hop they hold what it says of mail that it puts off, in printable octets.
 #[derive(Drop)]
 pub struct Log<'a, E: Write> {
     alloc: Global,
@@ -29,24 +30,35 @@ impl<'a, E: Write> Log<'a, E> {
     }
 
     /// Says where the relay listens.
-    pub(crate) fn listens(&mut self, at: SocketAddrV4) {
+    pub fn listens(&mut self, at: SocketAddrV4) {
         if self.speaks {
             self.say(listens_text(self.alloc, at));
         }
     }
 
     /// Says how the connection of a client has ended, and which messages the node has taken on it.
-    pub(crate) fn client<D: Disk>(&mut self, node: &Node<D>, connection: &Connection) {
+    pub fn client<D: Disk>(&mut self, node: &Node<D>, connection: &Connection) {
         if self.speaks {
             self.say(client_text(self.alloc, node, connection));
         }
     }
 
     /// Says how an attempt for a message has ended, and what was said of its places.
-    pub(crate) fn attempt(&mut self, attempt: &Attempt<'_>) {
+    pub fn attempt(&mut self, attempt: &Attempt<'_>) {
         if self.speaks {
             self.say(attempt_text(self.alloc, attempt));
         }
+    }
+
+    /// Whether it was asked to write lines.
+    pub fn speaks(&self) -> bool {
+        self.speaks
+    }
+
+    /// Says that a push has ended before its last work, by this fault. It is said whether lines are asked
+    /// for or not, since whoever serves mail has to mend that.
+    pub fn push_ended<F: Display + Drop>(&mut self, fault: F) {
+        self.say(push_ended_text(self.alloc, fault));
     }
 
     fn say(&mut self, text: io::Result<Vec<u8>>) {
@@ -68,5 +80,14 @@ fn write_line<E: Write>(alloc: Global, errors: &mut E, text: &[u8]) -> io::Resul
 fn listens_text(alloc: Global, at: SocketAddrV4) -> io::Result<Vec<u8>> {
     let mut text = Vec::new(alloc);
     write!(text, "relayd: listening on {at}")?;
+    Ok(text)
+}
+
+fn push_ended_text<F: Display + Drop>(alloc: Global, fault: F) -> io::Result<Vec<u8>> {
+    let mut text = Vec::new(alloc);
+    write!(
+        text,
+        "relayd: {fault}: a push has ended, and what is due stays due"
+    )?;
     Ok(text)
 }

@@ -1,4 +1,6 @@
 //! The line of the log for an attempt.
+use crate::hop_link::Why;
+use crate::replies::Deferral;
 use relay_book::{Change, Ruling, Verdict, decode_change};
 use relay_node::Noted;
 use std::alloc::Global;
@@ -6,18 +8,21 @@ use std::io::{self, ErrorKind, Write};
 
 /// An attempt for a message that has ended, or what was done in place of one.
 #[derive(Debug, Drop)]
-pub(crate) struct Attempt<'a> {
+pub struct Attempt<'a> {
     /// The number of the message.
-    pub(crate) number: u64,
+    pub number: u64,
     /// The next hop, where there is one.
-    pub(crate) hop: Option<&'a [u8]>,
+    pub hop: Option<&'a [u8]>,
     /// How it has ended.
-    pub(crate) end: &'a str,
+    pub end: &'a str,
+    /// Why it has settled less than it might.
+    pub why: Why,
     /// Its outcome as the node has noted it, where there is one.
-    pub(crate) noted: Option<Noted>,
+    pub noted: Option<Noted>,
 }
 
-/// Says of an attempt the message, the hop and how it has ended, and what was said of each place.
+/// Says of an attempt the message, the hop and how it has ended, what was said of each place, and what has put off those
+/// that wait.
 pub(crate) fn attempt_text(alloc: Global, attempt: &Attempt<'_>) -> io::Result<Vec<u8>> {
     let mut text = Vec::new(alloc);
     write!(text, "relayd: message {} ", attempt.number)?;
@@ -26,18 +31,43 @@ pub(crate) fn attempt_text(alloc: Global, attempt: &Attempt<'_>) -> io::Result<V
         write!(text, " ")?;
     }
     write!(text, "{}", attempt.end)?;
+    if let Some(loss) = attempt.why.loss {
+        write!(text, ": {}", loss.text())?;
+    }
     if let Some(noted) = &attempt.noted {
-        write_outcome(alloc, &mut text, noted)?;
+        write_outcome(alloc, &mut text, noted, &attempt.why)?;
     }
     Ok(text)
 }
 
-/// Writes what an outcome says of each place, and the number of the report that it queues. The note has
-/// the places that left and not why, so its record is read.
-fn write_outcome(alloc: Global, text: &mut Vec<u8>, noted: &Noted) -> io::Result<()> {
+/// Writes what an outcome says of each place, the number of the report that it queues, and what has put off the places
+/// that wait. The note has the places that left and not why, so its record is read.
+fn write_outcome(alloc: Global, text: &mut Vec<u8>, noted: &Noted, why: &Why) -> io::Result<()> {
     match decode_change(alloc, noted.octets.as_slice()) {
-        Ok(Change::Outcome(outcome)) => write_rulings(text, outcome.rulings.as_slice(), noted),
+        Ok(Change::Outcome(outcome)) => {
+            let rulings = outcome.rulings.as_slice();
+            write_rulings(text, rulings, noted)?;
+            match &why.deferral {
+                Some(deferral) if rulings.iter().any(is_later) => write_deferral(text, deferral),
+                _ => Ok(()),
+            }
+        }
         _ => Err(io::Error::from(ErrorKind::OutOfMemory)),
+    }
+}
+
+fn is_later(ruling: &Ruling) -> bool {
+    matches!(ruling.verdict, Verdict::Later)
+}
+
+/// Writes what has put off places.
+fn write_deferral(text: &mut Vec<u8>, deferral: &Deferral) -> io::Result<()> {
+    match deferral {
+        Deferral::Reply { code, text: said } => {
+            write!(text, "; deferred by {code} ")?;
+            text.write_all(said.as_slice())
+        }
+        Deferral::NoReply(fault) => write!(text, "; no reply: {fault}"),
     }
 }
 

@@ -14,18 +14,21 @@ const RECIPIENT_LIMIT: u8 = 100;
 
 /// The connection of a client that has ended.
 #[derive(Clone, Copy, Debug)]
-pub(crate) struct Connection {
+pub struct Connection {
     /// The client's address and port.
-    pub(crate) peer: SocketAddrV4,
+    pub peer: SocketAddrV4,
     /// How it has ended.
-    pub(crate) end: Result<(), LinkFault>,
+    pub end: Result<(), LinkFault>,
     /// How many octets were read on it.
-    pub(crate) octets: u64,
+    pub octets: u64,
+    /// How many of its replies have refused something.
+    pub refusals: u64,
     /// The number of the first message that was taken on it, if one was.
-    pub(crate) first: u64,
+    pub first: u64,
 }
 
-/// Says how a connection has ended, how many octets were read on it, and of each message that the node has
+/// Says how a connection has ended, how many octets were read on it, how many commands and contents were refused, and
+/// of each message that the node has
 /// taken on it the number and how many recipients it has. No attempt was made for them yet.
 pub(crate) fn client_text<D: Disk>(
     alloc: Global,
@@ -38,7 +41,11 @@ pub(crate) fn client_text<D: Disk>(
         Ok(()) => write!(text, "ended")?,
         Err(fault) => write!(text, "broken off by a fault: {fault}")?,
     }
-    write!(text, ", {} octets", connection.octets)?;
+    write!(
+        text,
+        ", {} octets, {} refused",
+        connection.octets, connection.refusals
+    )?;
     write_messages(&mut text, node, connection.first)?;
     Ok(text)
 }

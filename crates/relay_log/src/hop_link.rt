@@ -1,0 +1,150 @@
+//! The connection of an attempt, watched for the log.
+use crate::replies::{Deferral, Replies};
+use std::alloc::Global;
+use std::io::{Error, ErrorKind, Read, Result, Write};
+use std::net::TcpStream;
+
+/// What the connection of an attempt was lost for.
+#[derive(Clone, Copy, Debug, PartialEq, Eq)]
+pub enum Loss {
+    /// Nobody listens there, or the next hop refuses connections.
+    Refused,
+    /// No way leads to the next hop.
+    Unreachable,
+    /// The next hop said nothing, or took nothing, for as long as it may.
+    Silent,
+    /// The connection was cut off.
+    Cut,
+}
+
+impl Loss {
+    /// What a connection that couldn't be made is lost for.
+    pub fn of_connecting(error: &Error) -> Self {
+        match error.kind() {
+            ErrorKind::ConnectionRefused => Loss::Refused,
+            ErrorKind::TimedOut => Loss::Silent,
+            _ => Loss::Unreachable,
+        }
+    }
+
+    /// The word of the log for it.
+    pub(crate) fn text(self) -> &'static str {
+        match self {
+            Loss::Refused => "refused to connect",
+            Loss::Unreachable => "unreachable",
+            Loss::Silent => "silent",
+            Loss::Cut => "cut",
+        }
+    }
+}
+
+/// Why an attempt has settled less than it might.
+#[derive(Debug, Drop)]
+pub struct Why {
+    /// What its connection was lost for, where it was.
+    pub loss: Option<Loss>,
+    /// The last that put something off, where there was one.
+    pub deferral: Option<Deferral>,
+}
+
+impl Why {
+    /// A connection that was lost before anything was said on it, or none that was lost.
+    pub fn at_once(loss: Option<Loss>) -> Self {
+        Why {
+            loss,
+            deferral: None,
+        }
+    }
+
+    /// What reader and writer of a connection tell, which was lost or not.
+    pub fn told_by(reader: HopReader<'_>, writer: HopWriter<'_>, is_lost: bool) -> Self {
+        let is_silent = reader.is_silent || writer.is_silent;
+        let loss = if !is_lost {
+            None
+        } else if is_silent {
+            Some(Loss::Silent)
+        } else {
+            Some(Loss::Cut)
+        };
+        Why {
+            loss,
+            deferral: reader.replies.into_deferral(),
+        }
+    }
+}
+
+/// Reads what a next hop says, and keeps what the log tells of it.
+#[derive(Drop)]
+pub struct HopReader<'a> {
+    stream: &'a TcpStream,
+    replies: Replies,
+    is_silent: bool,
+}
+
+impl<'a> HopReader<'a> {
+    /// A reader of this connection, of which nothing was read yet. Its replies are kept in mind where
+    /// they are to be told.
+    pub fn new(alloc: Global, stream: &'a TcpStream, tells: bool) -> Self {
+        HopReader {
+            stream,
+            replies: Replies::new(alloc, tells),
+            is_silent: false,
+        }
+    }
+}
+
+impl Read for HopReader<'_> {
+    fn read(&mut self, into: &mut [u8]) -> Result<usize> {
+        let mut stream = self.stream;
+        match stream.read(into) {
+            Ok(count) => {
+                self.replies.hear(&into[..count]);
+                Ok(count)
+            }
+            Err(error) => {
+                self.is_silent = has_waited(&error);
+                Err(error)
+            }
+        }
+    }
+}
+
+/// Writes what is said to a next hop.
+#[derive(Drop)]
+pub struct HopWriter<'a> {
+    stream: &'a TcpStream,
+    is_silent: bool,
+}
+
+impl<'a> HopWriter<'a> {
+    /// A writer of this connection.
+    pub fn new(stream: &'a TcpStream) -> Self {
+        HopWriter {
+            stream,
+            is_silent: false,
+        }
+    }
+}
+
+impl Write for HopWriter<'_> {
+    fn write(&mut self, octets: &[u8]) -> Result<usize> {
+        let mut stream = self.stream;
+        match stream.write(octets) {
+            Ok(count) => Ok(count),
+            Err(error) => {
+                self.is_silent = has_waited(&error);
+                Err(error)
+            }
+        }
+    }
+
+    fn flush(&mut self) -> Result<()> {
+        let mut stream = self.stream;
+        stream.flush()
+    }
+}
+
+/// Whether a call has waited for as long as it may.
+fn has_waited(error: &Error) -> bool {
+    matches!(error.kind(), ErrorKind::WouldBlock | ErrorKind::TimedOut)
+}

@@ -1,0 +1,21 @@
+//! What a postmaster is told of what was done: the lines of a log, and what they need to know of the
+//! connections of clients and next hops while these go on.
+#![tactic(auto)]
+
+mod attempt_line;
+mod client_line;
+mod client_writer;
+mod clock;
+mod hop_link;
+mod line;
+mod log;
+mod replies;
+
+pub use attempt_line::Attempt;
+pub use client_line::Connection;
+pub use client_writer::ClientWriter;
+pub use clock::clock_moment;
+pub use hop_link::{HopReader, HopWriter, Loss, Why};
+pub use line::printable;
+pub use log::Log;
+pub use replies::Deferral;
