@@ -1,5 +1,5 @@
 -- What `relayd session` has done: a dialogue over a new node, whose spool holds nothing yet and goes with the program.
-use Rattle.std.specs.Prelude.{◌≡◌, ◌⊎◌, ℕ, Option, List, [], ◌++◌, codes}
+use Rattle.std.specs.Prelude.{◌≡◌, ◌≢◌, ◌⊎◌, ℕ, Option, List, [], ◌++◌, codes}
 use Rattle.std.specs.Io.KnownBytes.{Appends, Consumes, IsAtEnd}
 use Rattle.relay_disk.specs.declared.memory.MemoryDisk.{MemoryDisk}
 use Rattle.relay_disk.specs.Memory.{memory_words}
@@ -51,6 +51,11 @@ pub record IsBegun (left new_left held new_held : Option (List ℕ)) : Type 0 wh
   pub output : said.output ≡ front ++ unwritten
   pub written : Appends held new_held front
   pub answered : AreAnswered said
+
+-- the session was held to its end with the status 0, or a fault has ended it with the status 1
+pub record EndsAs (status : ℕ) (left new_left held new_held : Option (List ℕ)) : Type 0 where
+  pub served : status ≡ 0 → IsServed left new_left held new_held
+  pub fault : status ≢ 0 → (status ≡ 1) × IsBegun left new_left held new_held
 
 -- a new node over memory has a session, whose client was greeted
 pub record IsOpened (node : Standing MemoryDisk) (connected : Connected) : Type 0 where

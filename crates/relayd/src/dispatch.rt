@@ -1,13 +1,13 @@
 ghost use Rattle.std.specs.Prelude.{◌≡◌, ◌≢◌, ◌⊎◌, [], ◌∷◌, map, MatchResult};
 ghost use Rattle.clap.specs.Words.{kind_of};
 ghost use Rattle.relayd.specs.Arguments.{AreWrong, AskForSession, faults_in};
-ghost use Rattle.relayd.specs.Session.{IsBegun, IsServed};
+ghost use Rattle.relayd.specs.Session.{EndsAs};
 
 use crate::streams::session;
 use crate::words::{Subcommand, arguments};
 use clap::Error;
 use clap::error::ErrorKind;
-use relay_service::{Fault, Log, init, list, push, serve};
+use relay_service::{Fault, init, list, push, serve};
 use std::alloc::Global;
 use std::convert::AsStr;
 use std::fmt::Display;
@@ -35,11 +35,8 @@ pub fn command<
     W: Write,
     E: Write,
 >(alloc: Global, system: &F, words: &[S], reader: &mut R, writer: &mut W, errors: &mut E) -> u8
-    ensures served { AskForSession (map S.text words.now) → result ≡ 0
-        → IsServed (R.remaining reader.old) (R.remaining reader.new) (W.contents writer.old)
-        (W.contents writer.new) }
-    ensures fault { AskForSession (map S.text words.now) → result ≢ 0
-        → (result ≡ 1) × IsBegun (R.remaining reader.old) (R.remaining reader.new) (W.contents writer.old)
+    ensures session { AskForSession (map S.text words.now)
+        → EndsAs result (R.remaining reader.old) (R.remaining reader.new) (W.contents writer.old)
         (W.contents writer.new) }
     ensures status { faults_in (map S.text words.now) ≡ [] → (result ≡ 0) ⊎ (result ≡ 1) }
     ensures wrong { AreWrong (faults_in (map S.text words.now))
@@ -54,24 +51,11 @@ pub fn command<
         Ok(Subcommand::Init(file)) => ended(init(alloc, system, file), errors),
         Ok(Subcommand::List(file)) => ended(list(alloc, system, file, writer), errors),
         Ok(Subcommand::Serve { file, rounds, log }) => {
-            let end = serve(
-                alloc,
-                system,
-                file,
-                rounds,
-                writer,
-                &mut Log::new(alloc, errors, log),
-            );
+            let end = serve(alloc, system, file, rounds, writer, errors, log);
             ended(end, errors)
         }
         Ok(Subcommand::Push { file, log }) => {
-            let end = push(
-                alloc,
-                system,
-                file,
-                writer,
-                &mut Log::new(alloc, errors, log),
-            );
+            let end = push(alloc, system, file, writer, errors, log);
             ended(end, errors)
         }
         Err(error) => explain(&error, writer, errors),
@@ -99,6 +83,13 @@ pub fn refuse_words<E: Write>(error: &io::Error, errors: &mut E) -> u8
     // Nothing is left to do where this line can't be written either: the status tells of the fault.
     let _ = writeln!(errors, "relayd: an argument is not UTF-8");
     WRONG_ARGUMENTS
+}
+
+/// Answers the status where the descriptors of the standard streams can't be held, and says so on `errors`.
+pub fn refuse_streams<E: Write>(errors: &mut E) -> u8
+    ensures { result ≡ 1 }
+{
+    fail(errors, "standard streams")
 }
 
 /// Writes the argument reader's text where it belongs, and answers the status.

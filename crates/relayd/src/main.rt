@@ -1,28 +1,37 @@
 //! `relayd`, a store-and-forward SMTP relay.
 #![tactic(auto)]
 
+mod descriptors;
 mod dispatch;
 mod setup;
 mod streams;
 mod words;
 
-use dispatch::{command, refuse_words};
+use descriptors::hold_standard_streams;
+use dispatch::{command, refuse_streams, refuse_words};
 use std::process::ExitCode;
 use std::{env, io};
 
 fn main(rt: HostRuntime) -> ExitCode {
-    let status = match given_words(&rt) {
+    ExitCode::from(run(&rt))
+}
+
+/// Runs the program, and answers its status. Before any file is opened the standard streams are held.
+fn run(rt: &HostRuntime) -> u8 {
+    if hold_standard_streams(rt).is_err() {
+        return refuse_streams(&mut rt.stderr());
+    }
+    match given_words(rt) {
         Ok(words) => command(
             rt.alloc(),
-            &rt,
+            rt,
             words.as_slice(),
             &mut rt.stdin(),
             &mut rt.stdout(),
             &mut rt.stderr(),
         ),
         Err(error) => refuse_words(&error, &mut rt.stderr()),
-    };
-    ExitCode::from(status)
+    }
 }
 
 /// The words that the program is started with, its own name first. It fails where memory runs out,
