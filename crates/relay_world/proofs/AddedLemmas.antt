@@ -1,10 +1,12 @@
--- What change an event has added to a node's list, and whether it says that a place was Taken.
-use Rattle.std.proofs.Common.{◌≡◌, inr, ℕ, Bool, List, [], ◌∷◌, ◌++◌, length, map, take, Option, None, Some, refl, sym, subst, ap, ◌∙◌, cond}
+-- What change an event has added to a node's list, and whose outcome it is.
+use Rattle.std.proofs.Common.{◌≡◌, inl, inr, true, not, ℕ, Bool, List, [], ◌∷◌, ◌++◌, length, map, take, Option, None, Some, refl, sym, subst, ap, ◌∙◌, cond}
 use Rattle.std.specs.Prelude.{slice_get}
 use Rattle.std.specs.List.{Contains}
 use Rattle.std.proofs.Math.Numerals.{add-one}
 use Rattle.std.proofs.lemmas.List.{append_cancel_left}
 use Rattle.std.proofs.lemmas.Option.{same_Some}
+use Rattle.std.specs.Option.{is_some}
+use Rattle.std.proofs.lemmas.Bool.{and_parts, false≢true}
 use Rattle.relay_disk.specs.Device.{DiskWords}
 use Rattle.relay_book.specs.declared.change.Change.{Change}
 use Rattle.relay_book.specs.declared.change.Change.TheVariants as change
@@ -12,31 +14,36 @@ use Rattle.relay_book.specs.declared.change.Outcome.{Outcome}
 use Rattle.relay_book.specs.declared.change.Ruling.{Ruling}
 use Rattle.relay_book.specs.declared.change.Verdict.TheVariants.{NoRoute, Taken}
 use Rattle.relay_book.specs.declared.fate.Way.{Way}
-use Rattle.relay_book.specs.Marks.{leaving}
+use Rattle.relay_book.specs.declared.message.Message.{Message}
+use Rattle.relay_book.specs.Marks.{leaving, message_at}
+use Rattle.relay_book.specs.Queue.{Queue, message_of}
+use Rattle.relay_book.proofs.Theorems.{fold_knows}
 use Rattle.relay_book.specs.Record.{encode}
 use Rattle.relay_records.specs.declared.noted.Noted.{Noted}
 use Rattle.relay_records.specs.Note.{IsNoted}
 use Rattle.relay_routes.specs.declared.config.Config.{Config}
 use Rattle.relay_course.specs.VerdictTable.{all_later}
 use Rattle.relay_outcomes.specs.Outcomes.{AddsOutcome, reported_as}
-use Rattle.relay_attempts.specs.Hops.{stranded_places}
+use Rattle.relay_routes.specs.Routes.{RouteTable}
+use Rattle.relay_attempts.specs.Hops.{hop_of_place, is_stranded, stranded_places}
 use Rattle.relay_attempts.specs.Outcomes.{AddsUnroutable, rulings_of, unroutable, unrouted}
 use Rattle.relay_attempts.specs.Reply.{IsLost, Told, outcome_at}
 use Rattle.relay_node.specs.Attempts.{RepliesBy, Tells}
 use Rattle.relay_node.specs.Node.{Standing}
-use Rattle.relay_world.specs.declared.attempt.Fate.TheVariants.{Replied}
+use Rattle.relay_world.specs.declared.attempt.Fate.TheVariants.{Lost, Replied}
 use Rattle.relay_world.specs.declared.line.Line.TheVariants.{Accepted}
 use Rattle.relay_world.specs.Bound.{HostKeeps, IsBound, IsListOf, NodeKeeps, told_by}
 use Rattle.relay_world.specs.Ledger.{Accepts, Leaves, Step, steps_by, steps_in, steps_of}
-use Rattle.relay_world.specs.Once.{IsTriedOnce}
+use Rattle.relay_world.specs.Once.{HasNoHops, IsTriedOnce}
 use Rattle.relay_world.specs.Steps.{HasGivenUp, HasHeard, HasLost, HasRead, IsPut, RecordsHeard, RecordsRead, waiting_down, without_note}
 use Rattle.relay_world.specs.World.{Host, Up, World}
-use Rattle.relay_world.proofs.AmongLemmas.{found_in, of_map, ruled_by}
+use Rattle.relay_world.proofs.AmongLemmas.{found_in, in_found, of_map, ruled_by}
 use Rattle.relay_world.proofs.AttemptLemmas.{KnowsAttempt, known}
 use Rattle.relay_world.proofs.FrameLemmas.{steps_in_more, steps_more}
 use Rattle.relay_world.proofs.GrowLemmas.{one_more, some_more}
 use Rattle.relay_world.proofs.OpenLemmas.{list_there, node_kept}
 use Rattle.relay_world.proofs.PassingLemmas.{none_taken}
+use Rattle.relay_world.proofs.PlaceLemmas.{passing_there}
 use Rattle.relay_world.proofs.PieceLemmas.{same_number}
 use Rattle.relay_world.proofs.TakerLemmas.{AddsTo, HasTakers, ListsAdd, lists_put, lists_stay}
 
@@ -49,7 +56,7 @@ none_accepts message report number places (one ∷ left) same = cc
 pub same_outcome : (one other : Outcome) → change.Outcome one ≡ change.Outcome other → one ≡ other
 same_outcome one other same = cc
 
--- an outcome of a lost attempt, and one of places without a hop, say of no place that it was Taken
+-- an outcome of a lost attempt says of no place that it was Taken
 pub lost_takes_none : (places : List ℕ) (place : ℕ) (dsn : Bool)
     → Contains (rulings_of places (all_later places)) (record { place = place; verdict = Taken dsn }) → ⊥
 lost_takes_none places place dsn has =
@@ -57,14 +64,39 @@ lost_takes_none places place dsn has =
     let there = found_in (rulings_of places (all_later places)) ruling has in
     none_taken places there.0 dsn (ruled_by places (all_later places) there.0 ruling there.1).1
 
-pub unrouted_takes_none : (places : List ℕ) (place : ℕ) (dsn : Bool)
-    → Contains (unrouted places) (record { place = place; verdict = Taken dsn }) → ⊥
-unrouted_takes_none places place dsn has =
-    let ruling : Ruling = record { place = place; verdict = Taken dsn } in
-    let there = found_in (unrouted places) ruling has in
-    let one = of_map (λ (p : ℕ). record { place = p; verdict = NoRoute }) places there.0 ruling there.1 in
-    let same : NoRoute ≡ Taken dsn = ap (λ (r : Ruling). r.verdict) one.2 in
-    cc
+-- a place without a hop has none
+no_hop : (hop : Option (List ℕ)) → not (is_some hop) ≡ true → hop ≡ None
+no_hop None is = refl
+no_hop (Some name) is = absurd (false≢true is)
+
+stranded_there : (table : RouteTable) (message : Message) (place : ℕ) → Contains (stranded_places table message) place
+    → hop_of_place table message.accept.envelope.recipients place ≡ None
+stranded_there table message place has =
+    let there = passing_there (is_stranded table message.accept.envelope.recipients) 0 message.places place has in
+    no_hop (hop_of_place table message.accept.envelope.recipients place)
+    (and_parts there.1.held (not (is_some (hop_of_place table message.accept.envelope.recipients place))) there.4).1
+
+-- and the outcome by which a message's places without a hop are given up says so of each
+pub stranded_no_hops : (table : RouteTable) (changes : List Change) (number at : ℕ) (message : Message) (report : List ℕ)
+    (outcome : Outcome) → message_at changes number ≡ Some message.accept
+    → reported_as (unroutable table number at message) report ≡ change.Outcome outcome → HasNoHops table changes outcome
+stranded_no_hops table changes number at message report outcome accepted same =
+    subst (λ o. HasNoHops table changes o)
+    (same_outcome (record (unroutable table number at message) { report = report }) outcome same) (record {
+      accept = message.accept;
+      accepted = accepted;
+      each = λ place verdict has.
+          let ruling : Ruling = record { place = place; verdict = verdict } in
+          let there = found_in (unrouted (stranded_places table message)) ruling has in
+          let one = of_map (λ (p : ℕ). record { place = p; verdict = NoRoute }) (stranded_places table message) there.0 ruling
+          there.1 in
+          let its_place : one.0 ≡ place = ap (λ (r : Ruling). r.place) one.2 in (
+            sym (ap (λ (r : Ruling). r.verdict) one.2),
+            stranded_there table message place
+                (subst (λ p. Contains (stranded_places table message) p) its_place
+                (in_found (stranded_places table message) one.0 there.0 one.1)),
+          );
+    })
 
 pub noted_octets : (noted : Option Noted) (note : Noted) (changes : List Change) (one : Change) (used : ℕ) → noted ≡ Some note
     → IsNoted noted changes one used → note.octets ≡ encode one
@@ -115,7 +147,7 @@ module _ {D : Type 0} (honest : Type 0) (words : DiskWords D) (old new : World D
       }) hears.of.host_at records.2
       (λ before more first second is more_is.
       let added = some_more hears.of.host.records records.0.octets before more is more_is in
-      inr (added.0, added.1, λ outcome place dsn same has. absurd (by before more first second added.0 added.1 outcome same)))
+      inr (added.0, added.1, λ outcome same was at. absurd (by before more first second added.0 added.1 outcome same)))
     where
       by : (before more : List Change) → slice_get lists hears.of.end.node ≡ Some before
           → slice_get later hears.of.end.node ≡ Some more → (one : Change) → more ≡ before ++ one ∷ [] → (outcome : Outcome)
@@ -157,23 +189,26 @@ module _ {D : Type 0} (honest : Type 0) (words : DiskWords D) (old new : World D
       by (Some change_now) ended records =
           outcome_added reads.of.attempt.node reads.of.host reads.after records.noted reads.of.before.config.host
           (outcome_at old.clock told ended.verdicts) reads.replied.used change_now knows.changes knows.list_at reads.of.host_at
-          records.note_is records.hosts ended.adds (λ outcome place dsn same has. record {
+          records.note_is records.hosts ended.adds (λ outcome same host at. inl (record {
             at = reads.of.place;
             attempt = record reads.of.attempt { fate = Replied change_now };
             is_there = records.attempts.at;
             its_node = refl;
-            replied = ap (λ n. Replied n) (ended.adds.number_is ∙ add-one (length knows.changes));
-          })
+            ended = inl (ap (λ n. Replied n) (ended.adds.number_is ∙ add-one (length knows.changes)));
+          }))
 
   -- the loss of an attempt adds an outcome by which each place may be tried again
   pub lost_adds : (number change_now : ℕ) (loses : HasLost honest words old new number change_now) → Adds
   lost_adds number change_now loses =
       outcome_added loses.of.attempt.node loses.of.host loses.after loses.records.noted loses.of.before.config.host
       (outcome_at old.clock told (all_later told.places)) 0 change_now knows.changes knows.list_at loses.of.host_at
-      loses.records.note_is loses.records.hosts ended.adds (λ outcome place dsn same has.
-      absurd (lost_takes_none told.places place dsn
-      (subst (λ (o : Outcome). Contains o.rulings (record { place = place; verdict = Taken dsn }))
-      (sym (same_outcome _ outcome same)) has)))
+      loses.records.note_is loses.records.hosts ended.adds (λ outcome same host at. inl (record {
+        at = loses.of.place;
+        attempt = record loses.of.attempt { fate = Lost change_now };
+        is_there = loses.records.attempts.at;
+        its_node = refl;
+        ended = inr (ap (λ n. Lost n) (ended.adds.number_is ∙ add-one (length knows.changes)));
+      }))
     where
       knows : KnowsAttempt honest words old lists number loses.of
       knows = known honest words old lists number bound loses.of
@@ -192,10 +227,12 @@ module _ {D : Type 0} (honest : Type 0) (words : DiskWords D) (old new : World D
   given_adds node message change_now gives =
       outcome_added node gives.host gives.after gives.noted gives.before.config.host
       (unroutable gives.before.config.routes message old.clock given_up.message) 0 change_now listed.0 listed.1 gives.host_at
-      gives.note_is gives.hosts given_up.adds (λ outcome place dsn same has.
-      absurd (unrouted_takes_none (stranded_places gives.before.config.routes given_up.message) place dsn
-      (subst (λ (o : Outcome). Contains o.rulings (record { place = place; verdict = Taken dsn }))
-      (sym (same_outcome _ outcome same)) has)))
+      gives.note_is gives.hosts given_up.adds (λ outcome same was at. inr
+      (subst (λ (c : Config). HasNoHops c.routes listed.0 outcome)
+      (its_node.config_is ∙ ap (λ (h : Host D). h.config) (same_Some gives.host was (sym gives.host_at ∙ at)))
+      (stranded_no_hops gives.before.config.routes listed.0 message old.clock given_up.message given_up.adds.report outcome
+      (fold_knows listed.0 its_node.keeps.fitting message given_up.message
+      (ap (λ (q : Queue). message_of q.messages message) (sym its_node.keeps.queue) ∙ given_up.found)).accept_is same)))
     where
       listed : (list : List Change) × (slice_get lists node ≡ Some list)
       listed = list_there old.hosts lists node gives.host bound.even gives.host_at

@@ -1,5 +1,5 @@
 -- What is known of an attempt that runs at the client end of a link.
-use Rattle.std.proofs.Common.{◌≡◌, ◌≢◌, ℕ, false, List, take, Option, Some, refl, sym, subst, ap, ◌∙◌}
+use Rattle.std.proofs.Common.{◌≡◌, ◌≢◌, ℕ, List, take, Option, Some, refl, sym, subst, ap, ◌∙◌}
 use Rattle.std.specs.Prelude.{slice_get}
 use Rattle.std.proofs.lemmas.Option.{same_Some}
 use Rattle.relay_disk.specs.Device.{DiskWords}
@@ -41,7 +41,6 @@ pub record KnowsAttempt {D : Type 0} (honest : Type 0) (words : DiskWords D) (wo
   pub its_node : NodeKeeps honest words of.host.config of.before changes
   pub its_link : of.attempt.link ≡ number
   pub was : PassesOn of.host changes of.link of.attempt
-  pub whole : of.link.broken ≡ false
   pub tells : Tells of.host.config.host changes of.before.attempts of.slot
       (told_by of.attempt was.accept (take of.link.down_read of.link.down) was.output)
 
@@ -90,7 +89,7 @@ module _ {D : Type 0} (honest : Type 0) (words : DiskWords D) (old : World D) (l
 
   tells_before : Tells of.host.config.host listed.0 of.before.attempts of.slot told_was
   tells_before = subst (λ (n : Standing D). Tells of.host.config.host listed.0 n.attempts of.slot told_was)
-      (same_Up fate_was.3.0 of.before (sym fate_was.3.1 ∙ of.up)) fate_was.3.2
+      (same_Up fate_was.2.0 of.before (sym fate_was.2.1 ∙ of.up)) fate_was.2.2
 
   pub known : KnowsAttempt honest words old lists number of
   known = record {
@@ -100,7 +99,6 @@ module _ {D : Type 0} (honest : Type 0) (words : DiskWords D) (old : World D) (l
     its_node = its_node;
     its_link = its_link;
     was = was;
-    whole = fate_was.2;
     tells = tells_before;
   }
 

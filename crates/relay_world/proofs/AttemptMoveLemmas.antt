@@ -1,5 +1,5 @@
 -- An attempt that moves on, or ends, keeps a world bound, where what becomes of it is bound.
-use Rattle.std.proofs.Common.{inl, inr, ◌≡◌, ◌≢◌, ◌≤◌, ℕ, List, ◌++◌, length, take, Option, None, Some, refl, sym, subst, ap, ◌∙◌}
+use Rattle.std.proofs.Common.{inl, inr, ◌≡◌, ◌≢◌, ◌≤◌, ℕ, true, List, [], ◌++◌, length, take, Option, None, Some, refl, sym, subst, ap, ◌∙◌}
 use Rattle.std.specs.Prelude.{slice_get}
 use Rattle.std.specs.List.{AllByRecursion}
 use Rattle.std.proofs.lemmas.Option.{same_Some}
@@ -22,8 +22,9 @@ use Rattle.relay_world.specs.World.{Host, Up, World, link_at}
 use Rattle.relay_world.proofs.FrameLemmas.{ChangesStay, MessagesStay, TellsOn}
 use Rattle.relay_world.proofs.PieceLemmas.{read_stays}
 use Rattle.relay_world.proofs.AttemptLemmas.{KnowsAttempt, other_place, other_slot}
-use Rattle.relay_world.proofs.MoveLemmas.{link_cases, client_was, link_kept, Joins, Moves, moved_keeps, put_cases, still_served}
-use Rattle.relay_world.proofs.UndecidedLemmas.{not_broken, up_not_down}
+use Rattle.std.proofs.lemmas.List.{append-nil}
+use Rattle.relay_world.proofs.MoveLemmas.{link_cases, client_was, link_kept, Joins, Moves, Settled, moved_keeps, put_cases, still_served}
+use Rattle.relay_world.proofs.UndecidedLemmas.{up_not_down}
 use Rattle.relay_world.proofs.OpenLemmas.{same_Up}
 
 module _ {D : Type 0} (honest : Type 0) (words : DiskWords D) (old new : World D) (lists later : List (List Change)) (number : ℕ)
@@ -40,6 +41,7 @@ module _ {D : Type 0} (honest : Type 0) (words : DiskWords D) (old new : World D
     pub client : link.client ≡ of.link.client
     pub server : link.server ≡ of.link.server
     pub up : link.up ≡ of.link.up ++ more
+    pub silent : of.link.broken ≡ true → more ≡ []
     pub up_read : link.up_read ≡ of.link.up_read
     pub down : link.down ≡ of.link.down
     pub broken : link.broken ≡ of.link.broken
@@ -157,6 +159,27 @@ module _ {D : Type 0} (honest : Type 0) (words : DiskWords D) (old new : World D
         link_kept old.links new.links number link moves.links
         (client_was old.links number of.link of.link_is link.client moves.client) place attempt (bound.attempts place attempt at)
 
+    -- on a link that was broken nothing more is written, and the server end stays; the client end is the attempt's
+    settled : of.link.broken ≡ true
+        → Settled honest words old new lists later of.attempt.node number of.host moved knows.changes grown link of.link
+    settled broken = record {
+      serves = λ end serves off ended. record {
+        now = link;
+        now_is = moves.links.at;
+        stays = record {
+          server = moves.server ∙ serves;
+          up = moves.up ∙ ap (λ l. of.link.up ++ l) (moves.silent broken) ∙ append-nil of.link.up;
+          up_read = moves.up_read;
+          down = moves.down;
+          broken = moves.broken ∙ broken;
+        };
+        accepts = moves.accepts number;
+      };
+      tries = λ place attempt client at off dropped.
+          absurd (off (ap (λ (a : Attempt). a.node) (same_Some attempt of.attempt (sym at
+          ∙ ap (λ p. slice_get old.attempts p) (same_Some place of.place (sym client ∙ of.client)) ∙ of.attempt_at))));
+    }
+
     joins : Joins honest words old new lists later of.attempt.node number of.host moved knows.changes grown link
     joins = record {
       served = λ end serves. serves_now end
@@ -196,7 +219,9 @@ module _ {D : Type 0} (honest : Type 0) (words : DiskWords D) (old new : World D
             its_session = yours.its_session;
           }));
       settled = λ was there broken.
-          absurd (not_broken old.links number of.link was of.link_is knows.whole there broken);
+          let same : of.link ≡ was = same_Some of.link was (sym of.link_is ∙ there) in
+          subst (λ l. Settled honest words old new lists later of.attempt.node number of.host moved knows.changes grown link l) same
+          (settled (ap (λ (l : Link). l.broken) same ∙ broken));
       may_be_in = λ disk undecided down. absurd (up_not_down after disk (Some undecided) down);
     }
 

@@ -1,29 +1,13 @@
 -- A link that breaks keeps a world bound.
-use Rattle.std.proofs.Common.{Bool, true, ◌≡◌, ℕ, List, Option, Some, refl, sym, subst}
+use Rattle.std.proofs.Common.{true, ◌≡◌, ℕ, Some, refl, sym, subst}
 use Rattle.std.proofs.lemmas.Bool.{false≢true}
 use Rattle.relay_disk.specs.Device.{DiskWords}
-use Rattle.relay_book.specs.declared.change.Change.{Change}
-use Rattle.relay_book.specs.declared.change.Accept.{Accept}
-use Rattle.relay_book.specs.declared.change.Verdict.{Verdict}
-use Rattle.relay_world.specs.declared.attempt.Attempt.{Attempt}
-use Rattle.relay_world.specs.declared.attempt.Fate.{Fate}
-use Rattle.relay_world.specs.declared.attempt.Fate.TheVariants.{Running, Replied, Lost, Dropped}
 use Rattle.relay_world.specs.declared.link.Link.{Link}
 use Rattle.relay_world.specs.declared.link.ServerEnd.{ServerEnd}
-use Rattle.relay_world.specs.Bound.{HasFate, IsBound, IsServed, IsTried}
+use Rattle.relay_world.specs.Bound.{IsBound, IsServed, IsTried}
 use Rattle.relay_world.specs.Steps.{BreakingKeeps}
-use Rattle.relay_world.specs.World.{Host}
 use Rattle.relay_world.proofs.LinkLemmas.{relinked}
-
--- what became of an attempt that doesn't run stays where the link breaks
-fate_broken : {D : Type 0} (host : Host D) (changes : List Change) (link : Link) (attempt : Attempt) (accept : Accept)
-    (output : List ℕ) (told : Bool) (verdicts : Option (List Verdict)) (fate : Fate) → ((slot : ℕ) → fate ≡ Running slot → ⊥)
-    → HasFate host changes link attempt accept output told verdicts fate
-    → HasFate host changes (record link { broken = true }) attempt accept output told verdicts fate
-fate_broken host changes link attempt accept output told verdicts (Running slot) ends is = absurd (ends slot refl)
-fate_broken host changes link attempt accept output told verdicts (Replied number) ends is = is
-fate_broken host changes link attempt accept output told verdicts (Lost number) ends is = is
-fate_broken host changes link attempt accept output told verdicts Dropped ends is = is
+use Rattle.relay_world.proofs.PieceLemmas.{fate_as}
 
 pub breaking_keeps : {D : Type 0} (honest : Type 0) (words : DiskWords D) → BreakingKeeps honest words
 breaking_keeps {D} honest words old new lists number bound breaks =
@@ -90,7 +74,7 @@ breaking_keeps {D} honest words old new lists number bound breaks =
             course = was.passes.course;
             wrote = was.passes.wrote;
             whole = λ is. absurd (false≢true (sym is));
-            fate = fate_broken was.host was.changes breaks.link was.attempt was.passes.accept was.passes.output was.passes.told
-                was.passes.verdicts was.attempt.fate (breaks.tried place was.attempt client was.attempt_at) was.passes.fate;
+            fate = fate_as was.host was.changes breaks.link broken was.attempt was.passes.accept was.passes.output was.passes.told
+                was.passes.verdicts was.attempt.fate refl was.passes.fate;
           };
         }

@@ -1,5 +1,5 @@
 -- What an attempt of a bound world claims, before an event and behind it.
-use Rattle.std.proofs.Common.{Bool, ◌≡◌, ◌≢◌, inl, inr, ℕ, zero, suc, true, List, [], ◌∷◌, length, None, Some, refl, sym, subst, ap, ◌∙◌, arith}
+use Rattle.std.proofs.Common.{◌≡◌, ◌≢◌, ◌⊎◌, inl, inr, ℕ, zero, suc, true, List, [], ◌∷◌, length, None, Some, refl, sym, subst, ap, ◌∙◌, arith}
 use Rattle.std.specs.Prelude.{slice_get}
 use Rattle.std.specs.List.{AllByRecursion, Contains}
 use Rattle.std.proofs.lemmas.List.{append-nil}
@@ -7,7 +7,8 @@ use Rattle.std.proofs.lemmas.Option.{none-some, same_Some}
 use Rattle.relay_octets.specs.Beginning.{Begins}
 use Rattle.relay_disk.specs.Device.{DiskWords}
 use Rattle.relay_book.specs.declared.change.Change.{Change}
-use Rattle.relay_book.specs.declared.change.Verdict.TheVariants.{Taken}
+use Rattle.relay_book.specs.declared.change.Change.TheVariants as change
+use Rattle.relay_book.specs.declared.change.Outcome.{Outcome}
 use Rattle.relay_book.specs.Marks.{change_at, message_at}
 use Rattle.relay_node.specs.Node.{Standing}
 use Rattle.relay_routes.specs.declared.config.Config.{Config}
@@ -19,13 +20,12 @@ use Rattle.relay_world.specs.declared.link.Link.{Link}
 use Rattle.relay_world.specs.Bound.{HasFate, HasLink, IsBound, IsTried, PassesOn, StandsAt}
 use Rattle.relay_world.specs.Children.{IsAttempt}
 use Rattle.relay_world.specs.Ledger.{accepts_on}
-use Rattle.relay_world.specs.Once.{Claims, ClaimsAt, GoesToHop, IsEndedBy, IsTriedOnce, TakesNone}
-use Rattle.relay_world.specs.Passing.{Rules}
+use Rattle.relay_world.specs.Once.{Claims, ClaimsAt, GivesUpNoHops, GoesToHop, HasNoHops, IsOutcomeOf, IsTriedOnce}
 use Rattle.relay_world.specs.Steps.{IsPut, IsPutAt}
 use Rattle.relay_world.specs.World.{Down, FromNoHop, Host, Undecided, Up, World, link_at}
 use Rattle.relay_world.proofs.ChildrenLemmas.{passes_of}
 use Rattle.relay_world.proofs.FrameLemmas.{ChangesStay}
-use Rattle.relay_world.proofs.GrowLemmas.{changes_kept, list_grown, messages_kept}
+use Rattle.relay_world.proofs.GrowLemmas.{changes_kept, list_grown, messages_kept, one_list}
 use Rattle.relay_world.proofs.MoveLemmas.{link_cases, put_cases}
 use Rattle.relay_world.proofs.OpenLemmas.{list_there}
 use Rattle.relay_world.proofs.UndecidedLemmas.{up_not_down}
@@ -58,6 +58,16 @@ claims_before old new place Dropped stay found claims = claims
 -- an attempt that goes on claims each of its places
 pub claims_running : (changes : List Change) (place slot : ℕ) (fate : Fate) → fate ≡ Running slot → Claims changes place fate
 claims_running changes place slot fate runs = subst (λ f. Claims changes place f) (sym runs) tt
+
+-- an outcome by which places have no hop is one by a list that has grown, with the same routes
+pub no_hops_kept : (before after : List Change) (one other : Config) (outcome : Outcome) → Begins before after → other ≡ one
+    → HasNoHops one.routes before outcome → HasNoHops other.routes after outcome
+no_hops_kept before after one other outcome begins same none =
+    subst (λ (c : Config). HasNoHops c.routes after outcome) (sym same) (record {
+      accept = none.accept;
+      accepted = messages_kept before after (changes_kept before after begins) outcome.message none.accept none.accepted;
+      each = none.each;
+    })
 
 module _ {D : Type 0} (honest : Type 0) (words : DiskWords D) where
   -- an attempt there, with all that it has
@@ -124,17 +134,29 @@ module _ {D : Type 0} (honest : Type 0) (words : DiskWords D) where
         (number : ℕ) (link : Link) → link_at new.links number ≡ Some link → link.server ≡ None
         → accepts_on number new.ledger ≡ []
 
-    -- who says Taken is an attempt that its replies ended
-    abbrev pub TakersKept : Type 0
-    TakersKept =
-        (node number place : ℕ) (changes : List Change) (dsn : Bool) → slice_get later node ≡ Some changes
-        → Rules changes number place (Taken dsn) → IsEndedBy new node number
+    -- an outcome is that of an attempt, or gives up places without a hop
+    abbrev pub OutcomesKept : Type 0
+    OutcomesKept =
+        (node number : ℕ) (host : Host D) (changes : List Change) (outcome : Outcome) → StandsAt new later node host changes
+        → change_at changes number ≡ Some (change.Outcome outcome)
+        → IsOutcomeOf new node number ⊎ HasNoHops host.config.routes changes outcome
 
-    -- and no undecided change of places that had no hop does
+    -- and so does an undecided change that came from no attempt
     abbrev pub GivenUpKept : Type 0
     GivenUpKept =
-        (node message : ℕ) (host : Host D) (disk : D) (undecided : Undecided) → slice_get new.hosts node ≡ Some host
-        → host.holder ≡ Down disk (Some undecided) → undecided.origin ≡ FromNoHop message → TakesNone undecided.note.octets
+        (node message : ℕ) (host : Host D) (changes : List Change) (disk : D) (undecided : Undecided)
+        → StandsAt new later node host changes → host.holder ≡ Down disk (Some undecided)
+        → undecided.origin ≡ FromNoHop message → GivesUpNoHops host.config.routes changes undecided.note.octets
+
+    -- a node whose records are the same has the list that it had
+    pub list_still : (n : ℕ) (was host : Host D) (changes : List Change) → slice_get old.hosts n ≡ Some was
+        → host.records ≡ was.records → StandsAt new later n host changes → slice_get lists n ≡ Some changes
+    list_still n was host changes at same stands =
+        let before = list_there old.hosts lists n was bound.even at in
+        before.1
+        ∙ ap (λ l. Some l) (sym (one_list was.records host.records before.0 changes
+        (bound.hosts n was before.0 (record { host_at = at; list_at = before.1 })).list
+        (now.hosts n host changes stands).list same))
 
     module _ (grow : HostsGrow) where
       -- the lists have grown
@@ -211,13 +233,13 @@ module _ {D : Type 0} (honest : Type 0) (words : DiskWords D) where
 
       -- where each attempt was there, and nothing came on a link that no node serves, no place is tried twice
       pub once_kept : ((at : ℕ) (attempt : Attempt) → slice_get new.attempts at ≡ Some attempt → WasThere at attempt)
-          → TakersKept → GivenUpKept → NoneOutside → IsTriedOnce new later
-      once_kept there takers given outside = record {
+          → OutcomesKept → GivenUpKept → NoneOutside → IsTriedOnce new later
+      once_kept there outcomes given outside = record {
         once = λ one other node message place mine yours. once.once one other node message place
             (claim_before one node message place mine (there one mine.attempt mine.is_there))
             (claim_before other node message place yours (there other yours.attempt yours.is_there));
         hops = λ at attempt is. hop_still at attempt is (there at attempt is).its;
-        takers = takers;
+        outcomes = outcomes;
         given_up = given;
         outside = outside;
       }
@@ -297,23 +319,36 @@ module _ {D : Type 0} (honest : Type 0) (words : DiskWords D) where
 
     -- the undecided changes, where one node has moved on, or none
     pub given_put : (node : ℕ) (moved : Host D) → IsPut old.hosts new.hosts node moved
-        → ((message : ℕ) (disk : D) (undecided : Undecided) → moved.holder ≡ Down disk (Some undecided)
-        → undecided.origin ≡ FromNoHop message → TakesNone undecided.note.octets) → GivenUpKept
-    given_put node moved put here n message host disk undecided at down origin =
-        elim (put_cases old.hosts new.hosts node moved put n host at) [
-          | inl same ↦ here message disk undecided (ap (λ (h : Host D). h.holder) same.1 ∙ down) origin
-          | inr other ↦ once.given_up n message host disk undecided other.1 down origin
+        → ((message : ℕ) (changes : List Change) (disk : D) (undecided : Undecided) → StandsAt new later node moved changes
+        → moved.holder ≡ Down disk (Some undecided) → undecided.origin ≡ FromNoHop message
+        → GivesUpNoHops moved.config.routes changes undecided.note.octets) → GivenUpKept
+    given_put node moved put here n message host changes disk undecided stands down origin =
+        elim (put_cases old.hosts new.hosts node moved put n host stands.host_at) [
+          | inl same ↦
+              subst (λ (h : Host D). GivesUpNoHops h.config.routes changes undecided.note.octets) same.1
+              (here message changes disk undecided (record {
+                host_at = put.at;
+                list_at = ap (λ k. slice_get later k) (sym same.0) ∙ stands.list_at;
+              }) (ap (λ (h : Host D). h.holder) same.1 ∙ down) origin)
+          | inr other ↦ once.given_up n message host changes disk undecided (record {
+            host_at = other.1;
+            list_at = list_still n host host changes other.1 refl stands;
+          }) down origin
         ]
 
     pub given_up_at : (node : ℕ) (host : Host D) (after : Standing D) (records : List (List ℕ))
         → IsPut old.hosts new.hosts node (record host { holder = Up after; records = records }) → GivenUpKept
     given_up_at node host after records put =
         given_put node (record host { holder = Up after; records = records }) put
-        (λ message disk undecided down origin. absurd (up_not_down after disk (Some undecided) down))
+        (λ message changes disk undecided stands down origin. absurd (up_not_down after disk (Some undecided) down))
 
     pub given_same : new.hosts ≡ old.hosts → GivenUpKept
-    given_same same n message host disk undecided at down origin =
-        once.given_up n message host disk undecided (ap (λ l. slice_get l n) (sym same) ∙ at) down origin
+    given_same same n message host changes disk undecided stands down origin =
+        let at = ap (λ l. slice_get l n) (sym same) ∙ stands.host_at in
+        once.given_up n message host changes disk undecided (record {
+          host_at = at;
+          list_at = list_still n host host changes at refl stands;
+        }) down origin
 
     -- the links, where one has changed, or none
     pub outside_put : (number : ℕ) (link : Link) → IsPutAt old.links new.links number link

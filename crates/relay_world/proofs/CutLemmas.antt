@@ -1,45 +1,32 @@
 -- A node on which nothing goes on but on one link, and that link, which is broken behind the event, have changed: what is the
 -- same for each event of that kind.
-use Rattle.std.proofs.Common.{◌≡◌, ◌≢◌, ◌≤◌, ℕ, Bool, true, List, length, take, Option, Some, refl, sym, subst, ap, ◌∙◌}
+use Rattle.std.proofs.Common.{◌≡◌, ◌≢◌, ◌≤◌, ℕ, true, List, length, take, Some, refl, sym, subst, ap, ◌∙◌}
 use Rattle.std.specs.Prelude.{slice_get}
 use Rattle.std.specs.List.{AllByRecursion}
 use Rattle.std.proofs.lemmas.Bool.{false≢true}
 use Rattle.std.proofs.lemmas.Option.{same_Some}
 use Rattle.relay_octets.specs.Beginning.{Begins}
 use Rattle.relay_disk.specs.Device.{DiskWords}
-use Rattle.relay_book.specs.declared.change.Accept.{Accept}
 use Rattle.relay_book.specs.declared.change.Change.{Change}
-use Rattle.relay_book.specs.declared.change.Verdict.{Verdict}
 use Rattle.relay_course.specs.Course.{IsCourse}
 use Rattle.relay_world.specs.declared.attempt.Attempt.{Attempt}
-use Rattle.relay_world.specs.declared.attempt.Fate.{Fate}
-use Rattle.relay_world.specs.declared.attempt.Fate.TheVariants.{Running, Replied, Lost, Dropped}
+use Rattle.relay_world.specs.declared.attempt.Fate.TheVariants.{Running}
 use Rattle.relay_world.specs.declared.link.Link.{Link}
 use Rattle.relay_world.specs.declared.link.ServerEnd.{ServerEnd}
-use Rattle.relay_world.specs.Bound.{HasFate, HasLink, HasSession, HasSlot, HostKeeps, IsBound, IsServed, IsTried, MayBeIn, PassesOn, ReadsWithin, StandsAt, link_of}
+use Rattle.relay_world.specs.Bound.{HasLink, HasSession, HasSlot, HostKeeps, IsBound, IsServed, IsTried, MayBeIn, PassesOn, ReadsWithin, StandsAt, link_of}
 use Rattle.relay_world.specs.Ledger.{accepts_on, steps_in, steps_of}
 use Rattle.relay_world.specs.Steps.{IsPut, IsPutAt}
 use Rattle.relay_world.specs.Stops.{NoSessionBut}
 use Rattle.relay_world.specs.World.{Down, Host, Undecided, World, link_at}
 use Rattle.relay_world.proofs.FrameLemmas.{ChangesStay, MessagesStay}
+use Rattle.relay_world.proofs.PieceLemmas.{fate_as}
 use Rattle.relay_world.proofs.MoveLemmas.{client_was, link_cases, link_kept, Moves, Settled, moved_keeps}
 
--- what became of an attempt that doesn't run stays on another link, and where what it has read stays
-fate_cut : {D : Type 0} (host : Host D) (changes : List Change) (link now : Link) (attempt : Attempt) (accept : Accept)
-    (output : List ℕ) (told : Bool) (verdicts : Option (List Verdict)) (fate : Fate) → ((slot : ℕ) → fate ≡ Running slot → ⊥)
-    → HasFate host changes link attempt accept output told verdicts fate
-    → HasFate host changes now attempt accept output told verdicts fate
-fate_cut host changes link now attempt accept output told verdicts (Running slot) ends is = absurd (ends slot refl)
-fate_cut host changes link now attempt accept output told verdicts (Replied number) ends is = is
-fate_cut host changes link now attempt accept output told verdicts (Lost number) ends is = is
-fate_cut host changes link now attempt accept output told verdicts Dropped ends is = is
-
--- a client end whose attempt doesn't run stays, on a link that is broken now, where what it has read and written stays
+-- a client end stays, on a link that is broken now, where what it has read and written stays
 pub passes_cut : {D : Type 0} (host : Host D) (changes : List Change) (link now : Link) (attempt : Attempt)
-    → ((slot : ℕ) → attempt.fate ≡ Running slot → ⊥)
     → take link.down_read link.down ≡ take now.down_read now.down → link.up ≡ now.up → now.broken ≡ true
     → PassesOn host changes link attempt → PassesOn host changes now attempt
-passes_cut host changes link now attempt ends read wrote broken passes = record {
+passes_cut host changes link now attempt read wrote broken passes = record {
   accept = passes.accept;
   accepted = passes.accepted;
   valid = passes.valid;
@@ -53,7 +40,7 @@ passes_cut host changes link now attempt ends read wrote broken passes = record 
       passes.told passes.output passes.verdicts) read passes.course;
   wrote = subst (λ l. Begins l passes.output) wrote passes.wrote;
   whole = λ is. absurd (false≢true (sym is ∙ broken));
-  fate = fate_cut host changes link now attempt passes.accept passes.output passes.told passes.verdicts attempt.fate ends
+  fate = fate_as host changes link now attempt passes.accept passes.output passes.told passes.verdicts attempt.fate read
       passes.fate;
 }
 

@@ -148,8 +148,8 @@ module _ {D : Type 0} (honest : Type 0) (words : DiskWords D) where
         tried.passes.verdicts (Running slot) =
         subst (λ f. HasFate tried.host tried.changes link.link tried.attempt tried.passes.accept tried.passes.output
         tried.passes.told tried.passes.verdicts f) (ap (λ (a : Attempt). a.fate) same ∙ has.runs) tried.passes.fate in
-        is_down tried.attempt.node tried.host fate.3.0 (ap (λ (a : Attempt). a.node) same ∙ has.its_node) tried.stands.host_at
-        fate.3.1
+        is_down tried.attempt.node tried.host fate.2.0 (ap (λ (a : Attempt). a.node) same ∙ has.its_node) tried.stands.host_at
+        fate.2.1
 
 -- what is undecided stays so where links, attempts and ledger do
 pub remains_same : {D : Type 0} (old new : World D) (node : ℕ) → new.links ≡ old.links → new.attempts ≡ old.attempts

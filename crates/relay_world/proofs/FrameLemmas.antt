@@ -100,7 +100,7 @@ module _ {D : Type 0} where
       → HasFate host changes link attempt accept output told verdicts fate
       → HasFate new later link attempt accept output told verdicts fate
   fate_on host new changes later link attempt accept output told verdicts (Running slot) stay tells is =
-      (is.0, is.1, is.2, tells slot refl (told_by attempt accept (take link.down_read link.down) output) is.3)
+      (is.0, is.1, tells slot refl (told_by attempt accept (take link.down_read link.down) output) is.2)
   fate_on host new changes later link attempt accept output told verdicts (Replied number) stay tells is =
       (is.0, (is.1.0, is.1.1, outcome_on attempt is.1.0 changes later number stay is.1.2))
   fate_on host new changes later link attempt accept output told verdicts (Lost number) stay tells is =

@@ -17,30 +17,31 @@ use Rattle.relay_world.specs.declared.line.Line.{Line}
 use Rattle.relay_world.specs.declared.link.Link.{Link}
 use Rattle.relay_world.specs.declared.link.ServerEnd.{ServerEnd}
 use Rattle.relay_world.specs.Bound.{HasFate, HasLink, HasSession, HasSlot, IsBound, IsServed, IsTried, PassesOn, ReadsWithin, SaysThere, ServesLink}
-use Rattle.relay_world.specs.HangUp.{HangingUpEnds, HangingUpKeeps, dropped, hung_up_attempt, hung_up_end, hung_up_link}
+use Rattle.relay_world.specs.HangUp.{HangingUpEnds, HangingUpKeeps, IsLetGo, broken_link, dropped, hung_up_attempt, hung_up_end, hung_up_link}
 use Rattle.relay_world.specs.World.{Host, World, link_at}
 use Rattle.relay_world.proofs.FateLemmas.{dropped_ends, lost_ends, replied_ends}
 use Rattle.relay_world.proofs.OpenLemmas.{lines_within}
-use Rattle.relay_world.proofs.PieceLemmas.{passes_as, same_number}
+use Rattle.relay_world.proofs.PieceLemmas.{passes_whole, same_number}
 use Rattle.relay_world.proofs.UndecidedLemmas.{Remains, still_may_be_in}
 
 -- a server end that is the same, or that has no session any more
-abbrev LooseServer : Option ServerEnd → Option ServerEnd → Type 0
+abbrev pub LooseServer : Option ServerEnd → Option ServerEnd → Type 0
 LooseServer was now =
     (now ≡ was) ⊎ ((end : ServerEnd) × (was ≡ Some end) × (now ≡ Some (record end { session = None })))
 
 -- a link that is the same, but perhaps without the session at its server end
-record Loose (was now : Link) : Type 0 where
+pub record Loose (was now : Link) : Type 0 where
   pub client : now.client ≡ was.client
   pub server : LooseServer was.server now.server
   pub up : now.up ≡ was.up
   pub up_read : now.up_read ≡ was.up_read
   pub down : now.down ≡ was.down
   pub down_read : now.down_read ≡ was.down_read
-  pub broken : now.broken ≡ was.broken
+  pub whole : now.broken ≡ false → was.broken ≡ false
+  pub broken : was.broken ≡ true → now.broken ≡ true
 
 -- an attempt that is the same, or that ran and is dropped
-abbrev LooseAttempt : Attempt → Attempt → Type 0
+abbrev pub LooseAttempt : Attempt → Attempt → Type 0
 LooseAttempt was now = (now ≡ was) ⊎ ((slot : ℕ) × (was.fate ≡ Running slot) × (now ≡ record was { fate = Dropped }))
 
 same_loose : (link : Link) → Loose link link
@@ -51,7 +52,8 @@ same_loose link = record {
   up_read = refl;
   down = refl;
   down_read = refl;
-  broken = refl;
+  whole = λ is. is;
+  broken = λ is. is;
 }
 
 loose_end : (mine : Bool) (end : ServerEnd)
@@ -71,7 +73,8 @@ loose_link node link = record {
   up_read = refl;
   down = refl;
   down_read = refl;
-  broken = refl;
+  whole = λ is. is;
+  broken = λ is. is;
 }
 
 loose_fate : (attempt : Attempt) (fate : Fate) → attempt.fate ≡ fate
@@ -101,13 +104,73 @@ onward : {A : Type 0} (f : A → A) (was now : Option A) (y : A) → (now ≡ wa
 onward f was now y (inl same) is = (y, same ∙ is, inl refl)
 onward f was now y (inr changed) is = (f y, changed ∙ ap (λ o. option_map f o) is, inr refl)
 
-loose_or : (node : ℕ) (was now : Link) → (now ≡ was) ⊎ (now ≡ hung_up_link node was) → Loose was now
-loose_or node was now (inl same) = subst (λ l. Loose was l) (sym same) (same_loose was)
-loose_or node was now (inr hung) = subst (λ l. Loose was l) (sym hung) (loose_link node was)
+loose_broken : (link : Link) → Loose link (broken_link link)
+loose_broken link = record {
+  client = refl;
+  server = inl refl;
+  up = refl;
+  up_read = refl;
+  down = refl;
+  down_read = refl;
+  whole = λ is. absurd (false≢true (sym is));
+  broken = λ is. refl;
+}
+
+loose_both : (node : ℕ) (link : Link) → Loose link (broken_link (hung_up_link node link))
+loose_both node link = record {
+  client = refl;
+  server = loose_server node link.server;
+  up = refl;
+  up_read = refl;
+  down = refl;
+  down_read = refl;
+  whole = λ is. absurd (false≢true (sym is));
+  broken = λ is. refl;
+}
+
+back_by : (f : Link → Link) → ((link : Link) → Loose link (f link)) → (was now : Option Link) (x : Link)
+    → now ≡ option_map f was → now ≡ Some x → (y : Link) × (was ≡ Some y) × Loose y x
+back_by f loose None now x changed is = absurd (none-some x (sym changed ∙ is))
+back_by f loose (Some y) now x changed is =
+    (y, refl, subst (λ l. Loose y l) (same_Some (f y) x (sym changed ∙ is)) (loose y))
+
+pub link_back : (node : ℕ) (was now : Option Link) (x : Link) → IsLetGo node was now → now ≡ Some x
+    → (y : Link) × (was ≡ Some y) × Loose y x
+link_back node was now x (inl same) is = (x, sym same ∙ is, same_loose x)
+link_back node was now x (inr (inl hung)) is = back_by (hung_up_link node) (loose_link node) was now x hung is
+link_back node was now x (inr (inr (inl broke))) is = back_by broken_link loose_broken was now x broke is
+link_back node was now x (inr (inr (inr both))) is =
+    back_by (λ link. broken_link (hung_up_link node link)) (loose_both node) was now x both is
+
+pub link_onward : (node : ℕ) (was now : Option Link) (y : Link) → IsLetGo node was now → was ≡ Some y
+    → (x : Link) × (now ≡ Some x) × Loose y x
+link_onward node was now y (inl same) is = (y, same ∙ is, same_loose y)
+link_onward node was now y (inr (inl hung)) is =
+    (hung_up_link node y, hung ∙ ap (λ o. option_map (hung_up_link node) o) is, loose_link node y)
+link_onward node was now y (inr (inr (inl broke))) is =
+    (broken_link y, broke ∙ ap (λ o. option_map broken_link o) is, loose_broken y)
+link_onward node was now y (inr (inr (inr both))) is = (
+  broken_link (hung_up_link node y),
+  both ∙ ap (λ o. option_map (λ link. broken_link (hung_up_link node link)) o) is,
+  loose_both node y,
+)
 
 attempt_or : (node : ℕ) (was now : Attempt) → (now ≡ was) ⊎ (now ≡ hung_up_attempt node was) → LooseAttempt was now
 attempt_or node was now (inl same) = inl same
 attempt_or node was now (inr hung) = subst (λ a. LooseAttempt was a) (sym hung) (loose_attempt node was)
+
+-- an attempt at a place now, and what it was; and the other way
+pub attempt_back : (node : ℕ) (was now : Option Attempt) (x : Attempt)
+    → (now ≡ was) ⊎ (now ≡ option_map (hung_up_attempt node) was) → now ≡ Some x
+    → (y : Attempt) × (was ≡ Some y) × LooseAttempt y x
+attempt_back node was now x each is =
+    let found = back (hung_up_attempt node) was now x each is in (found.0, found.1, attempt_or node found.0 x found.2)
+
+pub attempt_onward : (node : ℕ) (was now : Option Attempt) (y : Attempt)
+    → (now ≡ was) ⊎ (now ≡ option_map (hung_up_attempt node) was) → was ≡ Some y
+    → (x : Attempt) × (now ≡ Some x) × LooseAttempt y x
+attempt_onward node was now y each is =
+    let found = onward (hung_up_attempt node) was now y each is in (found.0, found.1, attempt_or node y found.0 found.2)
 
 -- a session there now was there before
 session_was : (was now : Link) (node session : ℕ) → Loose was now → HasSession now node session → HasSession was node session
@@ -161,7 +224,7 @@ module _ {D : Type 0} where
     answered = serves.answered;
     input = serves.input ∙ sym (ap (λ n. take n now.up) loose.up_read ∙ ap (λ (l : List ℕ). take was.up_read l) loose.up);
     wrote = subst (λ l. Begins l serves.said.output) (sym loose.down) serves.wrote;
-    whole = λ is. loose.down ∙ serves.whole (sym loose.broken ∙ is);
+    whole = λ is. loose.down ∙ serves.whole (loose.whole is);
     accepts = serves.accepts;
     stored = serves.stored;
     live = live serves.said serves.live;
@@ -199,8 +262,7 @@ module _ {D : Type 0} where
   }
 
   module _ (old : World D) (node : ℕ) (links : List Link) (attempts : List Attempt)
-      (each_link : (number : ℕ) → (link_at links number ≡ link_at old.links number)
-      ⊎ (link_at links number ≡ option_map (hung_up_link node) (link_at old.links number)))
+      (each_link : (number : ℕ) → IsLetGo node (link_at old.links number) (link_at links number))
       (each_attempt : (place : ℕ) → (slice_get attempts place ≡ slice_get old.attempts place)
       ⊎ (slice_get attempts place ≡ option_map (hung_up_attempt node) (slice_get old.attempts place))) where
     now : World D
@@ -214,8 +276,8 @@ module _ {D : Type 0} where
 
     was_link : (number : ℕ) (link : Link) → link_at links number ≡ Some link → WasLink number link
     was_link number link is =
-        let found = back (hung_up_link node) (link_at old.links number) (link_at links number) link (each_link number) is in
-        record { was = found.0; was_is = found.1; loose = loose_or node found.0 link found.2 }
+        let found = link_back node (link_at old.links number) (link_at links number) link (each_link number) is in
+        record { was = found.0; was_is = found.1; loose = found.2 }
 
     record IsLink (number : ℕ) (was : Link) : Type 0 where
       pub link : Link
@@ -224,8 +286,8 @@ module _ {D : Type 0} where
 
     is_link : (number : ℕ) (was : Link) → link_at old.links number ≡ Some was → IsLink number was
     is_link number was is =
-        let found = onward (hung_up_link node) (link_at old.links number) (link_at links number) was (each_link number) is in
-        record { link = found.0; link_is = found.1; loose = loose_or node was found.0 found.2 }
+        let found = link_onward node (link_at old.links number) (link_at links number) was (each_link number) is in
+        record { link = found.0; link_is = found.1; loose = found.2 }
 
     -- an attempt at a place, and what it was
     record WasAttempt (place : ℕ) (attempt : Attempt) : Type 0 where
@@ -264,7 +326,7 @@ module _ {D : Type 0} where
               up = still.loose.up;
               up_read = still.loose.up_read;
               down = still.loose.down;
-              broken = still.loose.broken ∙ broken;
+              broken = still.loose.broken broken;
             };
             accepts = refl;
           };
@@ -279,7 +341,7 @@ module _ {D : Type 0} where
               up = still.loose.up;
               down = still.loose.down;
               down_read = still.loose.down_read;
-              broken = still.loose.broken ∙ broken;
+              broken = still.loose.broken broken;
             };
             attempt_at = its.attempt_at ∙ ap (λ a. Some a) (dropped_stays attempt its.attempt its.loose its_fate);
           };
@@ -324,7 +386,7 @@ module _ {D : Type 0} where
           let read = sym (ap (λ n. take n link.down) its.loose.down_read
           ∙ ap (λ (l : List ℕ). take its.was.down_read l) its.loose.down) in
           let passes : PassesOn was.host was.changes link was.attempt =
-          passes_as was.host was.changes its.was link was.attempt read (sym its.loose.up) (sym its.loose.broken) was.passes in
+          passes_whole was.host was.changes its.was link was.attempt read (sym its.loose.up) its.loose.whole was.passes in
           let still : IsAttempt place was.attempt = is_attempt place was.attempt was.attempt_at in
           elim still.loose [
             | inl same ↦ record {
@@ -406,16 +468,16 @@ hanging_up_keeps honest words old new lists node bound hangs =
     (still_bound old node hangs.links hangs.attempts hangs.each_link hangs.each_attempt honest words lists bound hangs.grows)
 
 -- what stands in a row of which each was changed
-get_map : {A : Type 0} (f : A → A) (xs : List A) (n : ℕ) → slice_get (map f xs) n ≡ option_map f (slice_get xs n)
+pub get_map : {A : Type 0} (f : A → A) (xs : List A) (n : ℕ) → slice_get (map f xs) n ≡ option_map f (slice_get xs n)
 get_map f [] n = refl
 get_map f (x ∷ xs) zero = refl
 get_map f (x ∷ xs) (suc n) = get_map f xs n
 
-link_map : (f : Link → Link) (links : List Link) (number : ℕ) → link_at (map f links) number ≡ option_map f (link_at links number)
+pub link_map : (f : Link → Link) (links : List Link) (number : ℕ) → link_at (map f links) number ≡ option_map f (link_at links number)
 link_map f links zero = refl
 link_map f links (suc n) = get_map f links n
 
-as_long : {A : Type 0} (f : A → A) (xs : List A) → length xs ≤ length (map f xs)
+pub as_long : {A : Type 0} (f : A → A) (xs : List A) → length xs ≤ length (map f xs)
 as_long f [] = omega arith
 as_long f (x ∷ xs) = let rest = as_long f xs in omega (arith, rest)
 
@@ -454,16 +516,16 @@ server_was node (Some was) end is = (was, sym (same_Some (hung_up_end node was) 
 is_node : (number node : ℕ) → number ≡ node → nat_eq number node ≡ true
 is_node number node same = ap (λ n. nat_eq number n) (sym same) ∙ same_number number
 
-link_was : (f : Link → Link) (found : Option Link) (link : Link) → option_map f found ≡ Some link → (was : Link) × (link ≡ f was)
+pub link_was : (f : Link → Link) (found : Option Link) (link : Link) → option_map f found ≡ Some link → (was : Link) × (link ≡ f was)
 link_was f None link is = absurd (none-some link is)
 link_was f (Some was) link is = (was, sym (same_Some (f was) link is))
 
-attempt_was : (f : Attempt → Attempt) (found : Option Attempt) (attempt : Attempt) → option_map f found ≡ Some attempt
+pub attempt_was : (f : Attempt → Attempt) (found : Option Attempt) (attempt : Attempt) → option_map f found ≡ Some attempt
     → (was : Attempt) × (attempt ≡ f was)
 attempt_was f None attempt is = absurd (none-some attempt is)
 attempt_was f (Some was) attempt is = (was, sym (same_Some (f was) attempt is))
 
-no_session : (node : ℕ) (link : Link) (session : ℕ) → HasSession (hung_up_link node link) node session → ⊥
+pub no_session : (node : ℕ) (link : Link) (session : ℕ) → HasSession (hung_up_link node link) node session → ⊥
 no_session node link session has =
     let was = server_was node link.server has.end has.serves in
     let owner : was.0.node ≡ node =
@@ -471,7 +533,7 @@ no_session node link session has =
     no_session_if (nat_eq was.0.node node) was.0 session (is_node was.0.node node owner)
     (ap (λ (e : ServerEnd). e.session) (sym was.1) ∙ has.its_session)
 
-no_attempt : (node : ℕ) (attempt : Attempt) (slot : ℕ) → HasSlot (hung_up_attempt node attempt) node slot → ⊥
+pub no_attempt : (node : ℕ) (attempt : Attempt) (slot : ℕ) → HasSlot (hung_up_attempt node attempt) node slot → ⊥
 no_attempt node attempt slot has =
     let owner : attempt.node ≡ node = sym (owner_same (nat_eq attempt.node node) attempt) ∙ has.its_node in
     no_run_if (nat_eq attempt.node node) attempt slot (is_node attempt.node node owner) has.runs
@@ -480,7 +542,7 @@ pub hanging_up_ends : (D : Type 0) → HangingUpEnds D
 hanging_up_ends D world node = (
   record {
     links = map (hung_up_link node) world.links;
-    each_link = λ number. inr (link_map (hung_up_link node) world.links number);
+    each_link = λ number. inr (inl (link_map (hung_up_link node) world.links number));
     grows = as_long (hung_up_link node) world.links;
     attempts = map (hung_up_attempt node) world.attempts;
     each_attempt = λ place. inr (get_map (hung_up_attempt node) world.attempts place);

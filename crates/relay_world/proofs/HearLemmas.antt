@@ -5,6 +5,7 @@ use Rattle.std.specs.List.{AllByRecursion}
 use Rattle.std.proofs.Math.Numerals.{add-one}
 use Rattle.std.proofs.lemmas.List.{append-nil, map-append}
 use Rattle.std.proofs.lemmas.Option.{none-some, same_Some}
+use Rattle.relay_octets.specs.Beginning.{Begins}
 use Rattle.relay_disk.specs.Device.{DiskWords}
 use Rattle.relay_slots.specs.Slots.{slot_at}
 use Rattle.relay_server.specs.declared.offer.Answer.TheVariants.{Queued}
@@ -34,13 +35,13 @@ use Rattle.relay_world.specs.declared.link.Link.{Link}
 use Rattle.relay_world.specs.declared.link.ServerEnd.{ServerEnd}
 use Rattle.relay_world.specs.Bound.{HasSession, HostKeeps, IsBound, IsServed, IsStored, IsStoredAs, IsTried, NodeKeeps, ReadsWithin, SaysThere, ServesLink, StandsAt, link_of}
 use Rattle.relay_world.specs.Ledger.{Accepts, accepts_on, steps_in, steps_of}
-use Rattle.relay_world.specs.Steps.{RecordsHeard, HasHeard, HearingKeeps, IsPut, heard_link, session_after, waiting_up, without_note}
+use Rattle.relay_world.specs.Steps.{RecordsHeard, HasHeard, HearingKeeps, IsPut, heard_link, session_after, unless_broken, waiting_up, without_note}
 use Rattle.relay_world.specs.World.{Host, Up, World, link_at}
 use Rattle.relay_world.proofs.FrameLemmas.{TellsOn, accepts_on_more, changes_stay, get_last, steps_in_more, steps_more, stored_on}
-use Rattle.relay_world.proofs.MoveLemmas.{link_cases, client_was, links_kept, Joins, Moves, moved_keeps, same_attempts, same_slots, still_tried}
-use Rattle.relay_world.proofs.UndecidedLemmas.{not_broken, up_not_down}
+use Rattle.relay_world.proofs.MoveLemmas.{link_cases, client_was, links_kept, Joins, Moves, Settled, moved_keeps, same_attempts, same_slots, still_tried}
+use Rattle.relay_world.proofs.UndecidedLemmas.{up_not_down}
 use Rattle.relay_world.proofs.OpenLemmas.{lines_within, number_within, list_there, node_kept, off_by, same_Up, still_says}
-use Rattle.relay_world.proofs.PieceLemmas.{read_more, all_append, still_answered, still_numbered, reports_more, with_at, with_at-length, with_at-put, same_number, kept_without_note, passes_as, read_stays, few_within, read_within}
+use Rattle.relay_world.proofs.PieceLemmas.{begins_more, written_broken, written_whole, read_more, all_append, still_answered, still_numbered, reports_more, with_at, with_at-length, with_at-put, same_number, kept_without_note, passes_as, read_stays, few_within, read_within}
 
 -- an accept, as the ledger tells of it
 abbrev accept_told : ℕ × Offered → ℕ × ℕ
@@ -113,8 +114,17 @@ module _ {D : Type 0} (honest : Type 0) (words : DiskWords D) (old new : World D
         (subst (λ c. SaysAt c heard.after.seats heard.of.session heard.of.end.peer talk.later) its_node.config_is goes),
   )
 
-  written : heard.of.link.down ++ heard.received.out.items ≡ talk.later.output
-  written = ap (λ l. l ++ heard.received.out.items) (was.whole heard.whole) ∙ sym talk.talks.output
+  abbrev out_now : List ℕ
+  out_now = unless_broken heard.of.link heard.received.out.items
+
+  written : heard.of.link.broken ≡ false → heard.of.link.down ++ out_now ≡ talk.later.output
+  written whole =
+      ap (λ l. heard.of.link.down ++ l) (written_whole heard.of.link heard.received.out.items whole)
+      ∙ ap (λ l. l ++ heard.received.out.items) (was.whole whole) ∙ sym talk.talks.output
+
+  wrote : Begins (heard.of.link.down ++ out_now) talk.later.output
+  wrote = subst (λ l. Begins (heard.of.link.down ++ out_now) l) (sym talk.talks.output)
+      (begins_more heard.of.link.broken heard.of.link.down was.said.output heard.received.out.items was.wrote was.whole)
 
   input_now : talk.later.input ≡ take (heard.of.link.up_read + heard.received.used) heard.of.link.up
   input_now =
@@ -136,8 +146,8 @@ module _ {D : Type 0} (honest : Type 0) (words : DiskWords D) (old new : World D
     numbered = numbered;
     answered = answered;
     input = input_now;
-    wrote = ([], sym written ∙ sym (append-nil (heard.of.link.down ++ heard.received.out.items)));
-    whole = λ _. written;
+    wrote = wrote;
+    whole = written;
     accepts = accepts;
     stored = stored;
     live = live_by after seats records heard.received.close talk.goes_on;
@@ -168,7 +178,7 @@ module _ {D : Type 0} (honest : Type 0) (words : DiskWords D) (old new : World D
   reads_now = record {
     up = read_within heard.of.link.up_read heard.received.used count heard.of.link.up (bound.reads number heard.of.link heard.of.link_is).up
         heard.used;
-    down = few_within heard.of.link.down_read heard.of.link.down heard.received.out.items
+    down = few_within heard.of.link.down_read heard.of.link.down out_now
         (bound.reads number heard.of.link heard.of.link_is).down;
   }
 
@@ -205,7 +215,7 @@ module _ {D : Type 0} (honest : Type 0) (words : DiskWords D) (old new : World D
           stands = tried.stands;
           passes = passes_as tried.host tried.changes heard.of.link
               (heard_link heard.of.link heard.of.end heard.of.session heard.received) tried.attempt
-              (read_stays heard.of.link.down_read heard.of.link.down heard.received.out.items
+              (read_stays heard.of.link.down_read heard.of.link.down out_now
               (bound.reads number heard.of.link heard.of.link_is).down) refl refl tried.passes;
         };
     reads = reads_now;
@@ -215,10 +225,38 @@ module _ {D : Type 0} (honest : Type 0) (words : DiskWords D) (old new : World D
         heard.rest.0 bound.attempts;
     apart = λ other its at session off is mine yours. joins_apart other its at session off is mine yours;
     settled = λ was there broken.
-        absurd (not_broken old.links number heard.of.link was heard.of.link_is heard.whole there broken);
+        let same : heard.of.link ≡ was = same_Some heard.of.link was (sym heard.of.link_is ∙ there) in
+        subst (λ l. Settled honest words old new lists lists_now heard.of.end.node number heard.of.host
+        (record heard.of.host { holder = Up after; records = records }) listed.0 grown
+        (heard_link heard.of.link heard.of.end heard.of.session heard.received) l) same
+        (settled (ap (λ (l : Link). l.broken) same ∙ broken));
     may_be_in = λ disk undecided down. absurd (up_not_down after disk (Some undecided) down);
   }
     where
+      -- the session was going on, so nothing undecided rests on its end; and on a broken link nothing was written
+      settled : heard.of.link.broken ≡ true
+          → Settled honest words old new lists lists_now heard.of.end.node number heard.of.host
+          (record heard.of.host { holder = Up after; records = records }) listed.0 grown
+          (heard_link heard.of.link heard.of.end heard.of.session heard.received) heard.of.link
+      settled broken = record {
+        serves = λ end serves off ended.
+            absurd (none-some heard.of.session (sym ended ∙ ap (λ (e : ServerEnd). e.session)
+            (same_Some end heard.of.end (sym serves ∙ heard.of.serves)) ∙ heard.of.goes_on));
+        tries = λ place attempt client at off dropped. record {
+          now = heard_link heard.of.link heard.of.end heard.of.session heard.received;
+          now_is = heard.links.at;
+          stays = record {
+            client = refl;
+            up = refl;
+            down = ap (λ l. heard.of.link.down ++ l) (written_broken heard.of.link heard.received.out.items broken)
+                ∙ append-nil heard.of.link.down;
+            down_read = refl;
+            broken = broken;
+          };
+          attempt_at = same_attempts old.attempts new.attempts heard.rest.0 place attempt at;
+        };
+      }
+
       session_by : (close : Bool) (session : ℕ) → session_after close heard.of.session ≡ Some session → heard.of.session ≡ session
       session_by true session is = absurd (none-some session is)
       session_by false session is = same_Some heard.of.session session is

@@ -1,5 +1,5 @@
 -- Each event keeps a place from being tried twice.
-use Rattle.std.proofs.Common.{◌≡◌, ◌⊎◌, inl, inr, ◌+◌, ℕ, zero, suc, Bool, true, false, ◌&&◌, ◌||◌, List, [], ◌∷◌, ◌++◌, length, Option, None, Some, bytes_eq, refl, sym, subst, ap, ◌∙◌, arith, cond}
+use Rattle.std.proofs.Common.{◌≡◌, ◌⊎◌, inl, inr, ℕ, zero, suc, Bool, true, false, ◌&&◌, ◌||◌, List, [], ◌∷◌, length, Option, None, Some, bytes_eq, refl, sym, subst, ap, ◌∙◌, arith}
 use Rattle.std.specs.Prelude.{nat_le, slice_get}
 use Rattle.std.specs.List.{Contains, list_any}
 use Rattle.std.specs.Option.{option_map_or}
@@ -19,7 +19,7 @@ use Rattle.relay_book.specs.Queue.{holds_at, is_due_at, is_held}
 use Rattle.relay_book.proofs.Theorems.{fold_finds, fold_knows}
 use Rattle.relay_routes.specs.declared.config.Config.{Config}
 use Rattle.relay_attempts.specs.declared.runs.Run.{Run}
-use Rattle.relay_attempts.specs.Hops.{due_places_in, goes_to, hop_of_place, is_due_for, places_where}
+use Rattle.relay_attempts.specs.Hops.{due_places_in, goes_to, hop_of_place, is_due_for}
 use Rattle.relay_attempts.specs.Runs.{is_run_for, is_running}
 use Rattle.relay_node.specs.Attempts.{Begins}
 use Rattle.relay_node.specs.Node.{Standing}
@@ -34,42 +34,15 @@ use Rattle.relay_world.specs.Once.{Claims, ClaimsAt, GoesToHop, IsTriedOnce}
 use Rattle.relay_world.specs.Passing.{Rules}
 use Rattle.relay_world.specs.Steps.{HasStarted}
 use Rattle.relay_world.specs.World.{Host, Up, World, link_at}
-use Rattle.relay_world.proofs.AmongLemmas.{all_by, all_of, found_in, in_cons, in_none}
+use Rattle.relay_world.proofs.AmongLemmas.{all_by, all_of, found_in}
 use Rattle.relay_world.proofs.ChildrenLemmas.{passes_of}
 use Rattle.relay_world.proofs.ClaimLemmas.{given_up_at, HostsGrow, NoneOutside, claim_before, hop_still, hosts_put, known_attempt, list_before, outside_put, was_same}
 use Rattle.relay_world.proofs.HeldLemmas.{transferred_by}
 use Rattle.relay_world.proofs.GrowLemmas.{changes_kept, messages_kept}
 use Rattle.relay_world.proofs.MoveLemmas.{put_cases}
+use Rattle.relay_world.proofs.PlaceLemmas.{passing_there}
 use Rattle.relay_world.proofs.TakerLemmas.{ended_before, lists_stay, takers_kept}
 use Rattle.relay_world.proofs.OpenLemmas.{list_there, node_kept, none_accepted, same_Up}
-
--- a place that passes a test is there, and passes it
-abbrev IsThere : (ℕ → Place → Bool) → ℕ → List Place → ℕ → Type 0
-IsThere test n places number =
-    (k : ℕ) × (place : Place) × (number ≡ n + k) × (slice_get places k ≡ Some place) × (test number place ≡ true)
-
-there_first : (is : Bool) (test : ℕ → Place → Bool) (n : ℕ) (place : Place) (places : List Place) (rest : List ℕ) (number : ℕ)
-    → test n place ≡ is → (Contains rest number → IsThere test (suc n) places number)
-    → Contains (cond is (n ∷ []) [] ++ rest) number → IsThere test n (place ∷ places) number
-there_first true test n place places rest number passes more has = by (in_cons n number rest has)
-  where
-    by : (n ≡ number) ⊎ Contains rest number → IsThere test n (place ∷ places) number
-    by (inl same) = (0, place, omega (arith, same), refl, subst (λ m. test m place ≡ true) same passes)
-    by (inr behind) =
-        let there = more behind in
-        let at = there.2 in
-        (suc there.0, there.1, omega (arith, at), there.3, there.4)
-there_first false test n place places rest number passes more has =
-    let there = more has in
-    let at = there.2 in
-    (suc there.0, there.1, omega (arith, at), there.3, there.4)
-
-passing_there : (test : ℕ → Place → Bool) (n : ℕ) (places : List Place) (number : ℕ)
-    → Contains (places_where test n places) number → IsThere test n places number
-passing_there test n [] number has = absurd (in_none number has)
-passing_there test n (place ∷ places) number has =
-    there_first (test n place) test n place places (places_where test (suc n) places) number refl
-    (λ behind. passing_there test (suc n) places number behind) has
 
 -- a place that is due is held, and goes to the hop
 pub due_there : (config : Config) (message : Message) (hop : List ℕ) (now place : ℕ)
@@ -184,11 +157,11 @@ module _ {D : Type 0} (honest : Type 0) (words : DiskWords D) (old new : World D
     not_running : (slot : ℕ) → claim.attempt.fate ≡ Running slot → ⊥
     not_running slot is =
         let fate = fate_is (Running slot) is in
-        let same_node : fate.3.0 ≡ starts.before =
-        same_Up fate.3.0 starts.before (sym fate.3.1 ∙ ap (λ (h : Host D). h.holder) same_host ∙ starts.up) in
-        false≢true (sym begins.free ∙ run_there starts.before.attempts slot message hop fate.3.2.run
-        (ap (λ (n : Standing D). slot_at n.attempts slot) (sym same_node) ∙ fate.3.2.at)
-        (fate.3.2.its_message ∙ claim.its_message) (fate.3.2.its_hop ∙ same_hop))
+        let same_node : fate.2.0 ≡ starts.before =
+        same_Up fate.2.0 starts.before (sym fate.2.1 ∙ ap (λ (h : Host D). h.holder) same_host ∙ starts.up) in
+        false≢true (sym begins.free ∙ run_there starts.before.attempts slot message hop fate.2.2.run
+        (ap (λ (n : Standing D). slot_at n.attempts slot) (sym same_node) ∙ fate.2.2.at)
+        (fate.2.2.its_message ∙ claim.its_message) (fate.2.2.its_hop ∙ same_hop))
 
     -- or it would have passed a place on that is held
     not_taken : (change : ℕ) → claim.attempt.fate ≡ Replied change → (dsn : Bool)
@@ -298,7 +271,7 @@ module _ {D : Type 0} (honest : Type 0) (words : DiskWords D) (old new : World D
           | inr there ↦ hop_still honest words old new lists later bound once now grow at attempt is
               (was_same honest words old new lists later bound once now at attempt there.1).its
         ];
-    takers = takers_kept honest words old new lists later bound once now grow
+    outcomes = takers_kept honest words old new lists later bound once now grow
         (lists_stay honest words old new lists later bound once now starts.attempt.node starts.host
         (record starts.host { holder = Up starts.after }) starts.host_at starts.hosts refl)
         (ended_before honest words old new lists later bound once now starts.attempt starts.attempts);

@@ -1,5 +1,5 @@
 -- An outcome that a node has recorded of an attempt keeps a world bound.
-use Rattle.std.proofs.Common.{◌≡◌, ℕ, List, [], ◌∷◌, ◌++◌, length, Some, sym, ap, ◌∙◌}
+use Rattle.std.proofs.Common.{◌≡◌, true, ℕ, List, [], ◌∷◌, ◌++◌, length, Some, sym, ap, ◌∙◌}
 use Rattle.relay_disk.specs.Device.{DiskWords}
 use Rattle.relay_slots.specs.Slots.{OthersStay}
 use Rattle.relay_book.specs.declared.change.Accept.{Accept}
@@ -29,6 +29,7 @@ pub record GoesOnAs (link now : Link) (more : List ℕ) : Type 0 where
   pub client : now.client ≡ link.client
   pub server : now.server ≡ link.server
   pub up : now.up ≡ link.up ++ more
+  pub silent : link.broken ≡ true → more ≡ []
   pub up_read : now.up_read ≡ link.up_read
   pub down : now.down ≡ link.down
   pub broken : now.broken ≡ link.broken
@@ -86,6 +87,7 @@ module _ {D : Type 0} (honest : Type 0) (words : DiskWords D) (old new : World D
         client = goes_on.client;
         server = goes_on.server;
         up = goes_on.up;
+        silent = goes_on.silent;
         up_read = goes_on.up_read;
         down = goes_on.down;
         broken = goes_on.broken;

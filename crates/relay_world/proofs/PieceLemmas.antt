@@ -1,5 +1,5 @@
 -- Of pieces of octets, answers, and what stays of an attempt.
-use Rattle.std.proofs.Common.{inl, inr, ◌≡◌, ◌≢◌, ◌≤◌, ◌+◌, ℕ, zero, suc, nat_eq, Bool, true, List, [], ◌∷◌, ◌++◌, length, take, drop, Option, None, Some, refl, sym, subst, ap, ◌∙◌, arith}
+use Rattle.std.proofs.Common.{inl, inr, ◌≡◌, ◌≢◌, ◌≤◌, ◌+◌, ℕ, zero, suc, nat_eq, Bool, true, false, cond, List, [], ◌∷◌, ◌++◌, length, take, drop, Option, None, Some, refl, sym, subst, ap, ◌∙◌, arith}
 use Rattle.std.specs.Prelude.{slice_get}
 use Rattle.std.specs.List.{AllByRecursion}
 use Rattle.std.proofs.Math.Seq.{take-add}
@@ -24,7 +24,7 @@ use Rattle.relay_world.specs.declared.attempt.Fate.{Fate}
 use Rattle.relay_world.specs.declared.attempt.Fate.TheVariants.{Running, Replied, Lost, Dropped}
 use Rattle.relay_world.specs.declared.link.Link.{Link}
 use Rattle.relay_world.specs.Bound.{HasFate, told_by, PassesOn, ReportsBehind}
-use Rattle.relay_world.specs.Steps.{IsPut}
+use Rattle.relay_world.specs.Steps.{IsPut, unless_broken}
 use Rattle.relay_world.specs.World.{Host}
 
 pub take_within : {A : Type 0} (few many : ℕ) (xs : List A) → few ≤ length (take many xs) → take few (take many xs) ≡ take few xs
@@ -126,28 +126,28 @@ kept_without_note honest words records changes keeps = record {
 -- what became of an attempt stays where what it has read stays
 pub fate_as : {D : Type 0} (host : Host D) (changes : List Change) (link same : Link) (attempt : Attempt) (accept : Accept)
     (output : List ℕ) (told : Bool) (verdicts : Option (List Verdict)) (fate : Fate)
-    → take link.down_read link.down ≡ take same.down_read same.down → link.broken ≡ same.broken
+    → take link.down_read link.down ≡ take same.down_read same.down
     → HasFate host changes link attempt accept output told verdicts fate
     → HasFate host changes same attempt accept output told verdicts fate
-fate_as {D} host changes link same attempt accept output told verdicts (Running slot) read broken is = (
+fate_as {D} host changes link same attempt accept output told verdicts (Running slot) read is = (
   is.0,
   is.1,
-  sym broken ∙ is.2,
   (
-    is.3.0,
-    is.3.1,
-    subst (λ l. Tells host.config.host changes is.3.0.attempts slot (told_by attempt accept l output)) read is.3.2,
+    is.2.0,
+    is.2.1,
+    subst (λ l. Tells host.config.host changes is.2.0.attempts slot (told_by attempt accept l output)) read is.2.2,
   ),
 )
-fate_as host changes link same attempt accept output told verdicts (Replied number) read broken is = is
-fate_as host changes link same attempt accept output told verdicts (Lost number) read broken is = is
-fate_as host changes link same attempt accept output told verdicts Dropped read broken is = is
+fate_as host changes link same attempt accept output told verdicts (Replied number) read is = is
+fate_as host changes link same attempt accept output told verdicts (Lost number) read is = is
+fate_as host changes link same attempt accept output told verdicts Dropped read is = is
 
 -- a client end stays what it is where what it has read and written stays
-pub passes_as : {D : Type 0} (host : Host D) (changes : List Change) (link same : Link) (attempt : Attempt)
-    → take link.down_read link.down ≡ take same.down_read same.down → link.up ≡ same.up → link.broken ≡ same.broken
+pub passes_whole : {D : Type 0} (host : Host D) (changes : List Change) (link same : Link) (attempt : Attempt)
+    → take link.down_read link.down ≡ take same.down_read same.down → link.up ≡ same.up
+    → (same.broken ≡ false → link.broken ≡ false)
     → PassesOn host changes link attempt → PassesOn host changes same attempt
-passes_as host changes link same attempt read wrote broken passes = record {
+passes_whole host changes link same attempt read wrote broken passes = record {
   accept = passes.accept;
   accepted = passes.accepted;
   valid = passes.valid;
@@ -160,10 +160,16 @@ passes_as host changes link same attempt read wrote broken passes = record {
   course = subst (λ l. IsCourse host.config.host passes.accept.envelope passes.accept.stored_text attempt.places.items l
       passes.told passes.output passes.verdicts) read passes.course;
   wrote = subst (λ l. Begins l passes.output) wrote passes.wrote;
-  whole = λ is. sym wrote ∙ passes.whole (broken ∙ is);
-  fate = fate_as host changes link same attempt passes.accept passes.output passes.told passes.verdicts attempt.fate read broken
+  whole = λ is. sym wrote ∙ passes.whole (broken is);
+  fate = fate_as host changes link same attempt passes.accept passes.output passes.told passes.verdicts attempt.fate read
       passes.fate;
 }
+
+pub passes_as : {D : Type 0} (host : Host D) (changes : List Change) (link same : Link) (attempt : Attempt)
+    → take link.down_read link.down ≡ take same.down_read same.down → link.up ≡ same.up → link.broken ≡ same.broken
+    → PassesOn host changes link attempt → PassesOn host changes same attempt
+passes_as host changes link same attempt read wrote broken passes =
+    passes_whole host changes link same attempt read wrote (λ is. broken ∙ is) passes
 
 -- what is read of octets stays where more is written behind them
 pub read_stays : {A : Type 0} (read : ℕ) (xs ys : List A) → read ≤ length xs → take read xs ≡ take read (xs ++ ys)
@@ -182,3 +188,20 @@ read_within read used count xs within few =
     let rest = ap length (take-append-drop count (drop read xs)) in
     let pieces = length-append (take count (drop read xs)) (drop count (drop read xs)) in
     omega (arith, within, few, whole, parts, first, rest, pieces)
+
+-- what an end writes is on its link, where that is whole, and begins what was written, where it isn't
+pub written_whole : (link : Link) (octets : List ℕ) → link.broken ≡ false → unless_broken link octets ≡ octets
+written_whole link octets whole = ap (λ b. cond b [] octets) whole
+
+pub written_broken : (link : Link) (octets : List ℕ) → link.broken ≡ true → unless_broken link octets ≡ []
+written_broken link octets broken = ap (λ b. cond b [] octets) broken
+
+pub begins_more : (broken : Bool) (was output more : List ℕ) → Begins was output → (broken ≡ false → was ≡ output)
+    → Begins (was ++ cond broken [] more) (output ++ more)
+begins_more true was output more begins whole = (
+  begins.0 ++ more,
+  ap (λ l. l ++ more) begins.1 ∙ append_assoc was begins.0 more
+      ∙ ap (λ l. l ++ (begins.0 ++ more)) (sym (append-nil was)),
+)
+begins_more false was output more begins whole =
+    ([], ap (λ l. l ++ more) (sym (whole refl)) ∙ sym (append-nil (was ++ more)))

@@ -1,22 +1,32 @@
 -- Two relays keep what they promise.
-use Rattle.std.proofs.Common.{ℕ, List}
+use Rattle.std.proofs.Common.{◌≡◌, ℕ, List, Some, sym, subst, ap, ◌∙◌}
+use Rattle.std.specs.Prelude.{slice_get}
+use Rattle.std.proofs.lemmas.Option.{same_Some}
 use Rattle.relay_disk.specs.Device.{DiskWords}
 use Rattle.relay_book.specs.declared.change.Change.{Change}
 use Rattle.relay_book.specs.declared.fate.Way.TheVariants.{ByEnd}
 use Rattle.relay_book.specs.Marks.{Ended, First, Held, IsOneOf, Second, Third, Transferred}
 use Rattle.relay_world.specs.Bound.{IsBound, StandsAt}
 use Rattle.relay_world.specs.Custody.{KeepsCustody}
+use Rattle.relay_world.specs.declared.attempt.Attempt.{Attempt}
+use Rattle.relay_world.specs.declared.link.Link.{Link}
+use Rattle.relay_world.specs.Children.{IsAttempt}
+use Rattle.relay_world.specs.HopLinks.{AreLinkedToHops, IsLinkedToHop, LeadsTo}
 use Rattle.relay_world.specs.Once.{IsTriedOnce}
 use Rattle.relay_world.specs.Promise.{HasCome, HasEnded, IsHeld, IsPassedOn, KeepsPromise, PromiseIsKept}
 use Rattle.relay_world.specs.World.{Host, World}
+use Rattle.relay_world.proofs.ChildrenLemmas.{at_most_one_child}
 use Rattle.relay_world.proofs.ContentLemmas.{content_is_kept}
 use Rattle.relay_world.proofs.CopiesLemmas.{copies_are_few}
 use Rattle.relay_world.proofs.CustodyLemmas.{custody_is_kept}
-use Rattle.relay_world.proofs.RunLemmas.{runs_keep_both}
+use Rattle.relay_world.proofs.GrowthLemmas.{grown_lists_begin, runs_grow}
+use Rattle.relay_world.proofs.LeavingLemmas.{leaving_is_caused}
+use Rattle.relay_world.proofs.PassingLemmas.{others_are_not_held}
+use Rattle.relay_world.proofs.RunLemmas.{runs_keep_all}
 use Rattle.relay_world.proofs.TransferLemmas.{transferred_is_accepted}
 
 module _ {D : Type 0} (honest : Type 0) (words : DiskWords D) (world : World D) (lists : List (List Change))
-    (bound : IsBound honest words world lists) (once : IsTriedOnce world lists) where
+    (bound : IsBound honest words world lists) (once : IsTriedOnce world lists) (linked : AreLinkedToHops world) where
   custody : (node : ℕ) (host : Host D) (changes : List Change) → StandsAt world lists node host changes
       → KeepsCustody honest words world node host changes
   custody node host changes stands = custody_is_kept honest words world lists bound node host changes stands
@@ -27,15 +37,39 @@ module _ {D : Type 0} (honest : Type 0) (words : DiskWords D) (world : World D) 
       → HasCome world lists node host changes number place
   come node host changes stands number place (First held not_taken not_ended) = IsHeld held
   come node host changes stands number place (Second not_held taken not_ended) =
-      IsPassedOn (transferred_is_accepted honest words world lists bound once node host changes stands number place taken)
+      IsPassedOn (transferred_is_accepted honest words world lists bound once linked node host changes stands number place taken)
   come node host changes stands number place (Third not_held not_taken ended) =
-      HasEnded ended.0 ((custody node host changes stands).left ended.0 number place ByEnd ended.1)
+      let left = (custody node host changes stands).left ended.0 number place ByEnd ended.1 in
+      HasEnded ended.0 left
+      (leaving_is_caused honest words world lists bound once node host changes stands ended.0 number place ByEnd left.leaves)
+
+  -- the link of an attempt leads to the node that has the name of its hop
+  leads_there : (host : Host D) (changes : List Change) (link : Link) (attempt : Attempt)
+      → IsAttempt world lists host changes link attempt → (next : ℕ) (at_next : Host D)
+      → slice_get world.hosts next ≡ Some at_next → at_next.config.host ≡ attempt.hop → LeadsTo world attempt link next
+  leads_there host changes link attempt is next at_next there name =
+      let is_linked : IsLinkedToHop world attempt = linked is.at attempt is.is_there in
+      subst (λ l. LeadsTo world attempt l next) (same_Some is_linked.link link (sym is_linked.its_link ∙ is.its_link))
+      (is_linked.to_node next at_next there name)
 
   pub promise : KeepsPromise honest words world lists
   promise = record {
     recipients = λ node host changes stands number places place told within.
         let its : KeepsCustody honest words world node host changes = custody node host changes stands in
         come node host changes stands number place (its.one_of number place (its.acknowledged number places place told within));
+    added = λ node host changes stands number place is.
+        let its : KeepsCustody honest words world node host changes = custody node host changes stands in
+        come node host changes stands number place (its.one_of number place is);
+    transferred = λ node host changes stands number place taken.
+        transferred_is_accepted honest words world lists bound once linked node host changes stands number place taken;
+    children = λ host changes link attempt is next at_next others there name.
+        let leads = leads_there host changes link attempt is next at_next there.host_at name in
+        at_most_one_child honest words world lists bound host changes link attempt is leads.end others leads.serves
+        (ap (λ n. slice_get lists n) leads.its_node ∙ there.list_at);
+    refused = λ host changes link attempt is next at_next there name place verdict gave off.
+        let leads = leads_there host changes link attempt is next at_next there name in
+        others_are_not_held honest words world lists bound host changes link attempt is leads.end leads.serves place verdict gave
+        off;
     custody = custody;
     copies = λ node message place. copies_are_few honest words world lists bound once node message place;
     content = λ number place link attempt host changes accept is client at stands accepted.
@@ -44,6 +78,12 @@ module _ {D : Type 0} (honest : Type 0) (words : DiskWords D) (world : World D) 
 
 pub promise_is_kept : {D : Type 0} (honest : Type 0) (words : DiskWords D)
     → ((disk : D) → words.may_leave disk (words.seen disk)) → PromiseIsKept honest words
-promise_is_kept honest words sees is count old new lists bound once happen =
-    let both = runs_keep_both honest words sees is count old new lists bound once happen in
-    (both.0, both.1, promise honest words new both.0 both.1 both.2)
+promise_is_kept honest words sees is count old new lists bound once linked happen =
+    let all = runs_keep_all honest words sees is count old new lists bound once linked happen in
+    let grows = runs_grow honest words count old new happen in (
+      all.0,
+      all.1,
+      promise honest words new all.0 all.1 all.2 all.3,
+      grows,
+      grown_lists_begin honest words old new lists all.0 bound all.1 grows,
+    )

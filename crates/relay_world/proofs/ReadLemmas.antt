@@ -1,8 +1,8 @@
 -- Replies that an attempt reads keep a world bound.
-use Rattle.std.proofs.Common.{◌≡◌, ◌≤◌, ◌+◌, ℕ, false, List, [], ◌++◌, length, take, Option, None, Some, refl, sym, subst, ap, ◌∙◌}
+use Rattle.std.proofs.Common.{◌≡◌, ◌≤◌, ◌+◌, ℕ, false, List, ◌++◌, length, take, Option, None, Some, refl, sym, subst, ap, ◌∙◌}
 use Rattle.std.specs.Prelude.{slice_get}
 use Rattle.std.specs.List.{AllByRecursion}
-use Rattle.std.proofs.lemmas.List.{append-nil}
+use Rattle.relay_octets.specs.Beginning.{Begins}
 use Rattle.relay_disk.specs.Device.{DiskWords}
 use Rattle.relay_book.specs.declared.change.Change.{Change}
 use Rattle.relay_book.specs.declared.change.Verdict.{Verdict}
@@ -16,10 +16,10 @@ use Rattle.relay_node.specs.Attempts.{ReadsOn, Replies, RepliesBy, Tells}
 use Rattle.relay_world.specs.declared.attempt.Fate.TheVariants.{Replied as RepliedBy}
 use Rattle.relay_world.specs.Bound.{HasFate, IsBound, PassesOn, link_of, told_by}
 use Rattle.relay_world.specs.Ledger.{accepts_on, steps_in}
-use Rattle.relay_world.specs.Steps.{HasRead, IsPut, ReadingKeeps, RecordsOutcome, RecordsRead, read_link, waiting_down}
+use Rattle.relay_world.specs.Steps.{HasRead, IsPut, ReadingKeeps, RecordsOutcome, RecordsRead, read_link, unless_broken, waiting_down}
 use Rattle.relay_world.specs.World.{Up, World}
 use Rattle.relay_world.proofs.FateLemmas.{replied_ends}
-use Rattle.relay_world.proofs.PieceLemmas.{few_within, read_more, read_within}
+use Rattle.relay_world.proofs.PieceLemmas.{begins_more, few_within, read_more, read_within, written_broken, written_whole}
 use Rattle.relay_world.proofs.AttemptLemmas.{KnowsAttempt, known, still_tells}
 use Rattle.relay_world.proofs.AttemptMoveLemmas.{attempt_moved}
 use Rattle.relay_world.proofs.MoveLemmas.{same_attempts}
@@ -41,23 +41,32 @@ module _ {D : Type 0} (honest : Type 0) (words : DiskWords D) (old new : World D
       (subst (λ (c : Config). Tells c.host knows.changes read.of.before.attempts read.of.slot told_was)
       (sym knows.its_node.config_is) knows.tells)
 
-  written : read.of.link.up ++ read.replied.out.items ≡ knows.was.output ++ read.replied.out.items
-  written = ap (λ l. l ++ read.replied.out.items) (knows.was.whole knows.whole)
+  abbrev out_now : List ℕ
+  out_now = unless_broken read.of.link read.replied.out.items
+
+  written : read.of.link.broken ≡ false → read.of.link.up ++ out_now ≡ knows.was.output ++ read.replied.out.items
+  written whole =
+      ap (λ l. read.of.link.up ++ l) (written_whole read.of.link read.replied.out.items whole)
+      ∙ ap (λ l. l ++ read.replied.out.items) (knows.was.whole whole)
+
+  wrote : Begins (read.of.link.up ++ out_now) (knows.was.output ++ read.replied.out.items)
+  wrote = begins_more read.of.link.broken read.of.link.up knows.was.output read.replied.out.items knows.was.wrote knows.was.whole
 
   input_now : take (read.of.link.down_read + read.replied.used) read.of.link.down
       ≡ take read.of.link.down_read read.of.link.down ++ take read.replied.used (waiting_down count read.of.link)
   input_now = read_more read.of.link.down_read read.replied.used count read.of.link.down read.used
 
-  goes_on : GoesOnAs read.of.link (read_link read.of.link read.replied) read.replied.out.items
+  goes_on : GoesOnAs read.of.link (read_link read.of.link read.replied) out_now
   goes_on = record {
     client = refl;
     server = refl;
     up = refl;
+    silent = written_broken read.of.link read.replied.out.items;
     up_read = refl;
     down = refl;
     broken = refl;
     reads = record {
-      up = few_within read.of.link.up_read read.of.link.up read.replied.out.items (bound.reads number read.of.link read.of.link_is).up;
+      up = few_within read.of.link.up_read read.of.link.up out_now (bound.reads number read.of.link read.of.link_is).up;
       down = read_within read.of.link.down_read read.replied.used count read.of.link.down
           (bound.reads number read.of.link read.of.link_is).down read.used;
     };
@@ -88,10 +97,11 @@ module _ {D : Type 0} (honest : Type 0) (words : DiskWords D) (old new : World D
       → IsBound honest words new lists
   read_nothing on puts =
       attempt_moved honest words old new lists lists number bound read.of knows (read_link read.of.link read.replied)
-      read.replied.out.items read.after read.of.host.records knows.changes read.of.attempt.fate (record {
+      out_now read.after read.of.host.records knows.changes read.of.attempt.fate (record {
         client = refl;
         server = refl;
         up = refl;
+        silent = goes_on.silent;
         up_read = refl;
         down = refl;
         broken = refl;
@@ -148,14 +158,13 @@ module _ {D : Type 0} (honest : Type 0) (words : DiskWords D) (old new : World D
             (followed_is_course tells_now.run.client read.of.host.config.host knows.was.accept.stored_text
             read.of.attempt.places.items (take read.of.link.down_read read.of.link.down ++ piece_used)
             (knows.was.output ++ read.replied.out.items) knows.was.accept.envelope tells_now.follows);
-        wrote = ([], sym written ∙ sym (append-nil (read.of.link.up ++ read.replied.out.items)));
-        whole = λ _. written;
+        wrote = wrote;
+        whole = written;
         fate = subst (λ f. HasFate (record read.of.host { holder = Up read.after }) knows.changes
             (read_link read.of.link read.replied) read.of.attempt knows.was.accept
             (knows.was.output ++ read.replied.out.items) false None f) (sym read.of.runs) (
               refl,
               refl,
-              knows.whole,
               (
                 read.after,
                 refl,
@@ -173,12 +182,12 @@ module _ {D : Type 0} (honest : Type 0) (words : DiskWords D) (old new : World D
       → (later : List (List Change)) × IsBound honest words new later
   read_outcome change_now ended records = (
     _,
-    recorded honest words old new lists number bound read.of knows (read_link read.of.link read.replied) read.replied.out.items
+    recorded honest words old new lists number bound read.of knows (read_link read.of.link read.replied) out_now
         read.after (outcome_at old.clock told_was ended.verdicts) read.replied.used change_now (RepliedBy change_now) goes_on
         read.links read.others read.config read.seats read.rest.1 refl (replied_ends change_now) adds records (record {
           accept = knows.was.accept;
           accepted = message_now honest words old new lists number bound read.of knows (read_link read.of.link read.replied)
-              read.replied.out.items read.after (outcome_at old.clock told_was ended.verdicts) read.replied.used change_now
+              out_now read.after (outcome_at old.clock told_was ended.verdicts) read.replied.used change_now
               (RepliedBy change_now) goes_on read.links read.others read.config read.seats read.rest.1 refl (replied_ends change_now)
               adds records knows.was.accept knows.was.accepted;
           valid = knows.was.valid;
@@ -189,8 +198,8 @@ module _ {D : Type 0} (honest : Type 0) (words : DiskWords D) (old new : World D
           output = knows.was.output ++ read.replied.out.items;
           verdicts = Some ended.verdicts;
           course = course_at read.of.before.config.host its_host (Some ended.verdicts) ended.course;
-          wrote = ([], sym written ∙ sym (append-nil (read.of.link.up ++ read.replied.out.items)));
-          whole = λ _. written;
+          wrote = wrote;
+          whole = written;
           fate = (
             refl,
             (
@@ -200,7 +209,7 @@ module _ {D : Type 0} (honest : Type 0) (words : DiskWords D) (old new : World D
                 at = old.clock;
                 report = adds.report;
                 found = found_here honest words old new lists number bound read.of knows (read_link read.of.link read.replied)
-                    read.replied.out.items read.after (outcome_at old.clock told_was ended.verdicts) read.replied.used change_now
+                    out_now read.after (outcome_at old.clock told_was ended.verdicts) read.replied.used change_now
                     (RepliedBy change_now) goes_on read.links read.others read.config read.seats read.rest.1 refl (replied_ends change_now)
                     adds records;
               },

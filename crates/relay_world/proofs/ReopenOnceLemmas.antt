@@ -1,7 +1,6 @@
 -- A node that is opened again keeps a place from being tried twice, whether its undecided change is found or not.
 use Rattle.std.proofs.Common.{◌≡◌, ◌+◌, ◌⊎◌, inl, inr, ℕ, suc, Bool, true, List, [], ◌∷◌, ◌++◌, length, Option, None, Some, refl, sym, subst, ap, ◌∙◌, cond}
 use Rattle.std.specs.Prelude.{slice_get}
-use Rattle.std.specs.List.{Contains}
 use Rattle.std.proofs.Math.Numerals.{add-one}
 use Rattle.std.proofs.lemmas.Bool.{false≢true}
 use Rattle.std.proofs.lemmas.Option.{same_Some}
@@ -16,7 +15,6 @@ use Rattle.relay_book.specs.Queue.{Fitting, queue_of}
 use Rattle.relay_book.specs.Record.{IsChange}
 use Rattle.relay_book.proofs.Theorems.{encoding_is_one}
 use Rattle.relay_records.specs.declared.noted.Noted.{Noted}
-use Rattle.relay_attempts.specs.Outcomes.{rulings_of}
 use Rattle.relay_course.specs.Course.{Concludes}
 use Rattle.relay_course.specs.VerdictTable.{all_later}
 use Rattle.relay_world.specs.declared.attempt.Attempt.{Attempt}
@@ -26,11 +24,11 @@ use Rattle.relay_world.specs.declared.link.Link.{Link}
 use Rattle.relay_world.specs.Bound.{HasFate, HostKeeps, IsBound, IsListOf, MayBeHeard, MayBeIn, MayHaveCome, MayHaveEnded, PassesOn, StandsAt}
 use Rattle.relay_world.specs.Children.{IsAttempt}
 use Rattle.relay_world.specs.Ledger.{Accepts, lines_by, report_told, steps_by, steps_in}
-use Rattle.relay_world.specs.Once.{Claims, ClaimsAt, IsTriedOnce, TakesNone}
+use Rattle.relay_world.specs.Once.{Claims, ClaimsAt, GivesUpNoHops, HasNoHops, IsTriedOnce}
 use Rattle.relay_world.specs.Passing.{Rules}
 use Rattle.relay_world.specs.Stops.{Decides, FindsAccept, FindsOutcome, Finds, HasFound, HasNotFound, HasReopened}
 use Rattle.relay_world.specs.World.{Down, FromClient, FromLoss, FromNoHop, FromReplies, Host, Origin, Undecided, Up, World}
-use Rattle.relay_world.proofs.AddedLemmas.{lost_takes_none, none_accepts, same_outcome}
+use Rattle.relay_world.proofs.AddedLemmas.{none_accepts, same_outcome}
 use Rattle.relay_world.proofs.ChildrenLemmas.{passes_of}
 use Rattle.relay_world.proofs.ClaimLemmas.{GivenUpKept, HostsGrow, claim_before, given_up_at, hop_still, hosts_put, known_attempt, one_changed, outside_same, was_for, was_same}
 use Rattle.relay_world.proofs.EventLemmas.{accepted_elsewhere, kept, left_same, relinked, same_ends, served, there_same}
@@ -47,8 +45,11 @@ use Rattle.relay_world.proofs.UndecidedLemmas.{up_not_down}
 dropped_not_replied : (number : ℕ) → Replied number ≡ Dropped → ⊥
 dropped_not_replied number same = cc
 
+dropped_not_lost : (number : ℕ) → Lost number ≡ Dropped → ⊥
+dropped_not_lost number same = cc
+
 -- the verdicts of an attempt that was told of a loss
-told_later : (places : List ℕ) (told : Bool) (rest : List ℕ) (ended verdicts : Option (List Verdict)) (all : List Verdict)
+pub told_later : (places : List ℕ) (told : Bool) (rest : List ℕ) (ended verdicts : Option (List Verdict)) (all : List Verdict)
     → told ≡ true → verdicts ≡ Some all → Concludes places told rest ended verdicts → all ≡ all_later places
 told_later places told rest (Some some) verdicts all is_told is so = absurd (false≢true (sym so.0 ∙ is_told))
 told_later places told rest None verdicts all is_told is (inl so) = absurd (false≢true (sym so.0 ∙ is_told))
@@ -124,7 +125,7 @@ module _ {D : Type 0} (honest : Type 0) (words : DiskWords D) (old new : World D
     found_accept number finds came ledger steps =
         kept honest words old new lists later bound once now grow
         (there_same honest words old new lists later bound once now finds.attempts)
-        (adds (λ outcome place dsn same has.
+        (adds (λ outcome same was at.
         absurd (none_accepts outcome.message _ note.number note.accepted (leaving listed.0 (change.Outcome outcome))
         (ap (λ c. steps_by listed.0 c) (sym same) ∙ sym steps
         ∙ ap (λ b. cond b (Accepts note.number note.accepted ∷ []) [] ++ []) (same_number node)))))
@@ -138,15 +139,17 @@ module _ {D : Type 0} (honest : Type 0) (words : DiskWords D) (old new : World D
     found_given_up : (message : ℕ) → undecided.origin ≡ FromNoHop message → new.links ≡ old.links → new.attempts ≡ old.attempts
         → new.ledger ≡ old.ledger ++ lines_by node note (FromNoHop message) → IsTriedOnce new later
     found_given_up message origin links attempts ledger =
-        let none : TakesNone note.octets =
-        once.given_up node message reopens.host reopens.disk undecided reopens.host_at down origin in
+        let none : GivesUpNoHops reopens.host.config.routes listed.0 note.octets =
+        once.given_up node message reopens.host listed.0 reopens.disk undecided stands down origin in
         let valid : IsChange may.change =
         stored_fits (queue_of listed.0) may.change (last_fits listed.0 may.change may.fitting) in
         let one : none.one ≡ may.change =
         encoding_is_one none.one may.change none.valid valid (sym none.octets_are ∙ may.octets) in
         kept honest words old new lists later bound once now grow
         (there_same honest words old new lists later bound once now attempts)
-        (adds (λ outcome place dsn same has. absurd (none.none outcome place dsn (one ∙ same) has)))
+        (adds (λ outcome same was at. inr
+        (subst (λ (h : Host D). HasNoHops h.config.routes listed.0 outcome)
+        (same_Some reopens.host was (sym reopens.host_at ∙ at)) (none.none outcome (one ∙ same)))))
         (same_ends honest words old new lists later bound once now attempts) given
         (outside_same honest words old new lists later bound once now links
         (left_same old.ledger new.ledger node message 0 (report_told note.number note.report) note.left.items ledger))
@@ -165,9 +168,12 @@ module _ {D : Type 0} (honest : Type 0) (words : DiskWords D) (old new : World D
 
       stay : EndedStay honest words old new lists later bound once now
       stay = ended_put honest words old new lists later bound once now place attempt_now finds.attempts (λ n k ended same.
-          dropped_not_replied k (sym ended.replied
-          ∙ ap (λ (a : Attempt). a.fate) (same_Some ended.attempt finds.attempt
-          (sym ended.is_there ∙ ap (λ i. slice_get old.attempts i) same ∙ finds.attempt_at)) ∙ dropped))
+          let its_fate = ap (λ (a : Attempt). a.fate) (same_Some ended.attempt finds.attempt
+          (sym ended.is_there ∙ ap (λ i. slice_get old.attempts i) same ∙ finds.attempt_at)) ∙ dropped in
+          elim ended.ended [
+            | inl replied ↦ dropped_not_replied k (sym replied ∙ its_fate)
+            | inr lost ↦ dropped_not_lost k (sym lost ∙ its_fate)
+          ])
 
       -- an outcome under the next number is the change
       outcome_is : (outcome : Outcome) → change_at (listed.0 ++ may.change ∷ []) note.number ≡ Some (change.Outcome outcome)
@@ -176,30 +182,25 @@ module _ {D : Type 0} (honest : Type 0) (words : DiskWords D) (old new : World D
           same_Some may.change (change.Outcome outcome) (sym (get_last listed.0 may.change)
           ∙ ap (λ k. change_at (listed.0 ++ may.change ∷ []) k) (sym number_is) ∙ at)
 
-    -- of an attempt whose link was lost: it takes no place
+    -- of an attempt whose link was lost
     module _ (number place message : ℕ) (finds : FindsOutcome old new number place note.used (Lost note.number))
         (came : MayHaveEnded old node reopens.host listed.0 may.change note number place (Lost note.number)) where
-      none_taken : (outcome : Outcome) (p : ℕ) (dsn : Bool) → may.change ≡ change.Outcome outcome
-          → Contains outcome.rulings (record { place = p; verdict = Taken dsn }) → ⊥
-      none_taken outcome p dsn same has =
-          let passes = came.with_it in
-          let fate = passes.fate in
-          let later_all : fate.1.0 ≡ all_later came.attempt.places.items =
-          told_later came.attempt.places.items passes.told passes.course.runs.rest _ passes.verdicts fate.1.0 fate.0 fate.1.1
-          passes.course.runs.concludes in
-          let said = outcome_is number place message (Lost note.number) finds came _ fate.1.2.found in
-          let rulings : outcome.rulings ≡ rulings_of came.attempt.places.items (all_later came.attempt.places.items) =
-          ap (λ (o : Outcome). o.rulings) (same_outcome outcome _ (sym same ∙ said))
-          ∙ ap (λ v. rulings_of came.attempt.places.items v) later_all in
-          lost_takes_none came.attempt.places.items p dsn
-          (subst (λ r. Contains r (record { place = p; verdict = Taken dsn })) rulings has)
+      lost_now : HasTakers honest words old new lists later bound once now node listed.0 may.change
+      lost_now outcome same was at = inl (record {
+        at = place;
+        attempt = record finds.attempt { fate = Lost note.number };
+        is_there = finds.attempts.at;
+        its_node = ap (λ (a : Attempt). a.node) (sym (same_attempt number place message (Lost note.number) finds came))
+            ∙ came.its_node;
+        ended = inr (ap (λ k. Lost k) number_is);
+      })
 
       found_lost : new.ledger ≡ old.ledger ++ lines_by node note (FromLoss number place message) → IsTriedOnce new later
       found_lost ledger =
           kept honest words old new lists later bound once now grow
           (one_changed honest words old new lists later bound once now place finds.attempt (Lost note.number) finds.attempt_at
           (λ changes p claims. absurd claims) finds.attempts)
-          (adds (λ outcome p dsn same has. absurd (none_taken outcome p dsn same has)))
+          (adds lost_now)
           (stay number place message (Lost note.number) finds came) given
           (relinked honest words old new lists later bound once now number finds.link
           (record finds.link { down_read = finds.link.down_read + note.used }) finds.link_is refl finds.links
@@ -215,13 +216,13 @@ module _ {D : Type 0} (honest : Type 0) (words : DiskWords D) (old new : World D
       same_one = same_attempt number place message (Replied note.number) finds came
 
       takers : HasTakers honest words old new lists later bound once now node listed.0 may.change
-      takers outcome p dsn same has = record {
+      takers outcome same was at = inl (record {
         at = place;
         attempt = now_replied;
         is_there = finds.attempts.at;
         its_node = ap (λ (a : Attempt). a.node) (sym same_one) ∙ came.its_node;
-        replied = ap (λ k. Replied k) number_is;
-      }
+        ended = inl (ap (λ k. Replied k) number_is);
+      })
 
       -- what was claimed before isn't claimed by it now
       module _ (other its letter p : ℕ) (mine : ClaimsAt new later place its letter p) (same : now_replied ≡ mine.attempt)
@@ -284,8 +285,8 @@ module _ {D : Type 0} (honest : Type 0) (words : DiskWords D) (old new : World D
                 subst
                 (λ f. HasFate known.0 known.1 known.2 yours.attempt passes.accept passes.output passes.told passes.verdicts f)
                 is_fate passes.fate in
-                up_not_down fate.3.0 reopens.disk (Some undecided)
-                (sym fate.3.1 ∙ ap (λ (h : Host D). h.holder) same_host ∙ down)
+                up_not_down fate.2.0 reopens.disk (Some undecided)
+                (sym fate.2.1 ∙ ap (λ (h : Host D). h.holder) same_host ∙ down)
             by (Replied k) is_fate claims =
                 let transferred : Transferred known.1 yours.attempt.message p =
                 transferred_by known.0 known.1 known.2 yours.attempt passes k p claims.0 is_fate
@@ -339,7 +340,7 @@ module _ {D : Type 0} (honest : Type 0) (words : DiskWords D) (old new : World D
               | inr there ↦ hop_still honest words old new lists later bound once now grow at attempt is_there
                   (was_same honest words old new lists later bound once now at attempt there.1).its
             ];
-        takers = takers_kept honest words old new lists later bound once now grow (adds takers)
+        outcomes = takers_kept honest words old new lists later bound once now grow (adds takers)
             (stay number place message (Replied note.number) finds came);
         given_up = given;
         outside = relinked honest words old new lists later bound once now number finds.link

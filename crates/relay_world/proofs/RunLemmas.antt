@@ -1,26 +1,30 @@
--- A run of events keeps two relays bound, and each place tried once.
+-- A run of events keeps two relays bound, each place tried once, and the links of attempts as they are meant.
 use Rattle.std.proofs.Common.{◌≡◌, ℕ, zero, suc, List, [], Some, sym, subst, ap, ◌∙◌}
 use Rattle.std.specs.Prelude.{slice_get}
 use Rattle.std.proofs.lemmas.Option.{none-some}
 use Rattle.relay_disk.specs.Device.{DiskWords}
 use Rattle.relay_book.specs.declared.change.Change.{Change}
 use Rattle.relay_book.specs.declared.change.Change.TheVariants as change
-use Rattle.relay_book.specs.declared.change.Verdict.{Verdict}
-use Rattle.relay_book.specs.declared.change.Verdict.TheVariants.{Taken}
+use Rattle.relay_book.specs.declared.change.Outcome.{Outcome}
+use Rattle.relay_book.specs.Marks.{change_at}
 use Rattle.relay_world.specs.Bound.{IsBound}
-use Rattle.relay_world.specs.Passing.{Rules}
+use Rattle.relay_world.specs.HopLinks.{AreLinkedToHops}
 use Rattle.relay_world.specs.Ledger.{accepts_on}
-use Rattle.relay_world.specs.Once.{BreaksOff, Drops, Ends, GivesUp, Happens, Hears, IsNotOpened, IsTriedOnce, Loses, OnceAtFirst, OnceIsKept, Opens, Reads, Reopens, RunsKeepBoth, Starts, Stops, StopsInGivingUp, StopsInHearing, StopsInLosing, StopsInReading, Writes}
+use Rattle.relay_world.specs.Once.{Arms, BreaksOff, Drops, Ends, GivesUp, Happens, Hears, IsNotOpened, IsTriedOnce, LetsGo, Loses, OnceAtFirst, OnceIsKept, Opens, Reads, Reopens, RunsKeepAll, Starts, Stops, StopsInGivingUp, StopsInHearing, StopsInLosing, StopsInReading, Ticks, Writes}
 use Rattle.relay_world.specs.World.{World}
+use Rattle.relay_world.proofs.ArmLemmas.{armed, arming_keeps}
 use Rattle.relay_world.proofs.BreakLemmas.{breaking_keeps}
 use Rattle.relay_world.proofs.EndLemmas.{ending_keeps}
 use Rattle.relay_world.proofs.EventLemmas.{broken, dropped, ended, given_up, heard, lost, opened, read_by, written}
 use Rattle.relay_world.proofs.AddedLemmas.{read_adds}
 use Rattle.relay_world.proofs.GiveUpLemmas.{giving_up_keeps}
+use Rattle.relay_world.proofs.HangUpLemmas.{hanging_up_keeps}
 use Rattle.relay_world.proofs.HearLemmas.{hearing_keeps}
 use Rattle.relay_world.proofs.LoseLemmas.{dropping_keeps, losing_keeps}
+use Rattle.relay_world.proofs.HopLinkLemmas.{hop_links_are_kept}
 use Rattle.relay_world.proofs.OpenLemmas.{opening_keeps}
 use Rattle.relay_world.proofs.OnceLemmas.{once_started}
+use Rattle.relay_world.proofs.OnceMoreLemmas.{let_go, ticked}
 use Rattle.relay_world.proofs.ReopenLemmas.{reopening_keeps}
 use Rattle.relay_world.proofs.ReopenOnceLemmas.{reopened}
 use Rattle.relay_world.proofs.StopHearLemmas.{stopping_hearing_keeps}
@@ -30,24 +34,25 @@ use Rattle.relay_world.proofs.StopReadLemmas.{stopping_losing_keeps, stopping_re
 use Rattle.relay_world.proofs.UndecidedLemmas.{up_not_down}
 use Rattle.relay_world.proofs.ReadLemmas.{reading_keeps}
 use Rattle.relay_world.proofs.StartLemmas.{starting_keeps}
+use Rattle.relay_world.proofs.TickLemmas.{ticking_keeps}
 use Rattle.relay_world.proofs.WriteLemmas.{writing_keeps}
 
--- no change gives a place a verdict where there is none
-none_ruled : (changes : List Change) (number place : ℕ) (verdict : Verdict) → changes ≡ []
-    → Rules changes number place verdict → ⊥
-none_ruled changes zero place verdict empty rules = none-some (change.Outcome rules.outcome) rules.found
-none_ruled changes (suc k) place verdict empty rules =
-    none-some (change.Outcome rules.outcome) (ap (λ l. slice_get l k) (sym empty) ∙ rules.found)
+-- no change is an outcome where there is none
+none_there : (changes : List Change) (number : ℕ) (outcome : Outcome) → changes ≡ []
+    → change_at changes number ≡ Some (change.Outcome outcome) → ⊥
+none_there changes zero outcome empty is = none-some (change.Outcome outcome) is
+none_there changes (suc k) outcome empty is =
+    none-some (change.Outcome outcome) (ap (λ l. slice_get l k) (sym empty) ∙ is)
 
 pub once_at_first : {D : Type 0} (words : DiskWords D) → OnceAtFirst words
 once_at_first words world lists empty up attempts ledger = record {
   once = λ one other node message place mine yours.
       absurd (none-some mine.attempt (ap (λ l. slice_get l one) (sym attempts) ∙ mine.is_there));
   hops = λ at attempt is. absurd (none-some attempt (ap (λ l. slice_get l at) (sym attempts) ∙ is));
-  takers = λ node number place changes dsn is rules.
-      absurd (none_ruled changes number place (Taken dsn) (empty node changes is) rules);
-  given_up = λ node message host disk undecided at down origin.
-      let standing = up node host at in
+  outcomes = λ node number host changes outcome stands is.
+      absurd (none_there changes number outcome (empty node changes stands.list_at) is);
+  given_up = λ node message host changes disk undecided stands down origin.
+      let standing = up node host stands.host_at in
       absurd (up_not_down standing.0 disk (Some undecided) (sym standing.1 ∙ down));
   outside = λ number link is none. ap (λ l. accepts_on number l) ledger;
 }
@@ -88,6 +93,12 @@ once_is_kept honest words old new lists later bound once (IsNotOpened node stays
     stayed_down honest words old new lists later bound once now node stays
 once_is_kept honest words old new lists later bound once (Reopens node reopens) now =
     reopened honest words old new lists later bound once now node reopens
+once_is_kept honest words old new lists later bound once (Ticks clock ticks) now =
+    ticked honest words old new lists later bound once now clock ticks
+once_is_kept honest words old new lists later bound once (LetsGo node hangs) now =
+    let_go honest words old new lists later bound once now node hangs
+once_is_kept honest words old new lists later bound once (Arms node arms) now =
+    armed honest words old new lists later bound once now node arms
 
 -- an event keeps a world bound, by lists that may have grown
 event_keeps : {D : Type 0} (honest : Type 0) (words : DiskWords D) (old new : World D) (lists : List (List Change))
@@ -127,15 +138,23 @@ event_keeps honest words old new lists sees is bound (IsNotOpened node stays) =
     (lists, staying_down_keeps honest words old new lists node bound stays)
 event_keeps honest words old new lists sees is bound (Reopens node reopens) =
     reopening_keeps honest words sees is old new lists node bound reopens
+event_keeps honest words old new lists sees is bound (Ticks clock ticks) =
+    (lists, ticking_keeps honest words old new lists clock bound ticks)
+event_keeps honest words old new lists sees is bound (LetsGo node hangs) =
+    (lists, hanging_up_keeps honest words old new lists node bound hangs)
+event_keeps honest words old new lists sees is bound (Arms node arms) =
+    (lists, arming_keeps honest words old new lists node bound arms)
 
-pub runs_keep_both : {D : Type 0} (honest : Type 0) (words : DiskWords D)
-    → ((disk : D) → words.may_leave disk (words.seen disk)) → RunsKeepBoth honest words
-runs_keep_both honest words sees is zero old new lists bound once same = (
+pub runs_keep_all : {D : Type 0} (honest : Type 0) (words : DiskWords D)
+    → ((disk : D) → words.may_leave disk (words.seen disk)) → RunsKeepAll honest words
+runs_keep_all honest words sees is zero old new lists bound once linked same = (
   lists,
   subst (λ w. IsBound honest words w lists) (sym same) bound,
   subst (λ w. IsTriedOnce w lists) (sym same) once,
+  subst (λ w. AreLinkedToHops w) (sym same) linked,
 )
-runs_keep_both honest words sees is (suc count) old new lists bound once happen =
+runs_keep_all honest words sees is (suc count) old new lists bound once linked happen =
     let after = event_keeps honest words old happen.0 lists sees is bound happen.1 in
     let still = once_is_kept honest words old happen.0 lists after.0 bound once happen.1 after.1 in
-    runs_keep_both honest words sees is count happen.0 new after.0 after.1 still happen.2
+    let still_linked = hop_links_are_kept honest words old happen.0 linked happen.1 in
+    runs_keep_all honest words sees is count happen.0 new after.0 after.1 still still_linked happen.2

@@ -88,8 +88,8 @@ module _ {D : Type 0} (honest : Type 0) (words : DiskWords D) where
       tried.passes.verdicts (Running slot) =
       subst (λ f. HasFate tried.host tried.changes link tried.attempt tried.passes.accept tried.passes.output tried.passes.told
       tried.passes.verdicts f) (ap (λ (a : Attempt). a.fate) same_attempt ∙ has.runs) tried.passes.fate in
-      let same_node : fate.3.0 ≡ before = same_Up fate.3.0 before (sym fate.3.1 ∙ ap (λ (h : Host D). h.holder) same_host ∙ up) in
-      false≢true (ap is_some (sym (ap (λ (n : Standing D). slot_at n.attempts slot) same_node ∙ free) ∙ fate.3.2.at))
+      let same_node : fate.2.0 ≡ before = same_Up fate.2.0 before (sym fate.2.1 ∙ ap (λ (h : Host D). h.holder) same_host ∙ up) in
+      false≢true (ap is_some (sym (ap (λ (n : Standing D). slot_at n.attempts slot) same_node ∙ free) ∙ fate.2.2.at))
 
   pub starting_keeps : StartingKeeps honest words
   starting_keeps old new lists number message hop bound starts =
@@ -339,7 +339,6 @@ module _ {D : Type 0} (honest : Type 0) (words : DiskWords D) where
         fate = subst (λ f. HasFate moved changes link starts.attempt accept [] false None f) (sym starts.is_attempt.5) (
           refl,
           refl,
-          starts.is_blank.whole,
           (
             starts.after,
             refl,

@@ -281,10 +281,7 @@ module _ {D : Type 0} (honest : Type 0) (words : DiskWords D) (old new : World D
         host = tried.host;
         changes = tried.changes;
         stands = tried.stands;
-        passes = passes_cut tried.host tried.changes stops.of.link link_now tried.attempt
-            (λ slot runs. stops.none_runs place tried.attempt slot client
-            (ap (λ l. slice_get l place) (sym stops.rest.0) ∙ tried.attempt_at) runs)
-            refl refl refl tried.passes;
+        passes = passes_cut tried.host tried.changes stops.of.link link_now tried.attempt refl refl refl tried.passes;
       }
 
   settled : stops.of.link.broken ≡ true

@@ -1,26 +1,25 @@
 -- A stop of a node keeps a place from being tried twice, and so does its opening.
 use Rattle.std.proofs.Common.{◌≡◌, ℕ, true, List, [], None, Some, refl, sym, subst, ap, ◌∙◌}
 use Rattle.std.specs.Prelude.{slice_get}
-use Rattle.std.specs.List.{Contains}
 use Rattle.std.proofs.lemmas.List.{append-nil}
 use Rattle.std.proofs.lemmas.Option.{none-some, same_Some}
 use Rattle.relay_disk.specs.Device.{DiskWords}
 use Rattle.relay_book.specs.declared.change.Change.{Change}
 use Rattle.relay_book.specs.declared.change.Outcome.{Outcome}
-use Rattle.relay_book.specs.declared.change.Verdict.TheVariants.{Taken}
-use Rattle.relay_book.specs.Queue.{queue_of}
+use Rattle.relay_book.specs.Queue.{Queue, message_of, queue_of}
+use Rattle.relay_book.proofs.Theorems.{fold_knows}
+use Rattle.relay_routes.specs.declared.config.Config.{Config}
 use Rattle.relay_records.specs.Records.{Kept}
-use Rattle.relay_attempts.specs.Hops.{stranded_places}
 use Rattle.relay_attempts.specs.Outcomes.{CutsUnroutable, unroutable}
 use Rattle.relay_outcomes.specs.Outcomes.{reported_as}
 use Rattle.relay_world.specs.declared.attempt.Fate.TheVariants.{Dropped}
 use Rattle.relay_world.specs.Bound.{HostKeeps, IsBound, NodeKeeps}
-use Rattle.relay_world.specs.Once.{IsTriedOnce, TakesNone}
+use Rattle.relay_world.specs.Once.{GivesUpNoHops, HasNoHops, IsTriedOnce}
 use Rattle.relay_world.specs.Steps.{AttemptOf, IsPut}
 use Rattle.relay_world.specs.Stops.{DropsAtStop, HasStopped, StaysDown, StopsGivingUp, StopsHearing, StopsLosing, StopsReading, cut_off_link}
 use Rattle.relay_world.specs.World.{Down, FromClient, FromLoss, FromNoHop, FromReplies, Holder, Host, Origin, Undecided, World}
-use Rattle.relay_world.proofs.AddedLemmas.{noted_octets, same_outcome, unrouted_takes_none}
-use Rattle.relay_world.proofs.ClaimLemmas.{GivenUpKept, given_put, one_ended, outside_same}
+use Rattle.relay_world.proofs.AddedLemmas.{noted_octets, stranded_no_hops}
+use Rattle.relay_world.proofs.ClaimLemmas.{GivenUpKept, given_put, list_still, one_ended, outside_same}
 use Rattle.relay_world.proofs.DownLemmas.{same_undecided}
 use Rattle.relay_world.proofs.EventLemmas.{kept, moved_on, relinked, same_accepts, same_ends, served, there_same}
 use Rattle.relay_world.proofs.GrowLemmas.{stored_fits}
@@ -64,19 +63,24 @@ module _ {D : Type 0} (honest : Type 0) (words : DiskWords D) (old new : World D
   -- what came from a client or an attempt was not given up
   given_by : (node : ℕ) (host : Host D) (disk : D) (undecided : Undecided)
       → IsPut old.hosts new.hosts node (record host { holder = Down disk (Some undecided) })
-      → ((message : ℕ) → undecided.origin ≡ FromNoHop message → TakesNone undecided.note.octets) → Given
-  given_by node host disk undecided put here =
+      → slice_get old.hosts node ≡ Some host
+      → ((message : ℕ) (changes : List Change) → slice_get lists node ≡ Some changes → undecided.origin ≡ FromNoHop message
+      → GivesUpNoHops host.config.routes changes undecided.note.octets) → Given
+  given_by node host disk undecided put at here =
       given_put honest words old new lists later bound once now node (record host { holder = Down disk (Some undecided) }) put
-      (λ message other its down origin.
+      (λ message changes other its there down origin.
       let same : undecided ≡ its = same_note disk other undecided its down in
-      subst (λ (u : Undecided). TakesNone u.note.octets) same
-      (here message (ap (λ (u : Undecided). u.origin) same ∙ origin)))
+      subst (λ (u : Undecided). GivesUpNoHops host.config.routes changes u.note.octets) same
+      (here message changes
+      (list_still honest words old new lists later bound once now node host
+      (record host { holder = Down disk (Some undecided) }) changes at refl there)
+      (ap (λ (u : Undecided). u.origin) same ∙ origin)))
 
   pub stopped : (node : ℕ) → HasStopped honest words old new node → IsTriedOnce new later
   stopped node stops =
       holder_alone node stops.host (Down stops.disk None) stops.host_at stops.hosts stops.rest.0 stops.rest.1 stops.rest.2
       (given_put honest words old new lists later bound once now node (record stops.host { holder = Down stops.disk None })
-      stops.hosts (λ message other its down origin.
+      stops.hosts (λ message changes other its there down origin.
       absurd (none-some its (same_undecided stops.disk other None (Some its) down))))
 
   pub stopped_hearing : (number count : ℕ) → StopsHearing honest words old new number count → IsTriedOnce new later
@@ -90,8 +94,8 @@ module _ {D : Type 0} (honest : Type 0) (words : DiskWords D) (old new : World D
       (lists_stay honest words old new lists later bound once now stops.of.end.node stops.of.host moved stops.of.host_at
       stops.hosts refl)
       (same_ends honest words old new lists later bound once now stops.rest.0)
-      (given_by stops.of.end.node stops.of.host stops.disk undecided stops.hosts
-      (λ message origin. absurd (from_client number message origin)))
+      (given_by stops.of.end.node stops.of.host stops.disk undecided stops.hosts stops.of.host_at
+      (λ message changes is origin. absurd (from_client number message origin)))
       (served honest words old new lists later bound once now number (cut_off_link stops.of.link stops.of.end)
       (record stops.of.end { session = None }) refl stops.links
       (λ other off. same_accepts honest words old new lists later bound once now stops.rest.1 other))
@@ -111,7 +115,8 @@ module _ {D : Type 0} (honest : Type 0) (words : DiskWords D) (old new : World D
       (lists_stay honest words old new lists later bound once now of.attempt.node of.host moved of.host_at drops.hosts refl)
       (ended_still honest words old new lists later bound once now of.place of.slot of.attempt
       (record of.attempt { fate = Dropped }) of.attempt_at of.runs drops.attempts)
-      (given_by of.attempt.node of.host drops.disk undecided drops.hosts (λ message same. absurd (off message same)))
+      (given_by of.attempt.node of.host drops.disk undecided drops.hosts of.host_at
+      (λ message changes is same. absurd (off message same)))
       (relinked honest words old new lists later bound once now number of.link (record of.link { broken = true }) of.link_is refl
       drops.links (same_accepts honest words old new lists later bound once now drops.rest.0))
 
@@ -129,7 +134,9 @@ module _ {D : Type 0} (honest : Type 0) (words : DiskWords D) (old new : World D
   stopped_giving_up node message stops =
       holder_alone node stops.host (Down stops.disk (Some undecided)) stops.host_at stops.hosts stops.rest.0 stops.rest.1
       stops.rest.2
-      (given_by node stops.host stops.disk undecided stops.hosts (λ other origin. none_taken))
+      (given_by node stops.host stops.disk undecided stops.hosts stops.host_at (λ other changes is origin.
+      subst (λ l. GivesUpNoHops stops.host.config.routes l stops.noted.octets)
+      (same_Some listed.0 changes (sym listed.1 ∙ is)) none_taken))
     where
       undecided : Undecided
       undecided = record { note = stops.noted; origin = FromNoHop message }
@@ -150,16 +157,17 @@ module _ {D : Type 0} (honest : Type 0) (words : DiskWords D) (old new : World D
       outcome : Outcome
       outcome = unroutable stops.before.config.routes message old.clock cuts.message
 
-      none_taken : TakesNone stops.noted.octets
+      none_taken : GivesUpNoHops stops.host.config.routes listed.0 stops.noted.octets
       none_taken = record {
         one = reported_as outcome cuts.cuts.report;
         valid = stored_fits (queue_of listed.0) (reported_as outcome cuts.cuts.report) cuts.cuts.cuts.fits;
         octets_are = noted_octets stops.stopped.noted stops.noted listed.0 (reported_as outcome cuts.cuts.report) 0 stops.note_is
             cuts.cuts.cuts.noted;
-        none = λ said place dsn same has.
-            unrouted_takes_none (stranded_places stops.before.config.routes cuts.message) place dsn
-            (subst (λ (o : Outcome). Contains o.rulings (record { place = place; verdict = Taken dsn }))
-            (sym (same_outcome _ said same)) has);
+        none = λ said same.
+            subst (λ (c : Config). HasNoHops c.routes listed.0 said) its_node.config_is
+            (stranded_no_hops stops.before.config.routes listed.0 message old.clock cuts.message cuts.cuts.report said
+            (fold_knows listed.0 its_node.keeps.fitting message cuts.message
+            (ap (λ (q : Queue). message_of q.messages message) (sym its_node.keeps.queue) ∙ cuts.found)).accept_is same);
       }
 
   pub stayed_down : (node : ℕ) → StaysDown honest words old new node → IsTriedOnce new later
@@ -167,7 +175,11 @@ module _ {D : Type 0} (honest : Type 0) (words : DiskWords D) (old new : World D
       holder_alone node stays.host (Down stays.again stays.undecided) stays.host_at stays.hosts stays.rest.0 stays.rest.1
       stays.rest.2
       (given_put honest words old new lists later bound once now node
-      (record stays.host { holder = Down stays.again stays.undecided }) stays.hosts (λ message other its down origin.
+      (record stays.host { holder = Down stays.again stays.undecided }) stays.hosts
+      (λ message changes other its there down origin.
       let same : stays.undecided ≡ Some its = same_undecided stays.again other stays.undecided (Some its) down in
-      once.given_up node message stays.host stays.disk its stays.host_at
-      (stays.down ∙ ap (λ u. Down stays.disk u) same) origin))
+      once.given_up node message stays.host changes stays.disk its (record {
+        host_at = stays.host_at;
+        list_at = list_still honest words old new lists later bound once now node stays.host
+            (record stays.host { holder = Down stays.again stays.undecided }) changes stays.host_at refl there;
+      }) (stays.down ∙ ap (λ u. Down stays.disk u) same) origin))

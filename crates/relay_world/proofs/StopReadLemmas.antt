@@ -37,7 +37,7 @@ use Rattle.relay_world.proofs.CutLemmas.{LinkMoves, WasThere, link_moved, link_m
 use Rattle.relay_world.proofs.DownLemmas.{Notes, down_halted, fits_more, notes, outcome_steps, same_undecided}
 use Rattle.relay_world.proofs.FateLemmas.{dropped_ends}
 use Rattle.relay_world.proofs.FrameLemmas.{get_last}
-use Rattle.relay_world.proofs.MoveLemmas.{put_cases, still_served}
+use Rattle.relay_world.proofs.MoveLemmas.{Settled, put_cases, still_served}
 use Rattle.relay_world.proofs.OpenLemmas.{lines_within}
 use Rattle.relay_world.proofs.PieceLemmas.{read_more, read_within}
 use Rattle.relay_world.proofs.UndecidedLemmas.{serves_cut}
@@ -150,6 +150,21 @@ module _ {D : Type 0} (honest : Type 0) (words : DiskWords D) (old new : World D
           serves = serves_cut served.host served.changes new.ledger number of.link link_now end refl refl refl served.serves;
         }
 
+    -- the server end of a link that was broken stays; the client end is the attempt's
+    settled : of.link.broken ≡ true
+        → Settled honest words old new lists lists of.attempt.node number of.host moved knows.changes knows.changes link_now of.link
+    settled broken = record {
+      serves = λ end serves off ended. record {
+        now = link_now;
+        now_is = drops.links.at;
+        stays = record { server = serves; up = refl; up_read = refl; down = refl; broken = refl };
+        accepts = ap (λ l. accepts_on number l) drops.rest.0;
+      };
+      tries = λ place attempt client at off dropped.
+          absurd (off (ap (λ (a : Attempt). a.node) (same_Some attempt of.attempt (sym at
+          ∙ ap (λ p. slice_get old.attempts p) (same_Some place of.place (sym client ∙ of.client)) ∙ of.attempt_at))));
+    }
+
     pub stopped_ending : IsBound honest words new lists
     stopped_ending =
         link_moved honest words old new lists lists of.attempt.node number of.host moved knows.changes knows.changes of.link
@@ -170,7 +185,7 @@ module _ {D : Type 0} (honest : Type 0) (words : DiskWords D) (old new : World D
             up = (bound.reads number of.link of.link_is).up;
             down = (bound.reads number of.link of.link_is).down;
           };
-          settled = λ broken. absurd (false≢true (sym knows.whole ∙ broken));
+          settled = settled;
           may_be_in = λ disk undecided down.
               subst (λ u. MayBeIn new of.attempt.node moved knows.changes u)
               (same_Some its_undecided undecided (same_undecided drops.disk disk (Some its_undecided) (Some undecided) down))

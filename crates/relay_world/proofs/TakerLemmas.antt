@@ -1,25 +1,24 @@
--- Who says that a place was Taken: before an event and behind it, each outcome that does is of an attempt that replies ended.
-use Rattle.std.proofs.Common.{◌≡◌, ◌≢◌, ◌⊎◌, inl, inr, ℕ, zero, suc, Bool, List, [], ◌∷◌, ◌++◌, length, Some, refl, sym, subst, ap, ◌∙◌, arith}
+-- Whose an outcome is: before an event and behind it, it is that of an attempt that has ended with it, or gives up places without a
+-- hop.
+use Rattle.std.proofs.Common.{◌≡◌, ◌≢◌, ◌⊎◌, inl, inr, ℕ, zero, suc, List, [], ◌∷◌, ◌++◌, length, Some, refl, sym, subst, ap, ◌∙◌, arith}
 use Rattle.std.specs.Prelude.{slice_get}
-use Rattle.std.specs.List.{Contains}
+use Rattle.relay_octets.specs.Beginning.{Begins}
 use Rattle.std.proofs.lemmas.Option.{none-some, same_Some, slice_get_within}
 use Rattle.relay_disk.specs.Device.{DiskWords}
 use Rattle.relay_book.specs.declared.change.Change.{Change}
 use Rattle.relay_book.specs.declared.change.Change.TheVariants as change
 use Rattle.relay_book.specs.declared.change.Outcome.{Outcome}
-use Rattle.relay_book.specs.declared.change.Verdict.{Verdict}
-use Rattle.relay_book.specs.declared.change.Verdict.TheVariants.{Taken}
+use Rattle.relay_book.specs.Marks.{change_at}
 use Rattle.relay_world.specs.declared.attempt.Attempt.{Attempt}
 use Rattle.relay_world.specs.declared.attempt.Fate.TheVariants.{Running}
 use Rattle.relay_world.specs.Bound.{IsBound, IsListOf}
-use Rattle.relay_world.specs.Once.{IsEndedBy, IsTriedOnce}
-use Rattle.relay_world.specs.Passing.{Rules}
+use Rattle.relay_world.specs.Once.{HasNoHops, IsOutcomeOf, IsTriedOnce}
 use Rattle.relay_world.specs.Steps.{IsPut}
 use Rattle.relay_world.specs.World.{Host, World}
-use Rattle.relay_world.proofs.ClaimLemmas.{HostsGrow, TakersKept, list_before, there_too}
+use Rattle.relay_world.proofs.ClaimLemmas.{HostGrows, HostsGrow, OutcomesKept, list_before, no_hops_kept, there_too}
 use Rattle.relay_world.proofs.GrowLemmas.{one_list}
 use Rattle.relay_world.proofs.MoveLemmas.{put_cases}
-use Rattle.relay_world.proofs.FateLemmas.{replied_ends}
+use Rattle.relay_world.proofs.FateLemmas.{lost_ends, replied_ends}
 
 -- an element of a list with one behind it
 last_or : {A : Type 0} (xs : List A) (last x : A) (k : ℕ) → slice_get (xs ++ last ∷ []) k ≡ Some x
@@ -32,24 +31,24 @@ last_or (y ∷ xs) last x (suc k) is = elim (last_or xs last x k is) [
   | inr end ↦ inr (ap suc end.0, end.1)
 ]
 
--- a verdict by a list with one change behind it is one of the list, or of that change
-rules_last : (before : List Change) (one : Change) (number place : ℕ) (verdict : Verdict)
-    (rules : Rules (before ++ one ∷ []) number place verdict)
-    → Rules before number place verdict ⊎ ((number ≡ suc (length before)) × (one ≡ change.Outcome rules.outcome))
-rules_last before one zero place verdict rules = absurd (none-some (change.Outcome rules.outcome) rules.found)
-rules_last before one (suc k) place verdict rules =
-    elim (last_or before one (change.Outcome rules.outcome) k rules.found) [
-      | inl there ↦ inl (record { outcome = rules.outcome; found = there; ruling = rules.ruling })
-      | inr end ↦ inr (ap suc end.0, end.1)
-    ]
+-- an outcome of a list with one change behind it is one of the list, or that change
+outcome_last : (before : List Change) (one : Change) (number : ℕ) (outcome : Outcome)
+    → change_at (before ++ one ∷ []) number ≡ Some (change.Outcome outcome)
+    → (change_at before number ≡ Some (change.Outcome outcome))
+    ⊎ ((number ≡ suc (length before)) × (one ≡ change.Outcome outcome))
+outcome_last before one zero outcome is = absurd (none-some (change.Outcome outcome) is)
+outcome_last before one (suc k) outcome is = elim (last_or before one (change.Outcome outcome) k is) [
+  | inl there ↦ inl there
+  | inr end ↦ inr (ap suc end.0, end.1)
+]
 
 module _ {D : Type 0} (honest : Type 0) (words : DiskWords D) (old new : World D) (lists later : List (List Change))
     (bound : IsBound honest words old lists) (once : IsTriedOnce old lists) (now : IsBound honest words new later) where
-  -- a change behind these says Taken only for an attempt that its replies ended
+  -- a change behind these that is an outcome is that of an attempt, or gives up places without a hop
   abbrev pub HasTakers : ℕ → List Change → Change → Type 0
   HasTakers n before one =
-      (outcome : Outcome) (place : ℕ) (dsn : Bool) → one ≡ change.Outcome outcome
-      → Contains outcome.rulings (record { place = place; verdict = Taken dsn }) → IsEndedBy new n (suc (length before))
+      (outcome : Outcome) → one ≡ change.Outcome outcome → (was : Host D) → slice_get old.hosts n ≡ Some was
+      → IsOutcomeOf new n (suc (length before)) ⊎ HasNoHops was.config.routes before outcome
 
   -- a list has stayed, or has such a change more
   abbrev pub AddsTo : ℕ → List Change → List Change → Type 0
@@ -60,26 +59,41 @@ module _ {D : Type 0} (honest : Type 0) (words : DiskWords D) (old new : World D
   ListsAdd = (n : ℕ) (before after : List Change) → slice_get lists n ≡ Some before → slice_get later n ≡ Some after
       → AddsTo n before after
 
-  -- an attempt that replies ended stays so
+  -- an attempt that has ended with an outcome stays so
   abbrev pub EndedStay : Type 0
-  EndedStay = (n number : ℕ) → IsEndedBy old n number → IsEndedBy new n number
+  EndedStay = (n number : ℕ) → IsOutcomeOf old n number → IsOutcomeOf new n number
 
   pub takers_kept : HostsGrow honest words old new lists later bound once now → ListsAdd → EndedStay
-      → TakersKept honest words old new lists later bound once now
-  takers_kept grow adds stay n number place changes dsn is rules =
-      let before = list_before honest words old new lists later bound once now grow n changes is in
-      let was = λ (r : Rules before.0 number place (Taken dsn)).
-      stay n number (once.takers n number place before.0 dsn before.1 r) in
-      elim (adds n before.0 changes before.1 is) [
-        | inl same ↦ was (subst (λ l. Rules l number place (Taken dsn)) same rules)
+      → OutcomesKept honest words old new lists later bound once now
+  takers_kept grow adds stay n number host changes outcome stands is =
+      elim (adds n before.0 changes before.1 stands.list_at) [
+        | inl same ↦ was (ap (λ l. change_at l number) (sym same) ∙ is)
         | inr more ↦
-            let ruled : Rules (before.0 ++ more.0 ∷ []) number place (Taken dsn) =
-            subst (λ l. Rules l number place (Taken dsn)) more.1 rules in
-            elim (rules_last before.0 more.0 number place (Taken dsn) ruled) [
+            elim (outcome_last before.0 more.0 number outcome (ap (λ l. change_at l number) (sym more.1) ∙ is)) [
               | inl there ↦ was there
-              | inr last ↦ subst (λ k. IsEndedBy new n k) (sym last.0) (more.2 ruled.outcome place dsn last.1 ruled.ruling)
+              | inr last ↦ elim (more.2 outcome last.1 grows.was grows.was_there) [
+                | inl ended ↦ inl (subst (λ k. IsOutcomeOf new n k) (sym last.0) ended)
+                | inr none ↦ inr (kept none)
+              ]
             ]
       ]
+    where
+      before : (list : List Change) × (slice_get lists n ≡ Some list) × Begins list changes
+      before = list_before honest words old new lists later bound once now grow n changes stands.list_at
+
+      grows : HostGrows honest words old new lists later bound once now n host
+      grows = grow n host stands.host_at
+
+      kept : HasNoHops grows.was.config.routes before.0 outcome → HasNoHops host.config.routes changes outcome
+      kept none = no_hops_kept before.0 changes grows.was.config host.config outcome before.2 grows.config none
+
+      was : change_at before.0 number ≡ Some (change.Outcome outcome)
+          → IsOutcomeOf new n number ⊎ HasNoHops host.config.routes changes outcome
+      was at = elim (once.outcomes n number grows.was before.0 outcome
+          (record { host_at = grows.was_there; list_at = before.1 }) at) [
+            | inl ended ↦ inl (stay n number ended)
+            | inr none ↦ inr (kept none)
+          ]
 
   -- the lists, where one node has moved on, or none
   pub lists_put : (node : ℕ) (host moved : Host D) → slice_get old.hosts node ≡ Some host → IsPut old.hosts new.hosts node moved
@@ -117,24 +131,24 @@ module _ {D : Type 0} (honest : Type 0) (words : DiskWords D) (old new : World D
       (bound.hosts n there.0 before (record { host_at = ap (λ l. slice_get l n) (sym same) ∙ there.1; list_at = first })).list
       (now.hosts n there.0 after (record { host_at = there.1; list_at = second })).list refl)
 
-  -- the attempts that replies have ended, where none has changed, or one that went on, or another has begun
+  -- the attempts that have ended, where none has changed, or one that went on, or another has begun
   pub ended_same : new.attempts ≡ old.attempts → EndedStay
   ended_same same n number ended = record {
     at = ended.at;
     attempt = ended.attempt;
     is_there = ap (λ l. slice_get l ended.at) same ∙ ended.is_there;
     its_node = ended.its_node;
-    replied = ended.replied;
+    ended = ended.ended;
   }
 
   pub ended_put : (place : ℕ) (attempt : Attempt) → IsPut old.attempts new.attempts place attempt
-      → ((n number : ℕ) (ended : IsEndedBy old n number) → ended.at ≢ place) → EndedStay
+      → ((n number : ℕ) (ended : IsOutcomeOf old n number) → ended.at ≢ place) → EndedStay
   ended_put place attempt put off n number ended = record {
     at = ended.at;
     attempt = ended.attempt;
     is_there = put.others ended.at (off n number ended) ∙ ended.is_there;
     its_node = ended.its_node;
-    replied = ended.replied;
+    ended = ended.ended;
   }
 
   pub ended_still : (place slot : ℕ) (was attempt : Attempt) → slice_get old.attempts place ≡ Some was → was.fate ≡ Running slot
@@ -143,7 +157,10 @@ module _ {D : Type 0} (honest : Type 0) (words : DiskWords D) (old new : World D
       ended_put place attempt put (λ n number ended same.
       let its_fate = ap (λ (a : Attempt). a.fate)
       (same_Some ended.attempt was (sym ended.is_there ∙ ap (λ k. slice_get old.attempts k) same ∙ at)) in
-      replied_ends number slot (sym ended.replied ∙ its_fate ∙ runs))
+      elim ended.ended [
+        | inl replied ↦ replied_ends number slot (sym replied ∙ its_fate ∙ runs)
+        | inr lost ↦ lost_ends number slot (sym lost ∙ its_fate ∙ runs)
+      ])
 
   pub ended_before : (attempt : Attempt) → IsPut old.attempts new.attempts (length old.attempts) attempt → EndedStay
   ended_before attempt put =

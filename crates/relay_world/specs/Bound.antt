@@ -133,7 +133,7 @@ pub record IsItsOutcome (attempt : Attempt) (verdicts : List Verdict) (changes :
 abbrev pub HasFate
     : {D : Type 0} → Host D → List Change → Link → Attempt → Accept → List ℕ → Bool → Option (List Verdict) → Fate → Type 0
 HasFate {D} host changes link attempt accept output told verdicts (Running slot) =
-    (told ≡ false) × (verdicts ≡ None) × (link.broken ≡ false)
+    (told ≡ false) × (verdicts ≡ None)
     × ((node : Standing D) × (host.holder ≡ Up node)
     × Tells host.config.host changes node.attempts slot (told_by attempt accept (take link.down_read link.down) output))
 HasFate host changes link attempt accept output told verdicts (Replied number) =

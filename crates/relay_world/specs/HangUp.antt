@@ -1,5 +1,5 @@
 -- What becomes of a node's ends of links when the node stops: its sessions are gone, and its attempts are dropped, all at once.
-use Rattle.std.specs.Prelude.{◌≡◌, ◌⊎◌, ◌≤◌, ℕ, nat_eq, List, length, map, None, if◌then◌else◌, slice_get}
+use Rattle.std.specs.Prelude.{◌≡◌, ◌⊎◌, ◌≤◌, ℕ, nat_eq, true, List, length, map, Option, None, if◌then◌else◌, slice_get}
 use Rattle.std.specs.Option.{option_map}
 use Rattle.relay_disk.specs.Device.{DiskWords}
 use Rattle.relay_book.specs.declared.change.Change.{Change}
@@ -38,11 +38,20 @@ hung_up node world = record world {
   attempts = map (hung_up_attempt node) world.attempts;
 }
 
--- Sessions of a node are gone, and attempts of it are dropped: all of them, or some. Nothing else changes.
+-- a link that is broken
+abbrev pub broken_link : Link → Link
+broken_link link = record link { broken = true }
+
+-- A link is the same, or a session of the node is gone from it, or it is broken, or both.
+abbrev pub IsLetGo : ℕ → Option Link → Option Link → Type 0
+IsLetGo node was now =
+    (now ≡ was) ⊎ (now ≡ option_map (hung_up_link node) was) ⊎ (now ≡ option_map broken_link was)
+    ⊎ (now ≡ option_map (λ link. broken_link (hung_up_link node link)) was)
+
+-- Sessions of a node are gone, attempts of it are dropped, and links are broken: all of them, or some. Nothing else changes.
 pub record HangsUp {D : Type 0} (old new : World D) (node : ℕ) : Type 0 where
   pub links : List Link
-  pub each_link : (number : ℕ) → (link_at links number ≡ link_at old.links number)
-      ⊎ (link_at links number ≡ option_map (hung_up_link node) (link_at old.links number))
+  pub each_link : (number : ℕ) → IsLetGo node (link_at old.links number) (link_at links number)
   pub grows : length old.links ≤ length links
   pub attempts : List Attempt
   pub each_attempt : (place : ℕ) → (slice_get attempts place ≡ slice_get old.attempts place)

@@ -3,6 +3,7 @@ pub mod World
 pub mod Bound
 pub mod Custody
 pub mod Content
+pub mod HopLinks
 pub mod Steps
 pub mod Stops
 pub mod HangUp
@@ -10,5 +11,10 @@ pub mod Children
 pub mod Passing
 pub mod Once
 pub mod Transfers
+pub mod Causes
+pub mod Invented
 pub mod Copies
+pub mod Growth
 pub mod Promise
+pub mod Crashes
+pub mod CrashRuns

@@ -1,25 +1,29 @@
 -- One attempt at a time: of the attempts of a node to pass a place of a message on, one at most goes on or has passed it on.
-use Rattle.std.specs.Prelude.{◌≡◌, ℕ, zero, suc, Bool, true, List, [], None, Some, slice_get}
+use Rattle.std.specs.Prelude.{◌≡◌, ◌⊎◌, ℕ, zero, suc, Bool, true, List, [], None, Some, slice_get}
 use Rattle.std.specs.List.{AllByRecursion, Contains}
 use Rattle.relay_disk.specs.Device.{DiskWords}
-use Rattle.relay_attempts.specs.Hops.{goes_to}
+use Rattle.relay_attempts.specs.Hops.{goes_to, hop_of_place}
 use Rattle.relay_book.specs.declared.change.Accept.{Accept}
 use Rattle.relay_book.specs.declared.change.Change.{Change}
 use Rattle.relay_book.specs.declared.change.Change.TheVariants as change
 use Rattle.relay_book.specs.declared.change.Outcome.{Outcome}
-use Rattle.relay_book.specs.declared.change.Verdict.TheVariants.{Taken}
-use Rattle.relay_book.specs.Marks.{message_at}
+use Rattle.relay_book.specs.declared.change.Verdict.{Verdict}
+use Rattle.relay_book.specs.declared.change.Verdict.TheVariants.{NoRoute, Taken}
+use Rattle.relay_book.specs.Marks.{change_at, message_at}
 use Rattle.relay_book.specs.Record.{IsChange, encode}
 use Rattle.relay_node.specs.Node.{Standing}
+use Rattle.relay_routes.specs.Routes.{RouteTable}
 use Rattle.relay_world.specs.declared.attempt.Attempt.{Attempt}
 use Rattle.relay_world.specs.declared.attempt.Fate.{Fate}
 use Rattle.relay_world.specs.declared.attempt.Fate.TheVariants.{Running, Replied, Lost, Dropped}
 use Rattle.relay_world.specs.declared.link.Link.{Link}
 use Rattle.relay_world.specs.Bound.{IsBound, StandsAt}
+use Rattle.relay_world.specs.HangUp.{HangsUp}
 use Rattle.relay_world.specs.Ledger.{accepts_on}
+use Rattle.relay_world.specs.HopLinks.{AreLinkedToHops}
 use Rattle.relay_world.specs.Passing.{Rules}
-use Rattle.relay_world.specs.Steps.{Breaks, DropsAttempt, EndsSession, HasGivenUp, HasHeard, HasLost, HasOpened, HasRead, HasStarted, HasWritten}
-use Rattle.relay_world.specs.Stops.{HasReopened, HasStopped, StaysDown, StopsGivingUp, StopsHearing, StopsLosing, StopsReading}
+use Rattle.relay_world.specs.Steps.{Breaks, DropsAttempt, EndsSession, HasGivenUp, HasHeard, HasLost, HasOpened, HasRead, HasStarted, HasTicked, HasWritten}
+use Rattle.relay_world.specs.Stops.{HasArmed, HasReopened, HasStopped, StaysDown, StopsGivingUp, StopsHearing, StopsLosing, StopsReading}
 use Rattle.relay_world.specs.World.{Down, FromNoHop, Host, Undecided, Up, World, link_at}
 
 -- an attempt of this fate claims a place: it goes on, or its replies ended it and the place was taken
@@ -50,21 +54,27 @@ pub record GoesToHop {D : Type 0} (world : World D) (lists : List (List Change))
   pub each : AllByRecursion
       (λ place. goes_to host.config.routes accept.envelope.recipients attempt.hop place ≡ true) attempt.places.items
 
--- replies ended an attempt of the node, with the change of this number as its outcome
-pub record IsEndedBy {D : Type 0} (world : World D) (node number : ℕ) : Type 0 where
+-- an attempt of the node has ended with the change of this number as its outcome: by replies, or by the loss of its link
+pub record IsOutcomeOf {D : Type 0} (world : World D) (node number : ℕ) : Type 0 where
   pub at : ℕ
   pub attempt : Attempt
   pub is_there : slice_get world.attempts at ≡ Some attempt
   pub its_node : attempt.node ≡ node
-  pub replied : attempt.fate ≡ Replied number
+  pub ended : (attempt.fate ≡ Replied number) ⊎ (attempt.fate ≡ Lost number)
 
--- the record is of a change by which no place is Taken
-pub record TakesNone (octets : List ℕ) : Type 0 where
+-- each verdict of an outcome is that a place has no hop, and by these routes the place has none
+pub record HasNoHops (routes : RouteTable) (changes : List Change) (outcome : Outcome) : Type 0 where
+  pub accept : Accept
+  pub accepted : message_at changes outcome.message ≡ Some accept
+  pub each : (place : ℕ) (verdict : Verdict) → Contains outcome.rulings (record { place = place; verdict = verdict })
+      → (verdict ≡ NoRoute) × (hop_of_place routes accept.envelope.recipients place ≡ None)
+
+-- the record is of a change that, where it is an outcome, is such a one
+pub record GivesUpNoHops (routes : RouteTable) (changes : List Change) (octets : List ℕ) : Type 0 where
   pub one : Change
   pub valid : IsChange one
   pub octets_are : octets ≡ encode one
-  pub none : (outcome : Outcome) (place : ℕ) (dsn : Bool) → one ≡ change.Outcome outcome
-      → Contains outcome.rulings (record { place = place; verdict = Taken dsn }) → ⊥
+  pub none : (outcome : Outcome) → one ≡ change.Outcome outcome → HasNoHops routes changes outcome
 
 -- No place is tried twice at a time, or again behind an attempt that passed it on.
 pub record IsTriedOnce {D : Type 0} (world : World D) (lists : List (List Change)) : Type 0 where
@@ -72,13 +82,14 @@ pub record IsTriedOnce {D : Type 0} (world : World D) (lists : List (List Change
       → ClaimsAt world lists other node message place → one ≡ other
   -- a place has one hop, so who tries it is found by message and hop
   pub hops : (at : ℕ) (attempt : Attempt) → slice_get world.attempts at ≡ Some attempt → GoesToHop world lists attempt
-  -- who says Taken is an attempt that its replies ended
-  pub takers : (node number place : ℕ) (changes : List Change) (dsn : Bool) → slice_get lists node ≡ Some changes
-      → Rules changes number place (Taken dsn) → IsEndedBy world node number
-  -- and no undecided change of places that had no hop does
-  pub given_up : (node message : ℕ) (host : Host D) (disk : D) (undecided : Undecided)
-      → slice_get world.hosts node ≡ Some host → host.holder ≡ Down disk (Some undecided)
-      → undecided.origin ≡ FromNoHop message → TakesNone undecided.note.octets
+  -- an outcome is that of an attempt that has ended with it, or gives up places without a hop
+  pub outcomes : (node number : ℕ) (host : Host D) (changes : List Change) (outcome : Outcome)
+      → StandsAt world lists node host changes → change_at changes number ≡ Some (change.Outcome outcome)
+      → IsOutcomeOf world node number ⊎ HasNoHops host.config.routes changes outcome
+  -- and so does an undecided change that came from no attempt
+  pub given_up : (node message : ℕ) (host : Host D) (changes : List Change) (disk : D) (undecided : Undecided)
+      → StandsAt world lists node host changes → host.holder ≡ Down disk (Some undecided)
+      → undecided.origin ≡ FromNoHop message → GivesUpNoHops host.config.routes changes undecided.note.octets
   -- on a link that no node serves no node has accepted anything
   pub outside : (number : ℕ) (link : Link) → link_at world.links number ≡ Some link → link.server ≡ None
       → accepts_on number world.ledger ≡ []
@@ -103,6 +114,9 @@ pub data Happens {D : Type 0} (honest : Type 0) (words : DiskWords D) (old new :
   StopsInGivingUp : (node message : ℕ) → StopsGivingUp honest words old new node message → Happens honest words old new
   IsNotOpened : (node : ℕ) → StaysDown honest words old new node → Happens honest words old new
   Reopens : (node : ℕ) → HasReopened honest words old new node → Happens honest words old new
+  Ticks : (now : ℕ) → HasTicked old new now → Happens honest words old new
+  LetsGo : (node : ℕ) → HangsUp old new node → Happens honest words old new
+  Arms : (node : ℕ) → HasArmed honest words old new node → Happens honest words old new
 
 -- Where each node is up, and nothing has come, was tried and accepted yet, it is so.
 abbrev pub OnceAtFirst : {D : Type 0} → DiskWords D → Type 0
@@ -119,15 +133,20 @@ OnceIsKept {D} honest words =
     (old new : World D) (lists later : List (List Change)) → IsBound honest words old lists → IsTriedOnce old lists
     → Happens honest words old new → IsBound honest words new later → IsTriedOnce new later
 
+-- And each event keeps it so that attempts have the links that they are meant to have.
+abbrev pub HopLinksAreKept : {D : Type 0} → Type 0 → DiskWords D → Type 0
+HopLinksAreKept {D} honest words = (old new : World D) → AreLinkedToHops old → Happens honest words old new → AreLinkedToHops new
+
 -- so many events, one behind another, have made the other world of the one
 abbrev pub Happen : {D : Type 0} → Type 0 → DiskWords D → ℕ → World D → World D → Type 0
 Happen honest words zero old new = new ≡ old
 Happen {D} honest words (suc count) old new =
     (next : World D) × Happens honest words old next × Happen honest words count next new
 
--- Behind any number of events a bound world in which each place is tried once is still both, where disks are honest.
-abbrev pub RunsKeepBoth : {D : Type 0} → Type 0 → DiskWords D → Type 0
-RunsKeepBoth {D} honest words =
+-- Behind any number of events a bound world in which each place is tried once, and attempts have the links that they are meant
+-- to have, is still all of that, where disks are honest.
+abbrev pub RunsKeepAll : {D : Type 0} → Type 0 → DiskWords D → Type 0
+RunsKeepAll {D} honest words =
     honest → (count : ℕ) (old new : World D) (lists : List (List Change)) → IsBound honest words old lists
-    → IsTriedOnce old lists → Happen honest words count old new
-    → (later : List (List Change)) × IsBound honest words new later × IsTriedOnce new later
+    → IsTriedOnce old lists → AreLinkedToHops old → Happen honest words count old new
+    → (later : List (List Change)) × IsBound honest words new later × IsTriedOnce new later × AreLinkedToHops new

@@ -1,28 +1,36 @@
 -- What two relays promise of mail, whatever happens (RFC 5321, section 6.1).
-use Rattle.std.specs.Prelude.{◌≡◌, ◌<◌, ℕ, List, Some, slice_get}
+use Rattle.std.specs.Prelude.{◌≡◌, ◌≢◌, ◌⊎◌, ◌<◌, ℕ, Bool, List, [], Some, slice_get}
 use Rattle.relay_disk.specs.Device.{DiskWords}
 use Rattle.relay_book.specs.declared.change.Accept.{Accept}
 use Rattle.relay_book.specs.declared.change.Change.{Change}
+use Rattle.relay_book.specs.declared.change.Verdict.{Verdict}
+use Rattle.relay_book.specs.declared.change.Verdict.TheVariants.{Taken}
 use Rattle.relay_book.specs.declared.fate.Way.TheVariants.{ByEnd}
-use Rattle.relay_book.specs.Marks.{Held, message_at}
+use Rattle.relay_book.specs.Marks.{Added, Held, Transferred, message_at}
 use Rattle.relay_world.specs.declared.attempt.Attempt.{Attempt}
 use Rattle.relay_world.specs.declared.link.Link.{Link}
 use Rattle.relay_world.specs.Bound.{IsBound, StandsAt}
+use Rattle.relay_world.specs.Causes.{GaveVerdict, HadNoHop}
+use Rattle.relay_world.specs.Children.{HasOneChild, IsAttempt, children_of}
 use Rattle.relay_world.specs.Content.{PassesOnly}
 use Rattle.relay_world.specs.Copies.{HasFewCopies}
 use Rattle.relay_world.specs.Custody.{Acknowledged, KeepsCustody, LeftFor}
+use Rattle.relay_world.specs.Growth.{HasGrown, ListsGrow}
+use Rattle.relay_world.specs.HopLinks.{AreLinkedToHops}
 use Rattle.relay_world.specs.Once.{Happen, IsTriedOnce}
+use Rattle.relay_world.specs.Passing.{NoChildHolds, RepliesGave}
 use Rattle.relay_world.specs.Transfers.{HasPassedOn}
 use Rattle.relay_world.specs.World.{Host, World, link_at}
 
 -- what has come of a recipient: its node holds it, its next hop has accepted it, or it has ended for a cause, with the report
--- that is due
+-- that is due: by a verdict that an attempt for its message was given by what it has read, or since it has no hop
 pub data HasCome {D : Type 0} (world : World D) (lists : List (List Change)) (node : ℕ) (host : Host D) (changes : List Change)
     (number place : ℕ) : Type 0 where
   IsHeld : Held changes number place → HasCome world lists node host changes number place
   IsPassedOn : HasPassedOn world lists node host changes number place → HasCome world lists node host changes number place
-  HasEnded : (at : ℕ) → LeftFor host.config.host changes at number place ByEnd
-      → HasCome world lists node host changes number place
+  HasEnded : (at : ℕ) (left : LeftFor host.config.host changes at number place ByEnd)
+      → GaveVerdict world lists node host changes at number place left.leaves.verdict
+      ⊎ HadNoHop host changes number place left.leaves.verdict → HasCome world lists node host changes number place
 
 -- The promise, of a world as it stands.
 pub record KeepsPromise {D : Type 0} (honest : Type 0) (words : DiskWords D) (world : World D) (lists : List (List Change))
@@ -31,6 +39,25 @@ pub record KeepsPromise {D : Type 0} (honest : Type 0) (words : DiskWords D) (wo
   pub recipients : (node : ℕ) (host : Host D) (changes : List Change) → StandsAt world lists node host changes
       → (number places place : ℕ) → Acknowledged world node number places → place < places
       → HasCome world lists node host changes number place
+  -- so has each place of each message that a node has, as a report
+  pub added : (node : ℕ) (host : Host D) (changes : List Change) → StandsAt world lists node host changes
+      → (number place : ℕ) → Added changes number place → HasCome world lists node host changes number place
+  -- each place that was transferred was accepted by its next hop: where that is a node of ours, by one message there, which has
+  -- the values of this one and holds the place
+  pub transferred : (node : ℕ) (host : Host D) (changes : List Change) → StandsAt world lists node host changes
+      → (number place : ℕ) → Transferred changes number place → HasPassedOn world lists node host changes number place
+  -- a node has accepted no message from an attempt whose hop it is, or one, which has the values of the attempt's message
+  pub children : (host : Host D) (changes : List Change) (link : Link) (attempt : Attempt)
+      → IsAttempt world lists host changes link attempt
+      → (next : ℕ) (at_next : Host D) (others : List Change) → StandsAt world lists next at_next others
+      → at_next.config.host ≡ attempt.hop
+      → (children_of world attempt ≡ []) ⊎ HasOneChild world host changes link attempt others
+  -- and it holds no place by it that its replies didn't take
+  pub refused : (host : Host D) (changes : List Change) (link : Link) (attempt : Attempt)
+      → IsAttempt world lists host changes link attempt
+      → (next : ℕ) (at_next : Host D) → slice_get world.hosts next ≡ Some at_next → at_next.config.host ≡ attempt.hop
+      → (place : ℕ) (verdict : Verdict) → RepliesGave changes attempt place verdict → ((dsn : Bool) → verdict ≢ Taken dsn)
+      → NoChildHolds world host changes link attempt place
   -- what a node holds stands in its queue, and in every image that a stop may leave
   pub custody : (node : ℕ) (host : Host D) (changes : List Change) → StandsAt world lists node host changes
       → KeepsCustody honest words world node host changes
@@ -43,9 +70,11 @@ pub record KeepsPromise {D : Type 0} (honest : Type 0) (words : DiskWords D) (wo
       → message_at changes attempt.message ≡ Some accept
       → PassesOnly world lists number link host attempt accept
 
--- Behind any number of events, on honest disks, relays that were bound and tried each place once keep the promise.
+-- Behind any number of events, on honest disks, relays that were bound, tried each place once, and had the links that they were
+-- meant to have keep the promise, and have all that they had recorded, told, written and read.
 abbrev pub PromiseIsKept : {D : Type 0} → Type 0 → DiskWords D → Type 0
 PromiseIsKept {D} honest words =
     honest → (count : ℕ) (old new : World D) (lists : List (List Change)) → IsBound honest words old lists
-    → IsTriedOnce old lists → Happen honest words count old new
-    → (later : List (List Change)) × IsBound honest words new later × KeepsPromise honest words new later
+    → IsTriedOnce old lists → AreLinkedToHops old → Happen honest words count old new
+    → (later : List (List Change)) × IsBound honest words new later × KeepsPromise honest words new later × HasGrown old new
+    × ListsGrow lists later

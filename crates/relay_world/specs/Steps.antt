@@ -1,5 +1,5 @@
 -- What an event does to two relays and their links.
-use Rattle.std.specs.Prelude.{◌≡◌, ◌≢◌, ◌⊎◌, ◌≤◌, ℕ, ◌+◌, suc, Bool, true, false, List, [], ◌∷◌, ◌++◌, length, take, drop, Option, Some, None, slice_get}
+use Rattle.std.specs.Prelude.{◌≡◌, ◌≢◌, ◌⊎◌, ◌≤◌, ℕ, ◌+◌, suc, Bool, true, false, List, [], ◌∷◌, ◌++◌, length, take, drop, Option, Some, None, if◌then◌else◌, slice_get}
 use Rattle.relay_disk.specs.Device.{DiskWords}
 use Rattle.relay_book.specs.declared.change.Change.{Change}
 use Rattle.relay_attempts.specs.declared.reply.Replied.{Replied}
@@ -22,6 +22,7 @@ use Rattle.relay_world.specs.declared.link.Link.{Link}
 use Rattle.relay_world.specs.declared.link.ServerEnd.{ServerEnd}
 use Rattle.relay_world.specs.Bound.{IsBound}
 use Rattle.relay_world.specs.Ledger.{left_lines, report_told}
+use Rattle.relay_world.specs.HopLinks.{IsLinkedToHop}
 use Rattle.relay_world.specs.World.{Host, Up, World, link_at}
 
 -- the value is put at this place: in the place of another, or behind the last; all others are the same
@@ -120,6 +121,10 @@ pub record HasWritten {D : Type 0} (old new : World D) (number : ℕ) (octets : 
 abbrev pub waiting_up : ℕ → Link → List ℕ
 waiting_up count link = take count (drop link.up_read link.up)
 
+-- What an end writes on a link by a call: nothing, where the link broke in that call.
+abbrev pub unless_broken : Link → List ℕ → List ℕ
+unless_broken link octets = if link.broken then [] else octets
+
 -- the link behind a call of its server end
 abbrev pub session_after : Bool → ℕ → Option ℕ
 session_after true session = None
@@ -129,7 +134,7 @@ abbrev pub heard_link : Link → ServerEnd → ℕ → Received → Link
 heard_link link end session received = record link {
   server = Some (record end { session = session_after received.close session });
   up_read = link.up_read + received.used;
-  down = link.down ++ received.out.items;
+  down = link.down ++ unless_broken link received.out.items;
 }
 
 -- the node with no note
@@ -146,10 +151,10 @@ RecordsHeard old new node number host after (Some change) =
     (record host { holder = Up (without_note after); records = host.records ++ noted.octets ∷ [] })
     × (new.ledger ≡ old.ledger ++ Accepted node change noted.accepted number ∷ [])
 
--- A node has heard octets of a link, of those that wait as many as were carried, by one call, without a fault.
+-- A node has heard octets of a link, of those that wait as many as were carried, by one call, without a fault. What it writes is
+-- on the link, unless that broke in the call.
 pub record HasHeard {D : Type 0} (honest : Type 0) (words : DiskWords D) (old new : World D) (number count : ℕ) : Type 0 where
   pub of : SessionOf old number
-  pub whole : of.link.broken ≡ false
   pub after : Standing D
   pub received : Received
   pub receives : (changes : List Change) (said : Said) → Keeps honest words of.before.records changes
@@ -184,7 +189,7 @@ waiting_down count link = take count (drop link.down_read link.down)
 -- the link behind a call of its client end
 abbrev pub read_link : Link → Replied → Link
 read_link link replied = record link {
-  up = link.up ++ replied.out.items;
+  up = link.up ++ unless_broken link replied.out.items;
   down_read = link.down_read + replied.used;
 }
 
@@ -207,7 +212,8 @@ RecordsRead old new number of after None =
 RecordsRead old new number of after (Some change) =
     RecordsOutcome old new number of after (RepliedBy change) change
 
--- An attempt has read replies on a link, of the octets that wait as many as were carried, by one call, without a fault.
+-- An attempt has read replies on a link, of the octets that wait as many as were carried, by one call, without a fault. What it
+-- writes is on the link, unless that broke in the call.
 pub record HasRead {D : Type 0} (honest : Type 0) (words : DiskWords D) (old new : World D) (number count : ℕ) : Type 0 where
   pub of : AttemptOf old number
   pub after : Standing D
@@ -251,13 +257,10 @@ pub record DropsAttempt {D : Type 0} (old new : World D) (number : ℕ) : Type 0
   pub ledger : new.ledger ≡ old.ledger
   pub rest : (new.clock ≡ old.clock) × (length new.hosts ≡ length old.hosts)
 
--- A link is broken, on which no session and no attempt goes on.
+-- A link is broken. The session and the attempt at its ends go on until their nodes are told, and neither hears nor reads more.
 pub record Breaks {D : Type 0} (old new : World D) (number : ℕ) : Type 0 where
   pub link : Link
   pub link_is : link_at old.links number ≡ Some link
-  pub served : (end : ServerEnd) → link.server ≡ Some end → end.session ≡ None
-  pub tried : (place : ℕ) (attempt : Attempt) → link.client ≡ Some place → slice_get old.attempts place ≡ Some attempt
-      → (slot : ℕ) → attempt.fate ≡ Running slot → ⊥
   pub links : List Link
   pub put : IsPutAt old.links links number (record link { broken = true })
   pub new_is : new ≡ record old { links = links }
@@ -277,7 +280,7 @@ started_attempt node message hop started link attempt =
     (attempt.node ≡ node) × (attempt.message ≡ message) × (attempt.hop ≡ hop)
     × (attempt.places.items ≡ started.places.items) × (attempt.link ≡ link) × (attempt.fate ≡ Running started.attempt)
 
--- A node has begun an attempt for a message and a hop, on a link.
+-- A node has begun an attempt for a message and a hop, on a link that leads there.
 pub record HasStarted {D : Type 0} (honest : Type 0) (words : DiskWords D) (old new : World D) (number message : ℕ) (hop : List ℕ)
     : Type 0 where
   pub attempt : Attempt
@@ -298,6 +301,7 @@ pub record HasStarted {D : Type 0} (honest : Type 0) (words : DiskWords D) (old 
   pub hosts : IsPut old.hosts new.hosts attempt.node (record host { holder = Up after })
   pub links : IsPutAt old.links new.links number (record blank { client = Some (length old.attempts) })
   pub attempts : IsPut old.attempts new.attempts (length old.attempts) attempt
+  pub linked : IsLinkedToHop new attempt
   pub rest : (new.ledger ≡ old.ledger) × (new.clock ≡ old.clock) × (length new.hosts ≡ length old.hosts)
 
 -- A node has given up the places of a message that have no hop, in the change of this number. No link is theirs.
@@ -322,6 +326,10 @@ pub record HasGivenUp {D : Type 0} (honest : Type 0) (words : DiskWords D) (old 
         ≡ old.ledger ++ left_lines node message 0 (report_told change noted.report) noted.left.items
     pub rest : (new.links ≡ old.links) × (new.attempts ≡ old.attempts) × (new.clock ≡ old.clock)
         × (length new.hosts ≡ length old.hosts)
+
+-- The clock is set.
+pub record HasTicked {D : Type 0} (old new : World D) (now : ℕ) : Type 0 where
+  pub new_is : new ≡ record old { clock = now }
 
 -- Each of these events keeps a world bound.
 abbrev pub OpeningKeeps : {D : Type 0} → Type 0 → DiskWords D → Type 0
@@ -377,3 +385,8 @@ GivingUpKeeps {D} honest words =
     (old new : World D) (lists : List (List Change)) (node message change : ℕ) → IsBound honest words old lists
     → HasGivenUp honest words old new node message change
     → (later : List (List Change)) × IsBound honest words new later
+
+abbrev pub TickingKeeps : {D : Type 0} → Type 0 → DiskWords D → Type 0
+TickingKeeps {D} honest words =
+    (old new : World D) (lists : List (List Change)) (now : ℕ) → IsBound honest words old lists
+    → HasTicked old new now → IsBound honest words new lists

@@ -12,10 +12,10 @@ use Rattle.relay_records.specs.Records.{Keeps, Kept}
 use Rattle.relay_attempts.specs.Outcomes.{CutsUnroutable}
 use Rattle.relay_attempts.specs.Reply.{CutsLoss, CutsReply, Told}
 use Rattle.relay_node.specs.Attempts.{Tells}
-use Rattle.relay_node.specs.Node.{CutsTalk, IsIdle, SaysAt, Standing}
+use Rattle.relay_node.specs.Node.{CutsTalk, IsFused, IsIdle, SaysAt, Standing}
 use Rattle.relay_world.specs.declared.attempt.Attempt.{Attempt}
 use Rattle.relay_world.specs.declared.attempt.Fate.{Fate}
-use Rattle.relay_world.specs.declared.attempt.Fate.TheVariants.{Dropped, Lost, Replied, Running}
+use Rattle.relay_world.specs.declared.attempt.Fate.TheVariants.{Dropped, Lost, Replied}
 use Rattle.relay_world.specs.declared.link.Link.{Link}
 use Rattle.relay_world.specs.declared.link.ServerEnd.{ServerEnd}
 use Rattle.relay_world.specs.Bound.{HasSession, HasSlot, IsBound, StandsAt}
@@ -47,12 +47,6 @@ abbrev pub NoAttempt : {D : Type 0} → World D → ℕ → Type 0
 NoAttempt world node =
     (place : ℕ) (attempt : Attempt) (slot : ℕ) → slice_get world.attempts place ≡ Some attempt → HasSlot attempt node slot → ⊥
 
--- no attempt runs at the client end of the link
-abbrev pub NoneRunsOn : {D : Type 0} → World D → Link → Type 0
-NoneRunsOn world link =
-    (place : ℕ) (attempt : Attempt) (slot : ℕ) → link.client ≡ Some place → slice_get world.attempts place ≡ Some attempt
-    → attempt.fate ≡ Running slot → ⊥
-
 -- what a stop made of a node: its disk, of which a further stop leaves no image that the stop of this one doesn't leave
 abbrev pub IsLeftBy : {D : Type 0} → Type 0 → DiskWords D → Kept D → D → Type 0
 IsLeftBy honest words stopped disk = honest → ImagesWithin words stopped.spool.disk disk
@@ -76,6 +70,21 @@ pub record HasStopped {D : Type 0} (honest : Type 0) (words : DiskWords D) (old 
   pub hosts : IsPut old.hosts new.hosts node (record host { holder = Down disk None })
   pub rest : OnlyHostsChange old new
 
+-- A stop waits for a node: its disk will fail at a later call. The node keeps the changes that it kept, and all else is the same.
+pub record HasArmed {D : Type 0} (honest : Type 0) (words : DiskWords D) (old new : World D) (node : ℕ) : Type 0 where
+  pub host : Host D
+  pub host_at : slice_get old.hosts node ≡ Some host
+  pub before : Standing D
+  pub up : host.holder ≡ Up before
+  pub after : Standing D
+  pub fused : IsFused before.records after.records
+  pub keeps : (changes : List Change) → Keeps honest words before.records changes → Keeps honest words after.records changes
+  pub config : after.config ≡ before.config
+  pub seats : after.seats ≡ before.seats
+  pub attempts : after.attempts ≡ before.attempts
+  pub hosts : IsPut old.hosts new.hosts node (record host { holder = Up after })
+  pub rest : OnlyHostsChange old new
+
 -- the link without a session, broken
 abbrev pub cut_off_link : Link → ServerEnd → Link
 cut_off_link link end = record link { server = Some (record end { session = None }); broken = true }
@@ -86,7 +95,6 @@ pub record StopsHearing {D : Type 0} (honest : Type 0) (words : DiskWords D) (ol
   pub of : SessionOf old number
   pub no_session : NoSessionBut old of.end.node number
   pub no_attempt : NoAttempt old of.end.node
-  pub none_runs : NoneRunsOn old of.link
   pub stopped : Kept D
   pub cuts : (changes : List Change) (said : Said) → Keeps honest words of.before.records changes
       → SaysAt of.before.config of.before.seats of.session of.end.peer said
@@ -227,6 +235,11 @@ pub record HasReopened {D : Type 0} (honest : Type 0) (words : DiskWords D) (old
   pub rest : (new.clock ≡ old.clock) × (length new.hosts ≡ length old.hosts)
 
 -- Each of these events keeps a world bound.
+abbrev pub ArmingKeeps : {D : Type 0} → Type 0 → DiskWords D → Type 0
+ArmingKeeps {D} honest words =
+    (old new : World D) (lists : List (List Change)) (node : ℕ) → IsBound honest words old lists
+    → HasArmed honest words old new node → IsBound honest words new lists
+
 abbrev pub StoppingKeeps : {D : Type 0} → Type 0 → DiskWords D → Type 0
 StoppingKeeps {D} honest words =
     (old new : World D) (lists : List (List Change)) (node : ℕ) → IsBound honest words old lists

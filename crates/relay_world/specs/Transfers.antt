@@ -1,17 +1,29 @@
 -- What became of a place that has left a node's queue by a transfer (RFC 5321, section 6.1): its next hop has accepted it.
 use Rattle.std.specs.Prelude.{◌≡◌, ℕ, List}
+use Rattle.std.specs.List.{Contains}
 use Rattle.relay_disk.specs.Device.{DiskWords}
 use Rattle.relay_book.specs.declared.change.Change.{Change}
 use Rattle.relay_book.specs.Marks.{Transferred}
+use Rattle.relay_course.specs.Progress.{Answered}
 use Rattle.relay_world.specs.declared.attempt.Attempt.{Attempt}
 use Rattle.relay_world.specs.declared.link.Link.{Link}
 use Rattle.relay_world.specs.Bound.{IsBound, StandsAt}
-use Rattle.relay_world.specs.Children.{IsAttempt}
-use Rattle.relay_world.specs.Once.{IsTriedOnce}
-use Rattle.relay_world.specs.Passing.{IsAcceptedByHop}
+use Rattle.relay_world.specs.Children.{HasAnswers, HasOneChild, IsAttempt}
+use Rattle.relay_world.specs.HopLinks.{AreLinkedToHops, LeadsTo}
+use Rattle.relay_world.specs.Once.{GoesToHop, IsTriedOnce}
+use Rattle.relay_world.specs.Passing.{AcceptsPlace}
 use Rattle.relay_world.specs.World.{Host, World}
 
--- by an attempt of the node for this message, the next hop has accepted the place
+-- the attempt's link leads to this node, which has accepted one message on it, and that holds the place
+pub record IsHeldNext {D : Type 0} (world : World D) (host : Host D) (changes : List Change) (link : Link) (attempt : Attempt)
+    (next : ℕ) (others : List Change) (place : ℕ) : Type 0 where
+  pub leads : LeadsTo world attempt link next
+  pub child : HasOneChild world host changes link attempt others
+  pub holds : Contains child.places place
+
+-- By an attempt of the node for this message, the next hop has accepted the place: the attempt, whose hop the node's table gives
+-- for its places, has read 2yz to the RCPT of the place and to the content; and where a node of ours has the name of the hop, that
+-- node holds the place by the one message that it has accepted of the attempt.
 pub record HasPassedOn {D : Type 0} (world : World D) (lists : List (List Change)) (node : ℕ) (host : Host D)
     (changes : List Change) (message place : ℕ) : Type 0 where
   pub attempt : Attempt
@@ -19,12 +31,17 @@ pub record HasPassedOn {D : Type 0} (world : World D) (lists : List (List Change
   pub is : IsAttempt world lists host changes link attempt
   pub its_node : attempt.node ≡ node
   pub its_message : attempt.message ≡ message
-  pub accepted : IsAcceptedByHop world lists host changes link attempt place
+  pub goes : GoesToHop world lists attempt
+  pub answered : List Answered
+  pub reads : HasAnswers host changes link attempt answered
+  pub accepts : AcceptsPlace answered place
+  pub next_holds : (next : ℕ) (at_next : Host D) (others : List Change) → StandsAt world lists next at_next others
+      → at_next.config.host ≡ attempt.hop → IsHeldNext world host changes link attempt next others place
 
 -- Each place that was transferred was passed on so.
 abbrev pub TransferredIsAccepted : {D : Type 0} → Type 0 → DiskWords D → Type 0
 TransferredIsAccepted {D} honest words =
     (world : World D) (lists : List (List Change)) → IsBound honest words world lists → IsTriedOnce world lists
-    → (node : ℕ) (host : Host D) (changes : List Change) → StandsAt world lists node host changes
+    → AreLinkedToHops world → (node : ℕ) (host : Host D) (changes : List Change) → StandsAt world lists node host changes
     → (message place : ℕ) → Transferred changes message place
     → HasPassedOn world lists node host changes message place

@@ -2,8 +2,9 @@
 ghost use Rattle.relay_world.specs.Content.{ContentIsKept};
 ghost use Rattle.relay_world.specs.Custody.{CustodyIsKept};
 ghost use Rattle.relay_world.specs.HangUp.{HangingUpEnds, HangingUpKeeps};
-ghost use Rattle.relay_world.specs.Stops.{DownIsNotRefused, ReopeningKeeps, StayingDownKeeps, StoppingGivingUpKeeps, StoppingHearingKeeps, StoppingKeeps, StoppingLosingKeeps, StoppingReadingKeeps};
-ghost use Rattle.relay_world.specs.Steps.{BreakingKeeps, DroppingKeeps, EndingKeeps, GivingUpKeeps, HearingKeeps, LosingKeeps, OpeningKeeps, ReadingKeeps, StartingKeeps, WritingKeeps};
+ghost use Rattle.relay_world.specs.Stops.{ArmingKeeps, DownIsNotRefused, ReopeningKeeps, StayingDownKeeps, StoppingGivingUpKeeps, StoppingHearingKeeps, StoppingKeeps, StoppingLosingKeeps, StoppingReadingKeeps};
+ghost use Rattle.relay_world.specs.Steps.{BreakingKeeps, DroppingKeeps, EndingKeeps, GivingUpKeeps, HearingKeeps, LosingKeeps, OpeningKeeps, ReadingKeeps, StartingKeeps, TickingKeeps, WritingKeeps};
+ghost use Rattle.relay_world.specs.Crashes.{CrashingInHearingKeeps, CrashingInLosingKeeps, CrashingInReadingKeeps};
 
 use relay_disk::Disk;
 
@@ -67,6 +68,16 @@ pub fn giving_up_keeps<D: Disk>()
     ensures { GivingUpKeeps D.honest D.words }
 {}
 
+/// A clock that is set keeps a world bound.
+pub fn ticking_keeps<D: Disk>()
+    ensures { TickingKeeps D.honest D.words }
+{}
+
+/// A stop that waits for a node keeps a world bound.
+pub fn arming_keeps<D: Disk>()
+    ensures { ArmingKeeps D.honest D.words }
+{}
+
 /// A node that stops between two calls keeps a world bound.
 pub fn stopping_keeps<D: Disk>()
     ensures { StoppingKeeps D.honest D.words }
@@ -115,4 +126,19 @@ pub fn hanging_up_keeps<D: Disk>()
 /// A node whose sessions are all gone, and whose attempts are all dropped, has no session, and none runs.
 pub fn hanging_up_ends<D: Disk>()
     ensures { HangingUpEnds D }
+{}
+
+/// a node that goes down in a call that heard octets keeps a world bound, while attempts of others still run on its links.
+pub fn crashing_in_hearing_keeps<D: Disk>()
+    ensures { CrashingInHearingKeeps D.honest D.words }
+{}
+
+/// a node that goes down in a call of an attempt keeps a world bound.
+pub fn crashing_in_reading_keeps<D: Disk>()
+    ensures { CrashingInReadingKeeps D.honest D.words }
+{}
+
+/// a node that goes down in a call of an attempt keeps a world bound.
+pub fn crashing_in_losing_keeps<D: Disk>()
+    ensures { CrashingInLosingKeeps D.honest D.words }
 {}

@@ -1,6 +1,11 @@
 //! What two relays say to each other of each place: what a node has recorded of it is so at its next hop.
+ghost use Rattle.relay_world.specs.Causes.{LeavingIsCaused};
 ghost use Rattle.relay_world.specs.Copies.{CopiesAreFew};
-ghost use Rattle.relay_world.specs.Once.{OnceAtFirst, OnceIsKept, RunsKeepBoth};
+ghost use Rattle.relay_world.specs.CrashRuns.{CrashingHappens, CrashingKeepsOnce, RestingCrashHappens};
+ghost use Rattle.relay_world.specs.Growth.{GrownListsBegin, RunsGrow};
+ghost use Rattle.relay_world.specs.Invented.{InventingBreaks};
+ghost use Rattle.relay_world.specs.HopLinks.{HopLinksAtFirst};
+ghost use Rattle.relay_world.specs.Once.{HopLinksAreKept, OnceAtFirst, OnceIsKept, RunsKeepAll};
 ghost use Rattle.relay_world.specs.Passing.{AtMostOneChild, OthersAreNotHeld, TakenIsAccepted};
 ghost use Rattle.relay_world.specs.Promise.{PromiseIsKept};
 ghost use Rattle.relay_world.specs.Transfers.{TransferredIsAccepted};
@@ -33,9 +38,20 @@ pub fn once_is_kept<D: Disk>()
     ensures { OnceIsKept D.honest D.words }
 {}
 
-/// Behind any number of events relays are still bound, and each place is tried once.
-pub fn runs_keep_both<D: Disk>()
-    ensures { RunsKeepBoth D.honest D.words }
+/// Where nothing was tried yet, attempts have the links that they are meant to have.
+pub fn hop_links_at_first<D: Disk>()
+    ensures { HopLinksAtFirst D }
+{}
+
+/// Whatever event comes, an attempt has the link that it is meant to have: to the node whose name is its hop, or to outside.
+pub fn hop_links_are_kept<D: Disk>()
+    ensures { HopLinksAreKept D.honest D.words }
+{}
+
+/// Behind any number of events relays are still bound, each place is tried once, and attempts have the links that they are meant
+/// to have.
+pub fn runs_keep_all<D: Disk>()
+    ensures { RunsKeepAll D.honest D.words }
 {}
 
 /// Each place that was transferred was accepted by its next hop, by an attempt of its node for its message.
@@ -43,13 +59,49 @@ pub fn transferred_is_accepted<D: Disk>()
     ensures { TransferredIsAccepted D.honest D.words }
 {}
 
+/// Each place that has left has left by the course of an attempt for its message, or has no hop.
+pub fn leaving_is_caused<D: Disk>()
+    ensures { LeavingIsCaused D.honest D.words }
+{}
+
+/// A node that records an outcome of no attempt, by which a place has another fate than to have no hop, breaks what events keep.
+pub fn inventing_breaks<D: Disk>()
+    ensures { InventingBreaks D.honest D.words }
+{}
+
 /// Of a message's place as many copies are made as one, and one for each reply that was lost, or fewer.
 pub fn copies_are_few<D: Disk>()
     ensures { CopiesAreFew D.honest D.words }
 {}
 
-/// Behind any number of events each recipient that a node acknowledged is held there, accepted by its next hop, or has ended with
-/// the report that is due; there is one copy at most, and one more for each lost reply; and nothing else was passed on.
+/// Behind any number of events the nodes have the records that they had, the ledger its lines, and links what was written and read.
+pub fn runs_grow<D: Disk>()
+    ensures { RunsGrow D.honest D.words }
+{}
+
+/// Where so much has grown, the list of changes of each node begins with the one that it was.
+pub fn grown_lists_begin<D: Disk>()
+    ensures { GrownListsBegin D.honest D.words }
+{}
+
+/// Behind any number of events each recipient that a node acknowledged, and each of a report, is held there, accepted by its next
+/// hop with the values that it has, or has ended for a cause with the report that is due; what a node's replies refused it doesn't
+/// hold; there is one copy at most, and one more for each lost reply; and nothing else was passed on.
 pub fn promise_is_kept<D: Disk>()
     ensures { PromiseIsKept D.honest D.words }
+{}
+
+/// A node that crashes in a call keeps it so that each place is tried once.
+pub fn crashing_keeps_once<D: Disk>()
+    ensures { CrashingKeepsOnce D.honest D.words }
+{}
+
+/// A node that crashes in a call, while attempts of others still run on its links, is a run of two events.
+pub fn crashing_happens<D: Disk>()
+    ensures { CrashingHappens D.honest D.words }
+{}
+
+/// A node that crashes between two calls, or while it gives up places without a hop, is a run of two events.
+pub fn resting_crash_happens<D: Disk>()
+    ensures { RestingCrashHappens D.honest D.words }
 {}

@@ -1,0 +1,108 @@
+-- A node that crashes between two calls, or while it gives up places without a hop, lets go of its ends, and then stops.
+use Rattle.std.proofs.Common.{inr, ℕ, zero, suc, List, map, refl, sym, subst, ◌∙◌}
+use Rattle.std.specs.Prelude.{slice_get}
+use Rattle.relay_disk.specs.Device.{DiskWords}
+use Rattle.relay_world.specs.declared.attempt.Attempt.{Attempt}
+use Rattle.relay_world.specs.declared.link.Link.{Link}
+use Rattle.relay_world.specs.Bound.{HasSession, HasSlot}
+use Rattle.relay_world.specs.Crashes.{CrashesAtRest, CrashesGivingUp, let_go, let_go_link}
+use Rattle.relay_world.specs.CrashRuns.{RestingCrashHappens}
+use Rattle.relay_world.specs.HangUp.{HangsUp, IsLetGo, hung_up_attempt}
+use Rattle.relay_world.specs.Once.{Happen, LetsGo, Stops, StopsInGivingUp}
+use Rattle.relay_world.specs.Stops.{HasStopped, NoAttempt, NoSession, StopsGivingUp}
+use Rattle.relay_world.specs.World.{World, link_at}
+use Rattle.relay_world.proofs.CrashLemmas.{let_go_one, no_session_left}
+use Rattle.relay_world.proofs.HangUpLemmas.{as_long, attempt_was, get_map, link_map, link_was, no_attempt}
+
+module _ {D : Type 0} (node : ℕ) (old : World D) where
+  abbrev links_now : List Link
+  links_now = map (let_go_link node old.attempts) old.links
+
+  abbrev attempts_now : List Attempt
+  attempts_now = map (hung_up_attempt node) old.attempts
+
+  pub hangs : HangsUp old (let_go node old) node
+  hangs = record {
+    links = links_now;
+    each_link = λ other. subst (λ o. IsLetGo node (link_at old.links other) o)
+        (sym (link_map (let_go_link node old.attempts) old.links other))
+        (let_go_one node old.attempts (link_at old.links other));
+    grows = as_long (let_go_link node old.attempts) old.links;
+    attempts = attempts_now;
+    each_attempt = λ place. inr (get_map (hung_up_attempt node) old.attempts place);
+    new_is = refl;
+  }
+
+  pub none_heard : NoSession (let_go node old) node
+  none_heard other link session is has =
+      let was = link_was (let_go_link node old.attempts) (link_at old.links other) link
+      (sym (link_map (let_go_link node old.attempts) old.links other) ∙ is) in
+      no_session_left node old.attempts was.0 session (subst (λ l. HasSession l node session) was.1 has)
+
+  pub none_runs : NoAttempt (let_go node old) node
+  none_runs place attempt slot is has =
+      let was = attempt_was (hung_up_attempt node) (slice_get old.attempts place) attempt
+      (sym (get_map (hung_up_attempt node) old.attempts place) ∙ is) in
+      no_attempt node was.0 slot (subst (λ a. HasSlot a node slot) was.1 has)
+
+module _ {D : Type 0} (honest : Type 0) (words : DiskWords D) (old new : World D) where
+  rest_stops : (node : ℕ) (crash : CrashesAtRest honest words old new node)
+      → HasStopped honest words (let_go node old) (record (let_go node old) { hosts = crash.down.hosts }) node
+  rest_stops node crash = record {
+    host = crash.host;
+    host_at = crash.host_at;
+    before = crash.before;
+    up = crash.up;
+    no_session = none_heard node old;
+    no_attempt = none_runs node old;
+    disk = crash.disk;
+    left = crash.left;
+    hosts = crash.down.put;
+    rest = (refl, refl, refl, refl, crash.down.as_many);
+  }
+
+  pub rest_run : (node : ℕ) → CrashesAtRest honest words old new node → Happen honest words (suc (suc zero)) old new
+  rest_run node crash = (
+    let_go node old,
+    LetsGo node (hangs node old),
+    (
+      record (let_go node old) { hosts = crash.down.hosts },
+      Stops node (rest_stops node crash),
+      crash.down.new_is,
+    ),
+  )
+
+  giving_stops : (node message : ℕ) (crash : CrashesGivingUp honest words old new node message)
+      → StopsGivingUp honest words (let_go node old) (record (let_go node old) { hosts = crash.down.hosts }) node message
+  giving_stops node message crash = record {
+    host = crash.host;
+    host_at = crash.host_at;
+    before = crash.before;
+    up = crash.up;
+    no_session = none_heard node old;
+    no_attempt = none_runs node old;
+    stopped = crash.stopped;
+    cuts = crash.cuts;
+    noted = crash.noted;
+    note_is = crash.note_is;
+    disk = crash.disk;
+    left = crash.left;
+    hosts = crash.down.put;
+    rest = (refl, refl, refl, refl, crash.down.as_many);
+  }
+
+  pub giving_run : (node message : ℕ) → CrashesGivingUp honest words old new node message
+      → Happen honest words (suc (suc zero)) old new
+  giving_run node message crash = (
+    let_go node old,
+    LetsGo node (hangs node old),
+    (
+      record (let_go node old) { hosts = crash.down.hosts },
+      StopsInGivingUp node message (giving_stops node message crash),
+      crash.down.new_is,
+    ),
+  )
+
+pub resting_crash_happens : {D : Type 0} (honest : Type 0) (words : DiskWords D) → RestingCrashHappens honest words
+resting_crash_happens honest words old new node message =
+    (rest_run honest words old new node, giving_run honest words old new node message)

@@ -1,0 +1,30 @@
+-- a stop in a call, as one event, keeps it so that each place is tried once.
+use Rattle.std.specs.Prelude.{ℕ, zero, suc, List}
+use Rattle.relay_disk.specs.Device.{DiskWords}
+use Rattle.relay_book.specs.declared.change.Change.{Change}
+use Rattle.relay_world.specs.Bound.{IsBound}
+use Rattle.relay_world.specs.Crashes.{CrashesAtRest, CrashesGivingUp, CrashesHearing, CrashesLosing, CrashesReading}
+use Rattle.relay_world.specs.Once.{Happen, IsTriedOnce}
+use Rattle.relay_world.specs.World.{World}
+
+abbrev pub CrashingKeepsOnce : {D : Type 0} → Type 0 → DiskWords D → Type 0
+CrashingKeepsOnce {D} honest words =
+    (old new : World D) (lists : List (List Change)) (number count : ℕ) → IsBound honest words old lists → IsTriedOnce old lists
+    → (CrashesHearing honest words old new number count → IsTriedOnce new lists)
+    × (CrashesReading honest words old new number count → IsTriedOnce new lists)
+    × (CrashesLosing honest words old new number → IsTriedOnce new lists)
+
+-- It is a run of two events: the node lets go of its ends, and then stops in the call.
+abbrev pub CrashingHappens : {D : Type 0} → Type 0 → DiskWords D → Type 0
+CrashingHappens {D} honest words =
+    (old new : World D) (lists : List (List Change)) (number count : ℕ) → IsBound honest words old lists
+    → (CrashesHearing honest words old new number count → Happen honest words (suc (suc zero)) old new)
+    × (CrashesReading honest words old new number count → Happen honest words (suc (suc zero)) old new)
+    × (CrashesLosing honest words old new number → Happen honest words (suc (suc zero)) old new)
+
+-- So is a crash between two calls, or while places without a hop are given up.
+abbrev pub RestingCrashHappens : {D : Type 0} → Type 0 → DiskWords D → Type 0
+RestingCrashHappens {D} honest words =
+    (old new : World D) (node message : ℕ)
+    → (CrashesAtRest honest words old new node → Happen honest words (suc (suc zero)) old new)
+    × (CrashesGivingUp honest words old new node message → Happen honest words (suc (suc zero)) old new)
