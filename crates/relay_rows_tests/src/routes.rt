@@ -1,46 +1,14 @@
-//! Reads each row of data/: a configuration, of which `;` between spaces ends a line; a file with one; or a file and a
-//! path, whose hop is looked up. What comes of it is printed behind the row, and where that isn't what the row says
-//! behind `=>`, that it differs.
-#![tactic(auto)]
-
+//! What comes of a row of routes: a configuration, of which `;` between spaces ends a line; a file with one; or
+//! a file and a path, whose hop is looked up.
+use crate::file::file;
 use relay_envelope::{Path, PathBuf};
 use relay_routes::{Config, Hop, HostName, Table};
 use std::alloc::{AllocError, Global};
+use std::str;
 use std::test::Fail;
-use std::{env, fs, str};
-
-/// The word is the folder of the rows. Without one they lie where the program runs.
-fn main(rt: HostRuntime) -> Result<(), Fail> {
-    let alloc = rt.alloc();
-    let words: Vec<String> = env::args(&rt)?.collect(alloc)?;
-    let folder = match words.get(1) {
-        Some(word) => word.as_str(),
-        None => ".",
-    };
-    let rows = file(&rt, alloc, folder, "rows.in")?;
-    for row in rows.as_str().lines() {
-        show(&rt, alloc, folder, row)?;
-    }
-    Ok(())
-}
-
-/// Prints a row and what comes of it; a line that is no row stands as it is.
-fn show(rt: &HostRuntime, alloc: Global, folder: &str, row: &str) -> Result<(), Fail> {
-    let Some((given, wanted)) = row.split_once(" => ") else {
-        println!(rt; "{row}")?;
-        return Ok(());
-    };
-    let outcome = outcome_of_row(rt, alloc, folder, given)?;
-    if outcome.as_str() == wanted {
-        println!(rt; "{given} => {outcome}")?;
-    } else {
-        println!(rt; "{given} => {outcome}, and not {wanted}")?;
-    }
-    Ok(())
-}
 
 /// What comes of the lines, of the file, or of the file and the path that a row gives.
-fn outcome_of_row(
+pub fn outcome_of_routes(
     rt: &HostRuntime,
     alloc: Global,
     folder: &str,
@@ -50,21 +18,12 @@ fn outcome_of_row(
         return outcome_of(alloc, document_of(alloc, lines)?.as_str());
     }
     if let Some(name) = given.strip_prefix("FILE ") {
-        return outcome_of(alloc, file(rt, alloc, folder, name)?.as_str());
+        return outcome_of(alloc, file(rt, folder, name)?.as_str());
     }
     match given.split_once(" ") {
-        Some((name, path)) => hop_of(
-            alloc,
-            file(rt, alloc, folder, name)?.as_str(),
-            path.as_bytes(),
-        ),
+        Some((name, path)) => hop_of(alloc, file(rt, folder, name)?.as_str(), path.as_bytes()),
         None => Ok(String::from_str(alloc, "no row")?),
     }
-}
-
-/// The text of a file of the folder.
-fn file(rt: &HostRuntime, alloc: Global, folder: &str, name: &str) -> Result<String, Fail> {
-    Ok(fs::read_to_string(rt, format!(in alloc; "{folder}/{name}")?.as_str())?)
 }
 
 /// The lines of a row, each with its end.

@@ -1,8 +1,8 @@
-//! The line of a row: what came of it, beside what is written down.
+//! The line of an envelope's row: what came of it, beside what is written down.
 ghost use Rattle.std.specs.Prelude.{◌≡◌, IfOk, IsTrue, ◌↔◌};
-ghost use Rattle.relay_envelope_tests.specs.Outcome.{IsLine};
+ghost use Rattle.relay_rows_tests.specs.Outcome.{IsLine};
 
-use crate::outcome::outcome_of;
+use crate::envelope::outcome_of;
 use relay_octets::Octets;
 use std::alloc::{AllocError, Global};
 

@@ -1,34 +1,11 @@
-//! Reads each row of data/: `LINE` and a line of a script, or `TEXT` and octets in decimal, and behind `=>` what the line
-//! says or the text that spells the octets. Where something else comes of a row, that it differs is printed.
-#![tactic(auto)]
-
+//! What comes of a row of scripts: `LINE` and a line of a script, or `TEXT` and octets in decimal, of which the
+//! text that spells them is written.
 use relay_script::{Event, NODE_COUNT, NodeIndex, ScriptLine, push_text, script_line};
 use std::alloc::{AllocError, Global};
 use std::test::Fail;
-use std::{env, fs};
-
-/// The word is the folder of the rows. Without one they lie where the program runs.
-fn main(rt: HostRuntime) -> Result<(), Fail> {
-    let alloc = rt.alloc();
-    let words: Vec<String> = env::args(&rt)?.collect(alloc)?;
-    let folder = match words.get(1) {
-        Some(word) => word.as_str(),
-        None => ".",
-    };
-    let rows = fs::read_to_string(&rt, format!(in alloc; "{folder}/rows.in")?.as_str())?;
-    for row in rows.as_str().lines() {
-        show(&rt, alloc, row)?;
-    }
-    say_octets(&rt, alloc)?;
-    for index in 0..NODE_COUNT {
-        let node = NodeIndex::new(index);
-        println!(rt; "node {}: {}", node.index(), char::from(node.letter()))?;
-    }
-    Ok(())
-}
 
 /// Names each octet that isn't read as it was written.
-fn say_octets(rt: &HostRuntime, alloc: Global) -> Result<(), Fail> {
+pub fn say_octets(rt: &HostRuntime, alloc: Global) -> Result<(), Fail> {
     for octet in 0..=u8::MAX {
         if !is_read_again(alloc, octet)? {
             println!(rt; "octet {octet} is not read as it was written")?;
@@ -38,23 +15,17 @@ fn say_octets(rt: &HostRuntime, alloc: Global) -> Result<(), Fail> {
     Ok(())
 }
 
-/// Prints a row and what comes of it; a line that is no row stands as it is.
-fn show(rt: &HostRuntime, alloc: Global, row: &str) -> Result<(), Fail> {
-    let Some((given, wanted)) = row.split_once(" => ") else {
-        println!(rt; "{row}")?;
-        return Ok(());
-    };
-    let outcome = outcome_of_row(alloc, given)?;
-    if outcome.as_str() == wanted {
-        println!(rt; "{given} => {outcome}")?;
-    } else {
-        println!(rt; "{given} => {outcome}, and not {wanted}")?;
+/// Names each node.
+pub fn say_nodes(rt: &HostRuntime) -> Result<(), Fail> {
+    for index in 0..NODE_COUNT {
+        let node = NodeIndex::new(index);
+        println!(rt; "node {}: {}", node.index(), char::from(node.letter()))?;
     }
     Ok(())
 }
 
-/// What comes of what a row gives.
-fn outcome_of_row(alloc: Global, given: &str) -> Result<String, Fail> {
+/// What comes of a row.
+pub fn outcome_of_script(alloc: Global, given: &str) -> Result<String, Fail> {
     if let Some(line) = given.strip_prefix("LINE ") {
         return outcome_of_line(alloc, line.as_bytes());
     }
