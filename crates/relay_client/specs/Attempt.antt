@@ -47,6 +47,10 @@ FollowsOn attempt host envelope text places input output None =
 FollowsOn attempt host envelope text places input output (Some verdicts) =
     IsCourse host envelope text places input false output (Some verdicts)
 
+-- the places that it was begun for
+abbrev pub places_of : Attempt → List ℕ
+places_of attempt = attempt.talk.places.items
+
 -- it waits for replies
 abbrev pub IsRunning : Attempt → Type 0
 IsRunning attempt = attempt.stage ≡ Running

@@ -3,8 +3,18 @@
 use Rattle.std.specs.Prelude.{ℕ, ◌+◌, Bool, true, false, List, [], ◌∷◌, take, drop, Option, Some, None, unwrap_or}
 use Rattle.relay_book.specs.declared.change.Verdict.{Verdict}
 use Rattle.relay_book.specs.declared.change.Verdict.TheVariants.{Refused, Later}
+use Rattle.relay_lines.specs.Reply.{Reply}
+use Rattle.relay_course.specs.VerdictTable.{refusal}
+use Rattle.relay_client.specs.declared.verdict.RcptAnswer.{RcptAnswer}
+use Rattle.relay_client.specs.declared.verdict.RcptAnswer.TheVariants.{Accepts, Delays, Rejects}
 use Rattle.relay_client.specs.declared.settled.Said.{Said}
 use Rattle.relay_client.specs.declared.settled.Said.TheVariants.{Accepted, Delayed, Rejected}
+
+-- the verdict of a place by what the reply to its RCPT does, none where it is accepted
+abbrev pub verdict_as : RcptAnswer → Reply → Option Verdict
+verdict_as Accepts reply = None
+verdict_as Delays reply = Some Later
+verdict_as Rejects reply = Some (refusal reply)
 
 -- how many octets the text of this one has
 abbrev pub text_size : Said → ℕ

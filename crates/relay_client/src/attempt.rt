@@ -3,7 +3,8 @@ ghost use Rattle.relay_envelope.specs.declared.envelope.Envelope.{Envelope};
 ghost use Rattle.relay_course.specs.Course.{IsCourse};
 ghost use Rattle.relay_course.specs.Progress.{Errand};
 ghost use Rattle.relay_client.specs.Conversation.{IsErrandOf};
-ghost use Rattle.relay_client.specs.Attempt.{Follows, FollowsOn, HasFailed, KeepsOn, KeepsTo, Turns, stage_by};
+ghost use Rattle.relay_client.specs.Attempt.{Follows, FollowsOn, HasFailed, KeepsOn, KeepsTo, Turns, places_of, stage_by};
+ghost use Rattle.relay_course.specs.VerdictTable.{all_later};
 
 use crate::conversation::Conversation;
 use crate::mail_object::MailObject;
@@ -63,8 +64,9 @@ impl Attempt {
     /// An attempt of this host that waits for the greeting of a server, for these places of a message, from 0, each at
     /// most once. It fails where memory runs out.
     pub fn begin(alloc: Global, host: &[u8], places: Vec<u8>) -> Result<Self, AllocError>
-        ensures { IfOk result (λ attempt. (envelope : Envelope) (text : List ℕ)
+        ensures follows { IfOk result (λ attempt. (envelope : Envelope) (text : List ℕ)
             → Follows attempt host.now envelope text places.items [] []) }
+        ensures places { IfOk result (λ attempt. places_of attempt ≡ places.items) }
     {
         Ok(Attempt {
             reader: ReplyReader::new(alloc),
@@ -104,10 +106,16 @@ impl Attempt {
     }
 
     /// The verdicts where the connection is lost: each place may be tried again. It fails where memory runs out.
+    ///
+    /// It asks nothing of the stage. An attempt that has ended, or failed, answers as one that runs: Later
+    /// for each of its places, whatever verdicts it has given. So what was given at the end stands, and a
+    /// loss told behind it says nothing of the places.
     pub fn broken(&self) -> Result<Verdicts, AllocError>
-        ensures { IfOk result (λ verdicts. (host text places input output : List ℕ) (envelope : Envelope)
+        ensures lost { IfOk result (λ verdicts.
+            (host text places input output : List ℕ) (envelope : Envelope)
             → Follows self.now host envelope text places input output
             → IsCourse host envelope text places input true output (Some verdicts)) }
+        ensures later { IfOk result (λ verdicts. verdicts ≡ all_later (places_of self.now)) }
     {
         self.talk.all_later()
     }

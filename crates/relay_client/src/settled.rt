@@ -3,18 +3,13 @@ ghost use Rattle.relay_course.specs.VerdictTable.{rcpt_verdict, refusal};
 ghost use Rattle.relay_client.specs.Conversation.{has_open, verdicts_from};
 ghost use Rattle.relay_client.specs.Settled.{has_accepted, settled_of, size_by, verdict_by};
 
-use crate::verdict::{copy_of, kept_text};
+use crate::verdict::{RcptAnswer, copy_of, kept_text, rcpt_answer};
 use crate::verdicts::Verdicts;
 use relay_book::Verdict;
-use relay_course::{ReplyKind, kind_of};
 use relay_lines::Reply;
 use relay_octets::Octets;
 use std::alloc::{AllocError, Global};
 use std::marker::Model;
-
-/// The reply code of a server whose storage for this mail is exceeded (RFC 5321, section 4.5.3.1.10): at a RCPT it means
-/// that there are too many of them for now.
-const STORAGE_EXCEEDED: u16 = 552;
 
 /// What the reply to a RCPT said. It takes four octets: an attempt that waits may hold one for each of 100 places.
 #[derive(Clone, Copy, Debug)]
@@ -68,16 +63,10 @@ impl Settled {
     pub(crate) fn push(&mut self, alloc: Global, reply: &Reply) -> Result<(), AllocError>
         ensures { OnOk result (self.new ≡ self.old ++ rcpt_verdict reply.now ∷ []) }
     {
-        match kind_of(reply.code()) {
-            ReplyKind::Completion => self.accept(),
-            ReplyKind::Intermediate | ReplyKind::Transient => self.delay(),
-            ReplyKind::Permanent => {
-                if reply.code() == STORAGE_EXCEEDED {
-                    self.delay()
-                } else {
-                    self.reject(alloc, reply)
-                }
-            }
+        match rcpt_answer(reply) {
+            RcptAnswer::Accepts => self.accept(),
+            RcptAnswer::Delays => self.delay(),
+            RcptAnswer::Rejects => self.reject(alloc, reply),
         }
     }
 

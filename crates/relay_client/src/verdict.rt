@@ -1,17 +1,49 @@
 //! What a reply says of a place.
 ghost use Rattle.std.specs.Prelude.{◌≡◌, ◌≤◌, length, map, take, IfOk};
 ghost use Rattle.relay_lines.specs.Reply.{last_text};
-ghost use Rattle.relay_course.specs.VerdictTable.{content_verdict_by, refusal, shown};
+ghost use Rattle.relay_book.specs.Record.{refusal_limit};
+ghost use Rattle.relay_course.specs.VerdictTable.{content_verdict_by, rcpt_verdict, refusal, shown};
+ghost use Rattle.relay_client.specs.Settled.{verdict_as};
 
-use relay_book::Verdict;
-use relay_course::ReplyKind;
+use relay_book::{REFUSAL_LIMIT, Verdict};
+use relay_course::{ReplyKind, kind_of};
 use relay_lines::Reply;
 use relay_lines::word::is_printable;
 use relay_octets::Octets;
 use std::alloc::{AllocError, Global};
 
-/// How many octets of a refusal's text are kept.
-const KEPT_TEXT: usize = 200;
+/// The reply code of a server whose storage for this mail is exceeded (RFC 5321, section 4.5.3.1.10):
+/// at a RCPT it means that there are too many of them for now.
+const STORAGE_EXCEEDED: u16 = 552;
+
+/// What the reply to a RCPT does with its place.
+#[derive(Clone, Copy, Debug)]
+pub(crate) enum RcptAnswer {
+    /// It accepts the place: the reply to the content decides.
+    Accepts,
+    /// The place may be tried again.
+    Delays,
+    /// It refuses the place for good.
+    Rejects,
+}
+
+/// What this reply to a RCPT does with its place. It takes no memory.
+pub(crate) fn rcpt_answer(reply: &Reply) -> RcptAnswer
+    ensures { verdict_as result reply.now ≡ rcpt_verdict reply.now }
+{
+    match kind_of(reply.code()) {
+        ReplyKind::Completion => RcptAnswer::Accepts,
+        ReplyKind::Intermediate => RcptAnswer::Delays,
+        ReplyKind::Transient => RcptAnswer::Delays,
+        ReplyKind::Permanent => {
+            if reply.code() == STORAGE_EXCEEDED {
+                RcptAnswer::Delays
+            } else {
+                RcptAnswer::Rejects
+            }
+        }
+    }
+}
 
 /// A copy of a verdict. It fails where memory runs out.
 pub(crate) fn copy_of(alloc: Global, verdict: &Verdict) -> Result<Verdict, AllocError>
@@ -42,8 +74,9 @@ pub(crate) fn refusal(alloc: Global, reply: &Reply) -> Result<Verdict, AllocErro
 
 /// The text of a refusal as it is kept. It fails where memory runs out.
 pub(crate) fn kept_text(alloc: Global, reply: &Reply) -> Result<Vec<u8>, AllocError>
-    ensures shown { IfOk result (λ text. text.items ≡ map shown (take 200 (last_text reply.now.lines))) }
-    ensures short { IfOk result (λ text. length text.items ≤ 200) }
+    ensures shown { IfOk result (λ text.
+        text.items ≡ map shown (take refusal_limit (last_text reply.now.lines))) }
+    ensures short { IfOk result (λ text. length text.items ≤ refusal_limit) }
 {
     let text = all_shown(alloc, kept_of(reply.last_text()))?;
     Ok(text)
@@ -52,12 +85,12 @@ pub(crate) fn kept_text(alloc: Global, reply: &Reply) -> Result<Vec<u8>, AllocEr
 /// What is kept of a text.
 #[tactic(auto, using(crate::proofs::SettledLemmas::take_short))]
 fn kept_of(text: &[u8]) -> &[u8]
-    ensures { result.now ≡ take 200 text.now }
+    ensures { result.now ≡ take refusal_limit text.now }
 {
-    if text.len() < KEPT_TEXT {
+    if text.len() < REFUSAL_LIMIT {
         text
     } else {
-        &text[..KEPT_TEXT]
+        &text[..REFUSAL_LIMIT]
     }
 }
 

@@ -163,9 +163,9 @@ shown-all (octet ∷ text) =
 refusal-stored : (reply : Reply) → IsReply reply → IsVerdict (refusal reply)
 refusal-stored reply is =
     let front : List ℕ = take 200 (last_text reply.lines) in
-    let high = is.code_is.high in
     record {
-      code_fits = omega (arith, high);
+      low = is.code_is.low;
+      high = is.code_is.high;
       printable = AllPass-from_list_all is_printable (map shown front) (shown-all front);
       text_fits = omega (arith, length-map front shown, length-take 200 (last_text reply.lines));
     }

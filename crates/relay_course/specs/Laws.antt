@@ -187,7 +187,8 @@ VerdictForEachPlace =
     → IsCourse host envelope text places input told output (Some verdicts)
     → length verdicts ≡ length places
 
--- The verdicts of a course may be stored: the text of a refusal is short, and printable.
+-- The verdicts of a course may be stored: a refusal has a reply's code, and its text is short and
+-- printable.
 abbrev pub VerdictsMayBeStored : Type 0
 VerdictsMayBeStored =
     (host : List ℕ) (envelope : Envelope) (text places input : List ℕ) (told : Bool) (output : List ℕ)

@@ -2,6 +2,7 @@
 use Rattle.std.specs.Prelude.{ℕ, Bool, true, false, ◌==◌, nat_lt, List, [], ◌∷◌, map, take, Option, Some, None, unwrap_or, if◌then◌else◌}
 use Rattle.relay_lines.specs.Reply.{Reply, last_text}
 use Rattle.relay_lines.specs.Word.{is_printable}
+use Rattle.relay_book.specs.Record.{refusal_limit}
 use Rattle.relay_book.specs.declared.change.Verdict.{Verdict}
 use Rattle.relay_book.specs.declared.change.Verdict.TheVariants.{Taken, Refused, Later}
 use Rattle.relay_course.specs.declared.reply_kind.ReplyKind.{ReplyKind}
@@ -17,9 +18,10 @@ kind_of code =
 abbrev pub shown : ℕ → ℕ
 shown octet = if is_printable octet then octet else 63
 
--- profile: a refusal is kept as the code and the text of the reply's last line, of that the first 200 octets
+-- profile: a refusal is kept as the code and the text of the reply's last line, of that as many octets
+-- as a record holds
 abbrev pub refusal : Reply → Verdict
-refusal reply = Refused reply.code (map shown (take 200 (last_text reply.lines)))
+refusal reply = Refused reply.code (map shown (take refusal_limit (last_text reply.lines)))
 
 -- what a RCPT's reply of this kind says of its place: where it was accepted, nothing yet; 552 may be tried again (section
 -- 4.5.3.1.10)

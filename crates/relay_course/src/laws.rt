@@ -67,7 +67,8 @@ pub fn verdict_for_each_place()
     ensures { VerdictForEachPlace }
 {}
 
-/// The verdicts of a course may be stored: the text of a refusal is short, and printable.
+/// The verdicts of a course may be stored: a refusal has a reply's code, and its text is short and
+/// printable.
 pub fn verdicts_may_be_stored()
     ensures { VerdictsMayBeStored }
 {}

@@ -138,7 +138,7 @@ diagnostic_lines : (verdict : Verdict) → IsVerdict verdict → IsPlainVerdict 
 diagnostic_lines (Taken dsn) valid plain = no_lines
 diagnostic_lines (Refused code text) valid plain =
     typed_field (codes "Diagnostic-Code") (codes "smtp") (reply_words code text) refl refl (no_crlf_by_test (codes "smtp") refl)
-    (words_none code text (omega (arith, valid.code_fits)) plain) (omega (arith, words_short code text valid.code_fits valid.text_fits))
+    (words_none code text (omega (arith, valid.high)) plain) (omega (arith, words_short code text (omega (arith, valid.high)) valid.text_fits))
 diagnostic_lines Later valid plain = no_lines
 diagnostic_lines CantSend valid plain = no_lines
 diagnostic_lines NoRoute valid plain = no_lines

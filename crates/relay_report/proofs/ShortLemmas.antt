@@ -149,7 +149,7 @@ words_short code (octet ∷ octets) fits few =
 diagnostic_short : (verdict : Verdict) → IsVerdict verdict → length (diagnostic_code verdict) ≤ 300
 diagnostic_short (Taken dsn) valid = omega arith
 diagnostic_short (Refused code text) valid =
-    let words = words_short code text valid.code_fits valid.text_fits in
+    let words = words_short code text (omega (arith, valid.high)) valid.text_fits in
     let line = length-field (codes "Diagnostic-Code") (typed (codes "smtp") (reply_words code text)) in
     let kind = length-typed (codes "smtp") (reply_words code text) in
     omega (arith, words, line, kind)

@@ -180,6 +180,7 @@ impl Session {
         ensures answered { OnOk result ((setup : Setup) (said : Said) → Stands setup self.old said
             → Answered setup said self.new answer out.old.items out.new.items) }
         ensures settled { OnOk result (open_offers self.new ≡ []) }
+        ensures next { OnOk result (next_of self.new ≡ Next.More) }
         ensures failed { OnErr result (HasFailed self.new) }
     {
         let Stage::Offering(transaction, _) = self.leave() else {
