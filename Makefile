@@ -4,16 +4,20 @@ SHELL := bash
 
 .PHONY: test demo interop bench load instructions relayd relay_bench
 
-# The whole gate: the sample configuration beside its tested copy; then every proof from nothing, the edits that must fail
-# and the tests; then the programs that these have built, over two pipes, streams that fail and sockets, short of memory, and on a
-# device that fails. The gate's own last line is the last.
+# The whole gate: the sample configuration beside its tested copy; then every proof from nothing, the edits that must
+# fail and the tests, so many side by side as tools/lanes.sh says (RT_JOBS, where it is given); then the programs that
+# these have built, over two pipes, streams that fail and sockets, short of memory, and on a device that fails. The
+# gate's own last line is the last.
 test:
-	cmp relayd.toml crates/relay_routes_tests/data/relayd.toml
+	cmp relayd.toml crates/relay_rows_tests/data/relayd.toml
 	mkdir -p build
-	rt ci | tee build/gate.log
+	rm -rf build/lanes
+	RT_JOBS=$$(tools/lanes.sh) rt ci | tee build/gate.log
 	cp crates/relayd/out/relayd build/relayd
 	tests/one_line_at_a_time.sh build/relayd
 	tests/standard_streams.py build/relayd
+	tests/closed_streams.py build/relayd
+	tests/want_of_descriptors.py build/relayd
 	tests/fault_lines.sh build/relayd
 	tests/two_relays.py build/relayd
 	tests/each_allocation_refused.sh build/relayd
@@ -23,9 +27,11 @@ test:
 	tests/reports_read_by_python.py crates/relay_report_tests/out/relay_report_tests
 	tail -n 1 build/gate.log
 
-# Proves and builds the program, a line a crate, and holds its first dialogue.
-demo: relayd
-	build/relayd session < crates/relayd/stdin
+# A first dialogue that isn't proved yet; the proofs, a line a crate; the dialogue of the proved program; and a message
+# from a client over two relays on this machine. Nothing stays but build/ and what the proofs keep in each crate's out/.
+demo:
+	mkdir -p build
+	tools/demo.sh
 
 # Hands mail in from other mail programs, and on to them: those of Debian that can be had, each skipped by its name else.
 interop: relayd
@@ -46,9 +52,11 @@ instructions: relayd relay_bench
 
 # Proves and links a program. It runs once, on its stored input.
 relayd:
-	tools/prove.sh relayd session
+	mkdir -p build
+	tools/prove.py relayd session
 	cp crates/relayd/out/relayd build/relayd
 
 relay_bench:
-	tools/prove.sh relay_bench
+	mkdir -p build
+	tools/prove.py relay_bench
 	cp crates/relay_bench/out/relay_bench build/relay_bench

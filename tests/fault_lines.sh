@@ -83,8 +83,14 @@ refused 1 'relayd: spool Damaged 17' list --config relayd.toml
 printf "$head"'\x01\x00\x00\x00\x01\x04\x00' > relay.spool
 refused 1 'relayd: spool BadRecord 1' list --config relayd.toml
 
-# A spool is made once, for its owner alone.
+# A spool that isn't there is none to list, and none is made.
 rm relay.spool
+refused 1 'relayd: device' list --config relayd.toml
+if [ -e relay.spool ]; then
+    echo "list has made a spool" >&2
+    exit 1
+fi
+# A spool is made once, for its owner alone.
 refused 0 '' init --config relayd.toml
 refused 0 '' list --config relayd.toml
 refused 1 'relayd: spool NotEmpty' init --config relayd.toml
@@ -105,4 +111,10 @@ if [ "$status" -ne 0 ] || [ "$(cat out)" != '1 0 <b@example.org> 0' ] || [ -s er
     echo "relayd list: status $status and $(cat out err), and not one place that is due at once" >&2
     exit 1
 fi
-echo "faults of init and list: 16 refused, each by its line, and a message listed"
+# Who lists needs no leave to write.
+chmod 444 relay.spool
+if [ "$("${as[@]}" "$relayd" list --config relayd.toml)" != '1 0 <b@example.org> 0' ]; then
+    echo "relayd list doesn't list what it can't write" >&2
+    exit 1
+fi
+echo "faults of init and list: 17 refused, each by its line, and a message listed"

@@ -1,11 +1,12 @@
 // Divides how long a socket waits to read and to write in the program that it is preloaded into by 300, and adds each as
-// it was asked for, in seconds, to the file that WAITS names.
+// it was asked for, in seconds, to the file that WAITS names. Where LATER is set, its clock is set forward by so many seconds.
 #define _GNU_SOURCE
 #include <stdio.h>
 #include <stdlib.h>
 #include <sys/socket.h>
 #include <sys/syscall.h>
 #include <sys/time.h>
+#include <time.h>
 #include <unistd.h>
 
 static void write_down(int option, long seconds)
@@ -28,4 +29,13 @@ int setsockopt(int socket, int level, int option, const void *value, socklen_t s
 		value = &shorter;
 	}
 	return (int)syscall(SYS_setsockopt, socket, level, option, value, size);
+}
+
+int clock_gettime(clockid_t clock, struct timespec *moment)
+{
+	int answer = (int)syscall(SYS_clock_gettime, clock, moment);
+	const char *later = getenv("LATER");
+	if (answer == 0 && clock == CLOCK_REALTIME && later)
+		moment->tv_sec += atol(later);
+	return answer;
 }

@@ -314,8 +314,9 @@ def a_log_says_what_was_done_and_nothing_of_a_content(field):
     same("the lines of serve", lines, ["1 next.example ended"])
     same("the log", log, [
         f"relayd: listening on 127.0.0.1:{field.relay.port}",
-        f"relayd: client 127.0.0.1:{peer} ended, 154 octets, message 1 for 3 recipients",
-        "relayd: message 1 next.example ended, 0 transferred, 1 refused 550, 2 deferred, report queued as 2"])
+        f"relayd: client 127.0.0.1:{peer} ended, 154 octets, 0 refused, message 1 for 3 recipients",
+        "relayd: message 1 next.example ended, 0 transferred, 1 refused 550, 2 deferred, report queued as 2;"
+        " deferred by 450 later"])
     # A report that is refused is dropped, and none is made of it.
     field.sink.manners = Manners(content_reply="554 no")
     same("push", field.relay.logged("push"),
@@ -337,13 +338,16 @@ def a_log_has_a_line_for_each_connection(field):
     hundred = [b"MAIL FROM:<>", *[b"RCPT TO:<b%d@example.org>" % number for number in range(100)], b"DATA", b"."]
     # The lines of each connection, and its end. A line has two octets more than are written here.
     visits = [
-        ([], "ended, 0 octets, no message"),
+        ([], "ended, 0 octets, 0 refused, no message"),
         # 8; 27, twice 25, 6 and 3; 14, 25, 6 and 3; 6.
         ([b"EHLO x", *two, *one, b"QUIT"],
-         "ended, 148 octets, message 1 for 2 recipients, message 2 for 1 recipient"),
-        ([b"EHLO x", b"MAIL FROM:<a@example.org>"], "ended, 35 octets, no message"),
+         "ended, 148 octets, 0 refused, message 1 for 2 recipients, message 2 for 1 recipient"),
+        ([b"EHLO x", b"MAIL FROM:<a@example.org>"], "ended, 35 octets, 0 refused, no message"),
+        # 8, 8, 27, 21 and 6: an argument too many, a domain without a route, and no recipient.
+        ([b"EHLO x", b"DATA 1", b"MAIL FROM:<a@example.org>", b"RCPT TO:<b@example>", b"DATA"],
+         "ended, 70 octets, 3 refused, no message"),
         # 8; 14, ten times 26, ninety times 27, 6 and 3. The changes 3 and 4 were the outcomes of two messages.
-        ([b"EHLO x", *hundred], "ended, 2721 octets, message 5 for 100 recipients"),
+        ([b"EHLO x", *hundred], "ended, 2721 octets, 0 refused, message 5 for 100 recipients"),
     ]
     wanted, log = [], []
     with field.relay.serving("--rounds", str(len(visits) + 1), log=log):
@@ -351,7 +355,7 @@ def a_log_has_a_line_for_each_connection(field):
             wanted.append(f"relayd: client 127.0.0.1:{visit(field.relay, *lines)} {end}")
         with connected(field.relay) as link:
             talk(link, b"NOOP\r\n")
-            fault = "broken off by a fault: input, 6 octets, no message"
+            fault = "broken off by a fault: input, 6 octets, 0 refused, no message"
             wanted.append(f"relayd: client 127.0.0.1:{link.getsockname()[1]} {fault}")
             # The connection is reset, and not ended.
             link.setsockopt(socket.SOL_SOCKET, socket.SO_LINGER, struct.pack("ii", 1, 0))
@@ -372,7 +376,7 @@ def a_log_says_why_a_place_has_left(field):
     log = []
     with field.relay.serving(log=log):
         hand_in(field.relay, recipients=["b@example.org", "c@example.org"])
-    same("the line of the attempt", log[2:], ["relayd: message 4 next.example lost, 0 deferred, 1 deferred"])
+    same("the line of the attempt", log[2:], ["relayd: message 4 next.example lost: refused to connect, 0 deferred, 1 deferred"])
     field.relay.route({"example.com": ("next.example", field.sink.port)})
     same("push", field.relay.logged("push"), (
         ["4 noroute"], ["relayd: message 4 noroute, 0 unroutable, 1 unroutable, report queued as 6"]))
@@ -383,13 +387,13 @@ def a_log_says_which_places_have_expired(field):
     log = []
     with field.relay.serving(log=log):
         hand_in(field.relay, recipients=["b@example.org", "c@example.org"])
-    same("the line of the attempt", log[2:], ["relayd: message 1 next.example ended, 0 deferred, 1 deferred"])
+    same("the line of the attempt", log[2:], ["relayd: message 1 next.example ended, 0 deferred, 1 deferred; deferred by 450 later"])
     # Five days after its acceptance a message is tried for the last time.
     field.later(field.relay, 5 * 86400 + 60)
     field.sink.manners = Manners(refusals={"<b@example.org>": "450 later"})
     same("push", field.relay.logged("push"), (
         ["1 next.example ended"],
-        ["relayd: message 1 next.example ended, 0 expired, 1 transferred, report queued as 3"]))
+        ["relayd: message 1 next.example ended, 0 expired, 1 transferred, report queued as 3; deferred by 450 later"]))
 
 
 def a_silent_peer_is_given_up(field):
@@ -411,6 +415,47 @@ def a_silent_peer_is_given_up(field):
             hand_in(field.relay)
     same("the lines of serve", lines, ["1 next.example lost"])
     same("waits for a hop", sorted(waits.read_text().splitlines()[-2:]), ["read 600", "write 600"])
+
+
+def a_hop_that_is_silent_is_tried_once_a_push(field):
+    field.preload(field.relay, "shorter_waits")
+    port, log = field.sink.port, []
+    field.sink.close()
+    with field.relay.serving("--rounds", "2", log=log) as lines:
+        hand_in(field.relay)
+        hand_in(field.relay)
+    same("the lines of serve", lines, ["1 next.example lost", "3 next.example lost"])
+    same("the lines of attempts", [line for line in log if " message " in line and "client" not in line], [
+        "relayd: message 1 next.example lost: refused to connect, 0 deferred",
+        "relayd: message 3 next.example lost: refused to connect, 0 deferred"])
+    # A next hop that takes connections and doesn't greet is waited for once, and the other message isn't tried.
+    with socket.create_server(("127.0.0.1", port)) as silent:
+        field.preload(field.relay, "shorter_waits", LATER="1900")
+        same("push", field.relay.logged("push"), (
+            ["1 next.example lost", "3 next.example lost"],
+            ["relayd: message 1 next.example lost: silent, 0 deferred",
+             "relayd: message 3 next.example lost: silent, 0 deferred"]))
+        silent.settimeout(0)
+        silent.accept()[0].close()
+        try:
+            silent.accept()
+            raise Difference("a silent hop was connected to twice")
+        except BlockingIOError:
+            pass
+    field.sink = Sink(port)
+
+
+def a_hop_that_cuts_a_connection_is_tried_again(field):
+    field.sink.manners, log = Manners(hangs_up_at="MAIL"), []
+    with field.relay.serving(log=log):
+        hand_in(field.relay)
+    same("the line of the attempt", log[2:], ["relayd: message 1 next.example lost: cut, 0 deferred"])
+    # What a reply says is shown in printable octets, 200 of them at most.
+    field.sink.manners, log = Manners(content_reply="451 \x1b" + "x" * 300), []
+    with field.relay.serving(log=log):
+        hand_in(field.relay)
+    same("the line of the attempt", log[2:],
+         ["relayd: message 3 next.example ended, 0 deferred; deferred by 451 ?" + "x" * 199])
 
 
 def faults_come_in_their_order(field):
@@ -466,6 +511,8 @@ ROWS = [
     a_log_says_why_a_place_has_left,
     a_log_says_which_places_have_expired,
     a_silent_peer_is_given_up,
+    a_hop_that_is_silent_is_tried_once_a_push,
+    a_hop_that_cuts_a_connection_is_tried_again,
     faults_come_in_their_order,
 ]
 

@@ -1,0 +1,182 @@
+#!/usr/bin/env python3
+"""Proves the libraries that a program stands on, side by side, and then the program, which it builds and runs once on
+its stored input. A line a crate says how many functions were proved and how long that took.
+
+    tools/prove.py PROGRAM [WORD ..]
+
+The words are the program's arguments. The built program is crates/PROGRAM/out/PROGRAM. So many crates are proved side
+by side as tools/lanes.sh says; a crate begins when those that it stands on are there, and the one with the most work
+above it goes first, with the lanes that no other crate takes as more jobs of the prover.
+
+A run of the prover holds all the folders that it reads, and so keeps out every other. So each crate is proved in a
+folder of its own below build/lanes, which has links to the files of the crates that it stands on; what is proved goes
+back to crates/, and the folder goes at the end.
+"""
+import concurrent.futures
+import contextlib
+import fcntl
+import os
+import pathlib
+import re
+import shutil
+import subprocess
+import sys
+import time
+
+TOP = pathlib.Path(__file__).resolve().parent.parent
+LANES = TOP / "build" / "lanes"
+PROVED = re.compile(r"^logic=proved functions=(\d+)", re.MULTILINE)
+RUNNING = set()
+
+
+class Failed(Exception):
+    """A crate that wasn't proved, with what the prover said."""
+
+
+def listed():
+    """The line of each crate in crates.txt."""
+    lines = [line.split("#")[0].strip() for line in (TOP / "crates.txt").read_text().splitlines()]
+    return {re.split(r"[ :]", line)[0]: line for line in lines if line}
+
+
+def edges():
+    """What each crate of this repository stands on directly, of this repository."""
+    lines = listed()
+    return {name: [it for it in line.partition(":")[2].split() if it in lines] for name, line in lines.items()}
+
+
+def closure(below, name):
+    """All that a crate stands on, each behind those that it stands on itself."""
+    found = []
+    for it in below[name]:
+        found += [one for one in [*closure(below, it), it] if one not in found]
+    return found
+
+
+def size_of(name):
+    """The lines of a crate, as a guess of its work."""
+    files = [it for part in ("src", "specs", "proofs") for it in (TOP / "crates" / name / part).rglob("*")]
+    return sum(it.read_bytes().count(b"\n") for it in files if it.is_file())
+
+
+def work_above(below, names):
+    """The most lines of a row of crates that begins with this one, each of which stands on the one before."""
+    found = {}
+    for name in reversed(names):
+        above = [found[it] for it in names if name in below[it] and it in found]
+        found[name] = size_of(name) + max(above, default=0)
+    return found
+
+
+def link(source, target, parts):
+    """Makes a crate's folder of links to the files of another."""
+    target.mkdir(parents=True)
+    for it in source.iterdir():
+        if it.is_file():
+            os.link(it, target / it.name)
+        elif it.name in parts:
+            shutil.copytree(it, target / it.name, copy_function=os.link)
+
+
+@contextlib.contextmanager
+def lane(below, name):
+    """The folder in which a crate is proved. What was kept of it is there, and goes back to the crate at the end."""
+    root, crate = LANES / name, TOP / "crates" / name
+    place = root / "crates" / name
+    held = os.open(crate, os.O_RDONLY)
+    try:
+        fcntl.flock(held, fcntl.LOCK_EX)
+        stands_on = closure(below, name)
+        for it in stands_on:
+            link(TOP / "crates" / it, root / "crates" / it, ("src", "specs", "proofs"))
+            rlib = TOP / "crates" / it / "out" / "rlib"
+            shutil.copytree(rlib, root / "crates" / it / "out" / "rlib", copy_function=os.link)
+        link(crate, place, ("src", "specs", "proofs"))
+        lines = listed()
+        (root / "crates.txt").write_text("".join(f"{lines[it]}\n" for it in [*stands_on, name]))
+        shutil.copy(TOP / "HANDLES", root)
+        if (crate / "out").is_dir():
+            (crate / "out").rename(place / "out")
+        yield place
+    finally:
+        bring_back(root)
+        os.close(held)
+
+
+def bring_back(root):
+    """Ends a lane: what was kept of its crate goes back."""
+    kept, crate = root / "crates" / root.name / "out", TOP / "crates" / root.name
+    if kept.is_dir() and not (crate / "out").exists():
+        kept.rename(crate / "out")
+    shutil.rmtree(root)
+
+
+def run(name, place, *words):
+    """Runs rt in a crate's folder; the line that says what came of it."""
+    log, begun = TOP / "build" / f"{name}.log", time.monotonic()
+    stored = place / "stdin"
+    with open(stored if stored.exists() else os.devnull, "rb") as given, open(log, "wb") as out, \
+            subprocess.Popen(["rt", *words], cwd=place, stdin=given, stdout=out, stderr=subprocess.STDOUT) as rt:
+        RUNNING.add(rt)
+        rt.wait()
+        RUNNING.remove(rt)
+    said = log.read_text(errors="replace")
+    if rt.returncode:
+        raise Failed(f"{name} failed:\n{said}")
+    proved = PROVED.findall(said)
+    functions = f"{proved[-1]} functions " if proved else ""
+    return f"{name:16} {functions}proved, {time.monotonic() - begun:.0f} s"
+
+
+def prove(below, name, jobs):
+    with lane(below, name) as place:
+        return run(name, place, "lib", "--jobs", str(jobs))
+
+
+def prove_all(below, names, lanes):
+    """Proves libraries, each behind those that it stands on. At the first that fails the others are told to end."""
+    above, left, running, done = work_above(below, names), list(names), {}, set()
+    with concurrent.futures.ThreadPoolExecutor(lanes) as pool:
+        try:
+            while left or running:
+                ready = sorted((it for it in left if done.issuperset(below[it])), key=lambda it: -above[it])
+                for at, name in enumerate(ready):
+                    idle = lanes - sum(jobs for _, jobs in running.values())
+                    if idle < 1:
+                        break
+                    jobs = max(1, idle - (len(ready) - at - 1))
+                    left.remove(name)
+                    running[pool.submit(prove, below, name, jobs)] = name, jobs
+                ended = concurrent.futures.wait(running, return_when=concurrent.futures.FIRST_COMPLETED).done
+                for it in ended:
+                    done.add(running.pop(it)[0])
+                    print(it.result(), flush=True)
+        except BaseException:
+            for it in list(RUNNING):
+                it.terminate()
+            raise
+
+
+def main(program, *words):
+    begun, below = time.monotonic(), edges()
+    LANES.mkdir(parents=True, exist_ok=True)
+    for it in LANES.iterdir():
+        # What a run that was killed has left.
+        bring_back(it)
+    lanes = int(subprocess.run([TOP / "tools" / "lanes.sh"], stdout=subprocess.PIPE, check=True).stdout)
+    print(f"Proving {program} and what it stands on, {lanes} side by side; where nothing is kept of an earlier run, "
+          "that takes some minutes.", flush=True)
+    try:
+        prove_all(below, closure(below, program), lanes)
+        print(run(program, TOP / "crates" / program, "run", "--jobs", str(lanes), "--", *words), flush=True)
+    except Failed as failed:
+        print(failed)
+        return 1
+    finally:
+        shutil.rmtree(LANES, ignore_errors=True)
+    print(f"Proved and built in {time.monotonic() - begun:.0f} s.", flush=True)
+    return 0
+
+
+if __name__ == "__main__":
+    sys.exit(main(*sys.argv[1:]))
