@@ -6,19 +6,14 @@ ghost use Rattle.relay_server.specs.Session.{HasOffer, open_offers};
 ghost use Rattle.relay_server.specs.Setup.{setup_of_config};
 
 use crate::accept::accept_of;
-use relay_book::{Change, encode_change};
+use relay_book::{Change, LAST_NUMBER, encode_change};
 use relay_octets::Octets;
 use relay_records::NodeFault;
 use relay_routes::Config;
 use relay_server::Session;
+use relay_spool::BODY_OVERHEAD;
 use relay_trace::Moment;
 use std::alloc::Global;
-
-/// The greatest number of a change.
-const LAST_NUMBER: u64 = 1 << 62;
-
-/// How many octets of a spool stand around each record.
-const AROUND_RECORD: u64 = 5;
 
 /// What a node accepts mail by in one call.
 #[derive(Clone, Copy)]
@@ -67,7 +62,7 @@ impl Intake<'_> {
         let change = Change::Accept(accept);
         let octets = Octets::new(encode_change(alloc, &change)?);
         let room = self.config.spool_limit.saturating_sub(self.size as u64);
-        if room < AROUND_RECORD + octets.len() as u64 {
+        if room < (BODY_OVERHEAD + octets.len()) as u64 {
             return Ok(None);
         }
         Ok(Some(Taken { change, octets }))

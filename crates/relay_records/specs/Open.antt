@@ -1,7 +1,7 @@
 -- What a disk is opened to, and why one isn't.
 use Rattle.std.specs.Prelude.{◌≡◌, ◌≢◌, ℕ, ◌+◌, List, ◌∷◌, ◌++◌, length, None}
 use Rattle.relay_disk.specs.Device.{DiskWords, FailsNot}
-use Rattle.relay_spool.specs.Image.{HasBodies}
+use Rattle.relay_spool.specs.Image.{HasBodies, size_of}
 use Rattle.relay_spool.specs.Spool.{FailsBy, ReadsAs, RefusesToCreate, RefusesToOpen}
 use Rattle.relay_spool.specs.declared.fault.SpoolFault.TheVariants.{NoMemory}
 use Rattle.relay_book.specs.declared.change.Change.{Change}
@@ -54,9 +54,10 @@ FailsFor words old new (Spool fault) = FailsBy words old new fault
 FailsFor words old new (BadRecord number) = FailsNot words old new
 
 module _ {D : Type 0} (honest : Type 0) (words : DiskWords D) where
-  -- the records keep the changes that the disk held, and have no note
+  -- the records keep the changes that the disk held, in a spool of the size of the bodies there, and have no note
   pub record Opens (disk : D) (records : Kept D) : Type 0 where
     pub changes : List Change
     pub reads : honest → ReadsAs words disk (λ bodies. StandsFor bodies changes)
+    pub sized : honest → ReadsAs words disk (λ bodies. records.spool.size ≡ size_of bodies)
     pub keeps : Keeps honest words records changes
     pub noted : records.noted ≡ None

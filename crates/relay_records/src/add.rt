@@ -15,14 +15,8 @@ use crate::records::Records;
 use relay_book::{Book, BookFault, Change, Ready};
 use relay_disk::Disk;
 use relay_octets::Octets;
-use relay_spool::{Spool, SpoolFault};
+use relay_spool::{BODY_OVERHEAD, SIZE_LIMIT, Spool, SpoolFault};
 use std::alloc::{AllocError, Global};
-
-/// How many octets of a spool belong to a body beside its own.
-const OVERHEAD: usize = 5;
-
-/// The most octets of a spool.
-const SIZE_LIMIT: usize = 1 << 40;
 
 impl<D: Disk> Records<D> {
     /// Adds a change, of which these octets are the record. It goes to the spool first, and then into the
@@ -81,7 +75,7 @@ impl<D: Disk> Records<D> {
         ensures { IsTrue result ↔ (self.now.spool.size + 5 + length octets.now ≤ 2 ^ 40) }
     {
         let left = SIZE_LIMIT - self.spool.size();
-        OVERHEAD <= left && octets.len() <= left - OVERHEAD
+        BODY_OVERHEAD <= left && octets.len() <= left - BODY_OVERHEAD
     }
 }
 

@@ -12,16 +12,13 @@ ghost use Rattle.relay_records.specs.HeldPlace.{IsWaiting, waiting_at};
 
 use crate::noted::Noted;
 use crate::place::{HeldPlace, held_place};
-use relay_book::{Book, Message, Question};
+use relay_book::{Book, LAST_NUMBER, Message, Question};
 use relay_disk::{Disk, Reboot};
 use relay_spool::Spool;
 use relay_trace::Moment;
 use std::alloc::{AllocError, Global};
 use std::marker::Model;
 use std::mem;
-
-/// The greatest number of a change.
-pub(crate) const LAST_NUMBER: u64 = 1 << 62;
 
 /// All that a change touches: the spool, the queue that its bodies leave, and the note of the last append
 /// that was begun.

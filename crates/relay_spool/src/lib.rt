@@ -11,5 +11,7 @@ mod questions;
 mod reader;
 mod spool;
 
+pub use chain::SIZE_LIMIT;
 pub use fault::{Refused, SpoolFault};
+pub use link::BODY_OVERHEAD;
 pub use spool::{Opened, Spool};
