@@ -63,7 +63,7 @@ module _ {D : Type 0} (honest : Type 0) (words : DiskWords D) (start : Start) (a
   as_taken Input said added records other full taken = taken
   as_taken Output said added records other full taken = taken
   as_taken NoMemory said added records other full taken = taken
-  as_taken Full said added records other full taken = record { come = taken.come; keeps = taken.keeps; number = full refl }
+  as_taken Full said added records other full taken = record { taken = taken; number = full refl }
   as_taken Device said added records other full taken = absurd (other refl)
 
   -- a fault behind what was said, of a node whose records are the same
@@ -146,6 +146,7 @@ module _ {D : Type 0} (honest : Type 0) (words : DiskWords D) (start : Start) (a
           subst (λ (l : List Change). HaveCome honest words start at later l old.spool.size) (append-nil added)
           (come said later refused [] [] added [] old.spool.size old.spool.size more before.come (none_come (rule honest words start at) (length start.changes + length added) old.spool.size refused (none_fitted added old.spool.size refused none)));
       keeps = before.keeps;
+      note = before.note;
     }),
   )
   takes said later refused used old new (Some given) added none queues before = (
@@ -155,6 +156,7 @@ module _ {D : Type 0} (honest : Type 0) (words : DiskWords D) (start : Start) (a
           subst (HaveCome honest words start at later (added ++ (change.Accept queues.accept ∷ []))) (sym queues.size)
           (one_has_come said later refused queues.offer given added queues.accept old.spool.size queues.number_is queues.answers none queues.fits before.come);
       keeps = subst (Keeps honest words new) (append_assoc start.changes added (change.Accept queues.accept ∷ [])) queues.adds.keeps;
+      note = inr (record { earlier = added; last = change.Accept queues.accept; added_are = refl; used = used; is = queues.adds.noted });
     },
   )
 
@@ -193,7 +195,7 @@ module _ {D : Type 0} (honest : Type 0) (words : DiskWords D) (start : Start) (a
           written = written_later wrote;
           ended = inl unread.1;
           added = gained.0;
-          taken = record { come = gained.1.come; keeps = gained.1.keeps };
+          taken = record { come = gained.1.come; keeps = gained.1.keeps; note = gained.1.note };
         }
 
     closed_or_open : (is_closed : Bool) → GoesOnNode start.config new.seats number start.peer r.later is_closed → IsDialogue (setup_of_config start.config) r.later
@@ -232,9 +234,7 @@ module _ {D : Type 0} (honest : Type 0) (words : DiskWords D) (start : Start) (a
     leaves = record {
       size = size_with old.records.spool.size c.accept;
       come = one_has_come h.said c.later c.refused c.offer (length (start.changes ++ h.added) + 1) h.added c.accept old.records.spool.size refl c.answers c.no_room c.fits h.taken.come;
-      earlier = h.added;
-      last = change.Accept c.accept;
-      added_are = refl;
+      note = record { earlier = h.added; last = change.Accept c.accept; added_are = refl; used = c.used; is = c.cuts.noted };
       halted = c.cuts.halted;
     };
   }
@@ -281,6 +281,7 @@ module _ {D : Type 0} (honest : Type 0) (words : DiskWords D) (at number : ℕ) 
   taken_nothing keeps = record {
     come = refl;
     keeps = subst (Keeps honest words node.records) (sym (append-nil changes)) keeps;
+    note = inl (refl, refl);
   }
 
   -- the greeting was written

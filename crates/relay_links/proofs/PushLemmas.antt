@@ -120,6 +120,7 @@ module _ {D : Type 0} (words : DiskWords D) (old mid new : Standing D) (config :
   moves_since (Ok way.On) moved = moved ∙ same
   moves_since (Ok way.Ended) moved = grown_since moved
   moves_since (Ok way.Unwritten) moved = grown_since moved
+  moves_since (Ok way.AtEnd) moved = moved ∙ same
   moves_since (Ok way.Broken) moved = moved ∙ same
   moves_since (Err fault) moved = left_since fault moved
 

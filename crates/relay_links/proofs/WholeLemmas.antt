@@ -1,19 +1,28 @@
 -- What was written so far of a row of octets.
-use Rattle.std.proofs.Common.{◌≡◌, ◌+◌, ℕ, List, [], ◌++◌, Option, take, drop, sym, subst, append-nil, take-append-drop}
+use Rattle.std.proofs.Common.{◌≡◌, ◌≢◌, ◌<◌, ◌+◌, ℕ, List, [], ◌++◌, Option, length, take, drop, sym, ap, subst, append-nil, take-append-drop, length-drop, arith}
 use Rattle.std.proofs.Math.Seq.{take-add}
 use Rattle.std.proofs.KnownBytes.{Appends-trans, Appends-kept}
 use Rattle.std.specs.Io.KnownBytes.{Appends, Keeps}
 
--- a beginning was written, and then nothing
-pub wrote_front : (a b c : Option (List ℕ)) (octets : List ℕ) (written : ℕ) → Appends a b (take written octets) → Keeps b c → (front : List ℕ) × (rest : List ℕ) × (octets ≡ front ++ rest) × Appends a c front
-wrote_front a b c octets written before kept =
-    (take written octets, drop written octets, sym (take-append-drop written octets), Appends-kept a b c (take written octets) before kept)
+-- behind less than all of the octets there are more
+some_left : (octets : List ℕ) (written : ℕ) → written < length octets → drop written octets ≢ []
+some_left octets written within none =
+    let left = sym (length-drop written octets) ∙ ap length none in
+    omega (arith, left, within)
 
-pub wrote_none : (a b c : Option (List ℕ)) (octets more : List ℕ) (written count : ℕ) → Appends a b (take written octets) → Appends b c (take count more) → count ≡ 0 → (front : List ℕ) × (rest : List ℕ) × (octets ≡ front ++ rest) × Appends a c front
-wrote_none a b c octets more written count before now none = (
+-- a beginning was written, and then nothing
+pub wrote_front : (a b c : Option (List ℕ)) (octets : List ℕ) (written : ℕ) → written < length octets → Appends a b (take written octets) → Keeps b c
+    → (front : List ℕ) × (rest : List ℕ) × (octets ≡ front ++ rest) × (rest ≢ []) × Appends a c front
+wrote_front a b c octets written within before kept =
+    (take written octets, drop written octets, sym (take-append-drop written octets), some_left octets written within, Appends-kept a b c (take written octets) before kept)
+
+pub wrote_none : (a b c : Option (List ℕ)) (octets more : List ℕ) (written count : ℕ) → written < length octets → Appends a b (take written octets) → Appends b c (take count more) → count ≡ 0
+    → (front : List ℕ) × (rest : List ℕ) × (octets ≡ front ++ rest) × (rest ≢ []) × Appends a c front
+wrote_none a b c octets more written count within before now none = (
   take written octets,
   drop written octets,
   sym (take-append-drop written octets),
+  some_left octets written within,
   subst (Appends a c) (append-nil (take written octets)) (Appends-trans a b c (take written octets) [] before (subst (λ n. Appends b c (take n more)) none now)),
 )
 

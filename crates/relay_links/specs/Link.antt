@@ -7,7 +7,9 @@ use Rattle.relay_server.specs.Dialogue.{Said, IsDialogue}
 use Rattle.relay_server.specs.Setup.{setup_of_config}
 use Rattle.relay_server.specs.State.{Closed}
 use Rattle.relay_book.specs.declared.change.Change.{Change}
+use Rattle.relay_records.specs.Note.{IsNoted}
 use Rattle.relay_records.specs.Records.{Halted, Keeps, Kept}
+use Rattle.relay_records.specs.declared.noted.Noted.{Noted}
 use Rattle.relay_records.specs.declared.fault.NodeFault.{NodeFault}
 use Rattle.relay_records.specs.declared.fault.NodeFault.TheVariants as node_fault
 use Rattle.relay_node.specs.Acceptance.{acceptance_by}
@@ -17,7 +19,7 @@ use Rattle.relay_links.specs.declared.fault.LinkFault.TheVariants.{Input, Output
 use Rattle.relay_links.specs.Accepted.{Accepts, Rule}
 
 -- where a link begins: what its reader still has and its writer holds, the client's address, the node's configuration, the
--- changes that the node keeps, and the size of its spool
+-- changes that the node keeps, the size of its spool, and its note
 pub record Start : Type 0 where
   pub left : Option (List ℕ)
   pub held : Option (List ℕ)
@@ -25,6 +27,7 @@ pub record Start : Type 0 where
   pub config : Config
   pub changes : List Change
   pub size : ℕ
+  pub noted : Option Noted
 
 -- a link of this node begins, which keeps these changes
 abbrev pub start_at : {D : Type 0} → Option (List ℕ) → Option (List ℕ) → List ℕ → Standing D → List Change → Start
@@ -36,6 +39,7 @@ start_at left held peer node changes =
       config = node.config;
       changes = changes;
       size = node.records.spool.size;
+      noted = node.records.noted;
     }
 
 -- what a fault of the node is to its link
@@ -62,10 +66,23 @@ module _ {D : Type 0} (honest : Type 0) (words : DiskWords D) (start : Start) (a
   abbrev pub HaveCome : Said → List Change → ℕ → Type 0
   HaveCome said added size = Accepts rule (length start.changes) start.size said.answers said.offers added size
 
+  -- the last of the changes that the link brought is noted
+  pub record NotesLast (added : List Change) (noted : Option Noted) : Type 0 where
+    pub earlier : List Change
+    pub last : Change
+    pub added_are : added ≡ earlier ++ last ∷ []
+    pub used : ℕ
+    pub is : IsNoted noted (start.changes ++ earlier) last used
+
+  -- the note is that of the last change that the link brought, or the one of before where it brought none
+  abbrev pub HasNote : List Change → Option Noted → Type 0
+  HasNote added noted = ((added ≡ []) × (noted ≡ start.noted)) ⊎ NotesLast added noted
+
   -- the node keeps the changes of before, and behind them those that the link brought
   pub record HasTaken (said : Said) (added : List Change) (records : Kept D) : Type 0 where
     pub come : HaveCome said added records.spool.size
     pub keeps : Keeps honest words records (start.changes ++ added)
+    pub note : HasNote added records.noted
 
   -- So far the session of this number has said what was written, and what was read but for these octets, which wait.
   pub record HasSaid (number : ℕ) (left held : Option (List ℕ)) (waiting : List ℕ) (node : Standing D) : Type 0 where
@@ -96,15 +113,12 @@ module _ {D : Type 0} (honest : Type 0) (words : DiskWords D) (start : Start) (a
   pub record HasHalted (said : Said) (added : List Change) (records : Kept D) : Type 0 where
     pub size : ℕ
     pub come : HaveCome said added size
-    pub earlier : List Change
-    pub last : Change
-    pub added_are : added ≡ earlier ++ last ∷ []
-    pub halted : Halted honest words records (start.changes ++ earlier) (Some last)
+    pub note : NotesLast added records.noted
+    pub halted : Halted honest words records (start.changes ++ note.earlier) (Some note.last)
 
   -- the same, and changes have no numbers any more
   pub record HasFilled (said : Said) (added : List Change) (records : Kept D) : Type 0 where
-    pub come : HaveCome said added records.spool.size
-    pub keeps : Keeps honest words records (start.changes ++ added)
+    pub taken : HasTaken said added records
     pub number : 2 ^ 62 < records.queue.next
 
   -- what a fault leaves of the node

@@ -1,6 +1,6 @@
 -- What a link of an attempt over a reader and a writer has done: a course, and at its end one outcome.
-use Rattle.std.specs.Prelude.{◌≡◌, ◌⊎◌, ℕ, Bool, true, false, List, [], ◌++◌, Option, Some, None, Result, Ok, Err}
-use Rattle.std.specs.Io.KnownBytes.{Appends, Consumes}
+use Rattle.std.specs.Prelude.{◌≡◌, ◌≢◌, ◌⊎◌, ℕ, Bool, true, false, List, [], ◌++◌, Option, Some, None, Result, Ok, Err}
+use Rattle.std.specs.Io.KnownBytes.{Appends, Consumes, IsAtEnd}
 use Rattle.relay_disk.specs.Device.{DiskWords}
 use Rattle.relay_book.specs.declared.change.Change.{Change}
 use Rattle.relay_book.specs.declared.change.Verdict.{Verdict}
@@ -81,10 +81,10 @@ module _ {D : Type 0} (honest : Type 0) (words : DiskWords D) (start : PushStart
     pub goes : Goes left held unwritten true (Some (all_later start.told.places))
     pub concludes : Concludes (all_later start.told.places) records
 
-  -- how a link has ended
+  -- how a link has ended: what wasn't written of what an attempt wrote at its end is one octet at least
   abbrev pub HasPushed : Option (List ℕ) → Option (List ℕ) → Kept D → Pushed → Type 0
   HasPushed left held records Ended = HasEnded left held [] records
-  HasPushed left held records Unwritten = (unwritten : List ℕ) × HasEnded left held unwritten records
+  HasPushed left held records Unwritten = (unwritten : List ℕ) × (unwritten ≢ []) × HasEnded left held unwritten records
   HasPushed left held records Lost = HasLost left held records
 
   -- the attempt is gone without an outcome, and the node keeps the changes of before
@@ -124,11 +124,12 @@ module _ {D : Type 0} (honest : Type 0) (words : DiskWords D) (start : PushStart
   PushesTo left held records (Ok pushed) = HasPushed left held records pushed
   PushesTo left held records (Err fault) = HasFailed left held records fault
 
-  -- the attempt goes on, or it has ended, or its connection is of no use any more
+  -- the attempt goes on, or it has ended, or the input has, or its connection is of no use any more
   abbrev pub TakesWay : ℕ → Option (List ℕ) → Option (List ℕ) → Standing D → Way → Type 0
   TakesWay number left held node way.On = IsAt number left held [] [] node
   TakesWay number left held node way.Ended = HasEnded left held [] node.records
-  TakesWay number left held node way.Unwritten = (unwritten : List ℕ) × HasEnded left held unwritten node.records
+  TakesWay number left held node way.Unwritten = (unwritten : List ℕ) × (unwritten ≢ []) × HasEnded left held unwritten node.records
+  TakesWay number left held node way.AtEnd = IsAtEnd left × IsAt number left held [] [] node
   TakesWay number left held node way.Broken =
       (waiting : List ℕ) × (unwritten : List ℕ) × IsAt number left held waiting unwritten node
 
@@ -158,6 +159,7 @@ abbrev pub Moves : {D : Type 0} → DiskWords D → Standing D → Standing D �
 Moves words old new (Ok way.On) = new.records ≡ old.records
 Moves words old new (Ok way.Ended) = HasGrown words old new
 Moves words old new (Ok way.Unwritten) = HasGrown words old new
+Moves words old new (Ok way.AtEnd) = new.records ≡ old.records
 Moves words old new (Ok way.Broken) = new.records ≡ old.records
 Moves words old new (Err fault) = LeavesRecords words old new fault
 
@@ -167,5 +169,6 @@ abbrev pub IsGoneBy : {D : Type 0} → ℕ → Standing D → Result Way LinkFau
 IsGoneBy number new (Ok way.On) = Unit {0}
 IsGoneBy number new (Ok way.Ended) = slot_at new.attempts number ≡ None
 IsGoneBy number new (Ok way.Unwritten) = slot_at new.attempts number ≡ None
+IsGoneBy number new (Ok way.AtEnd) = Unit {0}
 IsGoneBy number new (Ok way.Broken) = Unit {0}
 IsGoneBy number new (Err fault) = new.records.spool.live ≡ true → slot_at new.attempts number ≡ None

@@ -1,4 +1,4 @@
-ghost use Rattle.std.specs.Prelude.{◌≡◌, [], ℕ, true, List, Option, None};
+ghost use Rattle.std.specs.Prelude.{◌≡◌, ◌<◌, [], ℕ, true, List, Option, None, length};
 ghost use Rattle.relay_attempts.specs.Reply.{Told};
 ghost use Rattle.relay_book.specs.declared.change.Change.{Change};
 ghost use Rattle.relay_node.specs.Attempts.{Tells};
@@ -8,7 +8,7 @@ ghost use Rattle.relay_links.specs.Push.{Ends, IsAt, IsGoneBy, Moves, PushStart,
 
 use crate::block::read_block;
 use crate::fault::{LinkFault, link_fault};
-use crate::send::send;
+use crate::send::{send, send_last};
 use relay_disk::Disk;
 use relay_node::Node;
 use relay_trace::Moment;
@@ -23,7 +23,7 @@ const READS: u64 = 1_099_511_627_776;
 pub enum Pushed {
     /// The attempt has ended, and all that it wrote was written.
     Ended,
-    /// The attempt has ended, but what it wrote last couldn't be written whole.
+    /// The attempt has ended, but an octet at least of what it wrote last couldn't be written.
     Unwritten,
     /// The connection was lost before the attempt's end.
     Lost,
@@ -36,8 +36,10 @@ pub(crate) enum Way {
     On,
     /// The attempt has ended, and all that it wrote was written.
     Ended,
-    /// The attempt has ended, but what it wrote last couldn't be written whole.
+    /// The attempt has ended, but an octet at least of what it wrote last couldn't be written.
     Unwritten,
+    /// The input has come to its end before the attempt has.
+    AtEnd,
     /// Nothing more can be read, or what the attempt wrote couldn't be written whole.
     Broken,
 }
@@ -70,6 +72,7 @@ pub fn push_link<D: Disk, R: Read, W: Write>(
         Ok(Way::Ended) => Ok(Pushed::Ended),
         Ok(Way::Unwritten) => Ok(Pushed::Unwritten),
         Ok(Way::On) => lose_link(node, attempt, now),
+        Ok(Way::AtEnd) => lose_link(node, attempt, now),
         Ok(Way::Broken) => lose_link(node, attempt, now),
         Err(fault) => Err(fault),
     }
@@ -118,6 +121,7 @@ fn exchange_block<D: Disk, R: Read, W: Write>(
     writer: &mut W,
     now: Moment,
 ) -> Result<Way, LinkFault>
+    requires { 0 < length block.old }
     ensures goes { (start : PushStart)
         → IsAt D.honest D.words start now attempt (R.remaining reader.old) (W.contents writer.old) [] []
         node.old
@@ -125,11 +129,12 @@ fn exchange_block<D: Disk, R: Read, W: Write>(
         node.new result }
     ensures gone { IsGoneBy attempt node.new result }
     ensures moves { Moves D.words node.old node.new result }
+    ensures block { length block.new ≡ length block.old }
     ensures rest { OthersStay node.old.attempts node.new.attempts attempt
         × (node.new.config ≡ node.old.config) × (node.new.seats ≡ node.old.seats) }
 {
     let count = match reader.read(block) {
-        Ok(0) => return Ok(Way::Broken),
+        Ok(0) => return Ok(Way::AtEnd),
         Ok(count) => count,
         Err(error) => {
             if error.kind() == ErrorKind::Interrupted {
@@ -162,7 +167,7 @@ fn answer<D: Disk, W: Write>(
         Err(fault) => return Err(link_fault(fault)),
     };
     match replied.change {
-        Some(_) => match send(writer, replied.out.as_slice()) {
+        Some(_) => match send_last(writer, replied.out.as_slice()) {
             Ok(()) => Ok(Way::Ended),
             Err(_) => Ok(Way::Unwritten),
         },

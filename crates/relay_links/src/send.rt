@@ -1,4 +1,4 @@
-ghost use Rattle.std.specs.Prelude.{◌≡◌, ℕ, List, ◌++◌, IfErr, OnOk, OnErr};
+ghost use Rattle.std.specs.Prelude.{◌≡◌, ◌≢◌, ℕ, List, [], ◌++◌, IfErr, OnOk, OnErr};
 ghost use Rattle.std.specs.Io.KnownBytes.{Appends};
 
 use crate::fault::LinkFault;
@@ -18,5 +18,19 @@ pub(crate) fn send<W: Write>(writer: &mut W, octets: &[u8]) -> Result<(), LinkFa
     if writer.flush().is_err() {
         return Err(LinkFault::Output);
     }
+    Ok(())
+}
+
+/// Writes octets behind which nothing comes, and flushes the writer. It fails only where they couldn't be written
+/// whole, and then a beginning of them was written: a flush that fails comes behind all of them.
+pub(crate) fn send_last<W: Write>(writer: &mut W, octets: &[u8]) -> Result<(), LinkFault>
+    ensures ok { OnOk result (Appends (W.contents writer.old) (W.contents writer.new) octets.now) }
+    ensures err { OnErr result ((front : List ℕ) × (rest : List ℕ) × (octets.now ≡ front ++ rest) × (rest ≢ [])
+        × Appends (W.contents writer.old) (W.contents writer.new) front) }
+{
+    if write_whole(writer, octets).is_err() {
+        return Err(LinkFault::Output);
+    }
+    let _ = writer.flush();
     Ok(())
 }

@@ -49,6 +49,7 @@ refused honest words at left held peer node changes keeps = record {
   leaves = record {
     come = refl;
     keeps = subst (Keeps honest words node.records) (sym (append-nil changes)) keeps;
+    note = inl (refl, refl);
   };
 }
 
@@ -57,4 +58,4 @@ pub same_start : {D : Type 0} (left held : Option (List ℕ)) (peer : List ℕ) 
 same_start {D} left held peer old new changes records config = ap₂ from records config
   where
     from : Kept D → Config → Start
-    from kept by = record { left = left; held = held; peer = peer; config = by; changes = changes; size = kept.spool.size }
+    from kept by = record { left = left; held = held; peer = peer; config = by; changes = changes; size = kept.spool.size; noted = kept.noted }

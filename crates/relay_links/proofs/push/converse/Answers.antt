@@ -1,5 +1,6 @@
 -- The link of an attempt goes on read by read.
-use Rattle.std.proofs.Common.{[], Err, Ok, ◌∙◌}
+use Rattle.std.proofs.Common.{◌≡◌, ◌<◌, ◌∙◌, ℕ, rules, List, [], Err, Ok, length, drop, sym, ap, subst, arith}
+use Rattle.std.proofs.lemmas.List.{take_at}
 use Rattle.relay_links.proofs.PushLemmas.{moves_since, rest_stays}
 use Rattle.relay_links.proofs.push.converse.Goals as goal
 
@@ -24,13 +25,19 @@ pub returns-in-Err-clause-goes : goal.returns-in-Err-clause-goes
 returns-in-Err-clause-goes g c = λ start h. c.in-Err.ensures.goes start (c.loop.invariant.so_far start h)
 
 pub loop-preserved : goal.loop-preserved
-loop-preserved g c = record {
-  rest = rest_stays c.args.node.now c.loop.node c.exchange_block.new.node c.args.attempt c.loop.invariant.rest c.in-Ok-On.ensures.rest;
-  same = (rw c.in-Ok-On.field-0-is at c.in-Ok-On.ensures.moves) ∙ c.loop.invariant.same;
-  so_far = λ start h.
-      let goes = c.in-Ok-On.ensures.goes start (c.loop.invariant.so_far start h) in
-      rw c.in-Ok-On.field-0-is at goes;
-}
+loop-preserved g c =
+    let same : c.as_mut_slice.result.now ≡ c.loop.block.items = search rules in
+    let size : length c.exchange_block.new.block ≡ length c.loop.block.items = c.in-Ok-On.ensures.block ∙ ap length same in
+    let full : length c.exchange_block.new.block ≡ c.loop.block.len = search rules in
+    let room : 0 < length c.exchange_block.new.block = omega (arith, size, c.loop.invariant.room) in
+    record {
+      room = subst (λ (l : List ℕ). 0 < length l) (sym (take_at c.exchange_block.new.block (drop (length c.exchange_block.new.block) c.loop.block.items) c.loop.block.len full)) room;
+      rest = rest_stays c.args.node.now c.loop.node c.exchange_block.new.node c.args.attempt c.loop.invariant.rest c.in-Ok-On.ensures.rest;
+      same = (rw c.in-Ok-On.field-0-is at c.in-Ok-On.ensures.moves) ∙ c.loop.invariant.same;
+      so_far = λ start h.
+          let goes = c.in-Ok-On.ensures.goes start (c.loop.invariant.so_far start h) in
+          rw c.in-Ok-On.field-0-is at goes;
+    }
 
 pub returns-clause-goes : goal.returns-clause-goes
 returns-clause-goes g c = λ start h. ([], [], c.loop.invariant.so_far start h)

@@ -1,11 +1,12 @@
 -- so far the attempt goes on with what was read and written
-use Rattle.std.proofs.Common.{◌≡◌, []}
+use Rattle.std.proofs.Common.{◌≡◌, ◌<◌, [], length}
 use Rattle.relay_slots.specs.Slots.{OthersStay}
 use Rattle.relay_links.specs.Push.{IsAt, PushStart}
 use Rattle.relay_links.proofs.push.converse.Given as goal
 
 abbrev pub invariant-loop : goal.invariant-loop
 invariant-loop g l = record {
+  room : 0 < length l.block.items;
   rest : OthersStay l.initial.node.attempts l.node.attempts l.fn.attempt × (l.node.config ≡ l.initial.node.config) × (l.node.seats ≡ l.initial.node.seats);
   same : l.node.records ≡ l.initial.node.records;
   so_far : (start : PushStart)

@@ -1,5 +1,5 @@
 -- Each write appends the octets that follow.
-use Rattle.std.proofs.Common.{◌≡◌, rules, arith, length-drop}
+use Rattle.std.proofs.Common.{◌≡◌, ◌<◌, length, rules, arith, length-drop}
 use Rattle.std.proofs.lemmas.List.{take_rest}
 use Rattle.relay_links.proofs.WholeLemmas.{wrote_front, wrote_none, wrote_more}
 use Rattle.relay_links.proofs.whole.write_whole.Goals as goal
@@ -7,7 +7,8 @@ use Rattle.relay_links.proofs.whole.write_whole.Goals as goal
 pub returns-in-Ok-eq0-clause-err : goal.returns-in-Ok-eq0-clause-err
 returns-in-Ok-eq0-clause-err g c =
     let none : c.in-Ok-eq0.field-0 ≡ 0 = search rules in
-    wrote_none _ _ _ c.args.octets.now _ c.loop-written.written c.in-Ok-eq0.field-0 c.loop-written.invariant.appended c.in-Ok-eq0.ensures.bytes none
+    let more : c.loop-written.written < length c.args.octets.now = search rules in
+    wrote_none _ _ _ c.args.octets.now _ c.loop-written.written c.in-Ok-eq0.field-0 more c.loop-written.invariant.appended c.in-Ok-eq0.ensures.bytes none
 
 pub loop-written-preserved-in-Ok : goal.loop-written-preserved-in-Ok
 loop-written-preserved-in-Ok g c =
@@ -23,4 +24,5 @@ loop-written-preserved-in-Ok g c =
 
 pub returns-then-ne-clause-err : goal.returns-then-ne-clause-err
 returns-then-ne-clause-err g c =
-    wrote_front _ _ _ c.args.octets.now c.loop-written.written c.loop-written.invariant.appended c.in-Err.ensures.bytes
+    let more : c.loop-written.written < length c.args.octets.now = search rules in
+    wrote_front _ _ _ c.args.octets.now c.loop-written.written more c.loop-written.invariant.appended c.in-Err.ensures.bytes
