@@ -24,7 +24,7 @@ test:
 	tests/book_without_memory.sh crates/relay_book_tests/out/relay_book_tests
 	tests/node_without_memory.sh crates/relay_node_tests/out/relay_node_tests
 	tests/spool_on_a_file.sh crates/relay_spool_tests/out/relay_spool_tests
-	tests/reports_read_by_python.py crates/relay_report_tests/out/relay_report_tests
+	tests/reports_read_by_python.py crates/relay_book_tests/out/relay_book_tests
 	tail -n 1 build/gate.log
 
 # A first dialogue that isn't proved yet; the proofs, a line a crate; the dialogue of the proved program; and a message

@@ -2,7 +2,7 @@
 """Reads each report that the program writes with Python's email package: a multipart/report of three parts, with the
 fields that the records of its row fill in, and the parts that the program itself takes it apart to.
 
-    tests/reports_read_by_python.py crates/relay_report_tests/out/relay_report_tests
+    tests/reports_read_by_python.py crates/relay_book_tests/out/relay_book_tests
 """
 import email
 import email.policy
@@ -11,7 +11,7 @@ import subprocess
 import sys
 import pathlib
 
-DATA = pathlib.Path(__file__).resolve().parent.parent / "crates/relay_report_tests/data"
+DATA = pathlib.Path(__file__).resolve().parent.parent / "crates/relay_book_tests/data"
 HOST = "relay.example"
 ESCAPE = re.compile(rb"\\(r|n|x[0-9A-F]{2})")
 
@@ -115,8 +115,10 @@ def check(row, text, sizes):
 
 def main():
     written = subprocess.run([sys.argv[1], str(DATA)], check=True, capture_output=True, text=True).stdout.splitlines()
+    rows = (DATA / "reports.in").read_text().splitlines()
     count = 0
-    for row, line in zip((DATA / "rows.in").read_text().splitlines(), written, strict=True):
+    # What comes of these rows is written last.
+    for row, line in zip(rows, written[-len(rows) :], strict=True):
         words = row.split(" ")
         if words[0] != "report":
             continue

@@ -1,7 +1,8 @@
-//! What comes of a row.
+//! What comes of a row about a book.
 use crate::fault::RowsFault;
 use crate::generate::decode_records;
 use crate::hex::octets_of;
+use crate::number::number_in;
 use crate::octets::{fits, values_that_fit};
 use relay_book::{Book, BookFault, decode_change, encode_change};
 use relay_trace::Moment;
@@ -61,13 +62,6 @@ impl Subject {
         } else {
             word(alloc, BookFault::BadRecord)
         }
-    }
-}
-
-fn number_in(text: &str) -> Result<u64, RowsFault> {
-    match text.parse::<u64>() {
-        Ok(number) => Ok(number),
-        Err(_) => Err(RowsFault::Row),
     }
 }
 

@@ -1,6 +1,7 @@
-//! Reads each row of data/, and prints behind it what comes of it. A row applies a change to a book, asks
-//! that book, reads a record, takes a record in hand and changes an octet of it, or decodes records of a
-//! fixed generator.
+//! Reads each row of data/, and prints what comes of it. A row applies a change to a book, asks that book,
+//! reads a record, takes a record in hand and changes an octet of it, or decodes records of a fixed generator:
+//! its answer stands behind it. Of the rows of reports.in, one shows the report of an outcome and whether it is
+//! taken apart again, or the boundary of three parts: its answer stands alone.
 #![tactic(auto)]
 
 mod answer;
@@ -8,12 +9,16 @@ mod draw;
 mod fault;
 mod generate;
 mod hex;
+mod number;
 mod octets;
+mod report;
+mod shown;
 mod sum;
 mod tally;
 
 use answer::Subject;
 use fault::RowsFault;
+use report::answer_of_report;
 use std::test::Fail;
 use std::{env, fs};
 
@@ -25,23 +30,23 @@ fn main(rt: HostRuntime) -> Result<(), Fail> {
     }
 }
 
-/// Prints what comes of each row. The rows of a file are about one book.
+/// Prints what comes of each row. The rows of a file are about one book, and each row of reports about one of its
+/// own.
 fn show_rows(rt: &HostRuntime) -> Result<(), RowsFault> {
     let words: Vec<String> = env::args(rt)?.collect(rt.alloc())?;
     let folder = match words.get(1) {
         Some(word) => word.as_str(),
         None => ".",
     };
-    show_file(rt, folder, "rows.in")?;
-    show_file(rt, folder, "octets.in")
+    show_lines(rt, file(rt, folder, "rows.in")?.as_str())?;
+    show_lines(rt, file(rt, folder, "octets.in")?.as_str())?;
+    show_reports(rt, file(rt, folder, "reports.in")?.as_str())
 }
 
-/// Prints what comes of each row of a file.
-fn show_file(rt: &HostRuntime, folder: &str, name: &str) -> Result<(), RowsFault> {
-    let alloc = rt.alloc();
-    let path = format!(in alloc; "{folder}/{name}")?;
-    let rows = fs::read_to_string(rt, path.as_str())?;
-    show_lines(rt, rows.as_str())
+/// The text of a file of the folder.
+fn file(rt: &HostRuntime, folder: &str, name: &str) -> Result<String, RowsFault> {
+    let path = format!(in rt.alloc(); "{folder}/{name}")?;
+    Ok(fs::read_to_string(rt, path.as_str())?)
 }
 
 fn show_lines(rt: &HostRuntime, rows: &str) -> Result<(), RowsFault> {
@@ -56,5 +61,24 @@ fn show_lines(rt: &HostRuntime, rows: &str) -> Result<(), RowsFault> {
 fn show_row(rt: &HostRuntime, subject: &mut Subject, row: &str) -> Result<(), RowsFault> {
     let answer = subject.answer(rt.alloc(), row)?;
     println!(rt; "{row} => {}", answer.as_str())?;
+    Ok(())
+}
+
+fn show_reports(rt: &HostRuntime, rows: &str) -> Result<(), RowsFault> {
+    for row in rows.lines() {
+        show_report(rt, row)?;
+    }
+    Ok(())
+}
+
+/// Prints what comes of a row of reports. A line that begins with `#` says what the next row shows, and stands as
+/// it is.
+fn show_report(rt: &HostRuntime, row: &str) -> Result<(), RowsFault> {
+    if row.starts_with("#") {
+        println!(rt; "{row}")?;
+        return Ok(());
+    }
+    let answer = answer_of_report(rt.alloc(), row)?;
+    println!(rt; "{}", answer.as_str())?;
     Ok(())
 }

@@ -1,15 +1,22 @@
-//! Lets a node over memory take one message by a link, and hand it on by another: to a next hop that takes
-//! it, in pieces of any length, and to one whose connection ends or fails behind each octet that is read or
-//! written, by the rows of data/.
+//! Links of a node over memory. By the rows of data/ it takes one message by a link, and hands it on by
+//! another: to a next hop that takes it, in pieces of any length, and to one whose connection ends or fails
+//! behind each octet that is read or written. Then it serves and pushes over sockets of 127.0.0.1, both ends
+//! in one process and one thread, and over a writer that fails where it is flushed. Each row has a line.
 #![tactic(auto)]
 
 mod faulty;
+mod flushes;
+mod mail;
 mod pushing;
 mod row;
 mod setup;
+mod sockets;
 
+use flushes::a_flush_that_fails_ends_the_session;
 use pushing::difference_of;
 use row::Row;
+use sockets::{a_client_is_answered_over_a_socket, a_hop_is_handed_mail_over_a_socket};
+use std::io::{self, Print};
 use std::test::Fail;
 use std::{env, fs};
 
@@ -22,7 +29,8 @@ fn main(rt: HostRuntime) -> Result<(), Fail> {
     };
     let path = format!(in rt.alloc(); "{folder}/rows.in")?;
     let rows = fs::read_to_string(&rt, path.as_str())?;
-    play_rows(&rt, rows.as_str())
+    play_rows(&rt, rows.as_str())?;
+    show_streams(&rt)
 }
 
 /// Plays each row, and fails where one differs.
@@ -50,4 +58,21 @@ fn play_row(rt: &HostRuntime, line: &str) -> Result<bool, Fail> {
         None => println!(rt; "{line}: as written down")?,
     }
     Ok(difference.is_none())
+}
+
+/// Prints a line for each row of sockets and flushes.
+fn show_streams(rt: &HostRuntime) -> Result<(), Fail> {
+    let holds = a_client_is_answered_over_a_socket(rt.alloc(), rt)?;
+    say(rt, "a client is answered over a socket", holds)?;
+    let holds = a_hop_is_handed_mail_over_a_socket(rt.alloc(), rt)?;
+    say(rt, "a hop is handed mail over a socket", holds)?;
+    let holds = a_flush_that_fails_ends_the_session(rt.alloc())?;
+    say(rt, "a flush that fails ends the session", holds)?;
+    Ok(())
+}
+
+/// Prints the line of a row.
+fn say(rt: &impl Print, row: &str, holds: bool) -> io::Result<()> {
+    let end = if holds { "so it is" } else { "it is otherwise" };
+    println!(rt; "{row}: {end}")
 }

@@ -1,20 +1,10 @@
 use crate::faulty::{Narrow, Trickle};
+use crate::mail::{HOP_COMMANDS, HOP_REPLIES};
 use crate::row::{Row, Trial};
 use crate::setup::{MemoryNode, begin, count_held, next_number, node_with_mail, push};
 use relay_links::{LinkFault, Pushed};
-use relay_trace::Moment;
 use std::alloc::Global;
 use std::test::Fail;
-
-/// What the next hop says: its greeting, and a line each to EHLO, MAIL, RCPT, DATA and the content.
-const SAID: &[u8] = b"220 n\r\n250 n\r\n250 ok\r\n250 ok\r\n354 go\r\n250 ok\r\n";
-
-/// What the attempt writes to that. The time stamp line stands in three lines before the content, which is
-/// empty.
-const WRITTEN: &[u8] =
-    b"EHLO relay.example\r\nMAIL FROM:<a@example.org>\r\nRCPT TO:<b@example.org>\r\nDATA\r\n\
-Received: from x ([127.0.0.1])\r\n by relay.example with SMTP id 1;\r\n Thu, 01 Jan 1970 00:00:00 +0000\r\n\
-.\r\nQUIT\r\n";
 
 /// The number of the change behind the attempt's one.
 const NEXT: u64 = 3;
@@ -49,28 +39,21 @@ pub fn difference_of(alloc: Global, row: Row<'_>) -> Result<Option<usize>, Fail>
 
 /// Lets an attempt run.
 fn outcome_of(alloc: Global, trial: Trial) -> Result<Came, Fail> {
-    let now = Moment::new(0)?;
-    let mut node = node_with_mail(alloc, now)?;
-    let attempt = begin(alloc, &mut node, now)?;
-    run(alloc, &mut node, attempt, trial, now)
+    let mut node = node_with_mail(alloc)?;
+    let attempt = begin(alloc, &mut node)?;
+    run(alloc, &mut node, attempt, trial)
 }
 
 /// Lets an attempt run over a reader and a writer of which one may fail.
-fn run(
-    alloc: Global,
-    node: &mut MemoryNode,
-    attempt: usize,
-    trial: Trial,
-    now: Moment,
-) -> Result<Came, Fail> {
+fn run(alloc: Global, node: &mut MemoryNode, attempt: usize, trial: Trial) -> Result<Came, Fail> {
     let mut reader = Trickle {
-        octets: SAID.get(..trial.end).unwrap_or(SAID),
+        octets: HOP_REPLIES.get(..trial.end).unwrap_or(HOP_REPLIES),
         given: 0,
         most: trial.most,
         cut: trial.bad_read,
     };
     let mut writer = Narrow::new(alloc, trial.bad_write);
-    let end = push(alloc, node, attempt, &mut reader, &mut writer, now);
+    let end = push(alloc, node, attempt, &mut reader, &mut writer);
     Ok(Came {
         end: word_of(end),
         written: count_written(writer.held.as_slice()),
@@ -91,7 +74,7 @@ fn word_of(end: Result<Pushed, LinkFault>) -> &'static str {
 
 /// How many octets these are, where they begin what the attempt is to write.
 fn count_written(octets: &[u8]) -> Option<usize> {
-    if WRITTEN.starts_with(octets) {
+    if HOP_COMMANDS.starts_with(octets) {
         Some(octets.len())
     } else {
         None

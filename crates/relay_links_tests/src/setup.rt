@@ -1,20 +1,18 @@
-//! A node over memory that holds one message, and an attempt for it. Each call of a node or a link stands
-//! here alone, in a function without clauses: what calls these sees none of their contracts.
-use crate::faulty::{Narrow, Trickle};
+//! A node over memory at the first moment, the message that it takes, and an attempt for that. Each call of
+//! a node or a link stands here alone, in a function without clauses: what calls these sees none of their
+//! contracts.
+use crate::mail::{COMMANDS, text_of};
 use relay_disk::MemoryDisk;
 use relay_links::{LinkFault, Pushed, push_link, serve_link};
-use relay_node::{Connected, Node, NodeFault, Work};
+use relay_node::{Node, NodeFault, Work};
 use relay_routes::{Config, HostName};
 use relay_trace::Moment;
 use std::alloc::Global;
+use std::io::{Read, Write};
 use std::test::Fail;
 
 /// A node on a disk in memory.
 pub type MemoryNode = Node<MemoryDisk>;
-
-/// A client that gives a message without content for a recipient at `example.org`.
-const MAIL: &[u8] =
-    b"HELO x\r\nMAIL FROM:<a@example.org>\r\nRCPT TO:<b@example.org>\r\nDATA\r\n.\r\nQUIT\r\n";
 
 const CONFIGURATION: &str = "host = \"relay.example\"
 listen = \"127.0.0.1:2525\"
@@ -23,16 +21,19 @@ spool = \"relay.spool\"
 \"example.org\" = { name = \"next.example\", at = \"127.0.0.1:2526\" }
 ";
 
-/// A node that has taken the message at the first moment.
-pub fn node_with_mail(alloc: Global, now: Moment) -> Result<MemoryNode, Fail> {
-    let mut node = node(alloc)?;
-    let connected = connect(&mut node)?;
-    serve(alloc, &mut node, connected, now)?;
-    Ok(node)
+/// The address of each client.
+const CLIENT: [u8; 4] = [127, 0, 0, 1];
+
+/// The first moment.
+fn first_moment() -> Moment {
+    match Moment::new(0) {
+        Ok(moment) => moment,
+        Err(_) => unreachable!(),
+    }
 }
 
 /// A node without changes.
-fn node(alloc: Global) -> Result<MemoryNode, Fail> {
+pub fn empty_node(alloc: Global) -> Result<MemoryNode, Fail> {
     let Ok(config) = Config::read(alloc, CONFIGURATION) else {
         return Err(Fail::new("no configuration"));
     };
@@ -42,55 +43,55 @@ fn node(alloc: Global) -> Result<MemoryNode, Fail> {
     }
 }
 
-fn connect(node: &mut MemoryNode) -> Result<Connected, NodeFault> {
-    node.connect([127, 0, 0, 1])
+/// A node that has taken the message.
+pub fn node_with_mail(alloc: Global) -> Result<MemoryNode, Fail> {
+    let mut node = empty_node(alloc)?;
+    let input = text_of(alloc, &COMMANDS)?;
+    let mut output: Vec<u8> = Vec::new(alloc);
+    serve(alloc, &mut node, &mut input.as_slice(), &mut output)?;
+    Ok(node)
 }
 
-/// Lets the client give its message.
-fn serve(
+/// Serves a client.
+pub fn serve<R: Read, W: Write>(
     alloc: Global,
     node: &mut MemoryNode,
-    connected: Connected,
-    now: Moment,
+    reader: &mut R,
+    writer: &mut W,
 ) -> Result<(), LinkFault> {
-    let mut input = MAIL;
-    let mut output: Vec<u8> = Vec::new(alloc);
-    serve_link(alloc, node, connected, &mut input, &mut output, now)
+    match node.connect(CLIENT) {
+        Ok(connected) => serve_link(alloc, node, connected, reader, writer, first_moment()),
+        Err(_) => Err(LinkFault::NoMemory),
+    }
 }
 
 /// The number of the attempt that begins for the one work that is due.
-pub fn begin(alloc: Global, node: &mut MemoryNode, now: Moment) -> Result<usize, Fail> {
-    for work in due(alloc, node, now)?.as_slice() {
+pub fn begin(alloc: Global, node: &mut MemoryNode) -> Result<usize, Fail> {
+    for work in due(alloc, node)?.as_slice() {
         if let Work::Try(message, hop) = work {
-            return Ok(start(node, *message, hop, now)?);
+            return Ok(start(node, *message, hop)?);
         }
     }
     Err(Fail::new("nothing is due"))
 }
 
-fn due(alloc: Global, node: &MemoryNode, now: Moment) -> Result<Vec<Work>, NodeFault> {
-    node.due(alloc, now)
+fn due(alloc: Global, node: &MemoryNode) -> Result<Vec<Work>, NodeFault> {
+    node.due(alloc, first_moment())
 }
 
-fn start(
-    node: &mut MemoryNode,
-    message: u64,
-    hop: &HostName,
-    now: Moment,
-) -> Result<usize, NodeFault> {
-    Ok(node.start(message, hop, now)?.attempt)
+fn start(node: &mut MemoryNode, message: u64, hop: &HostName) -> Result<usize, NodeFault> {
+    Ok(node.start(message, hop, first_moment())?.attempt)
 }
 
 /// Runs an attempt to its end.
-pub fn push(
+pub fn push<R: Read, W: Write>(
     alloc: Global,
     node: &mut MemoryNode,
     attempt: usize,
-    reader: &mut Trickle<'_>,
-    writer: &mut Narrow,
-    now: Moment,
+    reader: &mut R,
+    writer: &mut W,
 ) -> Result<Pushed, LinkFault> {
-    push_link(alloc, node, attempt, reader, writer, now)
+    push_link(alloc, node, attempt, reader, writer, first_moment())
 }
 
 /// The number of the next change.

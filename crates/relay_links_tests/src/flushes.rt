@@ -1,6 +1,6 @@
 //! A writer whose flush fails.
 use crate::mail::{COMMANDS, REPLIES, text_of};
-use crate::node::{empty_node, held_count, serve};
+use crate::setup::{count_held, empty_node, serve};
 use relay_links::LinkFault;
 use std::alloc::Global;
 use std::io::{self, ErrorKind, Read, Write};
@@ -72,7 +72,7 @@ fn ends_at_flush(alloc: Global, bad_flush: usize) -> Result<bool, Fail> {
     };
     let end = serve(alloc, &mut node, &mut reader, &mut writer);
     let written = text_of(alloc, &REPLIES[..bad_flush.min(REPLIES.len())])?;
-    let is_taken = held_count(alloc, &node)? == 1;
+    let is_taken = count_held(alloc, &node)? == 1;
     Ok(
         end == Err(LinkFault::Output)
             && writer.flushes == bad_flush

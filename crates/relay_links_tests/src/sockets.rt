@@ -1,7 +1,7 @@
 //! Rows over sockets. What the other end says is written before the link begins, and what it was told is
 //! read when the link has ended.
 use crate::mail::{COMMANDS, HOP_COMMANDS, HOP_REPLIES, REPLIES, text_of};
-use crate::node::{empty_node, held_count, push, serve};
+use crate::setup::{begin, count_held, empty_node, node_with_mail, push, serve};
 use relay_links::Pushed;
 use std::alloc::Global;
 use std::io::{self, Read, Write};
@@ -19,12 +19,12 @@ fn connection<N: Net<Listener = TcpListener, Stream = TcpStream>>(
     Ok((other, relay))
 }
 
-/// All that an end was told, up to the end of its connection, is these lines.
-fn was_told(alloc: Global, end: &TcpStream, lines: &[&str]) -> Result<bool, Fail> {
+/// All that an end was told, up to the end of its connection, is this text.
+fn was_told(alloc: Global, end: &TcpStream, text: &[u8]) -> Result<bool, Fail> {
     let mut told: Vec<u8> = Vec::new(alloc);
     let mut end = end;
     end.read_to_end(&mut told)?;
-    Ok(told.as_slice() == text_of(alloc, lines)?.as_slice())
+    Ok(told.as_slice() == text)
 }
 
 pub(crate) fn a_client_is_answered_over_a_socket<
@@ -35,20 +35,19 @@ pub(crate) fn a_client_is_answered_over_a_socket<
     let mut node = empty_node(alloc)?;
     serve(alloc, &mut node, &mut &relay, &mut &relay)?;
     drop(relay);
-    Ok(was_told(alloc, &client, &REPLIES)? && held_count(alloc, &node)? == 1)
+    let replies = text_of(alloc, &REPLIES)?;
+    Ok(was_told(alloc, &client, replies.as_slice())? && count_held(alloc, &node)? == 1)
 }
 
 pub(crate) fn a_hop_is_handed_mail_over_a_socket<
     N: Net<Listener = TcpListener, Stream = TcpStream>,
 >(alloc: Global, net: &N) -> Result<bool, Fail> {
-    let mut node = empty_node(alloc)?;
-    let input = text_of(alloc, &COMMANDS)?;
-    let mut replies: Vec<u8> = Vec::new(alloc);
-    serve(alloc, &mut node, &mut input.as_slice(), &mut replies)?;
+    let mut node = node_with_mail(alloc)?;
+    let attempt = begin(alloc, &mut node)?;
     let (hop, relay) = connection(net)?;
-    (&hop).write_all(text_of(alloc, &HOP_REPLIES)?.as_slice())?;
-    let end = push(alloc, &mut node, &mut &relay, &mut &relay)?;
+    (&hop).write_all(HOP_REPLIES)?;
+    let end = push(alloc, &mut node, attempt, &mut &relay, &mut &relay)?;
     drop(relay);
-    let is_ended = end == Pushed::Ended && held_count(alloc, &node)? == 0;
-    Ok(is_ended && was_told(alloc, &hop, &HOP_COMMANDS)?)
+    let is_ended = end == Pushed::Ended && count_held(alloc, &node)? == 0;
+    Ok(is_ended && was_told(alloc, &hop, HOP_COMMANDS)?)
 }

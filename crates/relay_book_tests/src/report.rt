@@ -1,6 +1,7 @@
-//! What comes of a row.
+//! What comes of a row of reports.
 use crate::fault::RowsFault;
 use crate::hex::octets_of;
+use crate::number::number_in;
 use crate::shown::shown;
 use relay_book::{Book, BookFault, Change, Outcome, decode_change};
 use relay_report::{Parts, Report, boundary_for, report_if_due, split_report};
@@ -11,7 +12,7 @@ const HOST: &[u8] = b"relay.example";
 
 /// What comes of a row: `report ACCEPT OUTCOME`, two records, of which the first is change 1 and the report's number is
 /// 2, or `boundary NUMBER PART PART PART`.
-pub fn answer(alloc: Global, row: &str) -> Result<String, RowsFault> {
+pub fn answer_of_report(alloc: Global, row: &str) -> Result<String, RowsFault> {
     let mut words = row.split(' ');
     match words.next() {
         Some("report") => reported(alloc, word(words.next())?, word(words.next())?),
@@ -54,13 +55,6 @@ fn word(word: Option<&str>) -> Result<&str, RowsFault> {
     match word {
         Some(word) => Ok(word),
         None => Err(RowsFault::Row),
-    }
-}
-
-fn number_in(text: &str) -> Result<u64, RowsFault> {
-    match text.parse::<u64>() {
-        Ok(number) => Ok(number),
-        Err(_) => Err(RowsFault::Row),
     }
 }
 
