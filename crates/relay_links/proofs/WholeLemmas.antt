@@ -1,5 +1,5 @@
 -- What was written so far of a row of octets.
-use Rattle.std.proofs.Common.{◌≡◌, ◌≢◌, ◌<◌, ◌+◌, ℕ, List, [], ◌++◌, Option, length, take, drop, sym, ap, subst, append-nil, take-append-drop, length-drop, arith}
+use Rattle.std.proofs.Common.{◌≡◌, ◌≢◌, ◌<◌, ◌+◌, ℕ, List, [], ◌++◌, Option, length, take, drop, sym, ap, ◌∙◌, subst, append-nil, take-append-drop, length-drop, arith}
 use Rattle.std.proofs.Math.Seq.{take-add}
 use Rattle.std.proofs.KnownBytes.{Appends-trans, Appends-kept}
 use Rattle.std.specs.Io.KnownBytes.{Appends, Keeps}
