@@ -177,7 +177,7 @@ module _ {D : Type 0} (honest : Type 0) (words : DiskWords D) where
 
       by_result : (result : Result Pushed LinkFault) → PushesTo honest words (push_start_at left held node changes told) at new_left new_held records result → HandsOn honest words node.config.host changes told records result
       by_result (Ok pushed.Ended) h = ended [] h
-      by_result (Ok pushed.Unwritten) h = ended h.0 h.1
+      by_result (Ok pushed.Unwritten) h = ended h.0 h.2
       by_result (Ok pushed.Lost) h =
           let all = concluded node.config.host changes (outcome_at at told (all_later told.places)) h.concludes.used records h.concludes.number h.concludes.adds in
           record {
