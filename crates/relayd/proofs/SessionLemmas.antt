@@ -53,7 +53,7 @@ module _ (left held : Option (List ℕ)) (node : Standing MemoryDisk) (profile :
   answered_by_fault Input said added records l = answered said added records.spool.size l.come
   answered_by_fault Output said added records l = answered said added records.spool.size l.come
   answered_by_fault NoMemory said added records l = answered said added records.spool.size l.come
-  answered_by_fault Full said added records l = answered said added records.spool.size l.come
+  answered_by_fault Full said added records l = answered said added records.spool.size l.taken.come
   answered_by_fault Device said added records l = answered said added l.size l.come
 
   -- a link that was served
