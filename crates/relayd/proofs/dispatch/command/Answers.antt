@@ -1,0 +1,33 @@
+-- Where the words have no fault, only want of memory can keep the session from its start.
+use Rattle.std.proofs.Common.{rules, ◌≡◌, ℕ, inl, inr, [], subst, sym}
+use Rattle.clap.specs.Words.{HasKind, Kinds, kind_of}
+use Rattle.clap.specs.declared.error.Error.{Error}
+use Rattle.clap.specs.declared.error.kind.ErrorKind.TheVariants as kind
+use Rattle.relayd.specs.Session.{IsBegun}
+use Rattle.relayd.proofs.SessionLemmas.{begun_nothing}
+use Rattle.relayd.proofs.dispatch.command.Goals as goal
+
+-- an error of words without a fault is want of memory
+only_memory : (error : Error) (kinds : Kinds) → HasKind kinds error → kinds ≡ [] → kind_of error ≡ kind.OutOfMemory
+only_memory error kinds has none = by_kind (subst (λ (l : Kinds). HasKind l error) none has)
+  where
+    by_kind : HasKind [] error → kind_of error ≡ kind.OutOfMemory
+    by_kind (inl e) = e
+    by_kind (inr e) = absurd e
+
+pub returns-in-Err-clause-session : goal.returns-in-Err-clause-session
+returns-in-Err-clause-session g c = λ ask.
+    let has : HasKind _ c.in-Err.error = search rules in
+    let out = only_memory c.in-Err.error _ has ask.0 in
+    let same = c.explain.ensures.writer (λ e. absurd (cc)) in
+    let status = c.explain.ensures.memory out in
+    record {
+      served = λ done. absurd (not_both status done);
+      fault = λ _. (
+        status,
+        subst (λ w. IsBegun (g.R.Read.remaining c.args.reader.now) (g.R.Read.remaining c.args.reader.now) (g.W.Write.contents c.args.writer.now) (g.W.Write.contents w)) (sym same) (begun_nothing _ _),
+      );
+    }
+  where
+    not_both : {status : ℕ} → status ≡ 1 → status ≡ 0 → ⊥
+    not_both one none = cc
