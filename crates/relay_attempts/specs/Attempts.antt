@@ -14,8 +14,8 @@ use Rattle.relay_attempts.specs.declared.start.Started.{Started}
 use Rattle.relay_attempts.specs.Hops.{due_places_in, stranded_of}
 use Rattle.relay_attempts.specs.Runs.{EachRuns, NoneTwice, is_running}
 
--- the running attempts by number; the numbers of the messages with a held place that has no hop, and how many more can be
--- noted without memory
+-- the running attempts by number; the numbers of the messages with a held place that has no hop, and how many more can
+-- be noted without memory
 pub record Standing : Type 0 where
   pub runs : List (Option Run)
   pub stranded : List ℕ
@@ -40,8 +40,8 @@ pub record Begun (host : List ℕ) (number : ℕ) (hop places : List ℕ) (run :
 
 -- The words below are of an attempt for a message and a hop that is to start at a moment.
 module _ (host : List ℕ) (table : RouteTable) (number : ℕ) (hop : List ℕ) (now : ℕ) where
-  -- an attempt for these places, which are due, has begun under the least free number, and none was running for message and
-  -- hop
+  -- an attempt for these places, which are due, has begun under the least free number, and none was running for message
+  -- and hop
   pub record Starts (queue : Queue) (old new : List (Option Run)) (started : Started) : Type 0 where
     pub least : IsLeastFree old started.attempt
     pub message : Message

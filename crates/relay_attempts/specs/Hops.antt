@@ -1,4 +1,5 @@
--- Where the places of a message go (RFC 5321, section 5.1): the hop of a place is that of its recipient's path as it is stored.
+-- Where the places of a message go (RFC 5321, section 5.1): the hop of a place is that of its recipient's path as it is
+-- stored.
 use Rattle.std.specs.Prelude.{ℕ, suc, ◌==◌, Bool, true, false, not, ◌&&◌, List, [], ◌∷◌, ◌++◌, map, slice_get, bytes_eq, Option, None, is_some, if◌then◌else◌}
 use Rattle.std.specs.List.{filter, filter_map}
 use Rattle.std.specs.Option.{option_and_then, option_map, option_map_or}
@@ -14,11 +15,13 @@ hop_name table path = option_map (λ hop. hop.name) (hop_at table path)
 
 -- the name of the hop of this place of a message
 abbrev pub hop_of_place : RouteTable → List Recipient → ℕ → Option (List ℕ)
-hop_of_place table recipients place = option_and_then (λ recipient. hop_name table recipient.path) (slice_get recipients place)
+hop_of_place table recipients place =
+    option_and_then (λ recipient. hop_name table recipient.path) (slice_get recipients place)
 
 -- the place goes to the hop of this name
 abbrev pub goes_to : RouteTable → List Recipient → List ℕ → ℕ → Bool
-goes_to table recipients hop place = option_map_or (λ name. bytes_eq name hop) (hop_of_place table recipients place) false
+goes_to table recipients hop place =
+    option_map_or (λ name. bytes_eq name hop) (hop_of_place table recipients place) false
 
 -- it is held, and has no hop
 abbrev pub is_stranded : RouteTable → List Recipient → ℕ → Place → Bool
@@ -39,7 +42,8 @@ stranded_places table message = places_where (is_stranded table message.accept.e
 
 -- the due places of a message that go to this hop, in order
 abbrev pub due_places_in : RouteTable → List ℕ → ℕ → Message → List ℕ
-due_places_in table hop now message = places_where (is_due_for table message.accept.envelope.recipients hop now) 0 message.places
+due_places_in table hop now message =
+    places_where (is_due_for table message.accept.envelope.recipients hop now) 0 message.places
 
 -- the hop of a place that is due
 abbrev pub due_hop : RouteTable → ℕ → List Recipient → ℕ → Place → Option (List ℕ)

@@ -35,7 +35,8 @@ unroutable table number at message = outcome_of number at [] (unrouted (stranded
 
 -- The words below are of the message of a number, which is given up at a moment.
 module _ {D : Type 0} (honest : Type 0) (words : DiskWords D) (host : List ℕ) (table : RouteTable) (number at : ℕ) where
-  -- exactly its held places without a hop have ended, in the one change that was added, with the report that is due of it
+  -- exactly its held places without a hop have ended, in the one change that was added, with the report that is due of
+  -- it
   pub record AddsUnroutable (changes : List Change) (old new : Kept D) (added : ℕ) : Type 0 where
     pub message : Message
     pub found : message_of old.queue.messages number ≡ Some message

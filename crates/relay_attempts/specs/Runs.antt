@@ -30,8 +30,8 @@ abbrev pub AllGoTo : RouteTable → List ℕ → Message → List ℕ → Type 0
 AllGoTo table hop message numbers =
     AllByRecursion (λ number. goes_to table message.accept.envelope.recipients hop number ≡ true) numbers
 
--- the attempt hands on a queued message for some of its held places, which go to its hop: of what was said on its connection
--- there is a history
+-- the attempt hands on a queued message for some of its held places, which go to its hop: of what was said on its
+-- connection there is a history
 pub record RunsFor (host : List ℕ) (table : RouteTable) (queue : Queue) (run : Run) : Type 0 where
   pub message : Message
   pub found : message_of queue.messages run.message ≡ Some message
@@ -44,7 +44,8 @@ pub record RunsFor (host : List ℕ) (table : RouteTable) (queue : Queue) (run :
 
 -- each attempt hands on what is queued
 abbrev pub EachRuns : List ℕ → RouteTable → Queue → List (Option Run) → Type 0
-EachRuns host table queue runs = (number : ℕ) (run : Run) → slot_at runs number ≡ Some run → RunsFor host table queue run
+EachRuns host table queue runs =
+    (number : ℕ) (run : Run) → slot_at runs number ≡ Some run → RunsFor host table queue run
 
 -- no two attempts are for one message and hop
 abbrev pub NoneTwice : List (Option Run) → Type 0

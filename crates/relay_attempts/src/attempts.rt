@@ -62,7 +62,8 @@ impl Attempts {
         })
     }
 
-    /// No attempt, beside the messages of these records that have a held place without a hop. It fails where memory runs out.
+    /// No attempt, beside the messages of these records that have a held place without a hop. It fails where memory
+    /// runs out.
     pub fn new<D: Disk>(
         alloc: Global,
         table: &Table,

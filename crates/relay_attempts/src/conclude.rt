@@ -14,8 +14,8 @@ use relay_routes::Config;
 use std::alloc::Global;
 
 impl Attempts {
-    /// Adds an outcome of a queued message, with the report that is due of it, in one change; then it is known which messages
-    /// are stranded by it, or by the report, and which are no more. All growths come before the append.
+    /// Adds an outcome of a queued message, with the report that is due of it, in one change; then it is known which
+    /// messages are stranded by it, or by the report, and which are no more. All growths come before the append.
     pub(crate) fn conclude<D: Disk>(
         &mut self,
         alloc: Global,

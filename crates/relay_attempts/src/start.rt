@@ -24,10 +24,10 @@ pub struct Started {
 }
 
 impl Attempts {
-    /// Begins an attempt for the places of a message that are due and go to this hop, under the least free number. The first
-    /// fault in this order is answered, and nothing is changed then: `Stopped`, `Unknown` where no such message is queued,
-    /// `TooMany` where 64 attempts are running, `Busy` where one for this message and hop is, `NotDue` where no place is;
-    /// then want of memory.
+    /// Begins an attempt for the places of a message that are due and go to this hop, under the least free number. The
+    /// first fault in this order is answered, and nothing is changed then: `Stopped`, `Unknown` where no such message
+    /// is queued, `TooMany` where 64 attempts are running, `Busy` where one for this message and hop is, `NotDue` where
+    /// no place is; then want of memory.
     pub fn start<D: Disk>(
         &mut self,
         alloc: Global,

@@ -95,7 +95,8 @@ pub fn hold_conversations(alloc: Global, count: u64) -> Result<String, Fail> {
     Ok(format!(in alloc; "conversations: {octets} octets written, in {count} times")?)
 }
 
-/// An attempt that waits for the reply to the last of its RCPTs. To the others the server said that they may be tried again.
+/// An attempt that waits for the reply to the last of its RCPTs. To the others the server said that they may be tried
+/// again.
 fn waiting(alloc: Global, envelope: &Envelope) -> Result<Attempt, Fail> {
     let mail = MailObject {
         envelope,

@@ -69,8 +69,8 @@ const READING: [(&str, &[u8]); 10] = [
     ("attempts", CHUNK),
 ];
 
-/// The measurements that read nothing, and on how much each runs without a word. Those on nothing say how much memory the
-/// program has, and aren't run then.
+/// The measurements that read nothing, and on how much each runs without a word. Those on nothing say how much memory
+/// the program has, and aren't run then.
 const IN_MEMORY: [(&str, u64); 9] = [
     ("routes", 2),
     ("fill", 3),

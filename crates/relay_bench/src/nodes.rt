@@ -25,8 +25,8 @@ spool_limit = 549755813888
 \"*\" = { name = \"next.example\", at = \"127.0.0.1:2526\" }
 ";
 
-/// Makes a node in this file, which is to be empty, and hands it so many messages for one recipient, with so many octets
-/// of content, on one session. They are due from the moment 0.
+/// Makes a node in this file, which is to be empty, and hands it so many messages for one recipient, with so many
+/// octets of content, on one session. They are due from the moment 0.
 pub fn accept_messages(
     rt: &HostRuntime,
     path: &str,

@@ -43,8 +43,8 @@ pub fn begin_attempts(alloc: Global, count: u64, times: u64) -> Result<String, F
     Ok(format!(in alloc; "begins: {begun} attempts in {times} times")?)
 }
 
-/// Opens the node in this file, and hands each message that is due at the moment 0 to a next hop that takes it, one behind
-/// another.
+/// Opens the node in this file, and hands each message that is due at the moment 0 to a next hop that takes it, one
+/// behind another.
 pub fn deliver_messages(rt: &HostRuntime, path: &str) -> Result<String, Fail> {
     let mut node = opened(rt, path)?;
     let delivered = deliver(rt.alloc(), &mut node)?;

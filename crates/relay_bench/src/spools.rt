@@ -35,8 +35,8 @@ pub fn append_bodies(rt: &HostRuntime, path: &str, count: u64) -> Result<String,
     Ok(format!(in rt.alloc(); "append: {count} bodies, {size} octets")?)
 }
 
-/// Does on a bare file what the device does for so many appends that add so many octets each, and no more: the octets, a
-/// sync, an octet before them, a sync.
+/// Does on a bare file what the device does for so many appends that add so many octets each, and no more: the octets,
+/// a sync, an octet before them, a sync.
 pub fn sync_twice(rt: &HostRuntime, path: &str, count: u64, link: u64) -> Result<String, Fail> {
     let file = OpenOptions::new().write(true).create(true).open(rt, path)?;
     sync_each(rt.alloc(), &file, count, link)?;

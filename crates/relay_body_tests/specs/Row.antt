@@ -9,4 +9,5 @@ escaped letter = if letter == 114 then 13 else if letter == 110 then 10 else let
 abbrev pub octets_of : List ℕ → List ℕ
 octets_of [] = []
 octets_of (octet ∷ []) = octet ∷ []
-octets_of (octet ∷ letter ∷ rest) = if octet == 92 then escaped letter ∷ octets_of rest else octet ∷ octets_of (letter ∷ rest)
+octets_of (octet ∷ letter ∷ rest) =
+    if octet == 92 then escaped letter ∷ octets_of rest else octet ∷ octets_of (letter ∷ rest)

@@ -109,7 +109,8 @@ pub record BeginsAccept (text : List ℕ) (at : ℕ) (envelope : Envelope) (head
   pub valid : IsAccept (record { at = at; envelope = envelope; stored_text = drop head text })
   pub text_is : text ≡ accept_octets (record { at = at; envelope = envelope; stored_text = drop head text })
 
--- so many octets of a record say that it is an accept's, its moment and its envelope, and the others are its stored text
+-- so many octets of a record say that it is an accept's, its moment and its envelope, and the others are its stored
+-- text
 pub record BeginsRecord (text : List ℕ) (at : ℕ) (envelope : Envelope) (head : ℕ) : Type 0 where
   pub within : head ≤ length text
   pub valid : IsAccept (record { at = at; envelope = envelope; stored_text = drop head text })

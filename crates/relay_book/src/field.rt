@@ -94,8 +94,8 @@ pub(crate) fn push_sized_2(out: &mut Vec<u8>, text: &[u8]) -> Result<(), AllocEr
     out.extend_from_slice(text)
 }
 
-/// Adds a text behind its length of four octets. It makes room for both at once, and for no more: such a text is most of its
-/// record.
+/// Adds a text behind its length of four octets. It makes room for both at once, and for no more: such a text is most
+/// of its record.
 #[tactic(auto, unfolding(crate::specs::Record::octets_4))]
 pub(crate) fn push_sized_4(out: &mut Vec<u8>, text: &[u8]) -> Result<(), AllocError>
     requires { length text.now < 2 ^ 32 }

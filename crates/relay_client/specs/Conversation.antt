@@ -36,8 +36,8 @@ pub record Holds (talk : Conversation) (errand : Errand) (progress : Progress) :
   pub settled_is : talk.settled ≡ map rcpt_verdict (rcpt_replies progress.answered)
   pub running : progress.verdicts ≡ None
 
--- from the old progress to the new one: the commands between them are what was added to the output, and the conversation
--- is as far as the new one, or has given its verdicts
+-- from the old progress to the new one: the commands between them are what was added to the output, and the
+-- conversation is as far as the new one, or has given its verdicts
 pub record Does (errand : Errand) (old new : Progress) (talk : Conversation) (ended : Option (List Verdict))
     (out more : List ℕ) : Type 0 where
   pub commands : List (List ℕ)

@@ -1,5 +1,5 @@
--- What the replies to RCPTs said, as it is kept until an attempt ends: a word for each, and the texts of the refusals in one
--- row.
+-- What the replies to RCPTs said, as it is kept until an attempt ends: a word for each, and the texts of the refusals
+-- in one row.
 use Rattle.std.specs.Prelude.{ℕ, ◌+◌, Bool, true, false, List, [], ◌∷◌, take, drop, Option, Some, None, unwrap_or}
 use Rattle.relay_book.specs.declared.change.Verdict.{Verdict}
 use Rattle.relay_book.specs.declared.change.Verdict.TheVariants.{Refused, Later}

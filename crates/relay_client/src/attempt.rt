@@ -41,8 +41,8 @@ enum Stage {
     Failed,
 }
 
-/// The client's end of one connection: an attempt to hand a message on for some of its places (RFC 5321, section 3.3). It
-/// holds nothing of the message, which each feed borrows.
+/// The client's end of one connection: an attempt to hand a message on for some of its places (RFC 5321, section 3.3).
+/// It holds nothing of the message, which each feed borrows.
 pub struct Attempt {
     reader: ReplyReader,
     talk: Conversation,
@@ -75,9 +75,9 @@ impl Attempt {
         })
     }
 
-    /// Uses the next piece of what the server wrote, to the attempt's end or all of it, and writes what the replies in it
-    /// lead to. The message is the same at each call. Where octets are no reply, all places may be tried again, and the
-    /// whole piece is used. Behind its end an attempt uses and writes nothing.
+    /// Uses the next piece of what the server wrote, to the attempt's end or all of it, and writes what the replies in
+    /// it lead to. The message is the same at each call. Where octets are no reply, all places may be tried again, and
+    /// the whole piece is used. Behind its end an attempt uses and writes nothing.
     ///
     /// It fails where memory runs out, and from then on each call does.
     pub fn feed(&mut self, mail: &MailObject<'_>, piece: &[u8]) -> Result<Driven, AllocError>

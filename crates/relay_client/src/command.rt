@@ -1,5 +1,5 @@
-//! What a client writes (RFC 5321, section 4.1.1; RFC 3030, section 2; RFC 3461, section 4). Where memory runs out, part of
-//! it may have been written.
+//! What a client writes (RFC 5321, section 4.1.1; RFC 3030, section 2; RFC 3461, section 4). Where memory runs out,
+//! part of it may have been written.
 ghost use Rattle.std.specs.Prelude.{◌≡◌, ◌++◌, ℕ, List, OnOk};
 ghost use Rattle.relay_course.specs.Course.{IsSentAs};
 ghost use Rattle.relay_course.specs.WrittenLine.{data_line, ehlo_line, helo_line, last_chunk, mail_line, quit_line, rcpt_line, rcpt_line_at};

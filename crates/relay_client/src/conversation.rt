@@ -70,8 +70,8 @@ impl Conversation {
         })
     }
 
-    /// A reply answers what waits first. The verdicts are given where the attempt ends by it. It fails where memory runs
-    /// out.
+    /// A reply answers what waits first. The verdicts are given where the attempt ends by it. It fails where memory
+    /// runs out.
     pub(crate) fn answer(
         &mut self,
         mail: &MailObject<'_>,

@@ -1,5 +1,5 @@
-//! The client's end of one connection, which hands a message on for some of its places: to the octets of each reply what
-//! goes to the server, and at the end a verdict for each place.
+//! The client's end of one connection, which hands a message on for some of its places: to the octets of each reply
+//! what goes to the server, and at the end a verdict for each place.
 #![tactic(auto)]
 
 mod attempt;

@@ -144,8 +144,8 @@ fn has_accepted(said: &[Said]) -> bool
     false
 }
 
-/// The verdict of each of the places by what was said of it: the last one where its RCPT was accepted, or isn't answered.
-/// The texts are those of the refusals.
+/// The verdict of each of the places by what was said of it: the last one where its RCPT was accepted, or isn't
+/// answered. The texts are those of the refusals.
 #[tactic(auto, using(crate::proofs::SettledLemmas::verdicts_step))]
 fn verdicts_of(
     alloc: Global,

@@ -112,8 +112,8 @@ fn shown(octet: u8) -> u8
     if is_printable(octet) { octet } else { b'?' }
 }
 
-/// What the reply to the content says of the places that are left, at a server that offers DSN or doesn't. It fails where
-/// memory runs out.
+/// What the reply to the content says of the places that are left, at a server that offers DSN or doesn't. It fails
+/// where memory runs out.
 pub(crate) fn content_verdict(
     alloc: Global,
     dsn: bool,

@@ -1,5 +1,6 @@
-//! Plays each row of data/ over an attempt: what the server says, cut into two pieces at every octet and into pieces of one
-//! octet, and compares what is written behind each octet, how much is used, and the verdicts, with what is written down.
+//! Plays each row of data/ over an attempt: what the server says, cut into two pieces at every octet and into pieces of
+//! one octet, and compares what is written behind each octet, how much is used, and the verdicts, with what is written
+//! down.
 #![tactic(auto)]
 
 mod escape;

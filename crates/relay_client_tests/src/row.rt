@@ -18,9 +18,9 @@ pub enum End {
 
 /// A row of the data: a message, what a server says and what is to be written to it, and the verdicts.
 ///
-/// Each line of it begins with a word: `name`, `host`, `mail`, `rcpt` (once for each recipient), `text`, `place` (once for
-/// each), `S` (a line of the server), `s` (octets of it), `C` (a line of ours), `c` (octets of ours), `B` (a line of the
-/// server behind the end), `end`, `V` (a verdict).
+/// Each line of it begins with a word: `name`, `host`, `mail`, `rcpt` (once for each recipient), `text`, `place` (once
+/// for each), `S` (a line of the server), `s` (octets of it), `C` (a line of ours), `c` (octets of ours), `B` (a line
+/// of the server behind the end), `end`, `V` (a verdict).
 pub struct Row {
     pub name: String,
     pub host: Vec<u8>,

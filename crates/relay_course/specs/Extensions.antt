@@ -1,4 +1,5 @@
--- What a server offers (RFC 5321, section 4.1.1.1): the first word of each line of its reply to EHLO behind the first line.
+-- What a server offers (RFC 5321, section 4.1.1.1): the first word of each line of its reply to EHLO behind the first
+-- line.
 use Rattle.std.specs.Prelude.{ℕ, Bool, false, ◌||◌, List, [], ◌∷◌, codes}
 use Rattle.relay_lines.specs.Reply.{Reply}
 use Rattle.relay_lines.specs.Word.{first_word, is_word}

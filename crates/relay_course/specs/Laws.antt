@@ -163,8 +163,8 @@ MayAsk errand Vrfy = ⊥
 MayAsk errand Help = ⊥
 MayAsk errand Quit = Unit {0}
 
--- what is written is a line that every server reads as this command; or the text as mail data; or a line that is read as
--- that of a last chunk of the text's size, and the text
+-- what is written is a line that every server reads as this command; or the text as mail data; or a line that is read
+-- as that of a last chunk of the text's size, and the text
 pub data IsWritten (errand : Errand) (octets : List ℕ) : Type 0 where
   AsLine : (command : Command) (line : List ℕ) → MayAsk errand command → IsCommandLine line command
       → octets ≡ line_text line → IsWritten errand octets

@@ -1,6 +1,6 @@
 -- How far an attempt has come (RFC 5321, sections 3.1 to 3.3 and 4.2; RFC 2920, section 3.1; RFC 3030, section 2), as a
--- function of the replies: to each what the client writes, and at the end a verdict for each place. Each reply answers the
--- earliest thing that waits for one.
+-- function of the replies: to each what the client writes, and at the end a verdict for each place. Each reply answers
+-- the earliest thing that waits for one.
 use Rattle.std.specs.Prelude.{ℕ, List, [], ◌∷◌, ◌++◌, Option, Some, None, if◌then◌else◌}
 use Rattle.std.specs.List.{flat_map}
 use Rattle.relay_lines.specs.Reply.{Reply}
@@ -17,8 +17,8 @@ use Rattle.relay_course.specs.Extensions.{extensions_of, no_extensions}
 use Rattle.relay_course.specs.WrittenLine.{ehlo_line, helo_line, mail_line, rcpt_line_at, data_line, last_chunk, quit_line}
 use Rattle.relay_course.specs.VerdictTable.{content_verdict_by, kind_of, refusal, some_accepted, verdicts_of}
 
--- what an attempt has to do, which never changes: our host's name, the message's envelope and stored text, that text as it
--- is sent behind DATA, and the places to try, in order
+-- what an attempt has to do, which never changes: our host's name, the message's envelope and stored text, that text as
+-- it is sent behind DATA, and the places to try, in order
 pub record Errand : Type 0 where
   pub host : List ℕ
   pub envelope : Envelope
@@ -87,7 +87,8 @@ abbrev pub behind_rcpts : Errand → Progress → Progress
 behind_rcpts errand old =
     if some_accepted (rcpt_replies old.answered) then with_content errand old else ended_by errand Later old
 
--- a reply to MAIL or to a RCPT has come: where nothing waits the next RCPT is written, and behind the last one the content
+-- a reply to MAIL or to a RCPT has come: where nothing waits the next RCPT is written, and behind the last one the
+-- content
 abbrev pub with_next : Errand → List Awaited → List ℕ → Progress → Progress
 with_next errand (waited ∷ waits) unasked old = old
 with_next errand [] (place ∷ more) old = with_rcpt errand place more old

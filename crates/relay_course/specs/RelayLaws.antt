@@ -92,8 +92,8 @@ relay_progress errand greeting hello mail rcpts input content = record {
   verdicts = Some (verdicts_of errand.places rcpts (last_verdict rcpts content));
 }
 
--- To a relay an attempt writes EHLO, MAIL, the RCPTs, the content where one of those is accepted, and QUIT, and then has
--- ended, whatever the RCPTs and the content are answered.
+-- To a relay an attempt writes EHLO, MAIL, the RCPTs, the content where one of those is accepted, and QUIT, and then
+-- has ended, whatever the RCPTs and the content are answered.
 abbrev pub CommandsToARelay : Type 0
 CommandsToARelay =
     (errand : Errand) (greeting hello mail input content : Reply) (rcpts : List Reply)

@@ -1,4 +1,5 @@
--- What replies say of places (RFC 5321, sections 4.2.1 and 4.2.4): the kind of a reply, and the verdict that comes of one.
+-- What replies say of places (RFC 5321, sections 4.2.1 and 4.2.4): the kind of a reply, and the verdict that comes of
+-- one.
 use Rattle.std.specs.Prelude.{ℕ, Bool, true, false, ◌==◌, nat_lt, List, [], ◌∷◌, map, take, Option, Some, None, unwrap_or, if◌then◌else◌}
 use Rattle.relay_lines.specs.Reply.{Reply, last_text}
 use Rattle.relay_lines.specs.Word.{is_printable}
@@ -23,8 +24,8 @@ shown octet = if is_printable octet then octet else 63
 abbrev pub refusal : Reply → Verdict
 refusal reply = Refused reply.code (map shown (take refusal_limit (last_text reply.lines)))
 
--- what a RCPT's reply of this kind says of its place: where it was accepted, nothing yet; 552 may be tried again (section
--- 4.5.3.1.10)
+-- what a RCPT's reply of this kind says of its place: where it was accepted, nothing yet; 552 may be tried again
+-- (section 4.5.3.1.10)
 abbrev pub rcpt_verdict_by : ReplyKind → Reply → Option Verdict
 rcpt_verdict_by Completion reply = None
 rcpt_verdict_by Intermediate reply = Some Later

@@ -1,5 +1,5 @@
--- What a client writes (RFC 5321, section 4.1.1; RFC 3030, section 2; RFC 3461, section 4): the lines of its commands, and
--- the text as one chunk.
+-- What a client writes (RFC 5321, section 4.1.1; RFC 3030, section 2; RFC 3461, section 4): the lines of its commands,
+-- and the text as one chunk.
 use Rattle.std.specs.Prelude.{ℕ, zero, suc, Bool, true, List, [], ◌∷◌, ◌++◌, length, if◌then◌else◌}
 use Rattle.relay_octets.specs.Line.{line_text}
 use Rattle.relay_lines.specs.Command.{Helo, Ehlo, Mail, Rcpt, Data, Bdat, Quit}

@@ -72,11 +72,13 @@ module _ {D : Type 0} (words : DiskWords D) where
     pub later : words.moment old ≤ words.moment new
     pub nothing_else : (moment : ℕ) (image : List ℕ) → moment ≤ words.moment old → words.left_since new moment image
         → words.left_since old moment image ⊎ words.may_leave new image
-    pub keeps : (moment : ℕ) (image : List ℕ) → moment ≤ words.moment old → words.left_since old moment image → words.left_since new moment image
+    pub keeps : (moment : ℕ) (image : List ℕ) → moment ≤ words.moment old → words.left_since old moment image
+        → words.left_since new moment image
 
   -- a call that changes the octets by this step, as far as a stop lets it
   pub record Steps (step : List ℕ → List ℕ → Type 0) (old new : D) : Type 0 where
-    pub images : (image : List ℕ) → words.may_leave new image → (before : List ℕ) × words.may_leave old before × step before image
+    pub images : (image : List ℕ) → words.may_leave new image
+        → (before : List ℕ) × words.may_leave old before × step before image
     pub time : Elapses old new
 
   -- a call that adds no image
@@ -89,7 +91,8 @@ module _ {D : Type 0} (words : DiskWords D) where
     pub later : words.moment old ≤ words.moment new
     pub each : (image : List ℕ) → words.left_since new (words.moment old) image → P image
     -- for a run that began earlier
-    pub earlier : (since : ℕ) (image : List ℕ) → since ≤ words.moment old → words.left_since new since image → words.left_since old since image ⊎ P image
+    pub earlier : (since : ℕ) (image : List ℕ) → since ≤ words.moment old → words.left_since new since image
+        → words.left_since old since image ⊎ P image
 
   -- no call has failed
   abbrev pub FailsNot : D → D → Type 0

@@ -16,7 +16,8 @@ seen_after start (Pass ∷ earlier) = seen_after start earlier
 -- each write begins within what a read gave before it
 abbrev pub are_within : List ℕ → List Call → Bool
 are_within start [] = true
-are_within start (Write place _ ∷ earlier) = nat_le place (length (seen_after start earlier)) && are_within start earlier
+are_within start (Write place _ ∷ earlier) =
+    nat_le place (length (seen_after start earlier)) && are_within start earlier
 are_within start (FailedWrite _ _ ∷ earlier) = are_within start earlier
 are_within start (Cut _ ∷ earlier) = are_within start earlier
 are_within start (Sync ∷ earlier) = are_within start earlier
@@ -25,8 +26,10 @@ are_within start (Pass ∷ earlier) = are_within start earlier
 -- A stop may leave this image: since the last good sync each call has done its step as far as a stop lets it.
 abbrev pub MayLeave : List ℕ → List Call → List ℕ → Type 0
 MayLeave start [] image = image ≡ start
-MayLeave start (Write place octets ∷ earlier) image = (old : List ℕ) × MayLeave start earlier old × Writes place (length octets.items) old image
-MayLeave start (FailedWrite place count ∷ earlier) image = (old : List ℕ) × MayLeave start earlier old × Writes place count old image
+MayLeave start (Write place octets ∷ earlier) image =
+    (old : List ℕ) × MayLeave start earlier old × Writes place (length octets.items) old image
+MayLeave start (FailedWrite place count ∷ earlier) image =
+    (old : List ℕ) × MayLeave start earlier old × Writes place count old image
 MayLeave start (Cut size ∷ earlier) image = (old : List ℕ) × MayLeave start earlier old × Cuts size old image
 MayLeave start (Sync ∷ earlier) image = image ≡ seen_after start earlier
 MayLeave start (Pass ∷ earlier) image = MayLeave start earlier image
@@ -34,7 +37,8 @@ MayLeave start (Pass ∷ earlier) image = MayLeave start earlier image
 -- A stop at this moment or at one since might have left this image. A moment is the number of calls before it.
 abbrev pub LeftSince : List ℕ → List Call → ℕ → List ℕ → Type 0
 LeftSince start [] since image = (since ≤ 0) × MayLeave start [] image
-LeftSince start (call ∷ earlier) since image = (since ≤ length (call ∷ earlier)) × (MayLeave start (call ∷ earlier) image ⊎ LeftSince start earlier since image)
+LeftSince start (call ∷ earlier) since image =
+    (since ≤ length (call ∷ earlier)) × (MayLeave start (call ∷ earlier) image ⊎ LeftSince start earlier since image)
 
 -- what the disk held at the last good sync, or else at its start
 abbrev pub synced_after : List ℕ → List Call → List ℕ

@@ -9,7 +9,9 @@ use Rattle.relay_disk.specs.Device.{written, Writes, Cuts}
 use Rattle.relay_disk.specs.MayLeave.{seen_after, MayLeave, LeftSince}
 use Rattle.relay_disk.specs.Memory.{image_of, start_of, calls_of, images_of, moment_of, images_since}
 
-pub length-written : (old : List ℕ) (place : ℕ) (octets : List ℕ) → (length old ≤ length (written old place octets)) × (length (written old place octets) ≤ max (length old) (place + length octets))
+pub length-written : (old : List ℕ) (place : ℕ) (octets : List ℕ)
+    → (length old ≤ length (written old place octets))
+    × (length (written old place octets) ≤ max (length old) (place + length octets))
 length-written old place octets =
     let all = length-append (take place old ++ octets) (drop (place + length octets) old) in
     let front = length-append (take place old) octets in
@@ -18,7 +20,8 @@ length-written old place octets =
     (omega (arith, all, front, begin, end), omega (arith, all, front, begin, end))
 
 -- a write leaves the octets outside its range
-pub written_outside : (old : List ℕ) (place : ℕ) (octets : List ℕ) (at : ℕ) → at < length old → (at < place) ⊎ (place + length octets ≤ at)
+pub written_outside : (old : List ℕ) (place : ℕ) (octets : List ℕ) (at : ℕ) → at < length old
+    → (at < place) ⊎ (place + length octets ≤ at)
     → slice_index (written old place octets) at ≡ slice_index old at
 written_outside old place octets at within (inl before) =
     let begin = length-take place old in
@@ -34,7 +37,8 @@ written_outside old place octets at within (inr behind) =
     ∙ ap (λ n. get_or old n 0) (omega arith)
 
 -- a write that was done is one that a stop may make of it
-pub Writes-written : (old : List ℕ) (place : ℕ) (octets : List ℕ) → Writes place (length octets) old (written old place octets)
+pub Writes-written : (old : List ℕ) (place : ℕ) (octets : List ℕ)
+    → Writes place (length octets) old (written old place octets)
 Writes-written old place octets =
     record { stays = written_outside old place octets; no_shorter = (length-written old place octets).0; no_longer = (length-written old place octets).1 }
 
@@ -53,27 +57,34 @@ Cuts-same old size = record { stays = λ at within. refl; no_shorter = omega ari
 -- what a read gives is one of the images
 pub sees_now : (start : List ℕ) (calls : List Call) → MayLeave start calls (seen_after start calls)
 sees_now start [] = refl
-sees_now start (Write place octets ∷ earlier) = (seen_after start earlier, sees_now start earlier, Writes-written (seen_after start earlier) place octets.items)
-sees_now start (FailedWrite place count ∷ earlier) = (seen_after start earlier, sees_now start earlier, Writes-same (seen_after start earlier) place count)
-sees_now start (Cut size ∷ earlier) = (seen_after start earlier, sees_now start earlier, Cuts-take (seen_after start earlier) size)
+sees_now start (Write place octets ∷ earlier) =
+    (seen_after start earlier, sees_now start earlier, Writes-written (seen_after start earlier) place octets.items)
+sees_now start (FailedWrite place count ∷ earlier) =
+    (seen_after start earlier, sees_now start earlier, Writes-same (seen_after start earlier) place count)
+sees_now start (Cut size ∷ earlier) =
+    (seen_after start earlier, sees_now start earlier, Cuts-take (seen_after start earlier) size)
 sees_now start (Sync ∷ earlier) = refl
 sees_now start (Pass ∷ earlier) = sees_now start earlier
 
 -- a sync leaves no image that wasn't there
-pub seen_is_left : (start : List ℕ) (calls : List Call) (image : List ℕ) → image ≡ seen_after start calls → MayLeave start calls image
+pub seen_is_left : (start : List ℕ) (calls : List Call) (image : List ℕ) → image ≡ seen_after start calls
+    → MayLeave start calls image
 seen_is_left start calls image is = subst (MayLeave start calls) (sym is) (sees_now start calls)
 
 -- this moment is one of those since an earlier one
-pub counts_now : (start : List ℕ) (calls : List Call) (since : ℕ) (image : List ℕ) → since ≤ length calls → MayLeave start calls image → LeftSince start calls since image
+pub counts_now : (start : List ℕ) (calls : List Call) (since : ℕ) (image : List ℕ) → since ≤ length calls
+    → MayLeave start calls image → LeftSince start calls since image
 counts_now start [] since image by may = (by, may)
 counts_now start (call ∷ earlier) since image by may = (by, inl may)
 
-too_late : (start : List ℕ) (calls : List Call) (since : ℕ) (image : List ℕ) → length calls < since → LeftSince start calls since image → ⊥
+too_late : (start : List ℕ) (calls : List Call) (since : ℕ) (image : List ℕ) → length calls < since
+    → LeftSince start calls since image → ⊥
 too_late start [] since image late left = absurd (omega (arith, late, left.0))
 too_late start (call ∷ earlier) since image late left = absurd (omega (arith, late, left.0))
 
 -- since this moment there is no other
-pub only_now : (start : List ℕ) (calls : List Call) (image : List ℕ) → LeftSince start calls (length calls) image → MayLeave start calls image
+pub only_now : (start : List ℕ) (calls : List Call) (image : List ℕ) → LeftSince start calls (length calls) image
+    → MayLeave start calls image
 only_now start [] image left = left.1
 only_now start (call ∷ earlier) image left =
     elim (left.1) [ inl now ↦ now | inr past ↦ absurd (too_late start earlier (length (call ∷ earlier)) image (omega arith) past) ]
@@ -83,9 +94,11 @@ pub sees_image : (disk : MemoryDisk) → images_of disk (image_of disk)
 sees_image disk = subst (images_of disk) (sym disk.replayed) (sees_now (start_of disk) (calls_of disk))
 
 -- this moment is one of those since an earlier one
-pub counts_image : (disk : MemoryDisk) (since : ℕ) (image : List ℕ) → since ≤ moment_of disk → images_of disk image → images_since disk since image
+pub counts_image : (disk : MemoryDisk) (since : ℕ) (image : List ℕ) → since ≤ moment_of disk → images_of disk image
+    → images_since disk since image
 counts_image disk = counts_now (start_of disk) (calls_of disk)
 
 -- since this moment there is no other
-pub leaves_image : (disk : MemoryDisk) (image : List ℕ) → images_since disk (moment_of disk) image → images_of disk image
+pub leaves_image : (disk : MemoryDisk) (image : List ℕ) → images_since disk (moment_of disk) image
+    → images_of disk image
 leaves_image disk = only_now (start_of disk) (calls_of disk)

@@ -50,7 +50,8 @@ changed_below synced calls (suc at) = changed_below synced calls at + (if is_cha
 -- What a stop leaves at a changed place: 1 by pick 2, 255 by pick 3. By a pick p from 4 on, the first p - 4 of
 -- them stay as they are, and the others are as they were.
 abbrev pub changed_octet : ℕ → ℕ → ℕ → ℕ → ℕ
-changed_octet pick below is was = if pick == 2 then 1 else (if pick == 3 then 255 else (if nat_lt below (pick - 4) then is else was))
+changed_octet pick below is was =
+    if pick == 2 then 1 else (if pick == 3 then 255 else (if nat_lt below (pick - 4) then is else was))
 
 -- What it leaves at a place, of which so many changed ones lie below. Past the synced octets a place was 0, and past
 -- what a read gives it is as it was.
@@ -61,7 +62,8 @@ octet_at pick synced now at changed below =
     if changed then changed_octet pick below is was else is
 
 abbrev pub octet_left : ℕ → List ℕ → List ℕ → List Call → ℕ → ℕ
-octet_left pick synced now calls at = octet_at pick synced now at (is_changed synced calls at) (changed_below synced calls at)
+octet_left pick synced now calls at =
+    octet_at pick synced now at (is_changed synced calls at) (changed_below synced calls at)
 
 -- Pick 0 leaves what the disk held at the last good sync, and pick 1 what a read gives. A greater one leaves that
 -- but for the changed places, those past its end among them.

@@ -42,7 +42,8 @@ abbrev pub IsKnown : List ℕ → List ℕ → List ℕ → Type 0
 IsKnown first second word = (word ≡ []) ⊎ ((has_keyword first word ≡ true) ⊎ (has_keyword second word ≡ true))
 
 -- the row gives these values to its two keywords, and holds nothing else
-pub record Gives {V W : Type 0} (first second : List ℕ) (read_first : List ℕ → Option V) (read_second : List ℕ → Option W)
+pub record Gives {V W : Type 0} (first second : List ℕ) (read_first : List ℕ → Option V)
+    (read_second : List ℕ → Option W)
     (words : List (List ℕ)) (one : Option V) (two : Option W) : Type 0 where
   pub known : AllByRecursion (IsKnown first second) words
   pub first_is : IsGiven first read_first words one

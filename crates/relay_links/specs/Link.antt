@@ -18,8 +18,8 @@ use Rattle.relay_links.specs.declared.fault.LinkFault.{LinkFault}
 use Rattle.relay_links.specs.declared.fault.LinkFault.TheVariants.{Input, Output, NoMemory, Full, Device}
 use Rattle.relay_links.specs.Accepted.{Accepts, Rule}
 
--- where a link begins: what its reader still has and its writer holds, the client's address, the node's configuration, the
--- changes that the node keeps, the size of its spool, and its note
+-- where a link begins: what its reader still has and its writer holds, the client's address, the node's configuration,
+-- the changes that the node keeps, the size of its spool, and its note
 pub record Start : Type 0 where
   pub left : Option (List ℕ)
   pub held : Option (List ℕ)
@@ -129,8 +129,8 @@ module _ {D : Type 0} (honest : Type 0) (words : DiskWords D) (start : Start) (a
   Leaves Full said added records = HasFilled said added records
   Leaves Device said added records = HasHalted said added records
 
-  -- what was written is a beginning of the output of a dialogue, whose input is a beginning of what was read: all of it where
-  -- nothing more could be read
+  -- what was written is a beginning of the output of a dialogue, whose input is a beginning of what was read: all of it
+  -- where nothing more could be read
   pub record HasBegun (left held : Option (List ℕ)) (records : Kept D) (fault : LinkFault) : Type 0 where
     pub said : Said
     pub dialogue : IsDialogue (setup_of_config start.config) said

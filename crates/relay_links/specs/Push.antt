@@ -30,7 +30,8 @@ pub record PushStart : Type 0 where
   pub told : Told
 
 -- a link of this node's attempt begins, of which this is told; the node keeps these changes
-abbrev pub push_start_at : {D : Type 0} → Option (List ℕ) → Option (List ℕ) → Standing D → List Change → Told → PushStart
+abbrev pub push_start_at : {D : Type 0} → Option (List ℕ) → Option (List ℕ) → Standing D → List Change → Told
+    → PushStart
 push_start_at left held node changes told =
     record { left = left; held = held; host = node.config.host; changes = changes; told = told }
 
@@ -38,7 +39,8 @@ push_start_at left held node changes told =
 module _ {D : Type 0} (honest : Type 0) (words : DiskWords D) (start : PushStart) (at : ℕ) where
   -- The attempt of this number has read what was read but for these octets, which wait, and it wrote what was written
   -- and these octets behind that, which weren't; the node keeps the changes of before.
-  pub record IsAt (number : ℕ) (left held : Option (List ℕ)) (waiting unwritten : List ℕ) (node : Standing D) : Type 0 where
+  pub record IsAt (number : ℕ) (left held : Option (List ℕ)) (waiting unwritten : List ℕ) (node : Standing D)
+      : Type 0 where
     pub input : List ℕ
     pub written : List ℕ
     pub host : node.config.host ≡ start.host
@@ -49,7 +51,8 @@ module _ {D : Type 0} (honest : Type 0) (words : DiskWords D) (start : PushStart
 
   -- What was read and written is the attempt's course, told of a loss or not, with these verdicts or none yet: but for
   -- octets that were read and not used, and these octets, which weren't written any more.
-  pub record Goes (left held : Option (List ℕ)) (unwritten : List ℕ) (lost : Bool) (verdicts : Option (List Verdict)) : Type 0 where
+  pub record Goes (left held : Option (List ℕ)) (unwritten : List ℕ) (lost : Bool) (verdicts : Option (List Verdict))
+      : Type 0 where
     pub input : List ℕ
     pub unused : List ℕ
     pub written : List ℕ
@@ -93,8 +96,8 @@ module _ {D : Type 0} (honest : Type 0) (words : DiskWords D) (start : PushStart
     pub goes : Goes left held unwritten false None
     pub keeps : Keeps honest words records start.changes
 
-  -- the attempt is gone without an outcome, since there is no room for that of its course, or of its loss; the node keeps the
-  -- changes of before
+  -- the attempt is gone without an outcome, since there is no room for that of its course, or of its loss; the node
+  -- keeps the changes of before
   pub record HasFilled (left held : Option (List ℕ)) (records : Kept D) : Type 0 where
     pub unwritten : List ℕ
     pub lost : Bool
@@ -128,7 +131,8 @@ module _ {D : Type 0} (honest : Type 0) (words : DiskWords D) (start : PushStart
   abbrev pub TakesWay : ℕ → Option (List ℕ) → Option (List ℕ) → Standing D → Way → Type 0
   TakesWay number left held node way.On = IsAt number left held [] [] node
   TakesWay number left held node way.Ended = HasEnded left held [] node.records
-  TakesWay number left held node way.Unwritten = (unwritten : List ℕ) × (unwritten ≢ []) × HasEnded left held unwritten node.records
+  TakesWay number left held node way.Unwritten =
+      (unwritten : List ℕ) × (unwritten ≢ []) × HasEnded left held unwritten node.records
   TakesWay number left held node way.AtEnd = IsAtEnd left × IsAt number left held [] [] node
   TakesWay number left held node way.Broken =
       (waiting : List ℕ) × (unwritten : List ℕ) × IsAt number left held waiting unwritten node
@@ -138,8 +142,8 @@ module _ {D : Type 0} (honest : Type 0) (words : DiskWords D) (start : PushStart
   WaysTo number left held node (Ok step) = TakesWay number left held node step
   WaysTo number left held node (Err fault) = HasFailed left held node.records fault
 
--- What a link of an attempt did to the records, whatever list they keep: an outcome was added, with the report that is due of
--- it, and the spool has grown by the link of that record alone.
+-- What a link of an attempt did to the records, whatever list they keep: an outcome was added, with the report that is
+-- due of it, and the spool has grown by the link of that record alone.
 abbrev pub HasGrown : {D : Type 0} → DiskWords D → Standing D → Standing D → Type 0
 HasGrown words old new =
     (outcome : Outcome) × (number : ℕ) × GrowsBy words old.config.host outcome old.records new.records number
@@ -163,8 +167,8 @@ Moves words old new (Ok way.AtEnd) = new.records ≡ old.records
 Moves words old new (Ok way.Broken) = new.records ≡ old.records
 Moves words old new (Err fault) = LeavesRecords words old new fault
 
--- The attempt of a number is gone, unless it goes on, or its connection is lost of which the node wasn't told. Of a node that is
--- stopped nothing is said.
+-- The attempt of a number is gone, unless it goes on, or its connection is lost of which the node wasn't told. Of a
+-- node that is stopped nothing is said.
 abbrev pub IsGoneBy : {D : Type 0} → ℕ → Standing D → Result Way LinkFault → Type 0
 IsGoneBy number new (Ok way.On) = Unit {0}
 IsGoneBy number new (Ok way.Ended) = slot_at new.attempts number ≡ None

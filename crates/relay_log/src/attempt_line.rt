@@ -21,8 +21,8 @@ pub struct Attempt<'a> {
     pub noted: Option<Noted>,
 }
 
-/// Says of an attempt the message, the hop and how it has ended, what was said of each place, and what has put off those
-/// that wait.
+/// Says of an attempt the message, the hop and how it has ended, what was said of each place, and what has put off
+/// those that wait.
 pub(crate) fn attempt_text(alloc: Global, attempt: &Attempt<'_>) -> io::Result<Vec<u8>> {
     let mut text = Vec::new(alloc);
     write!(text, "relayd: message {} ", attempt.number)?;

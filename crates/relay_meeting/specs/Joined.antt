@@ -31,8 +31,8 @@ use Rattle.relay_meeting.specs.Script.{AreRcpts, AreTried, Tried, client_in, env
 abbrev pub child_envelope : Errand → List Tried → Envelope
 child_envelope errand tried = envelope_behind (opened_of errand.envelope) tried
 
--- what the server may offer of the errand: the text once, with that envelope; or nothing, where no recipient is accepted,
--- the text is too large, or it has come in a circle
+-- what the server may offer of the errand: the text once, with that envelope; or nothing, where no recipient is
+-- accepted, the text is too large, or it has come in a circle
 abbrev pub child_of : ℕ → Errand → List Tried → List Offered
 child_of limit errand tried =
     if nat_le 1 (length (child_envelope errand tried).recipients)
@@ -54,8 +54,8 @@ pub record AreJoined (setup : Setup) (errand : Errand) (said : Said) (input outp
   pub up : Begins said.input output
   pub down : Begins input said.output
 
--- what the two have said: turns of the script, of which the client has read a beginning of the replies, and no fault; and
--- the text was offered at most once
+-- what the two have said: turns of the script, of which the client has read a beginning of the replies, and no fault;
+-- and the text was offered at most once
 pub record HaveMet (setup : Setup) (errand : Errand) (tried : List Tried) (said : Said) (replies : List Reply)
     (rest : List ℕ) : Type 0 where
   pub turns : List Turn

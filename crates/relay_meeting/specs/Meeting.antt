@@ -1,5 +1,5 @@
--- Two that meet (RFC 5321, section 2.1): a client that writes a script of commands by the replies it reads, and a server
--- whose table says what comes of each.
+-- Two that meet (RFC 5321, section 2.1): a client that writes a script of commands by the replies it reads, and a
+-- server whose table says what comes of each.
 use Rattle.std.specs.Prelude.{◌≡◌, ◌⊎◌, ◌≤◌, ℕ, List, [], ◌∷◌, ◌++◌, length, map}
 use Rattle.relay_octets.specs.Beginning.{Begins}
 use Rattle.relay_lines.specs.Reply.{Reply}
@@ -24,7 +24,8 @@ abbrev pub state_behind : Course → State
 state_behind (Replies row next) = next
 state_behind (Offers client envelope content) = Command (Greeted client)
 
--- from this state each command is a unit of which this comes, in the state behind the one before, and the last one closes
+-- from this state each command is a unit of which this comes, in the state behind the one before, and the last one
+-- closes
 abbrev pub IsScript : Setup → State → List Step → Type 0
 IsScript setup old [] = old ≡ Closed
 IsScript setup old (step ∷ script) =
@@ -64,8 +65,9 @@ behind_turns (step ∷ script) (turn ∷ turns) = behind_turns script turns
 abbrev pub replies_by : List Turn → List Reply
 replies_by turns = map (λ turn. turn.reply) turns
 
--- A client that writes by the replies it has read: what was written stays written; behind so many replies as many commands
--- are written, or nothing more is; and on a greeting and replies as they may be it writes commands of the script.
+-- A client that writes by the replies it has read: what was written stays written; behind so many replies as many
+-- commands are written, or nothing more is; and on a greeting and replies as they may be it writes commands of the
+-- script.
 pub record Writes (host : List ℕ) (greeting : Reply) (commands : List Reply → List (List ℕ)) (script : List Step)
     : Type 0 where
   pub stays : (replies more : List Reply) → Begins (commands replies) (commands (replies ++ more))
@@ -79,8 +81,8 @@ pub record Meets (setup : Setup) (script : List Step) (turns : List Turn) (new :
   pub plays : Plays setup.host script turns
   pub goes_on : IsScript setup new (behind_turns script turns)
 
--- Of a client that writes a script and a server that has read a beginning of what the client wrote behind a beginning of
--- the server's replies, the turns are of the script.
+-- Of a client that writes a script and a server that has read a beginning of what the client wrote behind a beginning
+-- of the server's replies, the turns are of the script.
 abbrev pub Meeting : Type 0
 Meeting =
     (setup : Setup) (greeting : Reply) (commands : List Reply → List (List ℕ)) (script : List Step) (new : State)

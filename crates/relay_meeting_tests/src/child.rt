@@ -61,7 +61,8 @@ fn are_equal(alloc: Global, one: &Recipient, other: &Recipient) -> Result<bool, 
     Ok(one.as_slice() == other.as_slice())
 }
 
-/// Whether of the replies that these octets begin with those behind the first three are to all RCPTs, by the server's table.
+/// Whether of the replies that these octets begin with those behind the first three are to all RCPTs, by the server's
+/// table.
 pub fn are_rcpts(alloc: Global, row: Row, octets: &[u8]) -> Result<bool, AllocError> {
     let codes = codes_in(alloc, octets)?;
     for place in 0..usize::from(row.recipients) {

@@ -69,7 +69,8 @@ impl Drop for Ends<'_> {
 }
 
 impl<'a> Ends<'a> {
-    /// Two ends of which none has read anything. What they are to say is compared with what they say, where it is known.
+    /// Two ends of which none has read anything. What they are to say is compared with what they say, where it is
+    /// known.
     pub fn new(meeting: Meeting<'a>, said: Option<Said<'a>>) -> Result<Self, AllocError> {
         let alloc = meeting.alloc;
         let attempt = attempt_of(alloc, meeting.errand)?;
@@ -120,8 +121,8 @@ impl<'a> Ends<'a> {
     }
 
     /// Cuts this end off at each place where its pieces end: before it reads the next one, the other end reads all that
-    /// came, and then all must be as it is for ends of which this one reads nothing more. It answers how often this was so,
-    /// or that something else came.
+    /// came, and then all must be as it is for ends of which this one reads nothing more. It answers how often this was
+    /// so, or that something else came.
     pub fn count_cuts(&mut self, end: End, cutting: Cutting) -> Result<Option<usize>, AllocError> {
         let mut count = 0usize;
         for _ in 0..TURNS {
@@ -270,9 +271,9 @@ impl<'a> Ends<'a> {
         self.down.write(out.as_slice())
     }
 
-    /// Whether all is as it must be, of ends of which one may be cut off: what was said begins what ends that are not cut
-    /// off say, there is at most the one offer that may come, and the verdicts are the table's. Where no reply has ended
-    /// the attempt, all places may be tried again.
+    /// Whether all is as it must be, of ends of which one may be cut off: what was said begins what ends that are not
+    /// cut off say, there is at most the one offer that may come, and the verdicts are the table's. Where no reply has
+    /// ended the attempt, all places may be tried again.
     pub fn are_lawful(&self) -> Result<bool, AllocError> {
         let row = self.meeting.row;
         let are_said = self.up.is_wanted() && self.down.is_wanted();

@@ -20,9 +20,10 @@ use Rattle.relay_attempts.specs.Reply.{HasEnded, Makes, Told, told_more}
 use Rattle.relay_attempts.specs.Runs.{is_running}
 use Rattle.relay_node.specs.Node.{Standing}
 
--- This is told of the attempt of a number: by the list of changes its message was accepted with this envelope and stored text, and
--- its client has read and written this.
-pub record Tells (host : List ℕ) (changes : List Change) (attempts : List (Option Run)) (number : ℕ) (told : Told) : Type 0 where
+-- This is told of the attempt of a number: by the list of changes its message was accepted with this envelope and
+-- stored text, and its client has read and written this.
+pub record Tells (host : List ℕ) (changes : List Change) (attempts : List (Option Run)) (number : ℕ) (told : Told)
+    : Type 0 where
   pub run : Run
   pub at : slot_at attempts number ≡ Some run
   pub its_message : run.message ≡ told.message
@@ -53,9 +54,10 @@ begun_with number hop places message = record {
   output = [];
 }
 
--- by the list of changes: an attempt has begun for those places of a message that are due and go to this hop, under the least
--- free number, and none was running for message and hop
-pub record Begins (config : Config) (changes : List Change) (number : ℕ) (hop : List ℕ) (now : ℕ) (old new : List (Option Run))
+-- by the list of changes: an attempt has begun for those places of a message that are due and go to this hop, under the
+-- least free number, and none was running for message and hop
+pub record Begins (config : Config) (changes : List Change) (number : ℕ) (hop : List ℕ) (now : ℕ)
+    (old new : List (Option Run))
     (started : Started) : Type 0 where
   pub least : IsLeastFree old started.attempt
   pub free : is_running old number hop ≡ false
@@ -84,8 +86,8 @@ module _ {D : Type 0} (honest : Type 0) (words : DiskWords D) (host : List ℕ) 
   abbrev pub Replies : List ℕ → Standing D → Standing D → Replied → Type 0
   Replies piece old new replied = RepliesBy piece old new replied replied.change
 
--- Octets of a piece of this length were used: all, unless a change was made, and then the attempt is gone. The records are
--- the same, or have grown by that change, and no call of the device has failed.
+-- Octets of a piece of this length were used: all, unless a change was made, and then the attempt is gone. The records
+-- are the same, or have grown by that change, and no call of the device has failed.
 pub record UsesReply {D : Type 0} (words : DiskWords D) (now number len : ℕ) (old new : Standing D) (replied : Replied)
     : Type 0 where
   pub within : replied.used ≤ len

@@ -172,7 +172,8 @@ pub record UsesOctets {D : Type 0} (words : DiskWords D) (len : ℕ) (old new : 
   pub whole : received.change ≡ None → received.close ≡ false → received.used ≡ len
   pub failures : FailsNot words old.spool.disk new.spool.disk
 
--- whatever was said before, a session was heard: octets were used, mail was accepted or not, and something was said on it
+-- whatever was said before, a session was heard: octets were used, mail was accepted or not, and something was said on
+-- it
 pub record IsHeard {D : Type 0} (words : DiskWords D) (config : Config) (len : ℕ) (old new : Kept D)
     (session : Session) (received : Received) : Type 0 where
   pub used : UsesOctets words len old new received

@@ -1,4 +1,5 @@
--- An outcome in the list of changes: it is added with the report that is due of it, in one change (RFC 3461, section 5.2).
+-- An outcome in the list of changes: it is added with the report that is due of it, in one change (RFC 3461, section
+-- 5.2).
 use Rattle.std.specs.Prelude.{◌≡◌, ◌⊎◌, ◌↔◌, ℕ, ◌+◌, ◌<◌, ◌≤◌, ◌^◌, List, [], length, MatchOption}
 use Rattle.std.specs.List.{AllByRecursion}
 use Rattle.relay_disk.specs.Device.{DiskWords}
@@ -39,13 +40,15 @@ pub record IsReported (host : List ℕ) (queue : Queue) (outcome : Outcome) (cha
   pub fits : FitsQueue queue change
 
 -- what an outcome that was added, with the report that is due of it, did to the records, whatever list they keep
-pub record GrowsBy {D : Type 0} (words : DiskWords D) (host : List ℕ) (outcome : Outcome) (old new : Kept D) (number : ℕ)
+pub record GrowsBy {D : Type 0} (words : DiskWords D) (host : List ℕ) (outcome : Outcome) (old new : Kept D)
+    (number : ℕ)
     : Type 0 where
   pub report : List ℕ
   pub reported : ReportedFrom host old.queue (reported_as outcome report)
   pub grows : Grows words old (reported_as outcome report) number new
 
-module _ {D : Type 0} (honest : Type 0) (words : DiskWords D) (host : List ℕ) (changes : List Change) (outcome : Outcome)
+module _ {D : Type 0} (honest : Type 0) (words : DiskWords D) (host : List ℕ) (changes : List Change)
+    (outcome : Outcome)
     (used : ℕ) where
   -- the outcome was added with the report that is due of it, and is the change of this number
   pub record AddsOutcome (new : Kept D) (number : ℕ) : Type 0 where

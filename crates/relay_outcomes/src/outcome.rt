@@ -13,12 +13,13 @@ use relay_report::{Report, report_if_due};
 use relay_trace::LAST_SECOND;
 use std::alloc::{AllocError, Global};
 
-/// Adds an outcome of a queued message, with the report that is due of it by this host, in one change; what its report says
-/// doesn't count. The answer is its number, and `used` is how many octets of its piece the call had used. All growths come
-/// before the append.
+/// Adds an outcome of a queued message, with the report that is due of it by this host, in one change; what its report
+/// says doesn't count. The answer is its number, and `used` is how many octets of its piece the call had used. All
+/// growths come before the append.
 ///
-/// `NoMemory` leaves everything as it was, and so does `Full`, where changes have no numbers any more or the spool would pass
-/// 2^40 octets. At `Stopped` the device failed: a stop leaves the changes as they were or with this one, and it is noted.
+/// `NoMemory` leaves everything as it was, and so does `Full`, where changes have no numbers any more or the spool
+/// would pass 2^40 octets. At `Stopped` the device failed: a stop leaves the changes as they were or with this one, and
+/// it is noted.
 pub fn add_outcome<D: Disk>(
     alloc: Global,
     host: &[u8],

@@ -70,13 +70,15 @@ pub record IsGood {A : Type 0} (Reads : Result A ConfigFault → Type 0) : Type 
 pub data FirstFault (document : Members) (fault : ConfigFault) : Type 0 where
   at_host : ReadsHost document (Err fault) → FirstFault document fault
   at_listen : IsGood (ReadsHost document) → ReadsListen document (Err fault) → FirstFault document fault
-  at_spool : IsGood (ReadsHost document) → IsGood (ReadsListen document) → ReadsSpool document (Err fault) → FirstFault document fault
+  at_spool : IsGood (ReadsHost document) → IsGood (ReadsListen document) → ReadsSpool document (Err fault)
+      → FirstFault document fault
   at_max_content : IsGood (ReadsHost document) → IsGood (ReadsListen document) → IsGood (ReadsSpool document)
       → ReadsMaxContent document (Err fault) → FirstFault document fault
   at_spool_limit : IsGood (ReadsHost document) → IsGood (ReadsListen document) → IsGood (ReadsSpool document)
       → IsGood (ReadsMaxContent document) → ReadsSpoolLimit document (Err fault) → FirstFault document fault
   at_routes : IsGood (ReadsHost document) → IsGood (ReadsListen document) → IsGood (ReadsSpool document)
-      → IsGood (ReadsMaxContent document) → IsGood (ReadsSpoolLimit document) → ReadsRoutes document (Err fault) → FirstFault document fault
+      → IsGood (ReadsMaxContent document) → IsGood (ReadsSpoolLimit document) → ReadsRoutes document (Err fault)
+      → FirstFault document fault
 
 -- what a document says
 abbrev pub ReadsDocument : Members → Result Config ConfigFault → Type 0

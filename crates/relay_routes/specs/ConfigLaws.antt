@@ -6,4 +6,6 @@ use Rattle.relay_routes.specs.declared.fault.ConfigFault.{ConfigFault}
 
 -- a text says one configuration, or has one first fault, and not both
 abbrev pub OneReading : Type 0
-OneReading = (text : List ℕ) (one other : Result Config ConfigFault) → ReadsConfig text one → ReadsConfig text other → one ≡ other
+OneReading =
+    (text : List ℕ) (one other : Result Config ConfigFault) → ReadsConfig text one → ReadsConfig text other
+    → one ≡ other

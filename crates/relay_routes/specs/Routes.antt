@@ -42,8 +42,8 @@ hop_of table Null = None
 hop_of table (Postmaster word) = hop_for table.routes table.host
 hop_of table (Mailbox source_route local domain) = hop_for table.routes domain
 
--- the next hop of a path as it is stored: `<>` has none; else that of its domain, and where it has none that of the relay's
--- own name
+-- the next hop of a path as it is stored: `<>` has none; else that of its domain, and where it has none that of the
+-- relay's own name
 abbrev pub hop_at : RouteTable → List ℕ → Option Hop
 hop_at table path =
     if bytes_eq path (codes "<>") then None else hop_for table.routes (unwrap_or (domain_in path) table.host)

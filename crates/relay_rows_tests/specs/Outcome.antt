@@ -55,7 +55,8 @@ pub record IsDecision (row : List ℕ) (decision : Option Bool) : Type 0 where
   pub reverse : (text : List ℕ) → row ≡ codes "REVERSE " ++ text → Says decision (IsReversePath text)
   pub forward : (text : List ℕ) → row ≡ codes "FORWARD " ++ text → Says decision (IsForwardPath text)
   pub host : (text : List ℕ) → row ≡ codes "HOST " ++ text → Says decision (IsHostName text)
-  pub other : LacksWord (codes "REVERSE ") row → LacksWord (codes "FORWARD ") row → LacksWord (codes "HOST ") row → decision ≡ None
+  pub other : LacksWord (codes "REVERSE ") row → LacksWord (codes "FORWARD ") row → LacksWord (codes "HOST ") row
+      → decision ≡ None
 
 -- the outcome is the word of such an answer
 abbrev pub IsAnswer : List ℕ → List ℕ → Type 0

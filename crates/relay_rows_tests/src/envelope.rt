@@ -1,5 +1,5 @@
-//! What comes of an envelope's row: a text of MAIL or RCPT is read and written again, xtext is decoded, octets are encoded, and a text
-//! is said to be a path or a host's name, or not.
+//! What comes of an envelope's row: a text of MAIL or RCPT is read and written again, xtext is decoded, octets are
+//! encoded, and a text is said to be a path or a host's name, or not.
 ghost use Rattle.std.specs.Prelude.{◌≡◌, IfOk};
 ghost use Rattle.relay_envelope.specs.Xtext.{decoded as decoded_octets};
 ghost use Rattle.relay_rows_tests.specs.Outcome.{IsAnswer, IsDecision, IsMailOutcome, IsOutcome, IsRcptOutcome, decision_text, decoding_outcome, word_of};

@@ -105,8 +105,8 @@ fn main(rt: HostRuntime) -> Result<(), Fail> {
     hold(&rt, folder, &WRONG_DIALOGUES, configuration(alloc)?)
 }
 
-/// Holds the dialogues of these names at this host. The configuration is dropped here alone, and not at each exit of the
-/// caller.
+/// Holds the dialogues of these names at this host. The configuration is dropped here alone, and not at each exit of
+/// the caller.
 fn hold(rt: &HostRuntime, folder: &str, names: &[&str], config: Config) -> Result<(), Fail> {
     hold_each(rt, folder, names, &config)
 }

@@ -44,8 +44,8 @@ IsSameButNote old new = new ≡ record old { records = record old.records { note
 abbrev pub TellsDevice : {X Y : Type 0} → Result Pushed LinkFault → Result X Y → Type 0
 TellsDevice pushed result = IfErr pushed (λ fault. MatchResult result (λ _. fault ≢ Device) (λ _. fault ≡ Device))
 
--- Of an attempt that has begun: what was read and written is its course with these verdicts, at a loss or without one, and the
--- outcome with these, at this moment, is the one change more.
+-- Of an attempt that has begun: what was read and written is its course with these verdicts, at a loss or without one,
+-- and the outcome with these, at this moment, is the one change more.
 pub record Ends (host : List ℕ) (changes later : List Change) (told : Told) (at : ℕ) : Type 0 where
   pub verdicts : List Verdict
   pub lost : Bool
@@ -55,7 +55,8 @@ pub record Ends (host : List ℕ) (changes later : List Change) (told : Told) (a
   pub concludes : Concludes host changes later (outcome_at at told verdicts)
 
 -- What a link has done with an attempt of which this is told, of a node that kept these changes.
-module _ {D : Type 0} (honest : Type 0) (words : DiskWords D) (host : List ℕ) (changes : List Change) (told : Told) where
+module _ {D : Type 0} (honest : Type 0) (words : DiskWords D) (host : List ℕ) (changes : List Change)
+    (told : Told) where
   -- it has ended
   pub record HasEnded (records : Kept D) : Type 0 where
     pub later : List Change
@@ -80,8 +81,8 @@ module _ {D : Type 0} (honest : Type 0) (words : DiskWords D) (now : ℕ) where
     pub found : message_of old.records.queue.messages number ≡ Some message
     pub concludes : Concludes old.config.host changes later (unroutable old.config.routes number now message)
 
-  -- an attempt has begun for those places of the message that are due and go to the hop, and it has ended, or is gone without
-  -- an outcome
+  -- an attempt has begun for those places of the message that are due and go to the hop, and it has ended, or is gone
+  -- without an outcome
   pub record Tries (number : ℕ) (hop : List ℕ) (changes later : List Change) (old : Standing D) : Type 0 where
     pub begun : List (Option Run)
     pub started : Started

@@ -21,8 +21,8 @@ impl Unreached {
         }
     }
 
-    /// A connection to the next hop at this place, or what it is lost for. Where no descriptor or no memory is left for one,
-    /// that is the fault of a socket, and not of the next hop.
+    /// A connection to the next hop at this place, or what it is lost for. Where no descriptor or no memory is left for
+    /// one, that is the fault of a socket, and not of the next hop.
     pub(crate) fn connect<N: Net<Stream = TcpStream>>(
         &mut self,
         net: &N,

@@ -31,8 +31,8 @@ use std::rt::{Clock, Files};
 /// where the connection couldn't be made or was lost, or `NUMBER noroute`. A work that no memory or no room
 /// was left for has no line, and stays due. A next hop that couldn't be connected to, or was silent for too long, is
 /// not tried again: what else is due for it is lost at once. Where no descriptor is left for a connection, the
-/// push ends, and what is due stays due. The file of the spool is taken for this process alone. Where it `logs`, a line for
-/// each work, with what was said of its places, goes to `errors`.
+/// push ends, and what is due stays due. The file of the spool is taken for this process alone. Where it `logs`, a line
+/// for each work, with what was said of its places, goes to `errors`.
 pub fn push<R: Files<File = File> + Clock + Net<Stream = TcpStream>, W: Write, E: Write>(
     alloc: Global,
     rt: &R,
@@ -48,7 +48,8 @@ pub fn push<R: Files<File = File> + Clock + Net<Stream = TcpStream>, W: Write, E
     push_due(alloc, rt, &mut node, &mut lines, &mut log)
 }
 
-/// Does each work that is due at the clock's moment once, in order. The line of a work is flushed before the next begins.
+/// Does each work that is due at the clock's moment once, in order. The line of a work is flushed before the next
+/// begins.
 pub(crate) fn push_due<R: Clock + Net<Stream = TcpStream>, W: Write, E: Write>(
     alloc: Global,
     rt: &R,
@@ -134,8 +135,8 @@ fn give_up<W: Write, E: Write>(
     }
 }
 
-/// Tries a hop for a message, at a connection of its own. It is made before the attempt begins, so that nothing is recorded
-/// where none can be had.
+/// Tries a hop for a message, at a connection of its own. It is made before the attempt begins, so that nothing is
+/// recorded where none can be had.
 fn try_hop<R: Clock + Net<Stream = TcpStream>, W: Write, E: Write>(
     alloc: Global,
     rt: &R,

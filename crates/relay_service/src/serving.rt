@@ -26,9 +26,10 @@ const OCTET_LIMIT: u64 = u64::MAX;
 
 /// Serves so many connections one after another, each to its end, and behind each does the work that is
 /// due, once. What that work leads to waits for the next. The file of the spool is taken for this process
-/// alone, and a line for each work goes to `writer`; where it `logs`, a line for each thing that was done goes to `errors`. Faults are looked for in this order: the
-/// configuration file, its content, the spool, the listener. A connection that breaks ends alone. A client that
-/// can't be had counts as none; where 64 in a row can't, that is the fault of a socket.
+/// alone, and a line for each work goes to `writer`; where it `logs`, a line for each thing that was done goes to
+/// `errors`. Faults are looked for in this order: the configuration file, its content, the spool, the listener. A
+/// connection that breaks ends alone. A client that can't be had counts as none; where 64 in a row can't, that is the
+/// fault of a socket.
 pub fn serve<
     R: Files<File = File> + Clock + Net<Listener = TcpListener, Stream = TcpStream>,
     W: Write,

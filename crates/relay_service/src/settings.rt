@@ -46,7 +46,8 @@ pub(crate) fn spool_file_to_read<F: Files<File = File>>(
     }
 }
 
-/// The file of the spool, taken for this process alone. One that another process has taken is as one that can't be opened.
+/// The file of the spool, taken for this process alone. One that another process has taken is as one that can't be
+/// opened.
 fn locked_spool_file<F: Files<File = File>>(files: &F, config: &Config) -> Result<FileDisk, Fault> {
     let disk = spool_file(files, config)?;
     match disk.try_lock() {

@@ -43,8 +43,9 @@ pub(crate) fn listener<N: Net<Listener = TcpListener, Stream = TcpStream>>(
     }
 }
 
-/// The next client of a listener, and its place. A client that can't be had, since it went away or descriptors or memory are
-/// short, is missed: the next is waited for a little later. Where 64 in a row were missed, it is the fault of a socket.
+/// The next client of a listener, and its place. A client that can't be had, since it went away or descriptors or
+/// memory are short, is missed: the next is waited for a little later. Where 64 in a row were missed, it is the fault
+/// of a socket.
 pub(crate) fn next_client<C: Clock>(
     clock: &C,
     listener: &TcpListener,

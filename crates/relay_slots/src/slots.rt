@@ -8,8 +8,8 @@ use std::mem;
 /// How many slots there are, and so how many of what they hold are open at a time.
 pub const SLOT_COUNT: usize = 64;
 
-/// Slots, numbered from 0 to 63, of which each is free or holds a value. All are there from the start, so that none takes
-/// memory later.
+/// Slots, numbered from 0 to 63, of which each is free or holds a value. All are there from the start, so that none
+/// takes memory later.
 #[derive(Debug)]
 pub struct Slots<T> {
     slots: Vec<Option<T>>,

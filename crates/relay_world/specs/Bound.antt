@@ -1,5 +1,5 @@
--- What ties the values of two relays together: each node to its list of changes, each end of a link to what it has read and
--- written, and the ledger to the lists of changes.
+-- What ties the values of two relays together: each node to its list of changes, each end of a link to what it has read
+-- and written, and the ledger to the lists of changes.
 use Rattle.std.specs.Prelude.{◌≡◌, ◌⊎◌, ℕ, ◌+◌, ◌≤◌, Bool, true, false, List, [], ◌∷◌, ◌++◌, length, map, take, Option, Some, None, slice_get}
 use Rattle.std.specs.List.{AllByRecursion}
 use Rattle.relay_octets.specs.Beginning.{Begins}
@@ -47,7 +47,8 @@ pub record IsListOf (records : List (List ℕ)) (changes : List Change) : Type 0
 -- each outcome of the changes behind these has the report that is due of it, and none where none is due
 abbrev pub ReportsBehind : List ℕ → List Change → List Change → Type 0
 ReportsBehind host front [] = Unit {0}
-ReportsBehind host front (change ∷ changes) = Reported host front change × ReportsBehind host (front ++ change ∷ []) changes
+ReportsBehind host front (change ∷ changes) =
+    Reported host front change × ReportsBehind host (front ++ change ∷ []) changes
 
 -- the change that the next opening decides has this record
 abbrev pub IsUndecided : Option Undecided → Change → Type 0
@@ -85,7 +86,8 @@ SaysThere {D} host (Some session) peer said =
     (node : Standing D) × (host.holder ≡ Up node) × SaysAt host.config node.seats session peer said
 
 -- the change of this number accepts the offer, from this address
-pub record IsStoredAs (config : Config) (peer : List ℕ) (changes : List Change) (number : ℕ) (offer : Offered) : Type 0 where
+pub record IsStoredAs (config : Config) (peer : List ℕ) (changes : List Change) (number : ℕ) (offer : Offered)
+    : Type 0 where
   pub accept : Accept
   pub found : change_at changes number ≡ Some (change.Accept accept)
   pub at : ℕ
@@ -95,9 +97,11 @@ pub record IsStoredAs (config : Config) (peer : List ℕ) (changes : List Change
 abbrev pub IsStored : Config → List ℕ → List Change → ℕ × Offered → Type 0
 IsStored config peer changes one = IsStoredAs config peer changes one.0 one.1
 
--- The server end of the link of a number, at a node that keeps these changes: what it has read and written is a dialogue, and
--- where the link is whole all of it was written; the accepts on the link are the queued offers, in order, and each is stored.
-pub record ServesLink {D : Type 0} (host : Host D) (changes : List Change) (ledger : List Line) (number : ℕ) (link : Link)
+-- The server end of the link of a number, at a node that keeps these changes: what it has read and written is a
+-- dialogue, and where the link is whole all of it was written; the accepts on the link are the queued offers, in order,
+-- and each is stored.
+pub record ServesLink {D : Type 0} (host : Host D) (changes : List Change) (ledger : List Line) (number : ℕ)
+    (link : Link)
     (end : ServerEnd) : Type 0 where
   pub said : Said
   pub dialogue : IsDialogue (setup_of_config host.config) said
@@ -123,7 +127,8 @@ told_by attempt accept input output = record {
 }
 
 -- the change of this number is the attempt's outcome, of these verdicts
-pub record IsItsOutcome (attempt : Attempt) (verdicts : List Verdict) (changes : List Change) (number : ℕ) : Type 0 where
+pub record IsItsOutcome (attempt : Attempt) (verdicts : List Verdict) (changes : List Change) (number : ℕ)
+    : Type 0 where
   pub at : ℕ
   pub report : List ℕ
   pub found : change_at changes number
@@ -131,7 +136,8 @@ pub record IsItsOutcome (attempt : Attempt) (verdicts : List Verdict) (changes :
 
 -- what became of an attempt, which was told of a loss or not, and has these verdicts or none yet
 abbrev pub HasFate
-    : {D : Type 0} → Host D → List Change → Link → Attempt → Accept → List ℕ → Bool → Option (List Verdict) → Fate → Type 0
+    : {D : Type 0} → Host D → List Change → Link → Attempt → Accept → List ℕ → Bool → Option (List Verdict) → Fate
+    → Type 0
 HasFate {D} host changes link attempt accept output told verdicts (Running slot) =
     (told ≡ false) × (verdicts ≡ None)
     × ((node : Standing D) × (host.holder ≡ Up node)
@@ -142,9 +148,10 @@ HasFate host changes link attempt accept output told verdicts (Lost number) =
     (told ≡ true) × ((all : List Verdict) × (verdicts ≡ Some all) × IsItsOutcome attempt all changes number)
 HasFate host changes link attempt accept output told verdicts Dropped = (told ≡ false) × (verdicts ≡ None)
 
--- The client end of a link, by an attempt of a node that keeps these changes: what it has read and written is the course of the
--- message, as it was accepted, for 1 to 100 of its places; where the link is whole all of it was written.
-pub record PassesOn {D : Type 0} (host : Host D) (changes : List Change) (link : Link) (attempt : Attempt) : Type 0 where
+-- The client end of a link, by an attempt of a node that keeps these changes: what it has read and written is the
+-- course of the message, as it was accepted, for 1 to 100 of its places; where the link is whole all of it was written.
+pub record PassesOn {D : Type 0} (host : Host D) (changes : List Change) (link : Link) (attempt : Attempt)
+    : Type 0 where
   pub accept : Accept
   pub accepted : message_at changes attempt.message ≡ Some accept
   pub valid : IsAccept accept
@@ -167,7 +174,8 @@ pub record StandsAt {D : Type 0} (world : World D) (lists : List (List Change)) 
   pub list_at : slice_get lists node ≡ Some changes
 
 -- the link's server end is at a node that serves it
-pub record IsServed {D : Type 0} (world : World D) (lists : List (List Change)) (number : ℕ) (link : Link) (end : ServerEnd)
+pub record IsServed {D : Type 0} (world : World D) (lists : List (List Change)) (number : ℕ) (link : Link)
+    (end : ServerEnd)
     : Type 0 where
   pub host : Host D
   pub changes : List Change
@@ -185,11 +193,12 @@ pub record IsTried {D : Type 0} (world : World D) (lists : List (List Change)) (
   pub stands : StandsAt world lists attempt.node host changes
   pub passes : PassesOn host changes link attempt
 
--- An undecided change of a node may be in its spool: the records below say that with it all would be bound too, of that node and
--- of the one link that the change came from, which is broken.
-module _ {D : Type 0} (world : World D) (node : ℕ) (host : Host D) (changes : List Change) (change : Change) (note : Noted) where
-  -- It came from a client: the link's server end, at this node and without a session, is served with the change, once it has read
-  -- what the note tells.
+-- An undecided change of a node may be in its spool: the records below say that with it all would be bound too, of that
+-- node and of the one link that the change came from, which is broken.
+module _ {D : Type 0} (world : World D) (node : ℕ) (host : Host D) (changes : List Change) (change : Change)
+    (note : Noted) where
+  -- It came from a client: the link's server end, at this node and without a session, is served with the change, once
+  -- it has read what the note tells.
   pub record MayBeHeard (number : ℕ) : Type 0 where
     pub link : Link
     pub link_is : link_at world.links number ≡ Some link
@@ -202,8 +211,8 @@ module _ {D : Type 0} (world : World D) (node : ℕ) (host : Host D) (changes : 
     pub with_it : ServesLink host (changes ++ change ∷ []) (world.ledger ++ lines_by node note (FromClient number)) number
         (record link { up_read = link.up_read + note.used }) end
 
-  -- It is the outcome of an attempt of this node that was dropped, and with the change has this fate, once it has read what the
-  -- note tells.
+  -- It is the outcome of an attempt of this node that was dropped, and with the change has this fate, once it has read
+  -- what the note tells.
   pub record MayHaveEnded (number place : ℕ) (fate : Fate) : Type 0 where
     pub link : Link
     pub link_is : link_at world.links number ≡ Some link
@@ -225,7 +234,8 @@ module _ {D : Type 0} (world : World D) (node : ℕ) (host : Host D) (changes : 
   MayHaveCome (FromNoHop message) = Unit {0}
 
 -- a change that comes next at a node that keeps these has this record, and the ledger's lines of it are its steps
-pub record MayBeIn {D : Type 0} (world : World D) (node : ℕ) (host : Host D) (changes : List Change) (undecided : Undecided)
+pub record MayBeIn {D : Type 0} (world : World D) (node : ℕ) (host : Host D) (changes : List Change)
+    (undecided : Undecided)
     : Type 0 where
   pub change : Change
   pub octets : undecided.note.octets ≡ encode change
@@ -285,6 +295,8 @@ pub record IsBound {D : Type 0} (honest : Type 0) (words : DiskWords D) (world :
   pub lines : AllByRecursion (λ line. link_of line ≤ length world.links) world.ledger
   -- a session is one link's, and the number of an attempt one attempt's
   pub sessions : (one other : ℕ) (link others : Link) (node session : ℕ) → link_at world.links one ≡ Some link
-      → link_at world.links other ≡ Some others → HasSession link node session → HasSession others node session → one ≡ other
+      → link_at world.links other ≡ Some others → HasSession link node session → HasSession others node session
+      → one ≡ other
   pub slots : (one other : ℕ) (attempt others : Attempt) (node slot : ℕ) → slice_get world.attempts one ≡ Some attempt
-      → slice_get world.attempts other ≡ Some others → HasSlot attempt node slot → HasSlot others node slot → one ≡ other
+      → slice_get world.attempts other ≡ Some others → HasSlot attempt node slot → HasSlot others node slot
+      → one ≡ other

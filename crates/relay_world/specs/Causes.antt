@@ -1,4 +1,5 @@
--- Why a place has left (RFC 5321, section 4.2.5 and 6.1): by the course of an attempt for its message, or since it has no hop.
+-- Why a place has left (RFC 5321, section 4.2.5 and 6.1): by the course of an attempt for its message, or since it has
+-- no hop.
 use Rattle.std.specs.Prelude.{◌≡◌, ◌⊎◌, ℕ, Bool, List, None, Some, take}
 use Rattle.std.specs.List.{Contains}
 use Rattle.relay_disk.specs.Device.{DiskWords}
@@ -19,8 +20,8 @@ use Rattle.relay_world.specs.Children.{IsAttempt}
 use Rattle.relay_world.specs.Once.{IsTriedOnce}
 use Rattle.relay_world.specs.World.{Host, World}
 
--- An attempt of the node for this message has ended with the change of this number as its outcome, and the course of what it has
--- read, told of the loss of its link or not, gives the place this verdict.
+-- An attempt of the node for this message has ended with the change of this number as its outcome, and the course of
+-- what it has read, told of the loss of its link or not, gives the place this verdict.
 pub record GaveVerdict {D : Type 0} (world : World D) (lists : List (List Change)) (node : ℕ) (host : Host D)
     (changes : List Change) (at message place : ℕ) (verdict : Verdict) : Type 0 where
   pub attempt : Attempt
@@ -39,7 +40,8 @@ pub record GaveVerdict {D : Type 0} (world : World D) (lists : List (List Change
   pub gives : Contains (rulings_of attempt.places.items verdicts) (record { place = place; verdict = verdict })
 
 -- by the node's routes this place of the message has no hop, and that is the verdict
-pub record HadNoHop {D : Type 0} (host : Host D) (changes : List Change) (message place : ℕ) (verdict : Verdict) : Type 0 where
+pub record HadNoHop {D : Type 0} (host : Host D) (changes : List Change) (message place : ℕ) (verdict : Verdict)
+    : Type 0 where
   pub is : verdict ≡ NoRoute
   pub accept : Accept
   pub accepted : message_at changes message ≡ Some accept

@@ -1,4 +1,5 @@
--- What an attempt has passed on: the places whose RCPT its hop has accepted, and the messages that a node accepted on its link.
+-- What an attempt has passed on: the places whose RCPT its hop has accepted, and the messages that a node accepted on
+-- its link.
 use Rattle.std.specs.Prelude.{◌≡◌, ℕ, List, [], ◌∷◌, length, take, Some, slice_get}
 use Rattle.relay_lines.specs.Reply.{Reply}
 use Rattle.relay_lines.specs.ReplyReading.{CutsAllReplies}
@@ -44,12 +45,13 @@ pub record AreChildPlaces {D : Type 0} (host : Host D) (changes : List Change) (
   pub reads : HasAnswers host changes link attempt answered
   pub places_are : places ≡ accepted_places answered
 
--- the children of an attempt: the messages that a node accepted on its link, each by its number and how many places it has
+-- the children of an attempt: the messages that a node accepted on its link, each by its number and how many places it
+-- has
 abbrev pub children_of : {D : Type 0} → World D → Attempt → List (ℕ × ℕ)
 children_of world attempt = accepts_on attempt.link world.ledger
 
--- The change of a number accepts what a message is for these places (RFC 3461, section 5.2.1): its reverse path, RET and
--- ENVID, and the recipients of the places, in order, each with its path, NOTIFY and ORCPT.
+-- The change of a number accepts what a message is for these places (RFC 3461, section 5.2.1): its reverse path, RET
+-- and ENVID, and the recipients of the places, in order, each with its path, NOTIFY and ORCPT.
 pub record HoldsPlaces (parent : Accept) (places : List ℕ) (changes : List Change) (number : ℕ) : Type 0 where
   pub child : Accept
   pub found : change_at changes number ≡ Some (change.Accept child)
@@ -59,7 +61,8 @@ pub record HoldsPlaces (parent : Accept) (places : List ℕ) (changes : List Cha
   pub recipients : child.envelope.recipients ≡ recipients_at parent.envelope.recipients places
 
 -- The attempt has this one child, at a node that keeps these others, and it holds the child places.
-pub record HasOneChild {D : Type 0} (world : World D) (host : Host D) (changes : List Change) (link : Link) (attempt : Attempt)
+pub record HasOneChild {D : Type 0} (world : World D) (host : Host D) (changes : List Change) (link : Link)
+    (attempt : Attempt)
     (others : List Change) : Type 0 where
   pub number : ℕ
   pub places : List ℕ

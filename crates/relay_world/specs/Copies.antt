@@ -1,5 +1,5 @@
--- How many copies of a message reach a recipient by the attempts of a node: one, and one more for each reply that was lost
--- (RFC 5321, section 6.1; RFC 1047).
+-- How many copies of a message reach a recipient by the attempts of a node: one, and one more for each reply that was
+-- lost (RFC 5321, section 6.1; RFC 1047).
 use Rattle.std.specs.Prelude.{◌≡◌, ◌⊎◌, ◌≤◌, ◌==◌, ℕ, ◌+◌, Bool, true, false, ◌&&◌, List, [], ◌∷◌, length, Some}
 use Rattle.std.specs.List.{Contains, filter, list_any}
 use Rattle.relay_disk.specs.Device.{DiskWords}
@@ -61,7 +61,8 @@ abbrev pub lost_replies_of : ℕ → ℕ → ℕ → List Attempt → ℕ
 lost_replies_of node message place attempts = length (filter (is_lost_reply node message place) attempts)
 
 -- There is one number of copies, and it is at most one more than that of the lost replies.
-pub record HasFewCopies {D : Type 0} (world : World D) (lists : List (List Change)) (node message place : ℕ) : Type 0 where
+pub record HasFewCopies {D : Type 0} (world : World D) (lists : List (List Change)) (node message place : ℕ)
+    : Type 0 where
   pub count : ℕ
   pub copies : Copies world lists node message place count
   pub one : (other : ℕ) → Copies world lists node message place other → other ≡ count

@@ -9,7 +9,8 @@ use Rattle.relay_world.specs.World.{World}
 
 abbrev pub CrashingKeepsOnce : {D : Type 0} → Type 0 → DiskWords D → Type 0
 CrashingKeepsOnce {D} honest words =
-    (old new : World D) (lists : List (List Change)) (number count : ℕ) → IsBound honest words old lists → IsTriedOnce old lists
+    (old new : World D) (lists : List (List Change)) (number count : ℕ) → IsBound honest words old lists
+    → IsTriedOnce old lists
     → (CrashesHearing honest words old new number count → IsTriedOnce new lists)
     × (CrashesReading honest words old new number count → IsTriedOnce new lists)
     × (CrashesLosing honest words old new number → IsTriedOnce new lists)

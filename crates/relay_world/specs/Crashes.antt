@@ -1,5 +1,5 @@
--- a stop of a node in a call, as one event: the node is down, its sessions are gone, its attempts dropped, and all its links are
--- broken. The nodes at their other ends learn of it behind its opening, in events of their own.
+-- a stop of a node in a call, as one event: the node is down, its sessions are gone, its attempts dropped, and all its
+-- links are broken. The nodes at their other ends learn of it behind its opening, in events of their own.
 use Rattle.std.specs.Prelude.{◌≡◌, ℕ, nat_eq, Bool, true, false, List, length, map, Option, None, Some, if◌then◌else◌, slice_get}
 use Rattle.relay_disk.specs.Device.{DiskWords}
 use Rattle.relay_server.specs.Dialogue.{Said}
@@ -49,7 +49,8 @@ let_go node world = record world {
 }
 
 -- A node has gone down, with this disk and what its opening will decide, and has let go of its ends.
-pub record GoesDown {D : Type 0} (old new : World D) (node : ℕ) (host : Host D) (disk : D) (undecided : Option Undecided) : Type 0
+pub record GoesDown {D : Type 0} (old new : World D) (node : ℕ) (host : Host D) (disk : D)
+    (undecided : Option Undecided) : Type 0
   where
     pub hosts : List (Host D)
     pub put : IsPut old.hosts hosts node (record host { holder = Down disk undecided })
@@ -57,7 +58,8 @@ pub record GoesDown {D : Type 0} (old new : World D) (node : ℕ) (host : Host D
     pub new_is : new ≡ record (let_go node old) { hosts = hosts }
 
 -- A node crashed between two calls: nothing is undecided.
-pub record CrashesAtRest {D : Type 0} (honest : Type 0) (words : DiskWords D) (old new : World D) (node : ℕ) : Type 0 where
+pub record CrashesAtRest {D : Type 0} (honest : Type 0) (words : DiskWords D) (old new : World D) (node : ℕ)
+    : Type 0 where
   pub host : Host D
   pub host_at : slice_get old.hosts node ≡ Some host
   pub before : Standing D
@@ -67,7 +69,8 @@ pub record CrashesAtRest {D : Type 0} (honest : Type 0) (words : DiskWords D) (o
   pub down : GoesDown old new node host disk None
 
 -- A node crashed in a call that gave up the places of a message without a hop, while their outcome was added.
-pub record CrashesGivingUp {D : Type 0} (honest : Type 0) (words : DiskWords D) (old new : World D) (node message : ℕ) : Type 0
+pub record CrashesGivingUp {D : Type 0} (honest : Type 0) (words : DiskWords D) (old new : World D) (node message : ℕ)
+    : Type 0
   where
     pub host : Host D
     pub host_at : slice_get old.hosts node ≡ Some host
@@ -83,7 +86,8 @@ pub record CrashesGivingUp {D : Type 0} (honest : Type 0) (words : DiskWords D) 
     pub down : GoesDown old new node host disk (Some (record { note = noted; origin = FromNoHop message }))
 
 -- A node crashed in a call that heard octets of a link, while an accept was added.
-pub record CrashesHearing {D : Type 0} (honest : Type 0) (words : DiskWords D) (old new : World D) (number count : ℕ) : Type 0 where
+pub record CrashesHearing {D : Type 0} (honest : Type 0) (words : DiskWords D) (old new : World D) (number count : ℕ)
+    : Type 0 where
   pub of : SessionOf old number
   pub stopped : Kept D
   pub cuts : (changes : List Change) (said : Said) → Keeps honest words of.before.records changes
@@ -97,7 +101,8 @@ pub record CrashesHearing {D : Type 0} (honest : Type 0) (words : DiskWords D) (
   pub down : GoesDown old new of.end.node of.host disk (Some (record { note = noted; origin = FromClient number }))
 
 -- A node crashed in a call of an attempt, while its outcome was added.
-pub record CrashesEnding {D : Type 0} (honest : Type 0) (words : DiskWords D) (old new : World D) (number : ℕ) (of : AttemptOf old number)
+pub record CrashesEnding {D : Type 0} (honest : Type 0) (words : DiskWords D) (old new : World D) (number : ℕ)
+    (of : AttemptOf old number)
     (stopped : Kept D) (origin : Origin) : Type 0 where
   pub noted : Noted
   pub note_is : stopped.noted ≡ Some noted
@@ -106,7 +111,8 @@ pub record CrashesEnding {D : Type 0} (honest : Type 0) (words : DiskWords D) (o
   pub down : GoesDown old new of.attempt.node of.host disk (Some (record { note = noted; origin = origin }))
 
 -- so it did by replies that it read, of those that wait as many as were carried
-pub record CrashesReading {D : Type 0} (honest : Type 0) (words : DiskWords D) (old new : World D) (number count : ℕ) : Type 0 where
+pub record CrashesReading {D : Type 0} (honest : Type 0) (words : DiskWords D) (old new : World D) (number count : ℕ)
+    : Type 0 where
   pub of : AttemptOf old number
   pub stopped : Kept D
   pub cuts : (changes : List Change) (told : Told) → Keeps honest words of.before.records changes
@@ -115,7 +121,8 @@ pub record CrashesReading {D : Type 0} (honest : Type 0) (words : DiskWords D) (
   pub crash : CrashesEnding honest words old new number of stopped (FromReplies number of.place of.attempt.message)
 
 -- and so by the loss of its link
-pub record CrashesLosing {D : Type 0} (honest : Type 0) (words : DiskWords D) (old new : World D) (number : ℕ) : Type 0 where
+pub record CrashesLosing {D : Type 0} (honest : Type 0) (words : DiskWords D) (old new : World D) (number : ℕ)
+    : Type 0 where
   pub of : AttemptOf old number
   pub stopped : Kept D
   pub cuts : (changes : List Change) (told : Told) → Keeps honest words of.before.records changes

@@ -1,5 +1,5 @@
--- Custody of each recipient that a node acknowledged (RFC 5321, section 6.1): it is held, or the next hop has taken it, or it has
--- ended for a cause, and then the report that is due was queued in the same change.
+-- Custody of each recipient that a node acknowledged (RFC 5321, section 6.1): it is held, or the next hop has taken it,
+-- or it has ended for a cause, and then the report that is due was queued in the same change.
 use Rattle.std.specs.Prelude.{◌≡◌, ◌↔◌, ℕ, zero, suc, ◌+◌, ◌<◌, ◌≤◌, List, [], ◌∷◌, ◌++◌, length, take, Some, Option, slice_get}
 use Rattle.std.specs.List.{Contains}
 use Rattle.relay_octets.specs.Beginning.{Begins}
@@ -26,8 +26,8 @@ use Rattle.relay_world.specs.declared.link.ServerEnd.{ServerEnd}
 use Rattle.relay_world.specs.Bound.{IsBound, StandsAt, StandsForUnlessDecided}
 use Rattle.relay_world.specs.World.{Down, Host, Undecided, Up, World, link_at}
 
--- The node wrote on a link that a message of so many places is queued under this number: a dialogue with what it has read there,
--- all of whose output was written, ends with that answer.
+-- The node wrote on a link that a message of so many places is queued under this number: a dialogue with what it has
+-- read there, all of whose output was written, ends with that answer.
 pub record Acknowledged {D : Type 0} (world : World D) (node number places : ℕ) : Type 0 where
   pub on : ℕ
   pub link : Link
@@ -49,8 +49,8 @@ pub record Acknowledged {D : Type 0} (world : World D) (node number places : ℕ
   pub each : length answers ≡ length offers
   pub places_are : places ≡ length offer.envelope.recipients
 
--- why a place that was accepted at one moment leaves at another in this way by a verdict: it was taken; or it was refused, can't
--- be sent, has no hop, or was tried for too long
+-- why a place that was accepted at one moment leaves at another in this way by a verdict: it was taken; or it was
+-- refused, can't be sent, has no hop, or was tried for too long
 abbrev pub HasCause : ℕ → ℕ → Way → Verdict → Type 0
 HasCause accepted at ByTransfer (Taken dsn) = Unit {0}
 HasCause accepted at ByTransfer _ = ⊥
@@ -72,7 +72,8 @@ pub record LeftFor (host : List ℕ) (changes : List Change) (at number place : 
   pub reported : Reported host (changes_before at changes) (change.Outcome leaves.outcome)
 
 -- What a bound world keeps of the recipients of each node.
-pub record KeepsCustody {D : Type 0} (honest : Type 0) (words : DiskWords D) (world : World D) (node : ℕ) (host : Host D)
+pub record KeepsCustody {D : Type 0} (honest : Type 0) (words : DiskWords D) (world : World D) (node : ℕ)
+    (host : Host D)
     (changes : List Change) : Type 0 where
   -- each recipient that was acknowledged was added
   pub acknowledged : (number places place : ℕ) → Acknowledged world node number places → place < places

@@ -36,5 +36,6 @@ RunsGrow {D} honest words = (count : ℕ) (old new : World D) → Happen honest 
 -- And by it the lists of changes that bind the nodes have grown.
 abbrev pub GrownListsBegin : {D : Type 0} → Type 0 → DiskWords D → Type 0
 GrownListsBegin {D} honest words =
-    (old new : World D) (lists later : List (List Change)) → IsBound honest words old lists → IsBound honest words new later
+    (old new : World D) (lists later : List (List Change)) → IsBound honest words old lists
+    → IsBound honest words new later
     → HasGrown old new → ListsGrow lists later

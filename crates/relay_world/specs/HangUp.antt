@@ -1,4 +1,5 @@
--- What becomes of a node's ends of links when the node stops: its sessions are gone, and its attempts are dropped, all at once.
+-- What becomes of a node's ends of links when the node stops: its sessions are gone, and its attempts are dropped, all
+-- at once.
 use Rattle.std.specs.Prelude.{◌≡◌, ◌⊎◌, ◌≤◌, ℕ, nat_eq, true, List, length, map, Option, None, if◌then◌else◌, slice_get}
 use Rattle.std.specs.Option.{option_map}
 use Rattle.relay_disk.specs.Device.{DiskWords}
@@ -48,7 +49,8 @@ IsLetGo node was now =
     (now ≡ was) ⊎ (now ≡ option_map (hung_up_link node) was) ⊎ (now ≡ option_map broken_link was)
     ⊎ (now ≡ option_map (λ link. broken_link (hung_up_link node link)) was)
 
--- Sessions of a node are gone, attempts of it are dropped, and links are broken: all of them, or some. Nothing else changes.
+-- Sessions of a node are gone, attempts of it are dropped, and links are broken: all of them, or some. Nothing else
+-- changes.
 pub record HangsUp {D : Type 0} (old new : World D) (node : ℕ) : Type 0 where
   pub links : List Link
   pub each_link : (number : ℕ) → IsLetGo node (link_at old.links number) (link_at links number)
@@ -68,4 +70,5 @@ HangingUpKeeps {D} honest words =
 abbrev pub HangingUpEnds : Type 0 → Type 0
 HangingUpEnds D =
     (world : World D) (node : ℕ)
-    → HangsUp world (hung_up node world) node × NoSession (hung_up node world) node × NoAttempt (hung_up node world) node
+    → HangsUp world (hung_up node world) node × NoSession (hung_up node world) node
+    × NoAttempt (hung_up node world) node

@@ -16,7 +16,8 @@ use Rattle.relay_world.specs.Steps.{IsPut, without_note}
 use Rattle.relay_world.specs.World.{Host, Up, World}
 
 -- A node has recorded an outcome, and no attempt has ended with it. One of its verdicts isn't that a place has no hop.
-pub record Invents {D : Type 0} (honest : Type 0) (words : DiskWords D) (old new : World D) (node change : ℕ) : Type 0 where
+pub record Invents {D : Type 0} (honest : Type 0) (words : DiskWords D) (old new : World D) (node change : ℕ)
+    : Type 0 where
   pub host : Host D
   pub host_at : slice_get old.hosts node ≡ Some host
   pub before : Standing D

@@ -10,7 +10,8 @@ use Rattle.relay_world.specs.declared.line.Line.{Line}
 use Rattle.relay_world.specs.declared.line.Line.TheVariants.{Accepted, Left}
 use Rattle.relay_world.specs.World.{FromClient, FromLoss, FromNoHop, FromReplies, Origin, Undecided}
 
--- a message was accepted with so many places; or a place of a message left, and a report was queued under this number (0: none)
+-- a message was accepted with so many places; or a place of a message left, and a report was queued under this number
+-- (0: none)
 pub data Step : Type 0 where
   Accepts : (number places : ℕ) → Step
   Leaves : (way : Way) (number place report : ℕ) → Step

@@ -1,4 +1,5 @@
--- One attempt at a time: of the attempts of a node to pass a place of a message on, one at most goes on or has passed it on.
+-- One attempt at a time: of the attempts of a node to pass a place of a message on, one at most goes on or has passed
+-- it on.
 use Rattle.std.specs.Prelude.{◌≡◌, ◌⊎◌, ℕ, zero, suc, Bool, true, List, [], None, Some, slice_get}
 use Rattle.std.specs.List.{AllByRecursion, Contains}
 use Rattle.relay_disk.specs.Device.{DiskWords}
@@ -34,7 +35,8 @@ Claims changes place (Lost number) = ⊥
 Claims changes place Dropped = ⊥
 
 -- the attempt there among the attempts is for this place of the message of a node, and claims it
-pub record ClaimsAt {D : Type 0} (world : World D) (lists : List (List Change)) (at node message place : ℕ) : Type 0 where
+pub record ClaimsAt {D : Type 0} (world : World D) (lists : List (List Change)) (at node message place : ℕ)
+    : Type 0 where
   pub attempt : Attempt
   pub is_there : slice_get world.attempts at ≡ Some attempt
   pub its_node : attempt.node ≡ node
@@ -54,7 +56,8 @@ pub record GoesToHop {D : Type 0} (world : World D) (lists : List (List Change))
   pub each : AllByRecursion
       (λ place. goes_to host.config.routes accept.envelope.recipients attempt.hop place ≡ true) attempt.places.items
 
--- an attempt of the node has ended with the change of this number as its outcome: by replies, or by the loss of its link
+-- an attempt of the node has ended with the change of this number as its outcome: by replies, or by the loss of its
+-- link
 pub record IsOutcomeOf {D : Type 0} (world : World D) (node number : ℕ) : Type 0 where
   pub at : ℕ
   pub attempt : Attempt
@@ -106,7 +109,8 @@ pub data Happens {D : Type 0} (honest : Type 0) (words : DiskWords D) (old new :
   BreaksOff : (number : ℕ) → Breaks old new number → Happens honest words old new
   Starts : (number message : ℕ) (hop : List ℕ) → HasStarted honest words old new number message hop
       → Happens honest words old new
-  GivesUp : (node message change : ℕ) → HasGivenUp honest words old new node message change → Happens honest words old new
+  GivesUp : (node message change : ℕ) → HasGivenUp honest words old new node message change
+      → Happens honest words old new
   Stops : (node : ℕ) → HasStopped honest words old new node → Happens honest words old new
   StopsInHearing : (number count : ℕ) → StopsHearing honest words old new number count → Happens honest words old new
   StopsInReading : (number count : ℕ) → StopsReading honest words old new number count → Happens honest words old new
@@ -135,7 +139,8 @@ OnceIsKept {D} honest words =
 
 -- And each event keeps it so that attempts have the links that they are meant to have.
 abbrev pub HopLinksAreKept : {D : Type 0} → Type 0 → DiskWords D → Type 0
-HopLinksAreKept {D} honest words = (old new : World D) → AreLinkedToHops old → Happens honest words old new → AreLinkedToHops new
+HopLinksAreKept {D} honest words =
+    (old new : World D) → AreLinkedToHops old → Happens honest words old new → AreLinkedToHops new
 
 -- so many events, one behind another, have made the other world of the one
 abbrev pub Happen : {D : Type 0} → Type 0 → DiskWords D → ℕ → World D → World D → Type 0
@@ -143,8 +148,8 @@ Happen honest words zero old new = new ≡ old
 Happen {D} honest words (suc count) old new =
     (next : World D) × Happens honest words old next × Happen honest words count next new
 
--- Behind any number of events a bound world in which each place is tried once, and attempts have the links that they are meant
--- to have, is still all of that, where disks are honest.
+-- Behind any number of events a bound world in which each place is tried once, and attempts have the links that they
+-- are meant to have, is still all of that, where disks are honest.
 abbrev pub RunsKeepAll : {D : Type 0} → Type 0 → DiskWords D → Type 0
 RunsKeepAll {D} honest words =
     honest → (count : ℕ) (old new : World D) (lists : List (List Change)) → IsBound honest words old lists

@@ -43,9 +43,10 @@ pub record AcceptsPlace (answered : List Answered) (place : ℕ) : Type 0 where
   pub sent : Contains answered (answer_of awaited.Content content)
   pub taken : kind_of content.code ≡ Completion
 
--- The next hop has accepted the place: the attempt has read so; and where a node serves its link, that node has accepted one
--- message on it, which holds the child places, and the place is one of these.
-pub record IsAcceptedByHop {D : Type 0} (world : World D) (lists : List (List Change)) (host : Host D) (changes : List Change)
+-- The next hop has accepted the place: the attempt has read so; and where a node serves its link, that node has
+-- accepted one message on it, which holds the child places, and the place is one of these.
+pub record IsAcceptedByHop {D : Type 0} (world : World D) (lists : List (List Change)) (host : Host D)
+    (changes : List Change)
     (link : Link) (attempt : Attempt) (place : ℕ) : Type 0 where
   pub answered : List Answered
   pub reads : HasAnswers host changes link attempt answered
@@ -57,7 +58,8 @@ pub record IsAcceptedByHop {D : Type 0} (world : World D) (lists : List (List Ch
 abbrev pub TakenIsAccepted : {D : Type 0} → Type 0 → DiskWords D → Type 0
 TakenIsAccepted {D} honest words =
     (world : World D) (lists : List (List Change)) → IsBound honest words world lists
-    → (host : Host D) (changes : List Change) (link : Link) (attempt : Attempt) → IsAttempt world lists host changes link attempt
+    → (host : Host D) (changes : List Change) (link : Link) (attempt : Attempt)
+    → IsAttempt world lists host changes link attempt
     → (place : ℕ) (dsn : Bool) → RepliesGave changes attempt place (Taken dsn)
     → IsAcceptedByHop world lists host changes link attempt place
 
@@ -71,7 +73,8 @@ NoChildHolds world host changes link attempt place =
 abbrev pub OthersAreNotHeld : {D : Type 0} → Type 0 → DiskWords D → Type 0
 OthersAreNotHeld {D} honest words =
     (world : World D) (lists : List (List Change)) → IsBound honest words world lists
-    → (host : Host D) (changes : List Change) (link : Link) (attempt : Attempt) → IsAttempt world lists host changes link attempt
+    → (host : Host D) (changes : List Change) (link : Link) (attempt : Attempt)
+    → IsAttempt world lists host changes link attempt
     → (end : ServerEnd) → link.server ≡ Some end
     → (place : ℕ) (verdict : Verdict) → RepliesGave changes attempt place verdict → ((dsn : Bool) → verdict ≢ Taken dsn)
     → NoChildHolds world host changes link attempt place
@@ -80,6 +83,7 @@ OthersAreNotHeld {D} honest words =
 abbrev pub AtMostOneChild : {D : Type 0} → Type 0 → DiskWords D → Type 0
 AtMostOneChild {D} honest words =
     (world : World D) (lists : List (List Change)) → IsBound honest words world lists
-    → (host : Host D) (changes : List Change) (link : Link) (attempt : Attempt) → IsAttempt world lists host changes link attempt
+    → (host : Host D) (changes : List Change) (link : Link) (attempt : Attempt)
+    → IsAttempt world lists host changes link attempt
     → (end : ServerEnd) (others : List Change) → link.server ≡ Some end → slice_get lists end.node ≡ Some others
     → (children_of world attempt ≡ []) ⊎ HasOneChild world host changes link attempt others

@@ -22,18 +22,22 @@ use Rattle.relay_world.specs.Passing.{NoChildHolds, RepliesGave}
 use Rattle.relay_world.specs.Transfers.{HasPassedOn}
 use Rattle.relay_world.specs.World.{Host, World, link_at}
 
--- what has come of a recipient: its node holds it, its next hop has accepted it, or it has ended for a cause, with the report
--- that is due: by a verdict that an attempt for its message was given by what it has read, or since it has no hop
-pub data HasCome {D : Type 0} (world : World D) (lists : List (List Change)) (node : ℕ) (host : Host D) (changes : List Change)
+-- what has come of a recipient: its node holds it, its next hop has accepted it, or it has ended for a cause, with the
+-- report that is due: by a verdict that an attempt for its message was given by what it has read, or since it has no
+-- hop
+pub data HasCome {D : Type 0} (world : World D) (lists : List (List Change)) (node : ℕ) (host : Host D)
+    (changes : List Change)
     (number place : ℕ) : Type 0 where
   IsHeld : Held changes number place → HasCome world lists node host changes number place
-  IsPassedOn : HasPassedOn world lists node host changes number place → HasCome world lists node host changes number place
+  IsPassedOn : HasPassedOn world lists node host changes number place
+      → HasCome world lists node host changes number place
   HasEnded : (at : ℕ) (left : LeftFor host.config.host changes at number place ByEnd)
       → GaveVerdict world lists node host changes at number place left.leaves.verdict
       ⊎ HadNoHop host changes number place left.leaves.verdict → HasCome world lists node host changes number place
 
 -- The promise, of a world as it stands.
-pub record KeepsPromise {D : Type 0} (honest : Type 0) (words : DiskWords D) (world : World D) (lists : List (List Change))
+pub record KeepsPromise {D : Type 0} (honest : Type 0) (words : DiskWords D) (world : World D)
+    (lists : List (List Change))
     : Type 0 where
   -- each recipient that a node acknowledged is held, accepted by its next hop, or has ended
   pub recipients : (node : ℕ) (host : Host D) (changes : List Change) → StandsAt world lists node host changes
@@ -42,11 +46,12 @@ pub record KeepsPromise {D : Type 0} (honest : Type 0) (words : DiskWords D) (wo
   -- so has each place of each message that a node has, as a report
   pub added : (node : ℕ) (host : Host D) (changes : List Change) → StandsAt world lists node host changes
       → (number place : ℕ) → Added changes number place → HasCome world lists node host changes number place
-  -- each place that was transferred was accepted by its next hop: where that is a node of ours, by one message there, which has
-  -- the values of this one and holds the place
+  -- each place that was transferred was accepted by its next hop: where that is a node of ours, by one message there,
+  -- which has the values of this one and holds the place
   pub transferred : (node : ℕ) (host : Host D) (changes : List Change) → StandsAt world lists node host changes
       → (number place : ℕ) → Transferred changes number place → HasPassedOn world lists node host changes number place
-  -- a node has accepted no message from an attempt whose hop it is, or one, which has the values of the attempt's message
+  -- a node has accepted no message from an attempt whose hop it is, or one, which has the values of the attempt's
+  -- message
   pub children : (host : Host D) (changes : List Change) (link : Link) (attempt : Attempt)
       → IsAttempt world lists host changes link attempt
       → (next : ℕ) (at_next : Host D) (others : List Change) → StandsAt world lists next at_next others
@@ -56,7 +61,8 @@ pub record KeepsPromise {D : Type 0} (honest : Type 0) (words : DiskWords D) (wo
   pub refused : (host : Host D) (changes : List Change) (link : Link) (attempt : Attempt)
       → IsAttempt world lists host changes link attempt
       → (next : ℕ) (at_next : Host D) → slice_get world.hosts next ≡ Some at_next → at_next.config.host ≡ attempt.hop
-      → (place : ℕ) (verdict : Verdict) → RepliesGave changes attempt place verdict → ((dsn : Bool) → verdict ≢ Taken dsn)
+      → (place : ℕ) (verdict : Verdict) → RepliesGave changes attempt place verdict
+      → ((dsn : Bool) → verdict ≢ Taken dsn)
       → NoChildHolds world host changes link attempt place
   -- what a node holds stands in its queue, and in every image that a stop may leave
   pub custody : (node : ℕ) (host : Host D) (changes : List Change) → StandsAt world lists node host changes
@@ -70,11 +76,12 @@ pub record KeepsPromise {D : Type 0} (honest : Type 0) (words : DiskWords D) (wo
       → message_at changes attempt.message ≡ Some accept
       → PassesOnly world lists number link host attempt accept
 
--- Behind any number of events, on honest disks, relays that were bound, tried each place once, and had the links that they were
--- meant to have keep the promise, and have all that they had recorded, told, written and read.
+-- Behind any number of events, on honest disks, relays that were bound, tried each place once, and had the links that
+-- they were meant to have keep the promise, and have all that they had recorded, told, written and read.
 abbrev pub PromiseIsKept : {D : Type 0} → Type 0 → DiskWords D → Type 0
 PromiseIsKept {D} honest words =
     honest → (count : ℕ) (old new : World D) (lists : List (List Change)) → IsBound honest words old lists
     → IsTriedOnce old lists → AreLinkedToHops old → Happen honest words count old new
-    → (later : List (List Change)) × IsBound honest words new later × KeepsPromise honest words new later × HasGrown old new
+    → (later : List (List Change)) × IsBound honest words new later × KeepsPromise honest words new later
+    × HasGrown old new
     × ListsGrow lists later

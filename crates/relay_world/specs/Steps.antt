@@ -151,9 +151,10 @@ RecordsHeard old new node number host after (Some change) =
     (record host { holder = Up (without_note after); records = host.records ++ noted.octets ∷ [] })
     × (new.ledger ≡ old.ledger ++ Accepted node change noted.accepted number ∷ [])
 
--- A node has heard octets of a link, of those that wait as many as were carried, by one call, without a fault. What it writes is
--- on the link, unless that broke in the call.
-pub record HasHeard {D : Type 0} (honest : Type 0) (words : DiskWords D) (old new : World D) (number count : ℕ) : Type 0 where
+-- A node has heard octets of a link, of those that wait as many as were carried, by one call, without a fault. What it
+-- writes is on the link, unless that broke in the call.
+pub record HasHeard {D : Type 0} (honest : Type 0) (words : DiskWords D) (old new : World D) (number count : ℕ)
+    : Type 0 where
   pub of : SessionOf old number
   pub after : Standing D
   pub received : Received
@@ -169,7 +170,8 @@ pub record HasHeard {D : Type 0} (honest : Type 0) (words : DiskWords D) (old ne
   pub records : RecordsHeard old new of.end.node number of.host after received.change
   pub rest : (new.attempts ≡ old.attempts) × (new.clock ≡ old.clock) × (length new.hosts ≡ length old.hosts)
 
--- The session at a link's server end is gone: its node was told that the connection has ended, or had no memory or room for it.
+-- The session at a link's server end is gone: its node was told that the connection has ended, or had no memory or room
+-- for it.
 pub record EndsSession {D : Type 0} (old new : World D) (number : ℕ) : Type 0 where
   pub of : SessionOf old number
   pub after : Standing D
@@ -205,16 +207,18 @@ pub record RecordsOutcome {D : Type 0} (old new : World D) (number : ℕ) (of : 
   pub attempts : IsPut old.attempts new.attempts of.place (record of.attempt { fate = fate })
 
 -- what a node that read replies has recorded: nothing; or the outcome with which they ended the attempt
-abbrev pub RecordsRead : {D : Type 0} → (old new : World D) → (number : ℕ) → AttemptOf old number → Standing D → Option ℕ → Type 0
+abbrev pub RecordsRead : {D : Type 0} → (old new : World D) → (number : ℕ) → AttemptOf old number → Standing D
+    → Option ℕ → Type 0
 RecordsRead old new number of after None =
     IsPut old.hosts new.hosts of.attempt.node (record of.host { holder = Up after }) × (new.ledger ≡ old.ledger)
     × (new.attempts ≡ old.attempts)
 RecordsRead old new number of after (Some change) =
     RecordsOutcome old new number of after (RepliedBy change) change
 
--- An attempt has read replies on a link, of the octets that wait as many as were carried, by one call, without a fault. What it
--- writes is on the link, unless that broke in the call.
-pub record HasRead {D : Type 0} (honest : Type 0) (words : DiskWords D) (old new : World D) (number count : ℕ) : Type 0 where
+-- An attempt has read replies on a link, of the octets that wait as many as were carried, by one call, without a fault.
+-- What it writes is on the link, unless that broke in the call.
+pub record HasRead {D : Type 0} (honest : Type 0) (words : DiskWords D) (old new : World D) (number count : ℕ)
+    : Type 0 where
   pub of : AttemptOf old number
   pub after : Standing D
   pub replied : Replied
@@ -230,7 +234,8 @@ pub record HasRead {D : Type 0} (honest : Type 0) (words : DiskWords D) (old new
   pub rest : (new.clock ≡ old.clock) × (length new.hosts ≡ length old.hosts)
 
 -- A node was told that the connection of an attempt is lost, and has recorded its outcome, under this number.
-pub record HasLost {D : Type 0} (honest : Type 0) (words : DiskWords D) (old new : World D) (number change : ℕ) : Type 0 where
+pub record HasLost {D : Type 0} (honest : Type 0) (words : DiskWords D) (old new : World D) (number change : ℕ)
+    : Type 0 where
   pub of : AttemptOf old number
   pub after : Standing D
   pub loses : (changes : List Change) (told : Told) → Keeps honest words of.before.records changes
@@ -257,7 +262,8 @@ pub record DropsAttempt {D : Type 0} (old new : World D) (number : ℕ) : Type 0
   pub ledger : new.ledger ≡ old.ledger
   pub rest : (new.clock ≡ old.clock) × (length new.hosts ≡ length old.hosts)
 
--- A link is broken. The session and the attempt at its ends go on until their nodes are told, and neither hears nor reads more.
+-- A link is broken. The session and the attempt at its ends go on until their nodes are told, and neither hears nor
+-- reads more.
 pub record Breaks {D : Type 0} (old new : World D) (number : ℕ) : Type 0 where
   pub link : Link
   pub link_is : link_at old.links number ≡ Some link
@@ -281,7 +287,8 @@ started_attempt node message hop started link attempt =
     × (attempt.places.items ≡ started.places.items) × (attempt.link ≡ link) × (attempt.fate ≡ Running started.attempt)
 
 -- A node has begun an attempt for a message and a hop, on a link that leads there.
-pub record HasStarted {D : Type 0} (honest : Type 0) (words : DiskWords D) (old new : World D) (number message : ℕ) (hop : List ℕ)
+pub record HasStarted {D : Type 0} (honest : Type 0) (words : DiskWords D) (old new : World D) (number message : ℕ)
+    (hop : List ℕ)
     : Type 0 where
   pub attempt : Attempt
   pub host : Host D
@@ -305,7 +312,8 @@ pub record HasStarted {D : Type 0} (honest : Type 0) (words : DiskWords D) (old 
   pub rest : (new.ledger ≡ old.ledger) × (new.clock ≡ old.clock) × (length new.hosts ≡ length old.hosts)
 
 -- A node has given up the places of a message that have no hop, in the change of this number. No link is theirs.
-pub record HasGivenUp {D : Type 0} (honest : Type 0) (words : DiskWords D) (old new : World D) (node message change : ℕ) : Type 0
+pub record HasGivenUp {D : Type 0} (honest : Type 0) (words : DiskWords D) (old new : World D) (node message change : ℕ)
+    : Type 0
   where
     pub host : Host D
     pub host_at : slice_get old.hosts node ≡ Some host
@@ -377,7 +385,8 @@ BreakingKeeps {D} honest words =
 
 abbrev pub StartingKeeps : {D : Type 0} → Type 0 → DiskWords D → Type 0
 StartingKeeps {D} honest words =
-    (old new : World D) (lists : List (List Change)) (number message : ℕ) (hop : List ℕ) → IsBound honest words old lists
+    (old new : World D) (lists : List (List Change)) (number message : ℕ) (hop : List ℕ)
+    → IsBound honest words old lists
     → HasStarted honest words old new number message hop → IsBound honest words new lists
 
 abbrev pub GivingUpKeeps : {D : Type 0} → Type 0 → DiskWords D → Type 0

@@ -1,5 +1,5 @@
--- What a stop of a node, and its opening, do to two relays and their links. A node that stops in a call leaves one change
--- undecided, and its next opening tells by its next number whether the change is there.
+-- What a stop of a node, and its opening, do to two relays and their links. A node that stops in a call leaves one
+-- change undecided, and its next opening tells by its next number whether the change is there.
 use Rattle.std.specs.Prelude.{◌≡◌, ◌≢◌, ◌⊎◌, ℕ, ◌+◌, ◌≤◌, ◌<◌, true, List, [], ◌∷◌, ◌++◌, length, Option, Some, None, slice_get}
 use Rattle.relay_disk.specs.Device.{DiskWords, ImagesWithin}
 use Rattle.relay_server.specs.Dialogue.{Said}
@@ -23,8 +23,9 @@ use Rattle.relay_world.specs.Ledger.{lines_of}
 use Rattle.relay_world.specs.Steps.{AttemptOf, IsPut, IsPutAt, SessionOf, waiting_down, waiting_up}
 use Rattle.relay_world.specs.World.{Down, FromClient, FromLoss, FromNoHop, FromReplies, Host, Origin, Undecided, Up, World, link_at}
 
--- Nothing else of a node goes on when it stops: its sessions on other links and its other attempts end first, in events of their
--- own that leave the node as it was, and those links break. So an event is of one node and of one link at most.
+-- Nothing else of a node goes on when it stops: its sessions on other links and its other attempts end first, in events
+-- of their own that leave the node as it was, and those links break. So an event is of one node and of one link at
+-- most.
 
 -- but on the link of this number no session of the node goes on
 abbrev pub NoSessionBut : {D : Type 0} → World D → ℕ → ℕ → Type 0
@@ -45,7 +46,8 @@ NoSession world node =
 
 abbrev pub NoAttempt : {D : Type 0} → World D → ℕ → Type 0
 NoAttempt world node =
-    (place : ℕ) (attempt : Attempt) (slot : ℕ) → slice_get world.attempts place ≡ Some attempt → HasSlot attempt node slot → ⊥
+    (place : ℕ) (attempt : Attempt) (slot : ℕ) → slice_get world.attempts place ≡ Some attempt
+    → HasSlot attempt node slot → ⊥
 
 -- what a stop made of a node: its disk, of which a further stop leaves no image that the stop of this one doesn't leave
 abbrev pub IsLeftBy : {D : Type 0} → Type 0 → DiskWords D → Kept D → D → Type 0
@@ -70,7 +72,8 @@ pub record HasStopped {D : Type 0} (honest : Type 0) (words : DiskWords D) (old 
   pub hosts : IsPut old.hosts new.hosts node (record host { holder = Down disk None })
   pub rest : OnlyHostsChange old new
 
--- A stop waits for a node: its disk will fail at a later call. The node keeps the changes that it kept, and all else is the same.
+-- A stop waits for a node: its disk will fail at a later call. The node keeps the changes that it kept, and all else is
+-- the same.
 pub record HasArmed {D : Type 0} (honest : Type 0) (words : DiskWords D) (old new : World D) (node : ℕ) : Type 0 where
   pub host : Host D
   pub host_at : slice_get old.hosts node ≡ Some host
@@ -78,7 +81,8 @@ pub record HasArmed {D : Type 0} (honest : Type 0) (words : DiskWords D) (old ne
   pub up : host.holder ≡ Up before
   pub after : Standing D
   pub fused : IsFused before.records after.records
-  pub keeps : (changes : List Change) → Keeps honest words before.records changes → Keeps honest words after.records changes
+  pub keeps : (changes : List Change) → Keeps honest words before.records changes
+      → Keeps honest words after.records changes
   pub config : after.config ≡ before.config
   pub seats : after.seats ≡ before.seats
   pub attempts : after.attempts ≡ before.attempts
@@ -89,9 +93,10 @@ pub record HasArmed {D : Type 0} (honest : Type 0) (words : DiskWords D) (old ne
 abbrev pub cut_off_link : Link → ServerEnd → Link
 cut_off_link link end = record link { server = Some (record end { session = None }); broken = true }
 
--- A node has stopped in a call that heard octets of a link, of those that wait as many as were carried, while an accept was
--- added. What the call would have written isn't on the link, which is broken now, if it wasn't before.
-pub record StopsHearing {D : Type 0} (honest : Type 0) (words : DiskWords D) (old new : World D) (number count : ℕ) : Type 0 where
+-- A node has stopped in a call that heard octets of a link, of those that wait as many as were carried, while an accept
+-- was added. What the call would have written isn't on the link, which is broken now, if it wasn't before.
+pub record StopsHearing {D : Type 0} (honest : Type 0) (words : DiskWords D) (old new : World D) (number count : ℕ)
+    : Type 0 where
   pub of : SessionOf old number
   pub no_session : NoSessionBut old of.end.node number
   pub no_attempt : NoAttempt old of.end.node
@@ -110,7 +115,8 @@ pub record StopsHearing {D : Type 0} (honest : Type 0) (words : DiskWords D) (ol
   pub rest : (new.attempts ≡ old.attempts) × (new.ledger ≡ old.ledger) × (new.clock ≡ old.clock)
       × (length new.hosts ≡ length old.hosts)
 
--- The node of an attempt has stopped while the attempt's outcome was added: the attempt is dropped, and its link is broken.
+-- The node of an attempt has stopped while the attempt's outcome was added: the attempt is dropped, and its link is
+-- broken.
 pub record DropsAtStop {D : Type 0} (honest : Type 0) (words : DiskWords D) (old new : World D) (number : ℕ)
     (of : AttemptOf old number) (stopped : Kept D) (origin : Origin) : Type 0 where
   pub no_session : NoSession old of.attempt.node
@@ -125,9 +131,10 @@ pub record DropsAtStop {D : Type 0} (honest : Type 0) (words : DiskWords D) (old
   pub attempts : IsPut old.attempts new.attempts of.place (record of.attempt { fate = Dropped })
   pub rest : (new.ledger ≡ old.ledger) × (new.clock ≡ old.clock) × (length new.hosts ≡ length old.hosts)
 
--- A node has stopped in a call of an attempt that read replies on a link, of those that wait as many as were carried, while the
--- outcome to which they led was added.
-pub record StopsReading {D : Type 0} (honest : Type 0) (words : DiskWords D) (old new : World D) (number count : ℕ) : Type 0 where
+-- A node has stopped in a call of an attempt that read replies on a link, of those that wait as many as were carried,
+-- while the outcome to which they led was added.
+pub record StopsReading {D : Type 0} (honest : Type 0) (words : DiskWords D) (old new : World D) (number count : ℕ)
+    : Type 0 where
   pub of : AttemptOf old number
   pub stopped : Kept D
   pub cuts : (changes : List Change) (told : Told) → Keeps honest words of.before.records changes
@@ -136,7 +143,8 @@ pub record StopsReading {D : Type 0} (honest : Type 0) (words : DiskWords D) (ol
   pub drops : DropsAtStop honest words old new number of stopped (FromReplies number of.place of.attempt.message)
 
 -- A node has stopped in the call that told it of the loss of an attempt's link, while the outcome was added.
-pub record StopsLosing {D : Type 0} (honest : Type 0) (words : DiskWords D) (old new : World D) (number : ℕ) : Type 0 where
+pub record StopsLosing {D : Type 0} (honest : Type 0) (words : DiskWords D) (old new : World D) (number : ℕ)
+    : Type 0 where
   pub of : AttemptOf old number
   pub stopped : Kept D
   pub cuts : (changes : List Change) (told : Told) → Keeps honest words of.before.records changes
@@ -145,7 +153,8 @@ pub record StopsLosing {D : Type 0} (honest : Type 0) (words : DiskWords D) (old
   pub drops : DropsAtStop honest words old new number of stopped (FromLoss number of.place of.attempt.message)
 
 -- A node has stopped in a call that gave up the places of a message without a hop, while their outcome was added.
-pub record StopsGivingUp {D : Type 0} (honest : Type 0) (words : DiskWords D) (old new : World D) (node message : ℕ) : Type 0
+pub record StopsGivingUp {D : Type 0} (honest : Type 0) (words : DiskWords D) (old new : World D) (node message : ℕ)
+    : Type 0
   where
     pub host : Host D
     pub host_at : slice_get old.hosts node ≡ Some host
@@ -164,7 +173,8 @@ pub record StopsGivingUp {D : Type 0} (honest : Type 0) (words : DiskWords D) (o
         (record host { holder = Down disk (Some (record { note = noted; origin = FromNoHop message })) })
     pub rest : OnlyHostsChange old new
 
--- A node that is down stays so: its disk was refused, or stopped again, and leaves no image that it didn't leave before.
+-- A node that is down stays so: its disk was refused, or stopped again, and leaves no image that it didn't leave
+-- before.
 pub record StaysDown {D : Type 0} (honest : Type 0) (words : DiskWords D) (old new : World D) (node : ℕ) : Type 0 where
   pub host : Host D
   pub host_at : slice_get old.hosts node ≡ Some host
@@ -192,15 +202,18 @@ pub record FindsAccept {D : Type 0} (old new : World D) (number used : ℕ) : Ty
   pub links : IsPutAt old.links new.links number (record link { up_read = link.up_read + used })
   pub attempts : new.attempts ≡ old.attempts
 
--- A change is found, by what it came from. Its link stays broken, since nobody was handed what the call would have written.
+-- A change is found, by what it came from. Its link stays broken, since nobody was handed what the call would have
+-- written.
 abbrev pub Finds : {D : Type 0} → World D → World D → Noted → Origin → Type 0
 Finds old new note (FromClient number) = FindsAccept old new number note.used
-Finds old new note (FromReplies number place message) = FindsOutcome old new number place note.used (Replied note.number)
+Finds old new note (FromReplies number place message) =
+    FindsOutcome old new number place note.used (Replied note.number)
 Finds old new note (FromLoss number place message) = FindsOutcome old new number place note.used (Lost note.number)
 Finds old new note (FromNoHop message) = (new.links ≡ old.links) × (new.attempts ≡ old.attempts)
 
 -- the node has the undecided change
-pub record HasFound {D : Type 0} (old new : World D) (node : ℕ) (host : Host D) (after : Standing D) (undecided : Undecided)
+pub record HasFound {D : Type 0} (old new : World D) (node : ℕ) (host : Host D) (after : Standing D)
+    (undecided : Undecided)
     : Type 0 where
   pub hosts : IsPut old.hosts new.hosts node
       (record host { holder = Up after; records = host.records ++ undecided.note.octets ∷ [] })
@@ -222,7 +235,8 @@ Decides old new node host after (Some undecided) =
     ⊎ ((undecided.note.number < after.records.queue.next) × HasFound old new node host after undecided)
 
 -- A node that was down is opened.
-pub record HasReopened {D : Type 0} (honest : Type 0) (words : DiskWords D) (old new : World D) (node : ℕ) : Type 0 where
+pub record HasReopened {D : Type 0} (honest : Type 0) (words : DiskWords D) (old new : World D) (node : ℕ)
+    : Type 0 where
   pub host : Host D
   pub host_at : slice_get old.hosts node ≡ Some host
   pub disk : D
@@ -276,9 +290,11 @@ ReopeningKeeps {D} honest words =
     → HasReopened honest words old new node
     → (later : List (List Change)) × IsBound honest words new later
 
--- A node that is down can be opened: what refuses its disk is the device, want of memory, or its size, and never the octets.
+-- A node that is down can be opened: what refuses its disk is the device, want of memory, or its size, and never the
+-- octets.
 abbrev pub DownIsNotRefused : {D : Type 0} → Type 0 → DiskWords D → Type 0
 DownIsNotRefused {D} honest words =
     (world : World D) (lists : List (List Change)) (node : ℕ) (host : Host D) (changes : List Change) (disk : D)
-    (undecided : Option Undecided) (cause : Cause) → IsBound honest words world lists → StandsAt world lists node host changes
+    (undecided : Option Undecided) (cause : Cause) → IsBound honest words world lists
+    → StandsAt world lists node host changes
     → host.holder ≡ Down disk undecided → RefusesImage honest (words.seen disk) cause → IsNoFaultOfImage cause

@@ -1,4 +1,5 @@
--- What became of a place that has left a node's queue by a transfer (RFC 5321, section 6.1): its next hop has accepted it.
+-- What became of a place that has left a node's queue by a transfer (RFC 5321, section 6.1): its next hop has accepted
+-- it.
 use Rattle.std.specs.Prelude.{◌≡◌, ℕ, List}
 use Rattle.std.specs.List.{Contains}
 use Rattle.relay_disk.specs.Device.{DiskWords}
@@ -15,15 +16,16 @@ use Rattle.relay_world.specs.Passing.{AcceptsPlace}
 use Rattle.relay_world.specs.World.{Host, World}
 
 -- the attempt's link leads to this node, which has accepted one message on it, and that holds the place
-pub record IsHeldNext {D : Type 0} (world : World D) (host : Host D) (changes : List Change) (link : Link) (attempt : Attempt)
+pub record IsHeldNext {D : Type 0} (world : World D) (host : Host D) (changes : List Change) (link : Link)
+    (attempt : Attempt)
     (next : ℕ) (others : List Change) (place : ℕ) : Type 0 where
   pub leads : LeadsTo world attempt link next
   pub child : HasOneChild world host changes link attempt others
   pub holds : Contains child.places place
 
--- By an attempt of the node for this message, the next hop has accepted the place: the attempt, whose hop the node's table gives
--- for its places, has read 2yz to the RCPT of the place and to the content; and where a node of ours has the name of the hop, that
--- node holds the place by the one message that it has accepted of the attempt.
+-- By an attempt of the node for this message, the next hop has accepted the place: the attempt, whose hop the node's
+-- table gives for its places, has read 2yz to the RCPT of the place and to the content; and where a node of ours has
+-- the name of the hop, that node holds the place by the one message that it has accepted of the attempt.
 pub record HasPassedOn {D : Type 0} (world : World D) (lists : List (List Change)) (node : ℕ) (host : Host D)
     (changes : List Change) (message place : ℕ) : Type 0 where
   pub attempt : Attempt
@@ -42,6 +44,7 @@ pub record HasPassedOn {D : Type 0} (world : World D) (lists : List (List Change
 abbrev pub TransferredIsAccepted : {D : Type 0} → Type 0 → DiskWords D → Type 0
 TransferredIsAccepted {D} honest words =
     (world : World D) (lists : List (List Change)) → IsBound honest words world lists → IsTriedOnce world lists
-    → AreLinkedToHops world → (node : ℕ) (host : Host D) (changes : List Change) → StandsAt world lists node host changes
+    → AreLinkedToHops world → (node : ℕ) (host : Host D) (changes : List Change)
+    → StandsAt world lists node host changes
     → (message place : ℕ) → Transferred changes message place
     → HasPassedOn world lists node host changes message place

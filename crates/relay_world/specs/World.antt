@@ -1,5 +1,5 @@
--- Two relays and the links between them, as they stand: what each node keeps, what each end of a link has written and read, the
--- attempts, and the ledger.
+-- Two relays and the links between them, as they stand: what each node keeps, what each end of a link has written and
+-- read, the attempts, and the ledger.
 use Rattle.std.specs.Prelude.{ℕ, suc, zero, List, Option, None, slice_get}
 use Rattle.relay_routes.specs.declared.config.Config.{Config}
 use Rattle.relay_records.specs.declared.noted.Noted.{Noted}
@@ -8,8 +8,8 @@ use Rattle.relay_world.specs.declared.attempt.Attempt.{Attempt}
 use Rattle.relay_world.specs.declared.line.Line.{Line}
 use Rattle.relay_world.specs.declared.link.Link.{Link}
 
--- What a change came from: octets of a client, heard on a link; replies that the attempt at a place among the attempts read on
--- its link, or the loss of that link, and the attempt's message; or the places of a message that had no hop.
+-- What a change came from: octets of a client, heard on a link; replies that the attempt at a place among the attempts
+-- read on its link, or the loss of that link, and the attempt's message; or the places of a message that had no hop.
 pub data Origin : Type 0 where
   FromClient : (link : ℕ) → Origin
   FromReplies : (link place message : ℕ) → Origin

@@ -8,12 +8,14 @@ ghost use Rattle.relay_world.specs.Crashes.{CrashingInHearingKeeps, CrashingInLo
 
 use relay_disk::Disk;
 
-/// Each recipient that a node acknowledged is held, or was taken by its next hop, or has ended for a cause with its report.
+/// Each recipient that a node acknowledged is held, or was taken by its next hop, or has ended for a cause with its
+/// report.
 pub fn custody_is_kept<D: Disk>()
     ensures { CustodyIsKept D.honest D.words }
 {}
 
-/// Of contents an attempt writes nothing but the stored text, and a further node stores it behind one new time stamp line.
+/// Of contents an attempt writes nothing but the stored text, and a further node stores it behind one new time stamp
+/// line.
 pub fn content_is_kept<D: Disk>()
     ensures { ContentIsKept D.honest D.words }
 {}
@@ -83,7 +85,8 @@ pub fn stopping_keeps<D: Disk>()
     ensures { StoppingKeeps D.honest D.words }
 {}
 
-/// A node that stops while it adds the accept of what it heard keeps a world bound: the accept is undecided until its next opening.
+/// A node that stops while it adds the accept of what it heard keeps a world bound: the accept is undecided until its
+/// next opening.
 pub fn stopping_hearing_keeps<D: Disk>()
     ensures { StoppingHearingKeeps D.honest D.words }
 {}
@@ -108,7 +111,8 @@ pub fn staying_down_keeps<D: Disk>()
     ensures { StayingDownKeeps D.honest D.words }
 {}
 
-/// A node that is opened again on an honest disk keeps a world bound: without the change that was undecided, or with it.
+/// A node that is opened again on an honest disk keeps a world bound: without the change that was undecided, or with
+/// it.
 pub fn reopening_keeps<D: Disk>()
     ensures { D.honest → ReopeningKeeps D.honest D.words }
 {}
@@ -128,7 +132,8 @@ pub fn hanging_up_ends<D: Disk>()
     ensures { HangingUpEnds D }
 {}
 
-/// a node that goes down in a call that heard octets keeps a world bound, while attempts of others still run on its links.
+/// a node that goes down in a call that heard octets keeps a world bound, while attempts of others still run on its
+/// links.
 pub fn crashing_in_hearing_keeps<D: Disk>()
     ensures { CrashingInHearingKeeps D.honest D.words }
 {}

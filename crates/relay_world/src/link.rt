@@ -12,8 +12,8 @@ pub struct ServerEnd {
     pub session: Option<usize>,
 }
 
-/// A link: what each end wrote, never dropped, and how many octets of it the other end has read. Once it is broken neither end
-/// writes or reads any more.
+/// A link: what each end wrote, never dropped, and how many octets of it the other end has read. Once it is broken
+/// neither end writes or reads any more.
 #[derive(Debug)]
 pub struct Link {
     /// The attempt at the client end, by its place among the attempts, from 0; none where the client is outside.

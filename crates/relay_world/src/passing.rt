@@ -12,8 +12,8 @@ ghost use Rattle.relay_world.specs.Transfers.{TransferredIsAccepted};
 
 use relay_disk::Disk;
 
-/// A place that is Taken by replies was accepted by its next hop: the attempt has read 2yz to its RCPT and to the content, and
-/// where a node serves the link, the attempt has one child, which holds the place.
+/// A place that is Taken by replies was accepted by its next hop: the attempt has read 2yz to its RCPT and to the
+/// content, and where a node serves the link, the attempt has one child, which holds the place.
 pub fn taken_is_accepted<D: Disk>()
     ensures { TakenIsAccepted D.honest D.words }
 {}
@@ -43,13 +43,14 @@ pub fn hop_links_at_first<D: Disk>()
     ensures { HopLinksAtFirst D }
 {}
 
-/// Whatever event comes, an attempt has the link that it is meant to have: to the node whose name is its hop, or to outside.
+/// Whatever event comes, an attempt has the link that it is meant to have: to the node whose name is its hop, or to
+/// outside.
 pub fn hop_links_are_kept<D: Disk>()
     ensures { HopLinksAreKept D.honest D.words }
 {}
 
-/// Behind any number of events relays are still bound, each place is tried once, and attempts have the links that they are meant
-/// to have.
+/// Behind any number of events relays are still bound, each place is tried once, and attempts have the links that they
+/// are meant to have.
 pub fn runs_keep_all<D: Disk>()
     ensures { RunsKeepAll D.honest D.words }
 {}
@@ -64,7 +65,8 @@ pub fn leaving_is_caused<D: Disk>()
     ensures { LeavingIsCaused D.honest D.words }
 {}
 
-/// A node that records an outcome of no attempt, by which a place has another fate than to have no hop, breaks what events keep.
+/// A node that records an outcome of no attempt, by which a place has another fate than to have no hop, breaks what
+/// events keep.
 pub fn inventing_breaks<D: Disk>()
     ensures { InventingBreaks D.honest D.words }
 {}
@@ -74,7 +76,8 @@ pub fn copies_are_few<D: Disk>()
     ensures { CopiesAreFew D.honest D.words }
 {}
 
-/// Behind any number of events the nodes have the records that they had, the ledger its lines, and links what was written and read.
+/// Behind any number of events the nodes have the records that they had, the ledger its lines, and links what was
+/// written and read.
 pub fn runs_grow<D: Disk>()
     ensures { RunsGrow D.honest D.words }
 {}
@@ -84,9 +87,10 @@ pub fn grown_lists_begin<D: Disk>()
     ensures { GrownListsBegin D.honest D.words }
 {}
 
-/// Behind any number of events each recipient that a node acknowledged, and each of a report, is held there, accepted by its next
-/// hop with the values that it has, or has ended for a cause with the report that is due; what a node's replies refused it doesn't
-/// hold; there is one copy at most, and one more for each lost reply; and nothing else was passed on.
+/// Behind any number of events each recipient that a node acknowledged, and each of a report, is held there, accepted
+/// by its next hop with the values that it has, or has ended for a cause with the report that is due; what a node's
+/// replies refused it doesn't hold; there is one copy at most, and one more for each lost reply; and nothing else was
+/// passed on.
 pub fn promise_is_kept<D: Disk>()
     ensures { PromiseIsKept D.honest D.words }
 {}

@@ -31,7 +31,8 @@ configured name = with_rule (new_app name) config_rule
 -- profile: `--rounds N`, from 1 to 1,000,000
 abbrev pub rounds_rule : Rule
 rounds_rule =
-    record (new_rule (codes "rounds")) { long = Some (codes "rounds"); action = Some Set; parser = Some (Unsigned 1 1000000) }
+    record (new_rule (codes "rounds"))
+    { long = Some (codes "rounds"); action = Some Set; parser = Some (Unsigned 1 1000000) }
 
 -- profile: `--log`
 abbrev pub log_rule : Rule
@@ -110,8 +111,8 @@ asked (Push file log) = AskedPush file.now log
 abbrev pub words_of : Text → Text → List Text → List Text
 words_of name subcommand more = name ∷ subcommand ∷ codes "--config" ∷ codes "c" ∷ more
 
--- `serve` and `push` are taken with a file. A number of rounds is one from 1 to 1,000,000, and 1 where none is said; `push`
--- has none.
+-- `serve` and `push` are taken with a file. A number of rounds is one from 1 to 1,000,000, and 1 where none is said;
+-- `push` has none.
 abbrev pub ServesAndPushes : Text → Type 0
 ServesAndPushes name =
     (faults_in (words_of name (codes "serve") (codes "--rounds" ∷ codes "1000000" ∷ [])) ≡ [])

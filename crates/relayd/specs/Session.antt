@@ -24,8 +24,8 @@ session_rule = record {
   limit = session_limit;
 }
 
--- The offers were answered so: the k-th that there was room for by the number k, and the others refused. An empty spool has 18
--- octets.
+-- The offers were answered so: the k-th that there was room for by the number k, and the others refused. An empty spool
+-- has 18 octets.
 pub record AreAnswered (said : Said) : Type 0 where
   pub added : List Change
   pub size : ℕ

@@ -10,7 +10,8 @@ use indexmap::IndexMap;
 use std::alloc::{AllocError, Global};
 
 impl Book {
-    /// The numbers of the messages of which a question holds, in order, by one walk over them. It fails where memory runs out.
+    /// The numbers of the messages of which a question holds, in order, by one walk over them. It fails where memory
+    /// runs out.
     pub fn numbers_where<Q: Question>(
         &self,
         alloc: Global,
