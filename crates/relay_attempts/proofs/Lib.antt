@@ -9,6 +9,7 @@ mod PlaceLemmas
 mod RunLemmas
 mod MessageLemmas
 mod StrandedLemmas
+mod AddedLemmas
 mod OutcomeLemmas
 mod OpenLemmas
 mod RulingLemmas

@@ -16,7 +16,7 @@ use Rattle.relay_book.specs.Record.{IsRuling}
 use Rattle.relay_records.specs.declared.fault.NodeFault.{NodeFault}
 use Rattle.relay_records.specs.declared.fault.NodeFault.TheVariants.{NoMemory, Stopped, Unknown, TooMany, NotDue, Busy, Open, Full}
 use Rattle.relay_records.specs.Records.{Kept}
-use Rattle.relay_outcomes.specs.Outcomes.{HasNoRoom, MayCome, RefusesOutcome, RulesOn}
+use Rattle.relay_attempts.specs.AddedOutcome.{HasNoRoom, MayCome, RefusesOutcome, RulesOn}
 use Rattle.relay_attempts.specs.declared.runs.Run.{Run}
 use Rattle.relay_attempts.specs.Attempts.{Serves, Standing}
 use Rattle.relay_attempts.specs.Hops.{goes_to, hop_of_place, is_any, is_stranded, stranded_of, stranded_places}

@@ -5,7 +5,7 @@ use Rattle.relay_book.specs.declared.change.Outcome.{Outcome}
 use Rattle.relay_records.specs.declared.fault.NodeFault.{NodeFault}
 use Rattle.relay_records.specs.declared.fault.NodeFault.TheVariants.{NoMemory, Stopped, Unknown, TooMany, NotDue, Busy, Open, Full}
 use Rattle.relay_records.specs.Records.{Kept}
-use Rattle.relay_outcomes.specs.Outcomes.{HasNoRoom, RefusesOutcome}
+use Rattle.relay_attempts.specs.AddedOutcome.{HasNoRoom, RefusesOutcome}
 use Rattle.relay_attempts.specs.declared.runs.Run.{Run}
 use Rattle.relay_attempts.specs.Attempts.{Standing}
 use Rattle.relay_attempts.specs.Reply.{IsGone, RefusesToHear}

@@ -11,7 +11,7 @@ use Rattle.relay_book.specs.declared.message.Message.{Message}
 use Rattle.relay_book.specs.declared.message.Place.{Place}
 use Rattle.relay_book.specs.Queue.{AllNoRoute, AreRulings, Queue, is_no_route, message_of}
 use Rattle.relay_book.specs.Record.{IsRuling, IsVerdict, MayBeHop}
-use Rattle.relay_outcomes.specs.Outcomes.{MayCome, RulesOn}
+use Rattle.relay_attempts.specs.AddedOutcome.{MayCome, RulesOn}
 use Rattle.relay_course.specs.Course.{IsCourse}
 use Rattle.relay_course.proofs.Theorems.{verdict_for_each_place, verdicts_are_of_a_hop, verdicts_may_be_stored}
 use Rattle.relay_attempts.specs.declared.runs.Run.{Run}

@@ -12,7 +12,7 @@ use Rattle.relay_book.specs.declared.message.Message.{Message}
 use Rattle.relay_book.specs.declared.message.Place.{Place}
 use Rattle.relay_book.specs.Book.{Rise}
 use Rattle.relay_book.specs.Queue.{AreRulings, Queue, accepted, holds_at, if_held, is_held, message_after, message_of, places_ruled, report_of, reported, ruled, step}
-use Rattle.relay_outcomes.specs.Outcomes.{RulesOn}
+use Rattle.relay_attempts.specs.AddedOutcome.{RulesOn}
 use Rattle.relay_attempts.specs.Hops.{hop_of_place, is_any, is_stranded, is_stranded_at, places_where, stranded_of, stranded_places, without}
 use Rattle.relay_attempts.proofs.GatherLemmas.{none_before}
 use Rattle.relay_attempts.proofs.MessageLemmas.{found_before, found_last, none_at_next, ruled_none_at_next, was_held}

@@ -12,7 +12,7 @@ use Rattle.relay_book.specs.Queue.{message_of}
 use Rattle.relay_records.specs.Records.{IsStopped, Kept}
 use Rattle.relay_records.specs.declared.fault.NodeFault.{NodeFault}
 use Rattle.relay_records.specs.declared.fault.NodeFault.TheVariants.{NoMemory, Stopped, Unknown, NotDue, Full}
-use Rattle.relay_outcomes.specs.Outcomes.{AddsOutcome, CutsOutcome, GrowsBy, HasNoRoom}
+use Rattle.relay_attempts.specs.AddedOutcome.{AddsOutcome, CutsOutcome, GrowsBy, HasNoRoom}
 use Rattle.relay_attempts.specs.Hops.{stranded_places}
 
 -- the places, each with its verdict

@@ -2,13 +2,13 @@
 ghost use Rattle.std.specs.Prelude.{◌≡◌, List, Err, IfErr, IfOk, IsTrue};
 ghost use Rattle.relay_attempts.specs.Attempts.{KnowsStranded};
 ghost use Rattle.relay_book.specs.declared.change.Change.{Change};
-ghost use Rattle.relay_outcomes.specs.Outcomes.{AddsOutcome, CutsOutcome, GrowsBy, MayCome, RefusesOutcome};
+ghost use Rattle.relay_attempts.specs.AddedOutcome.{AddsOutcome, CutsOutcome, GrowsBy, MayCome, RefusesOutcome};
 ghost use Rattle.relay_records.specs.Records.{Keeps};
 
 use crate::attempts::Attempts;
+use crate::outcome::add_outcome;
 use relay_book::Outcome;
 use relay_disk::Disk;
-use relay_outcomes::add_outcome;
 use relay_records::{NodeFault, Records};
 use relay_routes::Config;
 use std::alloc::Global;

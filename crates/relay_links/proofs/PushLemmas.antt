@@ -10,7 +10,7 @@ use Rattle.relay_book.specs.declared.change.Verdict.{Verdict}
 use Rattle.relay_records.specs.declared.fault.NodeFault.{NodeFault}
 use Rattle.relay_records.specs.declared.fault.NodeFault.TheVariants as node_fault
 use Rattle.relay_records.specs.Records.{IsStopped, Keeps, Kept}
-use Rattle.relay_outcomes.specs.Outcomes.{AddsOutcome, CutsOutcome, GrowsBy, HasNoRoom}
+use Rattle.relay_attempts.specs.AddedOutcome.{AddsOutcome, CutsOutcome, GrowsBy, HasNoRoom}
 use Rattle.relay_course.specs.Course.{IsCourse}
 use Rattle.relay_course.specs.VerdictTable.{all_later}
 use Rattle.relay_client.proofs.Theorems.{followed_is_course}

@@ -6,7 +6,7 @@ use Rattle.relay_book.specs.declared.change.Change.{Change}
 use Rattle.relay_book.specs.declared.change.Verdict.{Verdict}
 use Rattle.relay_book.specs.declared.change.Outcome.{Outcome}
 use Rattle.relay_records.specs.Records.{IsStopped, Keeps, Kept}
-use Rattle.relay_outcomes.specs.Outcomes.{AddsOutcome, CutsOutcome, GrowsBy, HasNoRoom}
+use Rattle.relay_attempts.specs.AddedOutcome.{AddsOutcome, CutsOutcome, GrowsBy, HasNoRoom}
 use Rattle.relay_course.specs.Course.{IsCourse}
 use Rattle.relay_course.specs.VerdictTable.{all_later}
 use Rattle.relay_attempts.specs.Reply.{Told, outcome_at, told_more}

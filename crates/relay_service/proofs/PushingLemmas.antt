@@ -11,7 +11,7 @@ use Rattle.relay_records.specs.declared.fault.NodeFault.{NodeFault}
 use Rattle.relay_records.specs.declared.fault.NodeFault.TheVariants as node_fault
 use Rattle.relay_records.specs.Records.{Keeps, Kept}
 use Rattle.relay_records.specs.declared.noted.Noted.{Noted}
-use Rattle.relay_outcomes.specs.Outcomes.{AddsOutcome}
+use Rattle.relay_attempts.specs.AddedOutcome.{AddsOutcome}
 use Rattle.relay_course.specs.VerdictTable.{all_later}
 use Rattle.relay_attempts.specs.declared.runs.Run.{Run}
 use Rattle.relay_attempts.specs.declared.start.Started.{Started}

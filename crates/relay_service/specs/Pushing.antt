@@ -10,7 +10,7 @@ use Rattle.relay_book.specs.declared.message.Message.{Message}
 use Rattle.relay_book.specs.Queue.{message_of}
 use Rattle.relay_records.specs.Records.{Keeps, Kept}
 use Rattle.relay_report.specs.Report.{Reported}
-use Rattle.relay_outcomes.specs.Outcomes.{reported_as}
+use Rattle.relay_attempts.specs.AddedOutcome.{reported_as}
 use Rattle.relay_course.specs.Course.{IsCourse}
 use Rattle.relay_attempts.specs.declared.start.Started.{Started}
 use Rattle.relay_attempts.specs.declared.runs.Run.{Run}

@@ -23,7 +23,7 @@ use Rattle.relay_records.specs.declared.noted.Noted.{Noted}
 use Rattle.relay_records.specs.Note.{IsNoted}
 use Rattle.relay_routes.specs.declared.config.Config.{Config}
 use Rattle.relay_course.specs.VerdictTable.{all_later}
-use Rattle.relay_outcomes.specs.Outcomes.{AddsOutcome, reported_as}
+use Rattle.relay_attempts.specs.AddedOutcome.{AddsOutcome, reported_as}
 use Rattle.relay_routes.specs.Routes.{RouteTable}
 use Rattle.relay_attempts.specs.Hops.{hop_of_place, is_stranded, stranded_places}
 use Rattle.relay_attempts.specs.Outcomes.{AddsUnroutable, rulings_of, unroutable, unrouted}

@@ -17,7 +17,7 @@ use Rattle.relay_book.proofs.Theorems.{one_more_stands}
 use Rattle.relay_records.specs.declared.noted.Noted.{Noted}
 use Rattle.relay_records.specs.Note.{IsNoted, accepted_by, is_text, queues_report}
 use Rattle.relay_records.specs.Records.{Halted, Keeps, Kept}
-use Rattle.relay_outcomes.specs.Outcomes.{reported_as}
+use Rattle.relay_attempts.specs.AddedOutcome.{reported_as}
 use Rattle.relay_node.specs.Node.{Standing}
 use Rattle.relay_world.specs.declared.attempt.Attempt.{Attempt}
 use Rattle.relay_world.specs.declared.attempt.Fate.TheVariants.{Running}

@@ -10,7 +10,7 @@ use Rattle.relay_book.specs.declared.change.Outcome.{Outcome}
 use Rattle.relay_book.proofs.Theorems.{message_stays}
 use Rattle.relay_routes.specs.declared.config.Config.{Config}
 use Rattle.relay_attempts.specs.Outcomes.{AddsUnroutable, unroutable}
-use Rattle.relay_outcomes.specs.Outcomes.{AddsOutcome, reported_as}
+use Rattle.relay_attempts.specs.AddedOutcome.{AddsOutcome, reported_as}
 use Rattle.relay_node.specs.Attempts.{Tells}
 use Rattle.relay_node.specs.Node.{SaysAt, Standing}
 use Rattle.relay_node.proofs.Theorems.{told_stays}

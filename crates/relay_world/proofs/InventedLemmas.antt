@@ -6,7 +6,7 @@ use Rattle.relay_disk.specs.Device.{DiskWords}
 use Rattle.relay_book.specs.declared.change.Change.{Change}
 use Rattle.relay_book.specs.declared.change.Verdict.{Verdict}
 use Rattle.relay_book.specs.Marks.{change_at}
-use Rattle.relay_outcomes.specs.Outcomes.{AddsOutcome, reported_as}
+use Rattle.relay_attempts.specs.AddedOutcome.{AddsOutcome, reported_as}
 use Rattle.relay_world.specs.declared.attempt.Fate.TheVariants.{Lost, Replied}
 use Rattle.relay_world.specs.declared.link.Link.{Link}
 use Rattle.relay_world.specs.Bound.{HasFate, HostKeeps, IsBound, IsItsOutcome, NodeKeeps, PassesOn, StandsAt}

@@ -11,7 +11,7 @@ use Rattle.relay_course.specs.VerdictTable.{all_later}
 use Rattle.relay_course.specs.Course.{IsCourse}
 use Rattle.relay_client.proofs.Theorems.{followed_is_course}
 use Rattle.relay_attempts.specs.Reply.{Told, outcome_at}
-use Rattle.relay_outcomes.specs.Outcomes.{AddsOutcome}
+use Rattle.relay_attempts.specs.AddedOutcome.{AddsOutcome}
 use Rattle.relay_node.specs.Attempts.{Tells}
 use Rattle.relay_world.specs.declared.attempt.Fate.TheVariants.{Lost, Dropped}
 use Rattle.relay_world.specs.declared.link.Link.{Link}

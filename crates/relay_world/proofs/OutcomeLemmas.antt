@@ -7,7 +7,7 @@ use Rattle.relay_book.specs.declared.change.Change.{Change}
 use Rattle.relay_book.specs.declared.change.Outcome.{Outcome}
 use Rattle.relay_book.specs.Marks.{change_at, message_at}
 use Rattle.relay_book.proofs.Theorems.{message_stays}
-use Rattle.relay_outcomes.specs.Outcomes.{AddsOutcome, reported_as}
+use Rattle.relay_attempts.specs.AddedOutcome.{AddsOutcome, reported_as}
 use Rattle.relay_node.specs.Node.{Standing}
 use Rattle.relay_node.proofs.Theorems.{told_stays}
 use Rattle.relay_world.specs.declared.attempt.Fate.{Fate}

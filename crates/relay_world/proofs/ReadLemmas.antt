@@ -11,7 +11,7 @@ use Rattle.relay_routes.specs.declared.config.Config.{Config}
 use Rattle.relay_course.specs.Course.{IsCourse}
 use Rattle.relay_client.proofs.Theorems.{followed_is_course}
 use Rattle.relay_attempts.specs.Reply.{HasEnded, Told, outcome_at, told_more}
-use Rattle.relay_outcomes.specs.Outcomes.{AddsOutcome}
+use Rattle.relay_attempts.specs.AddedOutcome.{AddsOutcome}
 use Rattle.relay_node.specs.Attempts.{ReadsOn, Replies, RepliesBy, Tells}
 use Rattle.relay_world.specs.declared.attempt.Fate.TheVariants.{Replied as RepliedBy}
 use Rattle.relay_world.specs.Bound.{HasFate, IsBound, PassesOn, link_of, told_by}

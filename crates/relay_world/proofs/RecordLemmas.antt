@@ -14,7 +14,7 @@ use Rattle.relay_book.specs.Queue.{Fitting}
 use Rattle.relay_book.specs.Record.{encode}
 use Rattle.relay_records.specs.declared.noted.Noted.{Noted}
 use Rattle.relay_records.specs.Note.{IsNoted, is_text}
-use Rattle.relay_outcomes.specs.Outcomes.{AddsOutcome, reported_as}
+use Rattle.relay_attempts.specs.AddedOutcome.{AddsOutcome, reported_as}
 use Rattle.relay_node.specs.Node.{Standing}
 use Rattle.relay_world.specs.declared.line.Line.{Line}
 use Rattle.relay_world.specs.Bound.{HostKeeps, IsBound, NodeKeeps, link_of}

@@ -8,7 +8,7 @@ use Rattle.relay_book.specs.declared.change.Change.{Change}
 use Rattle.relay_book.specs.declared.change.Outcome.{Outcome}
 use Rattle.relay_routes.specs.declared.config.Config.{Config}
 use Rattle.relay_attempts.specs.Outcomes.{CutsUnroutable, unroutable}
-use Rattle.relay_outcomes.specs.Outcomes.{CutsOutcome, reported_as}
+use Rattle.relay_attempts.specs.AddedOutcome.{CutsOutcome, reported_as}
 use Rattle.relay_world.specs.Bound.{HolderKeeps, HostKeeps, MayBeIn, NodeKeeps, StandsAt, link_of}
 use Rattle.relay_world.specs.Ledger.{accepts_on, steps_in}
 use Rattle.relay_world.specs.Stops.{StayingDownKeeps, StoppingGivingUpKeeps, StoppingKeeps}

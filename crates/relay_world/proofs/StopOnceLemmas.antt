@@ -11,7 +11,7 @@ use Rattle.relay_book.proofs.Theorems.{fold_knows}
 use Rattle.relay_routes.specs.declared.config.Config.{Config}
 use Rattle.relay_records.specs.Records.{Kept}
 use Rattle.relay_attempts.specs.Outcomes.{CutsUnroutable, unroutable}
-use Rattle.relay_outcomes.specs.Outcomes.{reported_as}
+use Rattle.relay_attempts.specs.AddedOutcome.{reported_as}
 use Rattle.relay_world.specs.declared.attempt.Fate.TheVariants.{Dropped}
 use Rattle.relay_world.specs.Bound.{HostKeeps, IsBound, NodeKeeps}
 use Rattle.relay_world.specs.Once.{GivesUpNoHops, HasNoHops, IsTriedOnce}

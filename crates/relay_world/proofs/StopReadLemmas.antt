@@ -20,7 +20,7 @@ use Rattle.relay_course.specs.Course.{IsCourse}
 use Rattle.relay_course.specs.VerdictTable.{all_later}
 use Rattle.relay_client.proofs.Theorems.{followed_is_course}
 use Rattle.relay_attempts.specs.Reply.{CutsLoss, CutsReply, Told, outcome_at}
-use Rattle.relay_outcomes.specs.Outcomes.{CutsOutcome, reported_as}
+use Rattle.relay_attempts.specs.AddedOutcome.{CutsOutcome, reported_as}
 use Rattle.relay_node.specs.Attempts.{Tells}
 use Rattle.relay_world.specs.declared.attempt.Attempt.{Attempt}
 use Rattle.relay_world.specs.declared.attempt.Fate.{Fate}

@@ -24,7 +24,7 @@ use Rattle.relay_course.specs.Course.{IsCourse}
 use Rattle.relay_course.specs.Laws.{AreWithin}
 use Rattle.relay_attempts.specs.Outcomes.{outcome_of, rulings_of}
 use Rattle.relay_attempts.specs.Reply.{Told}
-use Rattle.relay_outcomes.specs.Outcomes.{reported_as}
+use Rattle.relay_attempts.specs.AddedOutcome.{reported_as}
 use Rattle.relay_node.specs.Acceptance.{IsAcceptOf, acceptance_by}
 use Rattle.relay_node.specs.Attempts.{Tells}
 use Rattle.relay_node.specs.Node.{SaysAt, Standing}

@@ -8,7 +8,7 @@ use Rattle.relay_book.specs.declared.change.Verdict.{Verdict}
 use Rattle.relay_book.specs.declared.change.Verdict.TheVariants.{NoRoute}
 use Rattle.relay_records.specs.declared.noted.Noted.{Noted}
 use Rattle.relay_records.specs.Records.{Keeps}
-use Rattle.relay_outcomes.specs.Outcomes.{AddsOutcome}
+use Rattle.relay_attempts.specs.AddedOutcome.{AddsOutcome}
 use Rattle.relay_node.specs.Node.{Standing}
 use Rattle.relay_world.specs.Bound.{IsBound}
 use Rattle.relay_world.specs.Once.{IsTriedOnce}

@@ -1,5 +1,5 @@
 use Rattle.std.proofs.Common.{List, ℕ, subst, rules}
-use Rattle.relay_outcomes.specs.Outcomes.{RefusesOutcome}
+use Rattle.relay_attempts.specs.AddedOutcome.{RefusesOutcome}
 use Rattle.relay_attempts.proofs.StrandedLemmas.{known_behind, ruled_message}
 use Rattle.relay_attempts.proofs.attempts.Attempts.conclude.Goals as goal
 

@@ -1,7 +1,7 @@
 use Rattle.std.proofs.Common.{◌≡◌, Some, subst, true, rules}
 use Rattle.relay_book.specs.declared.change.Outcome.{Outcome}
 use Rattle.relay_book.specs.Queue.{message_of}
-use Rattle.relay_outcomes.specs.Outcomes.{GrowsBy}
+use Rattle.relay_attempts.specs.AddedOutcome.{GrowsBy}
 use Rattle.relay_attempts.specs.Hops.{is_any, stranded_places}
 use Rattle.relay_attempts.proofs.OutcomeLemmas.{given_up_serves, refused_to_give_up, unroutable_may_come}
 use Rattle.relay_attempts.proofs.attempts.Attempts.give_up_unroutable.Goals as goal

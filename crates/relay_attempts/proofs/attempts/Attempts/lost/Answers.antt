@@ -5,7 +5,7 @@ use Rattle.relay_slots.proofs.Theorems.{taken_is_none}
 use Rattle.relay_book.specs.declared.change.Outcome.{Outcome}
 use Rattle.relay_book.specs.declared.change.Verdict.{Verdict}
 use Rattle.relay_records.specs.declared.fault.NodeFault.TheVariants.{Full}
-use Rattle.relay_outcomes.specs.Outcomes.{AddsOutcome, CutsOutcome, GrowsBy, HasNoRoom}
+use Rattle.relay_attempts.specs.AddedOutcome.{AddsOutcome, CutsOutcome, GrowsBy, HasNoRoom}
 use Rattle.relay_course.proofs.Theorems.{verdict_for_each_place}
 use Rattle.relay_attempts.specs.Hops.{stranded_of}
 use Rattle.relay_attempts.specs.Reply.{IsItsCourse, outcome_at}

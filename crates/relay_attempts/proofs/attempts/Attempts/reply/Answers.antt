@@ -6,7 +6,7 @@ use Rattle.relay_envelope.specs.HostName.{IsHostName}
 use Rattle.relay_book.specs.Queue.{message_of}
 use Rattle.relay_book.specs.declared.change.Outcome.{Outcome}
 use Rattle.relay_records.specs.declared.fault.NodeFault.TheVariants.{Full, Stopped}
-use Rattle.relay_outcomes.specs.Outcomes.{AddsOutcome, CutsOutcome, GrowsBy, HasNoRoom}
+use Rattle.relay_attempts.specs.AddedOutcome.{AddsOutcome, CutsOutcome, GrowsBy, HasNoRoom}
 use Rattle.relay_course.proofs.Theorems.{verdict_for_each_place}
 use Rattle.relay_attempts.specs.Hops.{stranded_of}
 use Rattle.relay_attempts.specs.Reply.{IsItsCourse, told_more}

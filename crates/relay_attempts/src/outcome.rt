@@ -3,7 +3,7 @@ ghost use Rattle.std.specs.Prelude.{◌≡◌, ◌≤◌, ◌<◌, ◌^◌, List
 ghost use Rattle.relay_book.specs.declared.change.Change.{Change};
 ghost use Rattle.relay_envelope.specs.HostName.{IsHostName};
 ghost use Rattle.relay_records.specs.Records.{Keeps};
-ghost use Rattle.relay_outcomes.specs.Outcomes.{AddsOutcome, CutsOutcome, GrowsBy, IsReported, MayCome, RefusesOutcome, reported_as};
+ghost use Rattle.relay_attempts.specs.AddedOutcome.{AddsOutcome, CutsOutcome, GrowsBy, IsReported, MayCome, RefusesOutcome, reported_as};
 
 use relay_book::{Change, Outcome, encode_change};
 use relay_disk::Disk;
@@ -20,7 +20,7 @@ use std::alloc::{AllocError, Global};
 /// `NoMemory` leaves everything as it was, and so does `Full`, where changes have no numbers any more or the spool
 /// would pass 2^40 octets. At `Stopped` the device failed: a stop leaves the changes as they were or with this one, and
 /// it is noted.
-pub fn add_outcome<D: Disk>(
+pub(crate) fn add_outcome<D: Disk>(
     alloc: Global,
     host: &[u8],
     records: &mut Records<D>,

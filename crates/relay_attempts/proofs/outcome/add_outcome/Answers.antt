@@ -1,7 +1,7 @@
 -- What is left where the outcome isn't added.
 use Rattle.std.proofs.Common.{rules}
-use Rattle.relay_outcomes.proofs.OutcomeLemmas.{refused_outcome}
-use Rattle.relay_outcomes.proofs.outcome.add_outcome.Goals as goal
+use Rattle.relay_attempts.proofs.AddedLemmas.{refused_outcome}
+use Rattle.relay_attempts.proofs.outcome.add_outcome.Goals as goal
 
 pub returns-clause-refused : goal.returns-clause-refused
 returns-clause-refused g c =

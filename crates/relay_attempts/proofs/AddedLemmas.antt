@@ -16,7 +16,7 @@ use Rattle.relay_records.specs.Records.{HasList, Kept, RefusesToAdd}
 use Rattle.relay_report.specs.Fits.{MayBeTold}
 use Rattle.relay_report.specs.Report.{IsDueReport, IsReportedOf, ReportedFrom, told_by}
 use Rattle.relay_report.proofs.Theorems.{due_report_fits}
-use Rattle.relay_outcomes.specs.Outcomes.{HasNoRoom, NoNumber, TooLarge, IsReported, MayCome, RefusesOutcome, RulesOn, reported_as}
+use Rattle.relay_attempts.specs.AddedOutcome.{HasNoRoom, NoNumber, TooLarge, IsReported, MayCome, RefusesOutcome, RulesOn, reported_as}
 
 -- a report that tells of equal values
 pub due_as : (host : List ℕ) (number same_number : ℕ) (message : Message) (hop same_hop : List ℕ) (rulings same_rulings : List Ruling)

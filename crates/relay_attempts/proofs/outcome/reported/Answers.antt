@@ -3,9 +3,9 @@ use Rattle.std.proofs.Common.{◌≡◌, ◌≤◌, ℕ, Some, rules, sym, subst
 use Rattle.relay_trace.specs.declared.moment.TheConstants.{LAST_SECOND}
 use Rattle.relay_book.specs.declared.change.Change.{Change}
 use Rattle.relay_book.specs.Queue.{message_of}
-use Rattle.relay_outcomes.specs.Outcomes.{IsReported}
-use Rattle.relay_outcomes.proofs.OutcomeLemmas.{due_as, is_reported}
-use Rattle.relay_outcomes.proofs.outcome.reported.Goals as goal
+use Rattle.relay_attempts.specs.AddedOutcome.{IsReported}
+use Rattle.relay_attempts.proofs.AddedLemmas.{due_as, is_reported}
+use Rattle.relay_attempts.proofs.outcome.reported.Goals as goal
 
 pub returns : goal.returns
 returns g c =
