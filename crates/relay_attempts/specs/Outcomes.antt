@@ -19,7 +19,8 @@ use Rattle.relay_attempts.specs.Hops.{stranded_places}
 abbrev pub rulings_of : List ℕ → List Verdict → List Ruling
 rulings_of [] verdicts = []
 rulings_of (place ∷ places) [] = []
-rulings_of (place ∷ places) (verdict ∷ verdicts) = record { place = place; verdict = verdict } ∷ rulings_of places verdicts
+rulings_of (place ∷ places) (verdict ∷ verdicts) =
+    record { place = place; verdict = verdict } ∷ rulings_of places verdicts
 
 -- the places, each with the verdict that it has no hop
 abbrev pub unrouted : List ℕ → List Ruling

@@ -32,7 +32,8 @@ written_outside old place octets at within (inl before) =
 written_outside old place octets at within (inr behind) =
     let begin = length-take place old in
     let front = length-append (take place old) octets in
-    get_or-append_right (take place old ++ octets) (drop (place + length octets) old) (place + length octets) at 0 (omega (arith, begin, front)) behind
+    get_or-append_right (take place old ++ octets) (drop (place + length octets) old) (place + length octets) at 0
+    (omega (arith, begin, front)) behind
     ∙ get_or-drop (place + length octets) old (at - (place + length octets)) 0
     ∙ ap (λ n. get_or old n 0) (omega arith)
 
@@ -40,16 +41,22 @@ written_outside old place octets at within (inr behind) =
 pub Writes-written : (old : List ℕ) (place : ℕ) (octets : List ℕ)
     → Writes place (length octets) old (written old place octets)
 Writes-written old place octets =
-    record { stays = written_outside old place octets; no_shorter = (length-written old place octets).0; no_longer = (length-written old place octets).1 }
+    let len = length-written old place octets in
+    record { stays = written_outside old place octets; no_shorter = len.0; no_longer = len.1 }
 
 -- so is one that did nothing
 pub Writes-same : (old : List ℕ) (place count : ℕ) → Writes place count old old
-Writes-same old place count = record { stays = λ at within outside. refl; no_shorter = omega arith; no_longer = omega arith }
+Writes-same old place count =
+    record { stays = λ at within outside. refl; no_shorter = omega arith; no_longer = omega arith }
 
 pub Cuts-take : (old : List ℕ) (size : ℕ) → Cuts size old (take size old)
 Cuts-take old size =
     let begin = length-take size old in
-    record { stays = λ at within. get_or-take size old at 0 (omega (arith, begin)); no_shorter = omega (arith, begin); no_longer = omega (arith, begin) }
+    record {
+      stays = λ at within. get_or-take size old at 0 (omega (arith, begin));
+      no_shorter = omega (arith, begin);
+      no_longer = omega (arith, begin);
+    }
 
 pub Cuts-same : (old : List ℕ) (size : ℕ) → Cuts size old old
 Cuts-same old size = record { stays = λ at within. refl; no_shorter = omega arith; no_longer = omega arith }
@@ -87,7 +94,10 @@ pub only_now : (start : List ℕ) (calls : List Call) (image : List ℕ) → Lef
     → MayLeave start calls image
 only_now start [] image left = left.1
 only_now start (call ∷ earlier) image left =
-    elim (left.1) [ inl now ↦ now | inr past ↦ absurd (too_late start earlier (length (call ∷ earlier)) image (omega arith) past) ]
+    elim (left.1) [
+      | inl now ↦ now
+      | inr past ↦ absurd (too_late start earlier (length (call ∷ earlier)) image (omega arith) past)
+    ]
 
 -- what a read gives is one of the images
 pub sees_image : (disk : MemoryDisk) → images_of disk (image_of disk)

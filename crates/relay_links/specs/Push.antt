@@ -58,8 +58,8 @@ module _ {D : Type 0} (honest : Type 0) (words : DiskWords D) (start : PushStart
     pub written : List ℕ
     pub reads : Consumes start.left left (input ++ unused)
     pub writes : Appends start.held held written
-    pub course : IsCourse start.host start.told.envelope start.told.text start.told.places (start.told.input ++ input) lost
-        (start.told.output ++ (written ++ unwritten)) verdicts
+    pub course : IsCourse start.host start.told.envelope start.told.text start.told.places
+        (start.told.input ++ input) lost (start.told.output ++ (written ++ unwritten)) verdicts
 
   -- the outcome with these verdicts, and the report that is due of it, is the one change that was added
   pub record Concludes (verdicts : List Verdict) (records : Kept D) : Type 0 where

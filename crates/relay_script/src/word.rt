@@ -17,7 +17,8 @@ const DIGIT_LIMIT: usize = 18;
 /// What stands behind the keyword and a space that a text begins with.
 #[tactic(auto, using(crate::proofs::WordLemmas::keyword))]
 pub(crate) fn behind<'a>(keyword: &[u8], text: &'a [u8]) -> Option<&'a [u8]>
-    ensures { MatchOption result (IsNotBehind keyword.now text.now) (λ rest. StandsBehind keyword.now text.now rest.now) }
+    ensures { MatchOption result (IsNotBehind keyword.now text.now)
+        (λ rest. StandsBehind keyword.now text.now rest.now) }
 {
     let more = text.strip_prefix(keyword)?;
     more.strip_prefix(b" ")

@@ -208,7 +208,8 @@ module _ {D : Type 0} (world : World D) (node : ℕ) (host : Host D) (changes : 
     pub its_node : end.node ≡ node
     pub ended : end.session ≡ None
     pub within : link.up_read + note.used ≤ length link.up
-    pub with_it : ServesLink host (changes ++ change ∷ []) (world.ledger ++ lines_by node note (FromClient number)) number
+    pub with_it : ServesLink host (changes ++ change ∷ [])
+        (world.ledger ++ lines_by node note (FromClient number)) number
         (record link { up_read = link.up_read + note.used }) end
 
   -- It is the outcome of an attempt of this node that was dropped, and with the change has this fate, once it has read

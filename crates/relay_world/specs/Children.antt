@@ -36,7 +36,8 @@ pub record HasAnswers {D : Type 0} (host : Host D) (changes : List Change) (link
   pub rest : List ℕ
   pub read : CutsAllReplies (take link.down_read link.down) replies rest
   pub answered_are : answered
-      ≡ (progress (errand_of host.config.host accept.envelope accept.stored_text dot_text attempt.places.items) replies).answered
+      ≡ (progress (errand_of host.config.host accept.envelope accept.stored_text dot_text attempt.places.items)
+      replies).answered
 
 -- The child places of an attempt: those whose RCPT was answered 2yz, by the replies that it has read, in order.
 pub record AreChildPlaces {D : Type 0} (host : Host D) (changes : List Change) (link : Link) (attempt : Attempt)

@@ -22,7 +22,8 @@ pub record IsLinkedToHop {D : Type 0} (world : World D) (attempt : Attempt) : Ty
   pub its_link : link_at world.links attempt.link ≡ Some link
   pub to_node : (node : ℕ) (host : Host D) → slice_get world.hosts node ≡ Some host → host.config.host ≡ attempt.hop
       → LeadsTo world attempt link node
-  pub to_outside : ((node : ℕ) (host : Host D) → slice_get world.hosts node ≡ Some host → host.config.host ≢ attempt.hop)
+  pub to_outside
+      : ((node : ℕ) (host : Host D) → slice_get world.hosts node ≡ Some host → host.config.host ≢ attempt.hop)
       → link.server ≡ None
 
 -- so has each attempt

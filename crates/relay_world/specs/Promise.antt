@@ -70,8 +70,8 @@ pub record KeepsPromise {D : Type 0} (honest : Type 0) (words : DiskWords D) (wo
   -- there is one copy at most, and one more for each reply that was lost
   pub copies : (node message place : ℕ) → HasFewCopies world lists node message place
   -- of contents nothing is passed on but what came, behind a new time stamp line
-  pub content : (number place : ℕ) (link : Link) (attempt : Attempt) (host : Host D) (changes : List Change) (accept : Accept)
-      → link_at world.links number ≡ Some link → link.client ≡ Some place
+  pub content : (number place : ℕ) (link : Link) (attempt : Attempt) (host : Host D) (changes : List Change)
+      (accept : Accept) → link_at world.links number ≡ Some link → link.client ≡ Some place
       → slice_get world.attempts place ≡ Some attempt → StandsAt world lists attempt.node host changes
       → message_at changes attempt.message ≡ Some accept
       → PassesOnly world lists number link host attempt accept

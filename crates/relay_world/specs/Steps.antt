@@ -160,8 +160,8 @@ pub record HasHeard {D : Type 0} (honest : Type 0) (words : DiskWords D) (old ne
   pub received : Received
   pub receives : (changes : List Change) (said : Said) → Keeps honest words of.before.records changes
       → SaysAt of.before.config of.before.seats of.session of.end.peer said
-      → Receives honest words of.before.config changes of.end.peer old.clock of.session said (waiting_up count of.link) of.before after
-      received
+      → Receives honest words of.before.config changes of.end.peer old.clock of.session said
+      (waiting_up count of.link) of.before after received
   pub used : received.used ≤ length (waiting_up count of.link)
   pub others : OthersStay of.before.seats after.seats of.session
   pub config : after.config ≡ of.before.config
@@ -203,7 +203,8 @@ pub record RecordsOutcome {D : Type 0} (old new : World D) (number : ℕ) (of : 
   pub hosts : IsPut old.hosts new.hosts of.attempt.node
       (record of.host { holder = Up (without_note after); records = of.host.records ++ noted.octets ∷ [] })
   pub ledger : new.ledger
-      ≡ old.ledger ++ left_lines of.attempt.node of.attempt.message number (report_told change noted.report) noted.left.items
+      ≡ old.ledger
+      ++ left_lines of.attempt.node of.attempt.message number (report_told change noted.report) noted.left.items
   pub attempts : IsPut old.attempts new.attempts of.place (record of.attempt { fate = fate })
 
 -- what a node that read replies has recorded: nothing; or the outcome with which they ended the attempt
@@ -224,7 +225,8 @@ pub record HasRead {D : Type 0} (honest : Type 0) (words : DiskWords D) (old new
   pub replied : Replied
   pub replies : (changes : List Change) (told : Told) → Keeps honest words of.before.records changes
       → Tells of.before.config.host changes of.before.attempts of.slot told
-      → Replies honest words of.before.config.host old.clock changes of.slot told (waiting_down count of.link) of.before after replied
+      → Replies honest words of.before.config.host old.clock changes of.slot told (waiting_down count of.link)
+      of.before after replied
   pub used : replied.used ≤ length (waiting_down count of.link)
   pub others : OthersStay of.before.attempts after.attempts of.slot
   pub config : after.config ≡ of.before.config

@@ -103,8 +103,8 @@ pub record StopsHearing {D : Type 0} (honest : Type 0) (words : DiskWords D) (ol
   pub stopped : Kept D
   pub cuts : (changes : List Change) (said : Said) → Keeps honest words of.before.records changes
       → SaysAt of.before.config of.before.seats of.session of.end.peer said
-      → CutsTalk honest words of.before.config changes of.end.peer old.clock said (waiting_up count of.link) of.before.records
-      stopped
+      → CutsTalk honest words of.before.config changes of.end.peer old.clock said (waiting_up count of.link)
+      of.before.records stopped
   pub noted : Noted
   pub note_is : stopped.noted ≡ Some noted
   pub disk : D
@@ -164,7 +164,8 @@ pub record StopsGivingUp {D : Type 0} (honest : Type 0) (words : DiskWords D) (o
     pub no_attempt : NoAttempt old node
     pub stopped : Kept D
     pub cuts : (changes : List Change) → Keeps honest words before.records changes
-        → CutsUnroutable honest words before.config.host before.config.routes message old.clock changes before.records stopped
+        → CutsUnroutable honest words before.config.host before.config.routes message old.clock changes
+        before.records stopped
     pub noted : Noted
     pub note_is : stopped.noted ≡ Some noted
     pub disk : D
