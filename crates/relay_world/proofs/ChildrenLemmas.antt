@@ -81,7 +81,7 @@ module _ {D : Type 0} (host : Host D) (changes : List Change) (link : Link) (att
   abbrev pub its_answers : List Answered
   its_answers = (progress its_errand passes.course.runs.replies).answered
 
-  all_cut : CutsAllReplies (take link.down_read link.down) passes.course.runs.replies passes.course.runs.rest
+  pub all_cut : CutsAllReplies (take link.down_read link.down) passes.course.runs.replies passes.course.runs.rest
   all_cut = record {
     cut = passes.course.runs.cut;
     ends = all_read attempt.places.items passes.told passes.course.runs.rest

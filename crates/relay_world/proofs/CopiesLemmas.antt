@@ -5,6 +5,9 @@ use Rattle.std.specs.List.{Contains, filter, list_any}
 use Rattle.std.proofs.lemmas.Bool.{cases_eq, eq-eqb}
 use Rattle.std.proofs.lemmas.Option.{none-some, same_Some}
 use Rattle.relay_disk.specs.Device.{DiskWords}
+use Rattle.relay_lines.specs.Reply.{Reply}
+use Rattle.relay_lines.specs.ReplyReading.{CutsAllReplies}
+use Rattle.relay_lines.proofs.Theorems.{cut_is_one}
 use Rattle.relay_book.specs.declared.change.Change.{Change}
 use Rattle.relay_book.specs.declared.change.Verdict.{Verdict}
 use Rattle.relay_book.specs.declared.change.Verdict.TheVariants.{Taken, Refused, Later, CantSend, NoRoute}
@@ -19,12 +22,13 @@ use Rattle.relay_world.specs.declared.link.Link.{Link}
 use Rattle.relay_world.specs.declared.link.ServerEnd.{ServerEnd}
 use Rattle.relay_world.specs.Bound.{HasFate, IsBound, IsServed, PassesOn}
 use Rattle.relay_world.specs.Children.{AreChildPlaces, IsAttempt, children_of}
-use Rattle.relay_world.specs.Copies.{CopiesAreFew, CopiesBy, CopiesByAll, HasFewCopies, PassesPlace, is_lost, is_lost_reply}
+use Rattle.relay_world.specs.Copies.{CopiesAreFew, CopiesBy, CopiesByAll, HasFewCopies, IsDecidedBy, PassesPlace, is_lost, is_lost_reply}
 use Rattle.relay_world.specs.Once.{Claims, ClaimsAt, IsTriedOnce}
 use Rattle.relay_world.specs.Passing.{RepliesGave, Rules}
 use Rattle.relay_world.specs.World.{Host, World}
 use Rattle.relay_world.proofs.AmongLemmas.{found_in, in_cons, in_found, in_none, in_rest, ruled_at}
-use Rattle.relay_world.proofs.ChildrenLemmas.{at_most_one_child, child_place_tried, child_places, its_answers, one_row, passes_of}
+use Rattle.relay_world.proofs.ChildrenLemmas.{all_cut, at_most_one_child, child_place_tried, child_places, its_answers, one_row, passes_of}
+use Rattle.relay_world.proofs.ContentLemmas.{errand_by}
 use Rattle.relay_world.proofs.ClaimLemmas.{claims_running, known_at, known_attempt, there_too}
 use Rattle.relay_world.proofs.PassingLemmas.{others_are_not_held}
 
@@ -111,6 +115,36 @@ module _ {D : Type 0} (honest : Type 0) (words : DiskWords D) (world : World D) 
         (subst (λ h. AreChildPlaces h changes link attempt passing.places) its_host
         (subst (λ l. AreChildPlaces passing.host l link attempt passing.places) its_list
         (subst (λ l. AreChildPlaces passing.host passing.changes l attempt passing.places) its_link passing.are_its)))
+
+    -- by all replies that it has read
+    pub decided_by : (replies : List Reply) (rest : List ℕ) → attempt.node ≡ node → attempt.message ≡ message
+        → CutsAllReplies (take link.down_read link.down) replies rest
+        → IsDecidedBy world lists node message place attempt replies
+    decided_by replies rest its_node its_message cut =
+        let runs = passes.course.runs in
+        let same : runs.replies ≡ replies =
+        (cut_is_one (take link.down_read link.down) runs.rest rest runs.replies replies
+        (all_cut host changes link attempt passes) cut).0 in
+        subst (λ (l : List Reply). IsDecidedBy world lists node message place attempt l) same (record {
+          errand = errand_by host changes link attempt passes;
+          places_are = refl;
+          each = runs.each;
+          passes = (
+            (λ passing. subst (λ l. Contains l place) (row_is passing) passing.holds),
+            (λ holds. record {
+              its_node = its_node;
+              its_message = its_message;
+              host = host;
+              changes = changes;
+              stands = is.stands;
+              link = link;
+              its_link = is.its_link;
+              places = row;
+              are_its = child_places host changes link attempt passes;
+              holds = holds;
+            }),
+          );
+        })
 
     copies_here : (count : ℕ) × By attempt count
     copies_here = elim (cases_eq attempt.node node) [

@@ -58,3 +58,4 @@ mod CrashLemmas
 mod CrashEndLemmas
 mod CrashRunLemmas
 mod CrashRestLemmas
+pub mod Theorems

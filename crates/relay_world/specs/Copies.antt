@@ -1,9 +1,12 @@
 -- How many copies of a message reach a recipient by the attempts of a node: one, and one more for each reply that was
 -- lost (RFC 5321, section 6.1; RFC 1047).
-use Rattle.std.specs.Prelude.{◌≡◌, ◌⊎◌, ◌≤◌, ◌==◌, ℕ, ◌+◌, Bool, true, false, ◌&&◌, List, [], ◌∷◌, length, Some}
+use Rattle.std.specs.Prelude.{◌≡◌, ◌⊎◌, ◌↔◌, ◌≤◌, ◌==◌, ℕ, ◌+◌, Bool, true, false, ◌&&◌, List, [], ◌∷◌, length, Some}
 use Rattle.std.specs.List.{Contains, filter, list_any}
 use Rattle.relay_disk.specs.Device.{DiskWords}
+use Rattle.relay_lines.specs.Reply.{Reply}
 use Rattle.relay_book.specs.declared.change.Change.{Change}
+use Rattle.relay_course.specs.Laws.{accepted_places}
+use Rattle.relay_course.specs.Progress.{Errand, progress}
 use Rattle.relay_world.specs.declared.attempt.Attempt.{Attempt}
 use Rattle.relay_world.specs.declared.attempt.Fate.{Fate}
 use Rattle.relay_world.specs.declared.attempt.Fate.TheVariants.{Running, Replied, Lost, Dropped}
@@ -26,6 +29,16 @@ pub record PassesPlace {D : Type 0} (world : World D) (lists : List (List Change
   pub places : List ℕ
   pub are_its : AreChildPlaces host changes link attempt places
   pub holds : Contains places place
+
+-- By these replies, which are all that the attempt has read, it passes the place exactly where the RCPT of that was
+-- answered 2yz. Each of them has answered something.
+pub record IsDecidedBy {D : Type 0} (world : World D) (lists : List (List Change)) (node message place : ℕ)
+    (attempt : Attempt) (replies : List Reply) : Type 0 where
+  pub errand : Errand
+  pub places_are : errand.places ≡ attempt.places.items
+  pub each : length (progress errand replies).answered ≡ length replies
+  pub passes : PassesPlace world lists node message place attempt
+      ↔ Contains (accepted_places (progress errand replies).answered) place
 
 -- the copies by one attempt: its children, if it passes the place, and else none
 abbrev pub CopiesBy : {D : Type 0} → World D → List (List Change) → ℕ → ℕ → ℕ → Attempt → ℕ → Type 0
