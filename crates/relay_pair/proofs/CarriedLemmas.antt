@@ -1,0 +1,251 @@
+-- What is carried to the client end of a link: where there is something to carry, and what is seen of it.
+use Rattle.std.proofs.Common.{inl, inr, ◌≡◌, ◌<◌, ◌-◌, ℕ, zero, suc, Bool, true, false, not, List, [], ◌∷◌, ◌++◌, drop, length, Option, None, Some, Result, Ok, Err, refl, sym, subst, ap, ◌∙◌, arith}
+use Rattle.std.specs.Prelude.{if◌then◌else◌, slice_get, slice_index_or, slice_set}
+use Rattle.std.specs.Global.{Vec}
+use Rattle.std.proofs.lemmas.Bool.{false≢true, true≢false}
+use Rattle.std.proofs.lemmas.Bool.Decides.{eqb_tells}
+use Rattle.std.proofs.lemmas.List.{append-nil}
+use Rattle.std.proofs.lemmas.Option.{none-some, same_Some}
+use Rattle.relay_disk.specs.Device.{DiskWords}
+use Rattle.relay_records.specs.declared.fault.NodeFault.{NodeFault}
+use Rattle.relay_world.specs.declared.attempt.Attempt.{Attempt}
+use Rattle.relay_world.specs.declared.attempt.Fate.TheVariants.{Replied}
+use Rattle.relay_world.specs.declared.link.Link.{Link}
+use Rattle.relay_world.specs.Crashes.{is_tried_for, serves_for, tries_for}
+use Rattle.relay_world.specs.Ledger.{left_lines, report_told}
+use Rattle.relay_world.specs.Once.{BreaksOff}
+use Rattle.relay_world.specs.Steps.{Breaks, DropsAttempt, HasLost, IsPutAt}
+use Rattle.relay_world.specs.World.{World, link_at}
+use Rattle.relay_pair.specs.declared.event.Event.{Event}
+use Rattle.relay_pair.specs.declared.event.Event.TheVariants.{Carry}
+use Rattle.relay_pair.specs.declared.fault.PairFault.{PairFault}
+use Rattle.relay_pair.specs.declared.fault.PairFault.TheVariants as fault
+use Rattle.relay_pair.specs.declared.part.Part.{Part}
+use Rattle.relay_pair.specs.declared.recorded.Recorded.{Recorded}
+use Rattle.relay_pair.specs.declared.seen.Seen.{Seen}
+use Rattle.relay_pair.specs.declared.seen.Seen.TheVariants as seen
+use Rattle.relay_pair.specs.declared.seen.Seen.TheVariants.{Stopped}
+use Rattle.relay_pair.specs.declared.tell.Loss.{Loss}
+use Rattle.relay_pair.specs.declared.tell.Loss.TheVariants as loss
+use Rattle.relay_pair.specs.Call.{IsWant}
+use Rattle.relay_pair.specs.Carried.{RunsAndWaits, RunsAt, TakesPart, TellsLoss, did_of, replied_attempt, replied_lines, stops_of}
+use Rattle.relay_pair.specs.FirstFault.{carry_fault, carry_idles, client_closed, client_idles, first_fault, is_nil, is_up, runs_there, waits_down, whole_link}
+use Rattle.relay_pair.specs.Promise.{HasHappened}
+use Rattle.relay_pair.specs.Step.{Carries, CrashesInLosing, Does, IsCarriedTo, IsSeen, Loses as LosesThere, Refuses, RefusesToRead, Shows, Steps, Stops, fault_of}
+use Rattle.relay_pair.specs.Told.{AreToldTo, Crashes, CrashesTold, Drops, Loses, TellsSome, TriesAt, tries_on}
+use Rattle.relay_pair.proofs.PlaceLemmas.{link_put, link_same}
+use Rattle.relay_pair.proofs.RunLemmas.{both_happened, one_happened}
+use Rattle.relay_pair.proofs.SendLemmas.{whole_there}
+
+-- where an event has no fault, no end idles
+goes_on : {D : Type 0} (world : World D) (count : ℕ) (idles : Bool) → carry_idles world count idles ≡ None → idles ≡ false
+goes_on world zero idles is = absurd (none-some fault.Nothing (sym is))
+goes_on world (suc count) true is = absurd (none-some fault.Nothing (sym is))
+goes_on world (suc count) false is = refl
+
+up_goes_on : (up : Bool) (rest : Option PairFault) → (if up then rest else Some fault.Down) ≡ None → rest ≡ None
+up_goes_on true rest is = is
+up_goes_on false rest is = absurd (none-some fault.Down (sym is))
+
+client_goes_on : (serves tried : Bool) (one two : Option PairFault) → serves ≡ false → tried ≡ true
+    → (if serves then one else (if tried then two else Some fault.NotYours)) ≡ None → two ≡ None
+client_goes_on true tried one two unserved its is = absurd (true≢false unserved)
+client_goes_on false true one two unserved its is = is
+client_goes_on false false one two unserved its is = absurd (false≢true its)
+
+not_closed : (runs rest : Bool) → (if not runs then true else rest) ≡ false → runs ≡ true
+not_closed true rest is = refl
+not_closed false rest is = absurd (true≢false is)
+
+client_runs : (attempts : List Attempt) (client : Option ℕ) (rest : Bool) (node : ℕ) → is_tried_for node attempts client ≡ true
+    → (if client_closed attempts client then true else rest) ≡ false → tries_on attempts client ≡ true
+client_runs attempts None rest node its is = absurd (false≢true its)
+client_runs attempts (Some place) rest node its is = not_closed (runs_there (slice_get attempts place)) rest is
+
+-- there is something to carry to an attempt of this node
+pub runs_at : {D : Type 0} (world : World D) (number node count : ℕ) → first_fault world (Carry number node count) ≡ None
+    → ((link : Link) → whole_link world.links number ≡ Some link → serves_for node link.server ≡ false)
+    → ((link : Link) → whole_link world.links number ≡ Some link → is_tried_for node world.attempts link.client ≡ true)
+    → RunsAt world number node
+runs_at world number node count may unserved tried = by (whole_link world.links number) refl may
+  where
+    by : (found : Option Link) → whole_link world.links number ≡ found → carry_fault world found node count ≡ None
+        → RunsAt world number node
+    by None is free = absurd (none-some fault.NoLink (sym free))
+    by (Some link) is free =
+        let there = whole_there (link_at world.links number) link is in
+        let up = client_goes_on (serves_for node link.server) (is_tried_for node world.attempts link.client) _ _ (unserved link is)
+        (tried link is) free in
+        let idle = goes_on world count (client_idles world.attempts link) (up_goes_on (is_up (slice_get world.hosts node)) _ up) in
+        record {
+          link = link;
+          link_is = there.0;
+          whole = there.1;
+          tries = client_runs world.attempts link.client _ node (tried link is) idle;
+          its = tried link is;
+          unserved = unserved link is;
+        }
+
+pub tries_at : {D : Type 0} (world : World D) (number node : ℕ) → RunsAt world number node → TriesAt world number
+tries_at world number node at = record { link = at.link; link_is = at.link_is; tries = at.tries }
+
+-- an attempt of this node is this node's
+pub node_is : (node : ℕ) (attempt : Attempt) → tries_for node (Some attempt) ≡ true → attempt.node ≡ node
+node_is node attempt is =
+    elim (eqb_tells attempt.node node) [ inl same ↦ same.1 | inr off ↦ absurd (false≢true (sym off.0 ∙ is)) ]
+
+module _ {D : Type 0} (world : World D) (number node : ℕ) (link : Link) (link_is : link_at world.links number ≡ Some link) (place : ℕ)
+    (client : link.client ≡ Some place) (attempt : Attempt) (attempt_at : slice_get world.attempts place ≡ Some attempt) where
+  its_link : (at : RunsAt world number node) → at.link ≡ link
+  its_link at = same_Some at.link link (sym at.link_is ∙ link_is)
+
+  pub attempt_node : RunsAt world number node → attempt.node ≡ node
+  attempt_node at =
+      node_is node attempt
+      (sym (ap (λ o. tries_for node o) attempt_at) ∙ sym (ap (λ c. is_tried_for node world.attempts c) client)
+      ∙ ap (λ (l : Link). is_tried_for node world.attempts l.client) (sym (its_link at)) ∙ at.its)
+
+  pub carried_to : (waits : Bool) → RunsAndWaits world number node waits → IsCarriedTo link attempt node waits
+  carried_to waits runs = record {
+    its_node = attempt_node runs.at;
+    unserved = ap (λ (l : Link). serves_for node l.server) (sym (its_link runs.at)) ∙ runs.at.unserved;
+    waiting = ap waits_down (sym (its_link runs.at)) ∙ runs.waiting;
+  }
+
+-- and octets wait for it, or none does
+pub waits_on : {D : Type 0} (world : World D) (number node : ℕ) (at : RunsAt world number node) (link : Link) (idle : Bool)
+    → link ≡ slice_index_or world.links (number - 1) link → is_nil (drop link.down_read link.down) ≡ idle
+    → RunsAndWaits world number node (not idle)
+waits_on world number node at link idle there is = record {
+  at = at;
+  waiting = ap not (ap (λ (l : Link). is_nil (drop l.down_read l.down))
+      (sym (link_same world.links number at.link link at.link_is there)) ∙ is);
+}
+
+-- a link that breaks
+pub breaks_there : {D : Type 0} (world : World D) (number : ℕ) (link moved : Link) → link_at world.links number ≡ Some link
+    → moved ≡ record link { broken = true }
+    → Breaks world (record world { links = slice_set world.links (number - 1) moved }) number
+breaks_there world number link moved is moved_is = record {
+  link = link;
+  link_is = is;
+  links = slice_set world.links (number - 1) moved;
+  put = subst (λ l. IsPutAt world.links (slice_set world.links (number - 1) moved) number l) moved_is
+      (link_put world.links number link moved is);
+  new_is = refl;
+}
+
+-- what is seen of a refusal
+pub refused_alone : (why : PairFault) (nodes : List ℕ) → length nodes ≡ 0 → IsSeen (Refuses why) nodes (Err why)
+refused_alone why [] none = refl
+refused_alone why (node ∷ nodes) none = absurd (omega (arith, none))
+
+pub refused_stopped : (why : PairFault) (stopped : Vec ℕ) → 0 < length stopped.items
+    → IsSeen (Refuses why) stopped.items (Ok (Stopped stopped))
+refused_stopped why stopped some = by stopped.items some refl
+  where
+    by : (nodes : List ℕ) → 0 < length nodes → stopped.items ≡ nodes → IsSeen (Refuses why) nodes (Ok (Stopped stopped))
+    by [] some is = absurd (omega (arith, some))
+    by (node ∷ nodes) some is = (stopped, refl, is)
+
+module _ {D : Type 0} (honest : Type 0) (words : DiskWords D) where
+  -- whatever became of the attempt, one end was told
+  pub some_told : (old new : World D) (number : ℕ) (were are : List ℕ) (lost : Loss)
+      → TellsLoss honest words old new number were are lost → TellsSome honest words old new number were are
+  some_told old new number were are (loss.Ended change) tells = ([], Loses change tells.0, tells.1 ∙ sym (append-nil were))
+  some_told old new number were are (loss.Gone why) tells = ([], Drops tells.0, tells.2 ∙ sym (append-nil were))
+  some_told old new number were are loss.Stopped tells = (tells.0 ∷ [], Crashes tells.0 tells.1, tells.2)
+
+  pub does_steps : (old new : World D) (event : Event) (answer : Result Seen PairFault) → Does honest words old event new answer
+      → Steps honest words old event new answer
+  does_steps old new event (Ok shown) does = does
+  does_steps old new event (Err why) does = inr (inr does)
+
+  -- a node's part was done, and nodes were told of what broke
+  pub carried_steps : (old middle new : World D) (number node count : ℕ) (part : Part) (answer : Result Seen PairFault)
+      (empty were are : List ℕ) → first_fault old (Carry number node count) ≡ None → empty ≡ []
+      → TakesPart honest words old middle number node count empty were part → (told : AreToldTo honest words middle new were are)
+      → ((its : ℕ) (others : List ℕ) → are ≡ stops_of its part ++ others → IsSeen (did_of its part) others answer)
+      → Steps honest words old (Carry number node count) new answer
+  carried_steps old middle new number node count part answer empty were are may none takes told shows =
+      does_steps old new (Carry number node count) answer (
+        may,
+        (
+          middle,
+          (
+            did_of node part,
+            takes.0,
+            (
+              told.0,
+              shows node told.0.stopped
+                  (told.1 ∙ ap (λ l. l ++ told.0.stopped) (takes.1 ∙ ap (λ l. l ++ stops_of node part) none)),
+            ),
+          ),
+        ),
+      )
+
+  -- an attempt was told that its connection is over, by a node that is this one
+  pub lost_carries : (old new : World D) (number node count change : ℕ) → RunsAndWaits old number node false
+      → HasLost honest words old new number change
+      → Carries honest words old number node count new (Shows (seen.Carried 0 0 (Some change) true))
+  lost_carries old new number node count change runs lost =
+      LosesThere change lost
+      (carried_to old number node lost.of.link lost.of.link_is lost.of.place lost.of.client lost.of.attempt lost.of.attempt_at false runs)
+
+  pub dropped_carries : (old dropped new : World D) (number node count : ℕ) (why : NodeFault) → IsWant why
+      → RunsAndWaits old number node false
+      → DropsAttempt old dropped number → Breaks dropped new number
+      → Carries honest words old number node count new (Refuses (fault_of why))
+  dropped_carries old dropped new number node count why want runs gone breaks =
+      RefusesToRead dropped gone false
+      (carried_to old number node gone.of.link gone.of.link_is gone.of.place gone.of.client gone.of.attempt gone.of.attempt_at false runs)
+      breaks why want
+
+  pub crash_node : (old new : World D) (number its node : ℕ) → RunsAndWaits old number node false
+      → CrashesTold honest words old new number its → its ≡ node
+  crash_node old new number its node runs told =
+      let of = told.crash.of in
+      sym told.its_node
+      ∙ attempt_node old number node of.link of.link_is of.place of.client of.attempt of.attempt_at runs.at
+
+  pub told_carries : (old new : World D) (number its node count : ℕ) → RunsAndWaits old number node false
+      → CrashesTold honest words old new number its → Carries honest words old number node count new (Stops node)
+  told_carries old new number its node count runs told =
+      let same = crash_node old new number its node runs told in
+      let here : CrashesTold honest words old new number node = subst (λ n. CrashesTold honest words old new number n) same told in
+      let of = here.crash.of in
+      CrashesInLosing here
+      (carried_to old number node of.link of.link_is of.place of.client of.attempt of.attempt_at false runs)
+
+  pub then_broken : (old dropped new : World D) (number : ℕ) → HasHappened honest words old dropped → Breaks dropped new number
+      → HasHappened honest words old new
+  then_broken old dropped new number happened breaks =
+      both_happened honest words old dropped new happened (one_happened honest words dropped new (BreaksOff number breaks))
+
+-- what is counted and told of an attempt behind replies, by cases
+pub replied_none : (attempt : Attempt) (change : Option ℕ) → change ≡ None → attempt ≡ replied_attempt attempt change
+replied_none attempt change is = sym (ap (λ c. replied_attempt attempt c) is)
+
+pub replied_some : (attempt : Attempt) (change : Option ℕ) (number : ℕ) → change ≡ Some number
+    → record attempt { fate = Replied number } ≡ replied_attempt attempt change
+replied_some attempt change number is = sym (ap (λ c. replied_attempt attempt c) is)
+
+pub lines_none : (link : ℕ) (attempt : Attempt) (change : Option ℕ) (recorded : Option Recorded) → change ≡ None
+    → replied_lines link attempt change recorded ≡ []
+lines_none link attempt change recorded is = ap (λ c. replied_lines link attempt c recorded) is
+
+pub lines_unrecorded : (link : ℕ) (attempt : Attempt) (change : Option ℕ) (recorded : Option Recorded) (number : ℕ)
+    → change ≡ Some number → recorded ≡ None → replied_lines link attempt change recorded ≡ []
+lines_unrecorded link attempt change recorded number is none =
+    ap (λ c. replied_lines link attempt c recorded) is ∙ ap (λ r. replied_lines link attempt (Some number) r) none
+
+pub lines_some : (link : ℕ) (attempt : Attempt) (change : Option ℕ) (recorded : Option Recorded) (number : ℕ) (one : Recorded)
+    → change ≡ Some number → recorded ≡ Some one → replied_lines link attempt change recorded
+    ≡ left_lines attempt.node attempt.message link (report_told number one.report) one.left.items
+lines_some link attempt change recorded number one is some =
+    ap (λ c. replied_lines link attempt c recorded) is ∙ ap (λ r. replied_lines link attempt (Some number) r) some
+
+-- where there is nothing to write, nothing is
+pub nothing_written : (link : Link) (octets : List ℕ) → length octets ≡ 0 → link ≡ record link { up = link.up ++ octets }
+nothing_written link [] none = ap (λ (u : List ℕ). let same : Link = record link { up = u } in same) (sym (append-nil link.up))
+nothing_written link (octet ∷ octets) none = absurd (omega (arith, none))

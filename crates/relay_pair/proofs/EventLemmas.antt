@@ -1,0 +1,409 @@
+-- What a call of one host makes of a world: the event of which it is the node's part, where its caller has put the host, the link,
+-- the attempt and the lines of the ledger.
+use Rattle.std.proofs.Common.{◌≡◌, ℕ, suc, List, [], ◌∷◌, ◌++◌, length, Option, None, Some, sym, subst, ap, ◌∙◌}
+use Rattle.std.specs.Prelude.{slice_get}
+use Rattle.relay_disk.specs.Device.{DiskWords}
+use Rattle.relay_book.specs.declared.fate.Way.{Way}
+use Rattle.relay_records.specs.declared.noted.Noted.{Noted}
+use Rattle.relay_records.specs.Records.{Kept}
+use Rattle.relay_attempts.specs.declared.reply.Replied.{Replied}
+use Rattle.relay_attempts.specs.declared.start.Started.{Started}
+use Rattle.relay_node.specs.declared.node.Connected.{Connected}
+use Rattle.relay_node.specs.declared.receive.Received.{Received}
+use Rattle.relay_node.specs.Node.{Standing}
+use Rattle.relay_world.specs.declared.attempt.Attempt.{Attempt}
+use Rattle.relay_world.specs.declared.attempt.Fate.{Fate}
+use Rattle.relay_world.specs.declared.attempt.Fate.TheVariants.{Dropped, Replied as RepliedBy, Lost as LostBy}
+use Rattle.relay_world.specs.declared.line.Line.TheVariants.{Accepted}
+use Rattle.relay_world.specs.declared.link.Link.{Link}
+use Rattle.relay_world.specs.Crashes.{CrashesEnding, CrashesGivingUp, CrashesHearing, CrashesLosing, CrashesReading, GoesDown, let_go}
+use Rattle.relay_world.specs.HopLinks.{IsLinkedToHop}
+use Rattle.relay_world.specs.Ledger.{left_lines, report_told}
+use Rattle.relay_world.specs.Steps.{AttemptOf, DropsAttempt, EndsSession, HasGivenUp, HasHeard, HasLost, HasOpened, HasRead, HasStarted, IsBlank, IsPut, IsPutAt, RecordsHeard, RecordsOutcome, RecordsRead, SessionOf, heard_link, opened_link, read_link, started_attempt, waiting_down, waiting_up, without_note}
+use Rattle.relay_world.specs.Stops.{IsLeftBy}
+use Rattle.relay_world.specs.World.{Down, Host, Up, World}
+use Rattle.relay_pair.specs.declared.host.Origin.{Origin}
+use Rattle.relay_pair.specs.declared.host.Origin.TheVariants.{FromClient, FromLoss, FromNoHop, FromReplies}
+use Rattle.relay_pair.specs.declared.recorded.Recorded.{Recorded}
+use Rattle.relay_pair.specs.Call.{Hears, Loses, LosesAttempt, LosesSession, NotesChange, NotesOne, Reads, Runs, StopsHearing, StopsLosing, StopsReading}
+use Rattle.relay_pair.specs.Crash.{CrashesInCall}
+use Rattle.relay_pair.specs.Host.{origin_in}
+use Rattle.relay_pair.specs.Work.{BeginsAttempt, GivesUp, OpensSession, StopsGivingUp}
+
+same_up : {D : Type 0} (one other : Standing D) → Up one ≡ Up other → one ≡ other
+same_up one other same = cc
+
+module _ {D : Type 0} (honest : Type 0) (words : DiskWords D) (old new : World D) where
+  -- the host of this number was put as it is now
+  pub put_as : (node : ℕ) (one other : Host D) → one ≡ other → IsPut old.hosts new.hosts node one → IsPut old.hosts new.hosts node other
+  put_as node one other same put = subst (λ (h : Host D). IsPut old.hosts new.hosts node h) same put
+
+  -- a client was let in
+  abbrev pub opened : (node : ℕ) (peer : List ℕ) (host next : Host D) (connected : Connected)
+      → slice_get old.hosts node ≡ Some host → OpensSession host next peer connected → IsPut old.hosts new.hosts node next
+      → IsPutAt old.links new.links (suc (length old.links)) (opened_link node peer connected)
+      → (new.attempts ≡ old.attempts) × (new.ledger ≡ old.ledger) × (new.clock ≡ old.clock)
+      × (length new.hosts ≡ length old.hosts)
+      → HasOpened old new node peer
+  opened node peer host next connected host_at opens put links rest = record {
+    host = host;
+    host_at = host_at;
+    before = opens.before;
+    up = opens.runs.up;
+    after = opens.after;
+    connected = connected;
+    connects = opens.connects;
+    records = opens.records;
+    config = opens.runs.config;
+    attempts = opens.attempts;
+    hosts = put_as node next (record host { holder = Up opens.after }) opens.runs.new_is put;
+    links = links;
+    rest = rest;
+  }
+
+  -- the ledger has the line of what a node that heard octets has accepted
+  abbrev pub LedgerHeard : ℕ → ℕ → Option ℕ → Option Recorded → Type 0
+  LedgerHeard node number None recorded = new.ledger ≡ old.ledger
+  LedgerHeard node number (Some change) None = new.ledger ≡ old.ledger
+  LedgerHeard node number (Some change) (Some recorded) =
+      new.ledger ≡ old.ledger ++ Accepted node change recorded.accepted number ∷ []
+
+  pub records_heard : (node number : ℕ) (host next : Host D) (after : Standing D) (change : Option ℕ) (recorded : Option Recorded)
+      → NotesChange host next after change recorded → IsPut old.hosts new.hosts node next
+      → LedgerHeard node number change recorded → RecordsHeard old new node number host after change
+  records_heard node number host next after None None notes put ledger =
+      (put_as node next (record host { holder = Up after }) notes put, ledger)
+  records_heard node number host next after None (Some recorded) notes put ledger = absurd notes
+  records_heard node number host next after (Some change) None notes put ledger = absurd notes
+  records_heard node number host next after (Some change) (Some recorded) notes put ledger = (
+    notes.noted,
+    notes.note_is,
+    put_as node next (record host { holder = Up (without_note after); records = host.records ++ notes.noted.octets ∷ [] })
+        notes.new_is put,
+    subst (λ (places : ℕ). new.ledger ≡ old.ledger ++ Accepted node change places number ∷ []) notes.tells.accepted ledger,
+  )
+
+  -- octets were heard
+  abbrev pub heard : (number count : ℕ) (of : SessionOf old number) (next : Host D) (received : Received)
+      (recorded : Option Recorded)
+      → Hears honest words old.clock of.host next of.session (waiting_up count of.link) received recorded
+      → IsPut old.hosts new.hosts of.end.node next
+      → IsPutAt old.links new.links number (heard_link of.link of.end of.session received)
+      → LedgerHeard of.end.node number received.change recorded
+      → (new.attempts ≡ old.attempts) × (new.clock ≡ old.clock) × (length new.hosts ≡ length old.hosts)
+      → HasHeard honest words old new number count
+  heard number count of next received recorded hears put links ledger rest = record {
+    of = record of { before = hears.before; up = hears.up };
+    after = hears.after;
+    received = received;
+    receives = λ changes said keeps says. hears.receives changes of.end.peer said keeps says;
+    used = hears.used;
+    others = hears.others;
+    config = hears.config;
+    attempts = hears.attempts;
+    links = links;
+    records = records_heard of.end.node number of.host next hears.after received.change recorded hears.notes put ledger;
+    rest = rest;
+  }
+
+  -- a session is gone: its node was told of its end, or had no memory or room for what it heard
+  abbrev pub session_ended : (number : ℕ) (of : SessionOf old number) (next : Host D) → LosesSession of.host next of.session
+      → IsPut old.hosts new.hosts of.end.node next
+      → IsPutAt old.links new.links number (record of.link { server = Some (record of.end { session = None }) })
+      → (new.attempts ≡ old.attempts) × (new.ledger ≡ old.ledger) × (new.clock ≡ old.clock)
+      × (length new.hosts ≡ length old.hosts)
+      → EndsSession old new number
+  session_ended number of next loses put links rest = record {
+    of = record of { before = loses.before; up = loses.runs.up };
+    after = loses.after;
+    records = loses.records;
+    others = loses.others;
+    config = loses.runs.config;
+    attempts = loses.attempts;
+    hosts = put_as of.end.node next (record of.host { holder = Up loses.after }) loses.runs.new_is put;
+    links = links;
+    rest = rest;
+  }
+
+  -- an attempt has ended, and its outcome is recorded
+  pub records_outcome : (number : ℕ) (of : AttemptOf old number) (next : Host D) (after : Standing D) (fate : Fate) (change : ℕ)
+      (recorded : Recorded) → NotesOne of.host next after recorded → IsPut old.hosts new.hosts of.attempt.node next
+      → new.ledger
+      ≡ old.ledger ++ left_lines of.attempt.node of.attempt.message number (report_told change recorded.report) recorded.left.items
+      → IsPut old.attempts new.attempts of.place (record of.attempt { fate = fate })
+      → RecordsOutcome old new number of after fate change
+  records_outcome number of next after fate change recorded notes put ledger attempts = record {
+    noted = notes.noted;
+    note_is = notes.note_is;
+    hosts = put_as of.attempt.node next
+        (record of.host { holder = Up (without_note after); records = of.host.records ++ notes.noted.octets ∷ [] }) notes.new_is put;
+    ledger = ledger
+        ∙ ap (λ (report : _). old.ledger ++ left_lines of.attempt.node of.attempt.message number (report_told change report)
+        recorded.left.items) notes.tells.report
+        ∙ ap (λ (left : List (ℕ × Way)). old.ledger ++ left_lines of.attempt.node of.attempt.message number
+        (report_told change notes.noted.report) left) notes.tells.left;
+    attempts = attempts;
+  }
+
+  -- what becomes of an attempt that has read replies, and of the ledger
+  abbrev pub AttemptRead : (number : ℕ) → AttemptOf old number → Option ℕ → Option Recorded → Type 0
+  AttemptRead number of None recorded = (new.ledger ≡ old.ledger) × (new.attempts ≡ old.attempts)
+  AttemptRead number of (Some change) None = (new.ledger ≡ old.ledger) × (new.attempts ≡ old.attempts)
+  AttemptRead number of (Some change) (Some recorded) =
+      (new.ledger
+      ≡ old.ledger ++ left_lines of.attempt.node of.attempt.message number (report_told change recorded.report) recorded.left.items)
+      × IsPut old.attempts new.attempts of.place (record of.attempt { fate = RepliedBy change })
+
+  pub records_read : (number : ℕ) (of : AttemptOf old number) (next : Host D) (after : Standing D) (change : Option ℕ)
+      (recorded : Option Recorded) → NotesChange of.host next after change recorded
+      → IsPut old.hosts new.hosts of.attempt.node next → AttemptRead number of change recorded
+      → RecordsRead old new number of after change
+  records_read number of next after None None notes put became =
+      (put_as of.attempt.node next (record of.host { holder = Up after }) notes put, became.0, became.1)
+  records_read number of next after None (Some recorded) notes put became = absurd notes
+  records_read number of next after (Some change) None notes put became = absurd notes
+  records_read number of next after (Some change) (Some recorded) notes put became =
+      records_outcome number of next after (RepliedBy change) change recorded notes put became.0 became.1
+
+  -- replies were read
+  abbrev pub replies_read : (number count : ℕ) (of : AttemptOf old number) (next : Host D) (replied : Replied)
+      (recorded : Option Recorded)
+      → Reads honest words old.clock of.host next of.slot (waiting_down count of.link) replied recorded
+      → IsPut old.hosts new.hosts of.attempt.node next → IsPutAt old.links new.links number (read_link of.link replied)
+      → AttemptRead number of replied.change recorded → (new.clock ≡ old.clock) × (length new.hosts ≡ length old.hosts)
+      → HasRead honest words old new number count
+  replies_read number count of next replied recorded reads put links became rest = record {
+    of = record of { before = reads.before; up = reads.up };
+    after = reads.after;
+    replied = replied;
+    replies = reads.replies;
+    used = reads.used;
+    others = reads.others;
+    config = reads.config;
+    seats = reads.seats;
+    links = links;
+    records = records_read number (record of { before = reads.before; up = reads.up }) next reads.after replied.change recorded
+        reads.notes put became;
+    rest = rest;
+  }
+
+  -- the connection of an attempt was lost
+  abbrev pub loss_told : (number change : ℕ) (of : AttemptOf old number) (next : Host D) (recorded : Recorded)
+      → Loses honest words old.clock of.host next of.slot change recorded → IsPut old.hosts new.hosts of.attempt.node next
+      → new.links ≡ old.links
+      → new.ledger
+      ≡ old.ledger ++ left_lines of.attempt.node of.attempt.message number (report_told change recorded.report) recorded.left.items
+      → IsPut old.attempts new.attempts of.place (record of.attempt { fate = LostBy change })
+      → (new.clock ≡ old.clock) × (length new.hosts ≡ length old.hosts) → HasLost honest words old new number change
+  loss_told number change of next recorded loses put links ledger attempts rest = record {
+    of = record of { before = loses.before; up = loses.up };
+    after = loses.after;
+    loses = loses.loses;
+    others = loses.others;
+    config = loses.config;
+    seats = loses.seats;
+    links = links;
+    records = records_outcome number (record of { before = loses.before; up = loses.up }) next loses.after (LostBy change) change
+        recorded loses.notes put ledger attempts;
+    rest = rest;
+  }
+
+  -- an attempt is gone: its node had no memory or room for its outcome
+  abbrev pub attempt_dropped : (number : ℕ) (of : AttemptOf old number) (next : Host D) → LosesAttempt of.host next of.slot
+      → IsPut old.hosts new.hosts of.attempt.node next
+      → IsPut old.attempts new.attempts of.place (record of.attempt { fate = Dropped }) → new.links ≡ old.links
+      → new.ledger ≡ old.ledger → (new.clock ≡ old.clock) × (length new.hosts ≡ length old.hosts)
+      → DropsAttempt old new number
+  attempt_dropped number of next loses put attempts links ledger rest = record {
+    of = record of { before = loses.before; up = loses.runs.up };
+    after = loses.after;
+    records = loses.records;
+    others = loses.others;
+    config = loses.runs.config;
+    seats = loses.seats;
+    hosts = put_as of.attempt.node next (record of.host { holder = Up loses.after }) loses.runs.new_is put;
+    attempts = attempts;
+    links = links;
+    ledger = ledger;
+    rest = rest;
+  }
+
+  -- an attempt has begun
+  pub attempt_begun : (number message : ℕ) (hop : List ℕ) (attempt : Attempt) (host next : Host D) (started : Started)
+      (blank : Link) → slice_get old.hosts attempt.node ≡ Some host
+      → BeginsAttempt honest words old.clock host next message hop started → IsPut old.hosts new.hosts attempt.node next
+      → started_attempt attempt.node message hop started number attempt → IsBlank old number blank
+      → IsPutAt old.links new.links number (record blank { client = Some (length old.attempts) })
+      → IsPut old.attempts new.attempts (length old.attempts) attempt → IsLinkedToHop new attempt
+      → (new.ledger ≡ old.ledger) × (new.clock ≡ old.clock) × (length new.hosts ≡ length old.hosts)
+      → HasStarted honest words old new number message hop
+  attempt_begun number message hop attempt host next started blank host_at begins put is_attempt is_blank links attempts linked
+      rest = record {
+        attempt = attempt;
+        host = host;
+        host_at = host_at;
+        before = begins.before;
+        up = begins.runs.up;
+        after = begins.after;
+        started = started;
+        begins = begins.begins;
+        records = begins.records;
+        config = begins.runs.config;
+        seats = begins.seats;
+        is_attempt = is_attempt;
+        blank = blank;
+        is_blank = is_blank;
+        hosts = put_as attempt.node next (record host { holder = Up begins.after }) begins.runs.new_is put;
+        links = links;
+        attempts = attempts;
+        linked = linked;
+        rest = rest;
+      }
+
+  -- places without a hop were given up
+  pub given_up : (node message change : ℕ) (host next : Host D) (recorded : Recorded) → slice_get old.hosts node ≡ Some host
+      → GivesUp honest words old.clock host next message change recorded → IsPut old.hosts new.hosts node next
+      → new.ledger ≡ old.ledger ++ left_lines node message 0 (report_told change recorded.report) recorded.left.items
+      → (new.links ≡ old.links) × (new.attempts ≡ old.attempts) × (new.clock ≡ old.clock)
+      × (length new.hosts ≡ length old.hosts)
+      → HasGivenUp honest words old new node message change
+  given_up node message change host next recorded host_at gives put ledger rest = record {
+    host = host;
+    host_at = host_at;
+    before = gives.before;
+    up = gives.up;
+    after = gives.after;
+    gives_up = gives.gives_up;
+    config = gives.config;
+    seats = gives.seats;
+    attempts = gives.attempts;
+    noted = gives.notes.noted;
+    note_is = gives.notes.note_is;
+    hosts = put_as node next
+        (record host { holder = Up (without_note gives.after); records = host.records ++ gives.notes.noted.octets ∷ [] })
+        gives.notes.new_is put;
+    ledger = ledger
+        ∙ ap (λ (report : _). old.ledger ++ left_lines node message 0 (report_told change report) recorded.left.items)
+        gives.notes.tells.report
+        ∙ ap (λ (left : List (ℕ × Way)). old.ledger ++ left_lines node message 0 (report_told change gives.notes.noted.report) left)
+        gives.notes.tells.left;
+    rest = rest;
+  }
+
+  -- A host that stopped in a call, and went down: what is left of it, seen from before the call.
+  record ComesDown (host down : Host D) (stopped : Kept D) (origin : Origin) : Type 0 where
+    pub noted : Noted
+    pub note_is : stopped.noted ≡ Some noted
+    pub disk : D
+    pub left : IsLeftBy honest words stopped disk
+    pub down_is : down
+        ≡ record host { holder = Down disk (Some (record { note = noted; origin = origin_in origin })) }
+
+  comes_down : (host middle down : Host D) (before after : Standing D) (origin : Origin) → Runs host middle before after
+      → CrashesInCall honest words middle down origin → ComesDown host down after.records origin
+  comes_down host middle down before after origin runs crashes =
+      let same : crashes.before ≡ after =
+      same_up crashes.before after (sym crashes.up ∙ ap (λ (h : Host D). h.holder) runs.new_is) in
+      record {
+        noted = crashes.noted;
+        note_is = subst (λ (n : Standing D). n.records.noted ≡ Some crashes.noted) same crashes.note_is;
+        disk = crashes.disk;
+        left = subst (λ (n : Standing D). IsLeftBy honest words n.records crashes.disk) same crashes.left;
+        down_is = crashes.new_is ∙ ap (λ (h : Host D). let down : Host D = record h {
+          holder = Down crashes.disk (Some (record { note = crashes.noted; origin = origin_in origin }));
+        } in down) runs.new_is;
+      }
+
+  -- the caller has let go of the node's ends, and put the host that is down
+  pub record LetsGo (node : ℕ) (down : Host D) : Type 0 where
+    pub hosts : List (Host D)
+    pub put : IsPut old.hosts hosts node down
+    pub as_many : length hosts ≡ length old.hosts
+    pub new_is : new ≡ record (let_go node old) { hosts = hosts }
+
+  goes_down : (node : ℕ) (host down : Host D) (stopped : Kept D) (origin : Origin) → (comes : ComesDown host down stopped origin)
+      → LetsGo node down
+      → GoesDown old new node host comes.disk (Some (record { note = comes.noted; origin = origin_in origin }))
+  goes_down node host down stopped origin comes lets = record {
+    hosts = lets.hosts;
+    put = subst (λ (h : Host D). IsPut old.hosts lets.hosts node h) comes.down_is lets.put;
+    as_many = lets.as_many;
+    new_is = lets.new_is;
+  }
+
+  -- a node crashed while it heard octets
+  pub crashes_hearing : (number count : ℕ) (of : SessionOf old number) (middle down : Host D)
+      → StopsHearing honest words old.clock of.host middle of.session (waiting_up count of.link)
+      → CrashesInCall honest words middle down (FromClient number) → LetsGo of.end.node down
+      → CrashesHearing honest words old new number count
+  crashes_hearing number count of middle down stops crashes lets =
+      let comes = comes_down of.host middle down stops.before stops.after (FromClient number) stops.runs crashes in
+      record {
+        of = record of { before = stops.before; up = stops.runs.up };
+        stopped = stops.after.records;
+        cuts = λ changes said keeps says. stops.cuts changes of.end.peer said keeps says;
+        noted = comes.noted;
+        note_is = comes.note_is;
+        disk = comes.disk;
+        left = comes.left;
+        down = goes_down of.end.node of.host down stops.after.records (FromClient number) comes lets;
+      }
+
+  crashes_ending : (number : ℕ) (of : AttemptOf old number) (middle down : Host D) (before after : Standing D) (origin : Origin)
+      → Runs of.host middle before after → CrashesInCall honest words middle down origin → LetsGo of.attempt.node down
+      → CrashesEnding honest words old new number of after.records (origin_in origin)
+  crashes_ending number of middle down before after origin runs crashes lets =
+      let comes = comes_down of.host middle down before after origin runs crashes in
+      record {
+        noted = comes.noted;
+        note_is = comes.note_is;
+        disk = comes.disk;
+        left = comes.left;
+        down = goes_down of.attempt.node of.host down after.records origin comes lets;
+      }
+
+  -- while an attempt of it read replies
+  pub crashes_reading : (number count : ℕ) (of : AttemptOf old number) (middle down : Host D)
+      → StopsReading honest words old.clock of.host middle of.slot (waiting_down count of.link)
+      → CrashesInCall honest words middle down (FromReplies number of.place of.attempt.message) → LetsGo of.attempt.node down
+      → CrashesReading honest words old new number count
+  crashes_reading number count of middle down stops crashes lets = record {
+    of = record of { before = stops.before; up = stops.runs.up };
+    stopped = stops.after.records;
+    cuts = stops.cuts;
+    crash = crashes_ending number (record of { before = stops.before; up = stops.runs.up }) middle down stops.before stops.after
+        (FromReplies number of.place of.attempt.message) stops.runs crashes lets;
+  }
+
+  -- while it was told that the connection of an attempt is lost
+  pub crashes_losing : (number : ℕ) (of : AttemptOf old number) (middle down : Host D)
+      → StopsLosing honest words old.clock of.host middle of.slot
+      → CrashesInCall honest words middle down (FromLoss number of.place of.attempt.message) → LetsGo of.attempt.node down
+      → CrashesLosing honest words old new number
+  crashes_losing number of middle down stops crashes lets = record {
+    of = record of { before = stops.before; up = stops.runs.up };
+    stopped = stops.after.records;
+    cuts = stops.cuts;
+    crash = crashes_ending number (record of { before = stops.before; up = stops.runs.up }) middle down stops.before stops.after
+        (FromLoss number of.place of.attempt.message) stops.runs crashes lets;
+  }
+
+  -- and while it gave up places without a hop
+  pub crashes_giving_up : (node message : ℕ) (host middle down : Host D) → slice_get old.hosts node ≡ Some host
+      → StopsGivingUp honest words old.clock host middle message → CrashesInCall honest words middle down (FromNoHop message)
+      → LetsGo node down → CrashesGivingUp honest words old new node message
+  crashes_giving_up node message host middle down host_at stops crashes lets =
+      let comes = comes_down host middle down stops.before stops.after (FromNoHop message) stops.runs crashes in
+      record {
+        host = host;
+        host_at = host_at;
+        before = stops.before;
+        up = stops.runs.up;
+        stopped = stops.after.records;
+        cuts = stops.cuts;
+        noted = comes.noted;
+        note_is = comes.note_is;
+        disk = comes.disk;
+        left = comes.left;
+        down = goes_down node host down stops.after.records (FromNoHop message) comes lets;
+      }

@@ -1,0 +1,65 @@
+use Rattle.std.proofs.Common.{◌≡◌, ◌-◌, None, true, false, length, sym, ap, ◌∙◌, arith, rules}
+use Rattle.std.specs.Prelude.{vec_len}
+use Rattle.std.proofs.lemmas.Option.{same_Some}
+use Rattle.relay_world.specs.declared.link.Link.{Link}
+use Rattle.relay_world.specs.Crashes.{is_tried_for, serves_for}
+use Rattle.relay_pair.specs.FirstFault.{carry_fault, whole_link}
+use Rattle.relay_pair.specs.Relays.{world_of}
+use Rattle.relay_pair.proofs.CarryLemmas.{is_carried, is_tried}
+use Rattle.relay_pair.proofs.PlaceLemmas.{link_same, link_there, number_positive}
+use Rattle.relay_pair.proofs.TellLemmas.{get_within}
+use Rattle.relay_pair.proofs.relays.Relays.carry.Goals as goal
+
+pub overflow_sub-number : goal.overflow_sub-number
+overflow_sub-number g c =
+    let old = world_of c.args.self.now in
+    let none : carry_fault old (whole_link old.links c.args.number) c.args.node c.args.count ≡ None = search rules in
+    let its = is_carried old old.links c.args.number c.args.node c.args.count none in
+    number_positive old.links c.args.number its.link its.link_is
+
+pub index-requires : goal.index-requires
+index-requires g c =
+    let old = world_of c.args.self.now in
+    let none : carry_fault old (whole_link old.links c.args.number) c.args.node c.args.count ≡ None = search rules in
+    let its = is_carried old old.links c.args.number c.args.node c.args.count none in
+    let within = get_within old.links (c.args.number - 1) its.link (link_there old.links c.args.number its.link its.link_is) in
+    let len : length old.links ≡ vec_len c.args.self.now.links = search rules in
+    omega (arith, within, len)
+
+pub carry_to_server-requires-clause-none : goal.carry_to_server-requires-clause-none
+carry_to_server-requires-clause-none g c = search rules
+
+pub carry_to_server-requires-clause-served : goal.carry_to_server-requires-clause-served
+carry_to_server-requires-clause-served g c link found =
+    let old = world_of c.args.self.now in
+    let none : carry_fault old (whole_link old.links c.args.number) c.args.node c.args.count ≡ None = search rules in
+    let its = is_carried old old.links c.args.number c.args.node c.args.count none in
+    let read = c.index.result.now in
+    let same = link_same old.links c.args.number its.link read its.link_is c.index.ensures in
+    let serves : serves_for c.args.node read.server ≡ true = search rules in
+    ap (λ (l : Link). serves_for c.args.node l.server) (same_Some link its.link (sym found ∙ its.found) ∙ sym same) ∙ serves
+
+pub carry_to_client-requires-clause-none : goal.carry_to_client-requires-clause-none
+carry_to_client-requires-clause-none g c = search rules
+
+pub carry_to_client-requires-clause-unserved : goal.carry_to_client-requires-clause-unserved
+carry_to_client-requires-clause-unserved g c link found =
+    let old = world_of c.args.self.now in
+    let none : carry_fault old (whole_link old.links c.args.number) c.args.node c.args.count ≡ None = search rules in
+    let its = is_carried old old.links c.args.number c.args.node c.args.count none in
+    let read = c.index.result.now in
+    let same = link_same old.links c.args.number its.link read its.link_is c.index.ensures in
+    let serves : serves_for c.args.node read.server ≡ false = search rules in
+    ap (λ (l : Link). serves_for c.args.node l.server) (same_Some link its.link (sym found ∙ its.found) ∙ sym same) ∙ serves
+
+pub carry_to_client-requires-clause-tried : goal.carry_to_client-requires-clause-tried
+carry_to_client-requires-clause-tried g c link found =
+    let old = world_of c.args.self.now in
+    let none : carry_fault old (whole_link old.links c.args.number) c.args.node c.args.count ≡ None = search rules in
+    let its = is_carried old old.links c.args.number c.args.node c.args.count none in
+    let read = c.index.result.now in
+    let same = link_same old.links c.args.number its.link read its.link_is c.index.ensures in
+    let serves : serves_for c.args.node read.server ≡ false = search rules in
+    ap (λ (l : Link). is_tried_for c.args.node old.attempts l.client) (same_Some link its.link (sym found ∙ its.found))
+    ∙ is_tried old old.links c.args.number c.args.node c.args.count none
+    (ap (λ (l : Link). serves_for c.args.node l.server) (sym same) ∙ serves)

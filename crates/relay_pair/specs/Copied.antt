@@ -1,0 +1,64 @@
+-- How many copies of a message reach a recipient, counted by what attempts have read and nodes have accepted.
+use Rattle.std.specs.Prelude.{◌≤◌, ◌==◌, ℕ, ◌+◌, Bool, true, false, ◌&&◌, List, [], ◌∷◌, drop, if◌then◌else◌}
+use Rattle.relay_disk.specs.Device.{DiskWords}
+use Rattle.relay_lines.specs.Reply.{Reply}
+use Rattle.relay_lines.specs.ReplyReading.{CutsAllReplies}
+use Rattle.relay_lines.specs.declared.reply_reader.ReplyFault.{ReplyFault}
+use Rattle.relay_lines.specs.declared.reply_reader.ReplyFault.TheVariants.{BadLine, MixedCodes, TooLong, NoMemory}
+use Rattle.relay_book.specs.declared.change.Change.{Change}
+use Rattle.relay_course.specs.declared.reply_kind.ReplyKind.{ReplyKind}
+use Rattle.relay_course.specs.declared.reply_kind.ReplyKind.TheVariants.{Completion, Intermediate, Transient, Permanent}
+use Rattle.relay_course.specs.VerdictTable.{is_accepted, kind_of}
+use Rattle.relay_world.specs.declared.attempt.Attempt.{Attempt}
+use Rattle.relay_world.specs.Bound.{IsBound}
+use Rattle.relay_world.specs.Copies.{Copies, CopiesBy, lost_replies_of}
+use Rattle.relay_world.specs.Once.{IsTriedOnce}
+use Rattle.relay_world.specs.World.{World}
+
+-- the octets are these replies, and a rest from which no further one can be cut
+abbrev pub AreReplies : List ℕ → List Reply → Type 0
+AreReplies octets replies = (rest : List ℕ) × CutsAllReplies octets replies rest
+
+-- whether a fault is want of memory
+abbrev pub is_no_memory : ReplyFault → Bool
+is_no_memory BadLine = false
+is_no_memory MixedCodes = false
+is_no_memory TooLong = false
+is_no_memory NoMemory = true
+
+-- whether HELO comes behind EHLO: where EHLO was refused for good (RFC 5321, section 3.2)
+abbrev pub is_greeted_again : ReplyKind → Bool
+is_greeted_again Completion = false
+is_greeted_again Intermediate = false
+is_greeted_again Transient = false
+is_greeted_again Permanent = true
+
+-- the replies behind that to MAIL, of all replies to an attempt: the greeting, and those to EHLO, perhaps HELO, and
+-- MAIL stand before them
+abbrev pub behind_mail : List Reply → List Reply
+behind_mail [] = []
+behind_mail (greeting ∷ []) = []
+behind_mail (greeting ∷ ehlo ∷ replies) = drop (if is_greeted_again (kind_of ehlo.code) then 2 else 1) replies
+
+-- whether a RCPT of this place was accepted, by replies that come in the order of the places
+abbrev pub accepts_place : ℕ → List ℕ → List Reply → Bool
+accepts_place place [] replies = false
+accepts_place place (tried ∷ places) [] = false
+accepts_place place (tried ∷ places) (reply ∷ replies) =
+    if tried == place && is_accepted reply then true else accepts_place place places replies
+
+-- by whatever lists of changes a world is bound, and tries each place once, so many copies were made by this attempt
+abbrev pub CountsBy
+    : {D : Type 0} → Type 0 → DiskWords D → World D → ℕ → ℕ → ℕ → Attempt → ℕ → Type 0
+CountsBy honest words world node message place attempt count =
+    (lists : List (List Change)) → IsBound honest words world lists → IsTriedOnce world lists
+    → CopiesBy world lists node message place attempt count
+
+-- So many copies of a message of a node hold a place, by the lists of changes of the nodes, and it is one more at most
+-- than the lost replies.
+pub record CountsCopies {D : Type 0} (honest : Type 0) (words : DiskWords D) (world : World D)
+    (node message place count : ℕ) : Type 0 where
+  pub lists : List (List Change)
+  pub theirs : IsBound honest words world lists
+  pub copies : Copies world lists node message place count
+  pub few : count ≤ 1 + lost_replies_of node message place world.attempts

@@ -1,0 +1,55 @@
+//! The two relays that a pair begins with.
+ghost use Rattle.std.specs.Prelude.{◌≡◌, IfOk};
+ghost use Rattle.relay_pair.specs.Begin.{IsNew, begun_by};
+ghost use Rattle.relay_pair.specs.Relays.{world_of};
+
+use crate::host::{Holder, Host};
+use crate::relays::Relays;
+use relay_disk::Disk;
+use relay_node::{Node, NotOpened};
+use relay_routes::Config;
+use relay_trace::Moment;
+use std::alloc::{AllocError, Global};
+
+impl<D: Disk> Host<D> {
+    /// A node that begins, on a disk of size 0. It fails where memory runs out, or the disk fails or isn't empty.
+    pub(crate) fn create(alloc: Global, config: Config, disk: D) -> Result<Self, NotOpened<D>>
+        ensures { IfOk result (IsNew D.honest D.words config) }
+    {
+        match Node::create(alloc, config, disk) {
+            Ok(node) => Ok(Host {
+                holder: Holder::Up(node),
+                records: Vec::new(alloc),
+                owed: 0,
+                pick: 0,
+            }),
+            Err(refused) => Err(refused),
+        }
+    }
+}
+
+impl<D: Disk + Drop> Relays<D> {
+    /// Two relays without links, at the moment 0. It fails where memory runs out.
+    pub(crate) fn of_hosts(
+        alloc: Global,
+        first: Host<D>,
+        second: Host<D>,
+    ) -> Result<Self, AllocError>
+        ensures { IfOk result (λ relays. world_of relays ≡ begun_by first second) }
+    {
+        let Ok(clock) = Moment::new(0) else {
+            unreachable!()
+        };
+        let mut hosts = Vec::new(alloc);
+        hosts.push(first)?;
+        hosts.push(second)?;
+        Ok(Relays {
+            alloc,
+            hosts,
+            links: Vec::new(alloc),
+            attempts: Vec::new(alloc),
+            ledger: Vec::new(alloc),
+            clock,
+        })
+    }
+}

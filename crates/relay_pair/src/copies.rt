@@ -1,0 +1,180 @@
+//! How many copies of a message reach a recipient by the attempts of a node.
+ghost use Rattle.std.specs.Prelude.{◌≡◌, ◌==◌, ◌&&◌, ◌≤◌, [], ◌∷◌, length, slice_get, Some, IfOk};
+ghost use Rattle.relay_course.specs.VerdictTable.{is_accepted};
+ghost use Rattle.relay_pair.specs.Copied.{AreReplies, CountsBy, CountsCopies, accepts_place, behind_mail, is_greeted_again, is_no_memory};
+ghost use Rattle.relay_pair.specs.Relays.{AreBound, world_of};
+ghost use Rattle.relay_world.specs.Ledger.{accepts_on};
+
+use crate::links::place_of;
+use crate::relays::Relays;
+use relay_course::{ReplyKind, kind_of};
+use relay_disk::Disk;
+use relay_lines::{Reply, ReplyFault, ReplyReader};
+use relay_world::passing::copies_are_few;
+use relay_world::{Attempt, Line};
+use std::alloc::{AllocError, Global};
+
+impl<D: Disk> Relays<D> {
+    /// How many copies of a node's message hold a place of it: all messages that were accepted on the links of attempts
+    /// whose RCPT for the place was answered 2yz. It fails where memory runs out.
+    pub(crate) fn copies(
+        &self,
+        alloc: Global,
+        node: usize,
+        message: u64,
+        place: u64,
+    ) -> Result<usize, AllocError>
+        requires { AreBound D.honest D.words (world_of self.now) }
+        ensures { IfOk result (CountsCopies D.honest D.words (world_of self.now) node message place) }
+    {
+        copies_are_few::<D>();
+        let mut count: usize = 0;
+        for (at, attempt) in self.attempts.iter().enumerate() {
+            count += self.copies_by(alloc, node, message, place, at, attempt)?;
+        }
+        Ok(count)
+    }
+
+    /// How many of them were made by this attempt.
+    fn copies_by(
+        &self,
+        alloc: Global,
+        node: usize,
+        message: u64,
+        place: u64,
+        at: usize,
+        attempt: &Attempt,
+    ) -> Result<usize, AllocError>
+        requires bound { AreBound D.honest D.words (world_of self.now) }
+        requires is_there { slice_get self.now.attempts.items at ≡ Some attempt.now }
+        ensures { IfOk result (CountsBy D.honest D.words (world_of self.now) node message place attempt.now) }
+    {
+        if attempt.node != node || attempt.message != message {
+            return Ok(0);
+        }
+        let Some(link) = place_of(self.links.as_slice(), attempt.link) else {
+            unreachable!()
+        };
+        let link = &self.links[link];
+        let replies = replies_in(alloc, &link.down.as_slice()[..link.down_read])?;
+        if accepts_place(
+            place,
+            attempt.places.as_slice(),
+            rcpt_replies(replies.as_slice()),
+        ) {
+            return Ok(accepts_on(self.ledger.as_slice(), attempt.link));
+        }
+        Ok(0)
+    }
+}
+
+/// How many messages were accepted on a link.
+fn accepts_on(ledger: &[Line], link: usize) -> usize
+    ensures { result ≡ length (accepts_on link ledger.now) }
+{
+    let mut count: usize = 0;
+    for line in ledger {
+        count += accepts_by(line, link);
+    }
+    count
+}
+
+/// How many messages a line of the ledger tells to be accepted on a link: one, or none.
+fn accepts_by(line: &Line, link: usize) -> usize
+    ensures count { result ≡ length (accepts_on link (line.now ∷ [])) }
+    ensures few { result ≤ 1 }
+{
+    match *line {
+        Line::Accepted { link: other, .. } => { if other == link { 1 } else { 0 } }
+        Line::Left { .. } => 0,
+    }
+}
+
+/// All replies that octets begin with. It fails where memory runs out.
+fn replies_in(alloc: Global, octets: &[u8]) -> Result<Vec<Reply>, AllocError>
+    ensures { IfOk result (λ replies. AreReplies octets.now replies.items) }
+{
+    let mut reader = ReplyReader::new(alloc);
+    let mut replies = Vec::new(alloc);
+    let mut used = 0;
+    while used < octets.len() {
+        let cut = match reader.feed(&octets[used..]) {
+            Ok(cut) => cut,
+            Err(fault) => {
+                if is_no_memory(fault) {
+                    return Err(AllocError);
+                }
+                return Ok(replies);
+            }
+        };
+        used += cut.used;
+        if let Some(reply) = cut.reply {
+            replies.push(reply)?;
+        }
+    }
+    Ok(replies)
+}
+
+/// Whether this fault is want of memory.
+fn is_no_memory(fault: ReplyFault) -> bool
+    ensures { result ≡ is_no_memory fault }
+{
+    match fault {
+        ReplyFault::NoMemory => true,
+        ReplyFault::BadLine => false,
+        ReplyFault::MixedCodes => false,
+        ReplyFault::TooLong => false,
+    }
+}
+
+/// Of the replies to an attempt those to its RCPTs, and what stands behind them.
+fn rcpt_replies(replies: &[Reply]) -> &[Reply]
+    ensures { result.now ≡ behind_mail replies.now }
+{
+    if replies.len() < 2 {
+        return &[];
+    }
+    let first = if is_greeted_again(kind_of(replies[1].code())) {
+        4
+    } else {
+        3
+    };
+    if replies.len() < first {
+        return &[];
+    }
+    &replies[first..]
+}
+
+/// Whether HELO comes behind an EHLO with a reply of this kind.
+fn is_greeted_again(kind: ReplyKind) -> bool
+    ensures { result ≡ is_greeted_again kind }
+{
+    match kind {
+        ReplyKind::Completion => false,
+        ReplyKind::Intermediate => false,
+        ReplyKind::Transient => false,
+        ReplyKind::Permanent => true,
+    }
+}
+
+/// Whether a RCPT of a place was accepted, by replies that come in the order of the places.
+fn accepts_place(place: u64, places: &[u8], replies: &[Reply]) -> bool
+    ensures { result ≡ accepts_place place places.now replies.now }
+{
+    for (index, reply) in replies.iter().enumerate() {
+        if index == places.len() {
+            return false;
+        }
+        if accepts(place, places[index], reply) {
+            return true;
+        }
+    }
+    false
+}
+
+/// Whether this place was tried, and its RCPT accepted by this reply.
+fn accepts(place: u64, tried: u8, reply: &Reply) -> bool
+    ensures { result ≡ (tried == place && is_accepted reply.now) }
+{
+    tried as u64 == place && reply.code() < 300
+}

@@ -1,0 +1,319 @@
+//! A node does the first of its works.
+ghost use Rattle.std.specs.Prelude.{◌≡◌, ◌<◌, ◌≤◌, if◌then◌else◌, None, vec_capacity, vec_len};
+ghost use Rattle.relay_attempts.specs.declared.work.Work.TheVariants.{NoRoute, Try};
+ghost use Rattle.relay_pair.specs.BreakOff.{BreaksBehind};
+ghost use Rattle.relay_pair.specs.FirstFault.{unless_up};
+ghost use Rattle.relay_pair.specs.Give.{HasBegunOrNot, HasRoomForWork, IsFirstWork, IsListOfStops};
+ghost use Rattle.relay_pair.specs.Give.{is_tried_by, tries_of};
+ghost use Rattle.relay_pair.specs.Named.{IsFirstNamed, NoneIsNamed};
+ghost use Rattle.relay_pair.specs.Promise.{HasHappened};
+ghost use Rattle.relay_pair.specs.Relays.{AreBound, AreInOrder, free_lines, world_of};
+ghost use Rattle.relay_pair.specs.Room.{HasRoom};
+ghost use Rattle.relay_pair.specs.Step.{IsSeen, Refuses, Steps};
+ghost use Rattle.relay_pair.specs.declared.event.Event.TheVariants.{Give};
+
+use crate::connect::fault_of;
+use crate::fault::PairFault;
+use crate::host::Origin;
+use crate::ledger::{push_left, report_told};
+use crate::links::is_running;
+use crate::named::node_named;
+use crate::relays::Relays;
+use crate::seen::Seen;
+use crate::work::{Begun, GivenUp};
+use relay_attempts::Work;
+use relay_disk::{Disk, Reboot};
+use relay_node::NodeFault;
+use relay_octets::Octets;
+use relay_routes::HostName;
+use relay_slots::SLOT_COUNT;
+use relay_world::passing::{resting_crash_happens, runs_keep_all};
+use relay_world::{Attempt, Fate, Link};
+
+impl<D: Reboot + Drop> Relays<D> {
+    /// A node does its first work.
+    pub(crate) fn give(&mut self, node: usize) -> Result<Seen, PairFault>
+        requires honest { D.Disk.honest }
+        requires order { AreInOrder D.Disk.honest D.Disk.words self.old }
+        ensures steps { Steps D.Disk.honest D.Disk.words (world_of self.old) (Give node) (world_of self.new) result }
+        ensures happened { HasHappened D.Disk.honest D.Disk.words (world_of self.old) (world_of self.new) }
+        ensures order { AreInOrder D.Disk.honest D.Disk.words self.new }
+    {
+        if let Some(fault) = self.down_fault(node) {
+            return Err(fault);
+        }
+        let Some(stopped) = self.room_for_work() else {
+            return Err(PairFault::NoMemory);
+        };
+        self.do_first_work(node, stopped)
+    }
+
+    /// A node that is up does its first work, for which there is room.
+    fn do_first_work(&mut self, node: usize, stopped: Vec<usize>) -> Result<Seen, PairFault>
+        requires honest { D.Disk.honest }
+        requires order { AreInOrder D.Disk.honest D.Disk.words self.old }
+        requires room { HasRoomForWork self.old }
+        requires list { IsListOfStops self.old stopped }
+        requires up { unless_up (world_of self.old) node None ≡ None }
+        ensures steps { Steps D.Disk.honest D.Disk.words (world_of self.old) (Give node) (world_of self.new) result }
+        ensures happened { HasHappened D.Disk.honest D.Disk.words (world_of self.old) (world_of self.new) }
+        ensures order { AreInOrder D.Disk.honest D.Disk.words self.new }
+    {
+        let first = match self.hosts[node].first_work(self.alloc, self.clock) {
+            Ok(first) => first,
+            Err(_) => return Err(PairFault::NoMemory),
+        };
+        let Some(work) = first else {
+            return Err(PairFault::Nothing);
+        };
+        match work {
+            Work::NoRoute(message) => self.give_up_first(node, message, stopped),
+            Work::Try(message, hop) => self.try_first(node, message, &hop, stopped),
+        }
+    }
+
+    /// A node gives up the places of a message that have no hop.
+    fn give_up_first(
+        &mut self,
+        node: usize,
+        message: u64,
+        stopped: Vec<usize>,
+    ) -> Result<Seen, PairFault>
+        requires honest { D.Disk.honest }
+        requires order { AreInOrder D.Disk.honest D.Disk.words self.old }
+        requires room { HasRoomForWork self.old }
+        requires list { IsListOfStops self.old stopped }
+        requires first { IsFirstWork (world_of self.old) node (NoRoute message) }
+        ensures steps { Steps D.Disk.honest D.Disk.words (world_of self.old) (Give node) (world_of self.new) result }
+        ensures happened { HasHappened D.Disk.honest D.Disk.words (world_of self.old) (world_of self.new) }
+        ensures order { AreInOrder D.Disk.honest D.Disk.words self.new }
+    {
+        runs_keep_all::<D>();
+        resting_crash_happens::<D>();
+        let mut stopped = stopped;
+        match self.hosts[node].give_up(message, self.clock) {
+            GivenUp::Done(change, recorded) => {
+                let report = report_told(change, recorded.report);
+                let left = recorded.left.as_slice();
+                push_left(&mut self.ledger, node, message, 0, report, left);
+                Ok(Seen::NoRoute(message, change))
+            }
+            GivenUp::Refused(fault) => Err(fault_of(fault)),
+            GivenUp::NoRoom => Err(PairFault::NoMemory),
+            GivenUp::Stopped => {
+                self.restart(node, Origin::FromNoHop(message));
+                stopped.push(node).unwrap();
+                self.tell(&mut stopped);
+                Ok(Seen::Stopped(stopped))
+            }
+        }
+    }
+
+    /// A node begins an attempt for a message and a hop, on a link that leads there.
+    fn try_first(
+        &mut self,
+        node: usize,
+        message: u64,
+        hop: &HostName,
+        stopped: Vec<usize>,
+    ) -> Result<Seen, PairFault>
+        requires honest { D.Disk.honest }
+        requires order { AreInOrder D.Disk.honest D.Disk.words self.old }
+        requires room { HasRoomForWork self.old }
+        requires list { IsListOfStops self.old stopped }
+        requires first { IsFirstWork (world_of self.old) node (Try message hop.now) }
+        ensures steps { Steps D.Disk.honest D.Disk.words (world_of self.old) (Give node) (world_of self.new) result }
+        ensures happened { HasHappened D.Disk.honest D.Disk.words (world_of self.old) (world_of self.new) }
+        ensures order { AreInOrder D.Disk.honest D.Disk.words self.new }
+    {
+        let Some(to) = node_named(self.hosts.as_slice(), hop) else {
+            return self.start_outside(node, message, hop);
+        };
+        if !self.hosts[to].is_up() {
+            return Err(PairFault::Down);
+        }
+        let Ok(name) = Octets::from_slice(self.alloc, hop.as_slice()) else {
+            return Err(PairFault::NoMemory);
+        };
+        self.start_at_node(node, message, hop, name, to, stopped)
+    }
+
+    /// A node begins an attempt on a link that it opens to the node that the hop is, unless as many of its attempts
+    /// run as may. Where it refuses the attempt, that link breaks.
+    fn start_at_node(
+        &mut self,
+        node: usize,
+        message: u64,
+        hop: &HostName,
+        name: Octets,
+        to: usize,
+        stopped: Vec<usize>,
+    ) -> Result<Seen, PairFault>
+        requires honest { D.Disk.honest }
+        requires order { AreInOrder D.Disk.honest D.Disk.words self.old }
+        requires room { HasRoomForWork self.old }
+        requires list { IsListOfStops self.old stopped }
+        requires first { IsFirstWork (world_of self.old) node (Try message hop.now) }
+        requires name { name ≡ hop.now }
+        requires named { IsFirstNamed self.old.hosts.items hop.now to }
+        requires up { unless_up (world_of self.old) to None ≡ None }
+        ensures steps { Steps D.Disk.honest D.Disk.words (world_of self.old) (Give node) (world_of self.new) result }
+        ensures happened { HasHappened D.Disk.honest D.Disk.words (world_of self.old) (world_of self.new) }
+        ensures order { AreInOrder D.Disk.honest D.Disk.words self.new }
+    {
+        runs_keep_all::<D>();
+        if SLOT_COUNT <= tries_of(self.attempts.as_slice(), node) {
+            return Err(PairFault::Node(NodeFault::TooMany));
+        }
+        let peer = self.hosts[node].config().listen.ip().octets();
+        let _greeting = match self.open_link(to, peer) {
+            Ok(greeting) => greeting,
+            Err(fault) => return Err(fault_of(fault)),
+        };
+        let link = self.links.len();
+        match self.begin(node, message, hop, name, link) {
+            Ok(place) => {
+                self.links[link - 1].client = Some(place);
+                Ok(Seen::Started(place))
+            }
+            Err(fault) => self.break_unstarted(link, fault, stopped),
+        }
+    }
+
+    /// A link breaks whose attempt a node refused, and the node at its other end is told.
+    fn break_unstarted(
+        &mut self,
+        number: usize,
+        why: NodeFault,
+        stopped: Vec<usize>,
+    ) -> Result<Seen, PairFault>
+        requires honest { D.Disk.honest }
+        requires bound { AreBound D.Disk.honest D.Disk.words (world_of self.old) }
+        requires room { HasRoom (world_of self.old) (free_lines self.old) }
+        requires list { IsListOfStops self.old stopped }
+        requires last { (number ≡ vec_len self.old.links) × (0 < number) }
+        ensures breaks { BreaksBehind D.Disk.honest D.Disk.words (world_of self.old) (world_of self.new) number why
+            result }
+        ensures happened { HasHappened D.Disk.honest D.Disk.words (world_of self.old) (world_of self.new) }
+        ensures order { AreInOrder D.Disk.honest D.Disk.words self.new }
+    {
+        runs_keep_all::<D>();
+        let mut stopped = stopped;
+        self.links[number - 1].broken = true;
+        self.tell(&mut stopped);
+        refused_of(fault_of(why), stopped)
+    }
+}
+
+impl<D: Disk> Relays<D> {
+    /// A node begins an attempt on a link to outside.
+    fn start_outside(
+        &mut self,
+        node: usize,
+        message: u64,
+        hop: &HostName,
+    ) -> Result<Seen, PairFault>
+        requires honest { D.honest }
+        requires order { AreInOrder D.honest D.words self.old }
+        requires room { HasRoomForWork self.old }
+        requires first { IsFirstWork (world_of self.old) node (Try message hop.now) }
+        requires none { NoneIsNamed self.old.hosts.items hop.now }
+        ensures steps { Steps D.honest D.words (world_of self.old) (Give node) (world_of self.new) result }
+        ensures happened { HasHappened D.honest D.words (world_of self.old) (world_of self.new) }
+        ensures order { AreInOrder D.honest D.words self.new }
+    {
+        runs_keep_all::<D>();
+        let Ok(name) = Octets::from_slice(self.alloc, hop.as_slice()) else {
+            return Err(PairFault::NoMemory);
+        };
+        let link = self.links.len() + 1;
+        let place = match self.begin(node, message, hop, name, link) {
+            Ok(place) => place,
+            Err(fault) => return Err(fault_of(fault)),
+        };
+        self.links
+            .push(Link {
+                client: Some(place),
+                server: None,
+                up: Octets::new(Vec::new(self.alloc)),
+                up_read: 0,
+                down: Octets::new(Vec::new(self.alloc)),
+                down_read: 0,
+                broken: false,
+            })
+            .unwrap();
+        Ok(Seen::Started(place))
+    }
+
+    /// A node begins an attempt for a message and a hop of this name, on the link of this number, with room for it.
+    /// Its place among the attempts is answered.
+    fn begin(
+        &mut self,
+        node: usize,
+        message: u64,
+        hop: &HostName,
+        name: Octets,
+        link: usize,
+    ) -> Result<usize, NodeFault>
+        requires bound { AreBound D.honest D.words (world_of self.old) }
+        requires first { IsFirstWork (world_of self.old) node (Try message hop.now) }
+        requires name { name ≡ hop.now }
+        requires room { vec_len self.old.attempts < vec_capacity self.old.attempts }
+        ensures begun { HasBegunOrNot D.honest D.words (world_of self.old) (world_of self.new) node message hop.now link
+            result }
+        ensures rest { (self.new.links ≡ self.old.links) × (self.new.ledger ≡ self.old.ledger) }
+    {
+        let started = match self.hosts[node].start(message, hop, self.clock) {
+            Begun::Done(started) => started,
+            Begun::Refused(fault) => return Err(fault),
+            Begun::NoRoom => return Err(NodeFault::NoMemory),
+        };
+        let place = self.attempts.len();
+        self.attempts
+            .push(Attempt {
+                node,
+                message,
+                hop: name,
+                places: started.places,
+                link,
+                fate: Fate::Running(started.attempt),
+            })
+            .unwrap();
+        Ok(place)
+    }
+}
+
+/// How many attempts of a node run.
+fn tries_of(attempts: &[Attempt], node: usize) -> usize
+    ensures { result ≡ tries_of node attempts.now }
+{
+    let mut tries: usize = 0;
+    for place in 0..attempts.len() {
+        tries += tries_once(&attempts[place], node);
+    }
+    tries
+}
+
+/// 1 of an attempt of a node that runs, and else 0.
+fn tries_once(attempt: &Attempt, node: usize) -> usize
+    ensures count { result ≡ (if is_tried_by node attempt.now then 1 else 0) }
+    ensures once { result ≤ 1 }
+{
+    if attempt.node != node {
+        return 0;
+    }
+    if is_running(attempt.fate) {
+        return 1;
+    }
+    0
+}
+
+/// What is answered of an event that a node refused, when these nodes have stopped behind it.
+fn refused_of(why: PairFault, stopped: Vec<usize>) -> Result<Seen, PairFault>
+    ensures { IsSeen (Refuses why) stopped.items result }
+{
+    if stopped.is_empty() {
+        return Err(why);
+    }
+    Ok(Seen::Stopped(stopped))
+}

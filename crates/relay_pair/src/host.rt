@@ -1,0 +1,488 @@
+//! A node of a pair, which is up or down.
+ghost use Rattle.std.specs.Prelude.{◌≡◌, ◌↔◌, ℕ, List, [], ◌∷◌, false, true, None, IfErr, IfOk, vec_capacity, vec_len};
+ghost use Rattle.std.specs.List.{Contains};
+ghost use Rattle.relay_book.specs.declared.change.Change.{Change};
+ghost use Rattle.relay_book.specs.Marks.{Held};
+ghost use Rattle.relay_disk.specs.Device.{ImagesWithin};
+ghost use Rattle.relay_pair.specs.Call.{HasAttempt, HasSession, HearsOrNot, IsToldLoss, LosesSession, ReadsOrNot};
+ghost use Rattle.relay_pair.specs.Crash.{CrashesInCall, Decided, HolderCrashes, HolderStops, IsCutShort, OpensOrNot, StaysSo, StopsAtRest, WasCutShort, is_up_now};
+ghost use Rattle.relay_pair.specs.FirstFault.{holds_up};
+ghost use Rattle.relay_pair.specs.Host.{OwesWithin, count_some, host_in, notes_of, notes_to_come};
+ghost use Rattle.relay_pair.specs.StopNow.{DownStops, HolderStopsAgain, IsArmed};
+ghost use Rattle.relay_pair.specs.Work.{KeepsUp, KnowsIfUp, marks_in};
+ghost use Rattle.relay_pair.specs.declared.host.Holder.TheVariants.{Down};
+
+use crate::calls::{Heard, Read, ToldLoss, hear_at, lose_at, read_at};
+use relay_disk::{Disk, Reboot};
+use relay_node::{Node, NodeFault, Noted};
+use relay_octets::Octets;
+use relay_routes::Config;
+use relay_trace::Moment;
+use std::alloc::Global;
+use std::marker::Model;
+use std::mem;
+
+/// What a change came from.
+#[derive(Clone, Copy, Debug)]
+pub(crate) enum Origin {
+    /// Octets of a client, on this link.
+    FromClient(usize),
+    /// Replies on a link, of the attempt of this place, for this message.
+    FromReplies(usize, usize, u64),
+    /// The loss of a link, of the attempt of this place, for this message.
+    FromLoss(usize, usize, u64),
+    /// Places of this message without a hop.
+    FromNoHop(u64),
+}
+
+/// The change of an append that a stop left open.
+#[derive(Debug)]
+pub(crate) struct Undecided {
+    pub(crate) note: Noted,
+    pub(crate) origin: Origin,
+}
+
+// Written out, so that what drops this calls it, and doesn't look into its parts.
+impl Drop for Undecided {
+    fn drop(self) {
+        let Undecided {
+            note: _note,
+            origin: _,
+        } = self;
+    }
+}
+
+/// A node that is down: the configuration under which it will be opened, its disk, and the change that its opening
+/// decides.
+pub(crate) struct DownNode<D: Disk> {
+    pub(crate) config: Config,
+    pub(crate) disk: D,
+    pub(crate) undecided: Option<Undecided>,
+}
+
+// Written out, so that what drops this calls it, and doesn't look into its parts.
+impl<D: Disk + Drop> Drop for DownNode<D> {
+    fn drop(self) {
+        let DownNode {
+            config: _config,
+            disk: _disk,
+            undecided: _undecided,
+        } = self;
+    }
+}
+
+/// A node that is up, or what a stop has left of one.
+pub(crate) enum Holder<D: Disk> {
+    /// It is up.
+    Up(Node<D>),
+    /// It is down.
+    Down(DownNode<D>),
+}
+
+// Written out, so that what drops a holder calls this, and doesn't look into its parts.
+impl<D: Disk + Drop> Drop for Holder<D> {
+    fn drop(self) {
+        match self {
+            Holder::Up(_node) => {}
+            Holder::Down(_down) => {}
+        }
+    }
+}
+
+/// A node of a pair, the records of its changes, how many more may be owed, for which there is room, and what a stop
+/// that waits for it leaves of its disk.
+pub(crate) struct Host<D: Disk> {
+    pub(crate) holder: Holder<D>,
+    pub(crate) records: Vec<Octets>,
+    pub(crate) owed: usize,
+    pub(crate) pick: u64,
+}
+
+// Written out, so that what drops a host calls this, and doesn't look into its parts.
+impl<D: Disk + Drop> Drop for Host<D> {
+    fn drop(self) {
+        let Host {
+            holder: _holder,
+            records: _records,
+            owed: _,
+            pick: _,
+        } = self;
+    }
+}
+
+impl<D: Disk> Model for Host<D> {
+    ghost use Rattle.std.specs.Prelude.{vec_capacity, vec_len};
+    ghost use Rattle.relay_pair.specs.Host.{OwesWithin, host_in, notes_to_come};
+    ghost use Rattle.relay_world.specs.World.{Host as HostOf};
+
+    ghost Value = { HostOf D };
+
+    ghost view = { λ host. host_in host.holder host.records.items };
+
+    ghost invariant = { λ host.
+        OwesWithin (notes_to_come host.holder) (vec_len host.records) (vec_capacity host.records) host.owed };
+}
+
+impl<D: Disk> Host<D> {
+    /// Whether the node is up.
+    pub(crate) fn is_up(&self) -> bool
+        ensures { result ≡ holds_up self.now.holder }
+    {
+        match &self.holder {
+            Holder::Up(_) => true,
+            Holder::Down(_) => false,
+        }
+    }
+
+    /// The configuration of the node, which it was made with, or will be opened with.
+    pub(crate) fn config(&self) -> &Config
+        ensures { result.now ≡ self.now.config }
+    {
+        match &self.holder {
+            Holder::Up(node) => node.config(),
+            Holder::Down(down) => &down.config,
+        }
+    }
+
+    /// The held places of the node's messages, in order; none of a node that is down. Its only fault is want of memory.
+    pub(crate) fn marks(&self, alloc: Global) -> Result<Vec<(u64, u8)>, NodeFault>
+        requires { KnowsIfUp D.honest D.words self.now.holder }
+        ensures marks { IfOk result (λ marks. marks.items ≡ marks_in self.now.holder) }
+        ensures kept { (changes : List Change) → KeepsUp D.honest D.words self.now.holder changes
+            → IfOk result (λ marks. (number place : ℕ)
+            → Contains {X = ℕ × ℕ} marks.items (number, place) ↔ Held changes number place) }
+        ensures fault { IfErr result (λ fault. fault ≡ NodeFault.NoMemory) }
+    {
+        match &self.holder {
+            Holder::Up(node) => node.marks(alloc),
+            Holder::Down(_) => Ok(Vec::new(alloc)),
+        }
+    }
+
+    /// Ends a session that goes on.
+    pub(crate) fn end(&mut self, session: usize)
+        requires { HasSession D.honest D.words self.old session }
+        ensures { LosesSession self.old self.new session }
+    {
+        let Holder::Up(node) = &mut self.holder else {
+            unreachable!()
+        };
+        let _ = node.ended(session);
+    }
+
+    /// Tells the node that the connection of an attempt that runs is lost.
+    pub(crate) fn lose(&mut self, slot: usize, now: Moment) -> ToldLoss
+        requires { HasAttempt D.honest D.words self.old slot }
+        ensures { IsToldLoss D.honest D.words now self.old self.new slot result }
+    {
+        let Holder::Up(node) = &mut self.holder else {
+            unreachable!()
+        };
+        lose_at(node, &mut self.records, &mut self.owed, slot, now)
+    }
+
+    /// The node reads replies for an attempt that runs, by one call.
+    pub(crate) fn read(&mut self, slot: usize, piece: &[u8], now: Moment) -> Read
+        requires { HasAttempt D.honest D.words self.old slot }
+        ensures { ReadsOrNot D.honest D.words now self.old self.new slot piece.now result }
+    {
+        let Holder::Up(node) = &mut self.holder else {
+            unreachable!()
+        };
+        read_at(node, &mut self.records, &mut self.owed, slot, piece, now)
+    }
+
+    /// The node hears octets of a client on a session that goes on, by one call.
+    pub(crate) fn hear(&mut self, session: usize, piece: &[u8], now: Moment) -> Heard
+        requires { HasSession D.honest D.words self.old session }
+        ensures { HearsOrNot D.honest D.words now self.old self.new session piece.now result }
+    {
+        let Holder::Up(node) = &mut self.holder else {
+            unreachable!()
+        };
+        hear_at(node, &mut self.records, &mut self.owed, session, piece, now)
+    }
+}
+
+impl<D: Reboot + Drop> Host<D> {
+    /// A node that is up stops between two calls. Where memory runs out, its disk is as it is.
+    pub(crate) fn stop(self, pick: u64) -> Self
+        requires { holds_up self.holder ≡ true }
+        ensures { StopsAtRest D.Disk.honest D.Disk.words self result }
+    {
+        let Host {
+            holder,
+            records,
+            owed,
+            pick: _,
+        } = self;
+        Host {
+            holder: holder.stop(pick),
+            records,
+            owed,
+            pick: 0,
+        }
+    }
+
+    /// A node that stopped in a call goes down, with the change that it was adding.
+    pub(crate) fn crash(self, origin: Origin) -> Self
+        requires { IsCutShort self.holder }
+        ensures { CrashesInCall D.Disk.honest D.Disk.words self result origin }
+    {
+        let Host {
+            holder,
+            records,
+            owed,
+            pick,
+        } = self;
+        Host {
+            holder: holder.crash(pick, origin),
+            records,
+            owed,
+            pick: 0,
+        }
+    }
+
+    /// A node that is down is opened, or stays down where its disk is refused, or memory runs out. Where it has the
+    /// change that was undecided, that is answered, without its record.
+    pub(crate) fn open(self, alloc: Global) -> (Self, Option<Undecided>)
+        requires { holds_up self.holder ≡ false }
+        ensures { OpensOrNot D.Disk.honest D.Disk.words self result.0 result.1 }
+    {
+        let Host {
+            holder,
+            records,
+            owed,
+            pick,
+        } = self;
+        holder.open(alloc, records, owed, pick)
+    }
+}
+
+impl<D: Reboot + Drop> Holder<D> {
+    /// A node that is up stops between two calls.
+    fn stop(self, pick: u64) -> Self
+        requires { is_up_now self ≡ true }
+        ensures { HolderStops D.Disk.honest D.Disk.words self result }
+    {
+        match self {
+            Holder::Up(node) => {
+                let (config, disk) = node.into_parts();
+                let disk = stopped(disk, pick);
+                Holder::Down(DownNode {
+                    config,
+                    disk,
+                    undecided: None,
+                })
+            }
+            Holder::Down(_down) => unreachable!(),
+        }
+    }
+
+    /// A node that stopped in a call goes down, with the change that it was adding.
+    fn crash(self, pick: u64, origin: Origin) -> Self
+        requires { WasCutShort self }
+        ensures { HolderCrashes D.Disk.honest D.Disk.words self result origin }
+    {
+        match self {
+            Holder::Up(node) => {
+                let mut node = node;
+                let Some(note) = node.take_noted() else {
+                    unreachable!()
+                };
+                let (config, disk) = node.into_parts();
+                let disk = stopped(disk, pick);
+                Holder::Down(DownNode {
+                    config,
+                    disk,
+                    undecided: Some(Undecided { note, origin }),
+                })
+            }
+            Holder::Down(_down) => unreachable!(),
+        }
+    }
+}
+
+impl<D: Reboot + Drop> Holder<D> {
+    /// A node that is down is opened.
+    fn open(
+        self,
+        alloc: Global,
+        records: Vec<Octets>,
+        owed: usize,
+        pick: u64,
+    ) -> (Host<D>, Option<Undecided>)
+        requires down { is_up_now self ≡ false }
+        requires room { OwesWithin (notes_to_come self) (vec_len records) (vec_capacity records) owed }
+        ensures { OpensOrNot D.Disk.honest D.Disk.words (host_in self records.items) result.0 result.1 }
+    {
+        match self {
+            Holder::Up(_node) => unreachable!(),
+            Holder::Down(down) => down.open(alloc, records, owed, pick),
+        }
+    }
+}
+
+impl<D: Reboot + Drop> DownNode<D> {
+    /// It is opened, as the host of these records, for which there is room.
+    fn open(
+        self,
+        alloc: Global,
+        records: Vec<Octets>,
+        owed: usize,
+        pick: u64,
+    ) -> (Host<D>, Option<Undecided>)
+        requires { OwesWithin (count_some (self.undecided ∷ [])) (vec_len records) (vec_capacity records) owed }
+        ensures { OpensOrNot D.Disk.honest D.Disk.words (host_in (Down self) records.items) result.0 result.1 }
+    {
+        let DownNode {
+            config,
+            disk,
+            undecided,
+        } = self;
+        match Node::open_again(alloc, config, disk) {
+            Ok(node) => decide(alloc, node, undecided, records, owed, pick),
+            Err(not) => {
+                let holder = Holder::Down(DownNode {
+                    config: not.config,
+                    disk: not.refused.disk,
+                    undecided,
+                });
+                (
+                    Host {
+                        holder,
+                        records,
+                        owed,
+                        pick,
+                    },
+                    None,
+                )
+            }
+        }
+    }
+}
+
+impl<D: Reboot + Drop> Host<D> {
+    /// A node that is down stops again. Where memory runs out, its disk is as it is.
+    pub(crate) fn stop_again(self, pick: u64) -> Self
+        requires { holds_up self.holder ≡ false }
+        ensures { StaysSo D.Disk.honest D.Disk.words self result None }
+    {
+        let Host {
+            holder,
+            records,
+            owed,
+            pick: _,
+        } = self;
+        Host {
+            holder: holder.stop_again(pick),
+            records,
+            owed,
+            pick: 0,
+        }
+    }
+
+    /// A stop is set for a node that is up: so many calls of its disk pass, and the next fails.
+    pub(crate) fn arm(&mut self, calls: u64, pick: u64)
+        requires { holds_up self.old.holder ≡ true }
+        ensures { IsArmed D.Disk.honest D.Disk.words self.old self.new }
+    {
+        let Holder::Up(node) = &mut self.holder else {
+            unreachable!()
+        };
+        node.fuse(calls);
+        self.pick = pick;
+    }
+}
+
+impl<D: Reboot + Drop> Holder<D> {
+    /// A node that is down stops again.
+    fn stop_again(self, pick: u64) -> Self
+        requires { is_up_now self ≡ false }
+        ensures { HolderStopsAgain D.Disk.honest D.Disk.words self result }
+    {
+        match self {
+            Holder::Up(_node) => unreachable!(),
+            Holder::Down(down) => Holder::Down(down.stop_again(pick)),
+        }
+    }
+}
+
+impl<D: Reboot + Drop> DownNode<D> {
+    /// It stops again.
+    fn stop_again(self, pick: u64) -> Self
+        ensures { DownStops D.Disk.honest D.Disk.words self result }
+    {
+        let DownNode {
+            config,
+            disk,
+            undecided,
+        } = self;
+        DownNode {
+            config,
+            disk: stopped(disk, pick),
+            undecided,
+        }
+    }
+}
+
+/// What a stop leaves of a disk. Where memory runs out, it is the disk as it is.
+fn stopped<D: Reboot>(disk: D, pick: u64) -> D
+    ensures { D.Disk.honest → ImagesWithin D.Disk.words disk result }
+{
+    match disk.after_stop(pick) {
+        Ok(stopped) => stopped,
+        Err(refused) => refused.value,
+    }
+}
+
+/// The host of a node that was opened: it has the change that was undecided exactly where its next number is above the
+/// change's own.
+fn decide<D: Disk>(
+    alloc: Global,
+    node: Node<D>,
+    undecided: Option<Undecided>,
+    records: Vec<Octets>,
+    owed: usize,
+    pick: u64,
+) -> (Host<D>, Option<Undecided>)
+    requires idle { notes_of node ≡ 0 }
+    requires room { OwesWithin (count_some (undecided ∷ [])) (vec_len records) (vec_capacity records) owed }
+    ensures { Decided node records.items undecided result.0 result.1 }
+{
+    let Some(undecided) = undecided else {
+        return (
+            Host {
+                holder: Holder::Up(node),
+                records,
+                owed,
+                pick,
+            },
+            None,
+        );
+    };
+    if node.next_number() <= undecided.note.number {
+        return (
+            Host {
+                holder: Holder::Up(node),
+                records,
+                owed,
+                pick,
+            },
+            None,
+        );
+    }
+    let mut undecided = undecided;
+    let mut records = records;
+    let octets = mem::replace(&mut undecided.note.octets, Octets::new(Vec::new(alloc)));
+    records.push(octets).unwrap();
+    (
+        Host {
+            holder: Holder::Up(node),
+            records,
+            owed: owed - 1,
+            pick,
+        },
+        Some(undecided),
+    )
+}

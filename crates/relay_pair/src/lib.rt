@@ -1,0 +1,41 @@
+//! Two relays that run, and keep their promise of mail.
+#![tactic(auto)]
+
+mod act;
+mod begin;
+mod calls;
+mod carry;
+mod carry_to_client;
+mod carry_to_server;
+mod connect;
+mod copies;
+mod event;
+mod fault;
+mod first_fault;
+mod give;
+mod heard;
+mod host;
+mod ledger;
+mod let_go;
+mod links;
+mod marks;
+mod named;
+mod pair;
+mod part;
+mod profile;
+mod recorded;
+mod relays;
+mod restart;
+mod room;
+mod seen;
+mod send;
+mod step;
+mod stop;
+mod tell;
+mod work;
+mod work_room;
+
+pub use event::Event;
+pub use fault::PairFault;
+pub use pair::Pair;
+pub use seen::Seen;

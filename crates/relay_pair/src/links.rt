@@ -1,0 +1,148 @@
+//! One link of a pair.
+ghost use Rattle.std.specs.Prelude.{◌≡◌, ◌<◌, suc, None, Some, drop, length, MatchOption};
+ghost use Rattle.relay_world.specs.World.{link_at};
+ghost use Rattle.relay_pair.specs.FirstFault.{client_closed, client_idles, has_outside, is_nil, is_running, runs_there, server_closed, server_idles, whole_link};
+ghost use Rattle.relay_pair.specs.Told.{hears_on, is_untold, tries_on};
+ghost use Rattle.relay_world.specs.Crashes.{serves_for, tries_for};
+
+use relay_world::{Attempt, Fate, Link, ServerEnd};
+
+/// The place of the link of a number. Numbers count from 1.
+pub(crate) fn place_of(links: &[Link], number: usize) -> Option<usize>
+    ensures { MatchOption result (link_at links.now number ≡ None)
+        (λ place. (number ≡ suc place) × (place < length links.now)) }
+{
+    if number == 0 || links.len() < number {
+        return None;
+    }
+    Some(number - 1)
+}
+
+/// The place of the link of a number, unless it is broken.
+pub(crate) fn whole_link(links: &[Link], number: usize) -> Option<&Link>
+    ensures { MatchOption result (whole_link links.now number ≡ None)
+        (λ link. whole_link links.now number ≡ Some link.now) }
+{
+    let place = place_of(links, number)?;
+    let link = &links[place];
+    if link.broken {
+        return None;
+    }
+    Some(link)
+}
+
+/// Whether an attempt goes on.
+pub(crate) fn is_running(fate: Fate) -> bool
+    ensures { result ≡ is_running fate }
+{
+    match fate {
+        Fate::Running(_) => true,
+        Fate::Replied(_) => false,
+        Fate::Lost(_) => false,
+        Fate::Dropped => false,
+    }
+}
+
+/// Whether the attempt of a client end runs.
+pub(crate) fn tries_on(attempts: &[Attempt], client: Option<usize>) -> bool
+    ensures { result ≡ tries_on attempts.now client }
+{
+    let Some(place) = client else {
+        return false;
+    };
+    match attempts.get(place) {
+        Some(attempt) => is_running(attempt.fate),
+        None => false,
+    }
+}
+
+/// Whether a session goes on at a server end.
+pub(crate) fn hears_on(server: &Option<ServerEnd>) -> bool
+    ensures { result ≡ hears_on server.now }
+{
+    match server {
+        Some(end) => end.session.is_some(),
+        None => false,
+    }
+}
+
+/// Whether the attempt of a client end is over.
+fn client_closed(attempts: &[Attempt], client: Option<usize>) -> bool
+    ensures { result ≡ client_closed attempts.now client }
+{
+    if client.is_none() {
+        return false;
+    }
+    !tries_on(attempts, client)
+}
+
+/// Whether the session of a server end is over.
+fn server_closed(server: &Option<ServerEnd>) -> bool
+    ensures { result ≡ server_closed server.now }
+{
+    match server {
+        Some(end) => end.session.is_none(),
+        None => false,
+    }
+}
+
+/// Whether outside has an end of a link.
+pub(crate) fn has_outside(link: &Link) -> bool
+    ensures { result ≡ has_outside link.now }
+{
+    if link.client.is_none() {
+        return true;
+    }
+    link.server.is_none()
+}
+
+/// Whether a node has still to be told that a link is broken.
+pub(crate) fn is_untold(attempts: &[Attempt], link: &Link) -> bool
+    ensures { result ≡ is_untold attempts.now link.now }
+{
+    if !link.broken {
+        return false;
+    }
+    if hears_on(&link.server) {
+        return true;
+    }
+    tries_on(attempts, link.client)
+}
+
+/// Whether there is nothing to carry to the server end of a link: it has closed; or no octet waits there, and the other
+/// end goes on.
+pub(crate) fn server_idles(attempts: &[Attempt], link: &Link) -> bool
+    ensures { result ≡ server_idles attempts.now link.now }
+{
+    if server_closed(&link.server) {
+        return true;
+    }
+    if is_read(link.up.as_slice(), link.up_read) {
+        return !client_closed(attempts, link.client);
+    }
+    false
+}
+
+/// Whether there is nothing to carry to the client end of a link.
+pub(crate) fn client_idles(attempts: &[Attempt], link: &Link) -> bool
+    ensures { result ≡ client_idles attempts.now link.now }
+{
+    if client_closed(attempts, link.client) {
+        return true;
+    }
+    if is_read(link.down.as_slice(), link.down_read) {
+        return !server_closed(&link.server);
+    }
+    false
+}
+
+/// Whether no octet waits behind so many.
+#[tactic(auto, using(crate::proofs::FaultLemmas::all_read, crate::proofs::FaultLemmas::some_waits))]
+pub(crate) fn is_read(octets: &[u8], read: usize) -> bool
+    ensures { result ≡ is_nil (drop read octets.now) }
+{
+    if octets.len() <= read {
+        return true;
+    }
+    false
+}

@@ -1,0 +1,151 @@
+//! Two relays that run.
+ghost use Rattle.std.specs.Prelude.{◌≡◌, IfOk};
+ghost use Rattle.relay_pair.specs.Begin.{HasBegun};
+ghost use Rattle.relay_pair.specs.Copied.{CountsCopies};
+ghost use Rattle.relay_pair.specs.Marks.{marks_from};
+ghost use Rattle.relay_pair.specs.Promise.{HasHappened, KeepsItsPromise};
+ghost use Rattle.relay_pair.specs.Relays.{AreBound};
+ghost use Rattle.relay_pair.specs.Step.{Steps, StepsEach};
+
+use crate::event::Event;
+use crate::fault::PairFault;
+use crate::host::Host;
+use crate::profile::{first_profile, second_profile};
+use crate::relays::Relays;
+use crate::seen::Seen;
+use relay_disk::{Disk, MemoryDisk, Reboot};
+use relay_world::passing::{hop_links_at_first, once_at_first, promise_is_kept};
+use relay_world::{Attempt, Line, Link};
+use std::alloc::{AllocError, Global};
+use std::marker::Model;
+
+/// Two relays, the links between them and to outside, and what has come of their mail.
+pub struct Pair<D: Disk> {
+    relays: Relays<D>,
+}
+
+// Written out, so that what drops a pair calls this, and doesn't look into its parts.
+impl<D: Disk + Drop> Drop for Pair<D> {
+    fn drop(self) {
+        let Pair { relays: _relays } = self;
+    }
+}
+
+impl<D: Disk> Model for Pair<D> {
+    ghost use Rattle.relay_pair.specs.Relays.{AreInOrder, world_of};
+    ghost use Rattle.relay_world.specs.World.{World};
+
+    ghost Value = { World D };
+
+    ghost view = { λ pair. world_of pair.relays };
+
+    ghost invariant = { λ pair. AreInOrder D.honest D.words pair.relays };
+}
+
+impl Pair<MemoryDisk> {
+    /// Two relays on disks in memory, at the moment 0: node 0 is `a.example` at 10.0.0.1, node 1 `b.example` at
+    /// 10.0.0.2, each with the routes that it has in a play. It fails where memory runs out.
+    pub fn new(alloc: Global) -> Result<Self, AllocError>
+        ensures { IfOk result (HasBegun ⟦<MemoryDisk as Disk>⟧.honest ⟦<MemoryDisk as Disk>⟧.words) }
+    {
+        Pair::begin(alloc, MemoryDisk::new(alloc), MemoryDisk::new(alloc))
+    }
+}
+
+impl<D: Disk + Drop> Pair<D> {
+    /// The same two relays, on these disks, which are empty. It fails where memory runs out, and where a disk fails or
+    /// isn't empty.
+    pub fn begin(alloc: Global, first: D, second: D) -> Result<Self, AllocError>
+        ensures { IfOk result (HasBegun D.Disk.honest D.Disk.words) }
+    {
+        once_at_first::<D>();
+        hop_links_at_first::<D>();
+        let Ok(first) = Host::create(alloc, first_profile(alloc)?, first) else {
+            return Err(AllocError);
+        };
+        let Ok(second) = Host::create(alloc, second_profile(alloc)?, second) else {
+            return Err(AllocError);
+        };
+        let relays = Relays::of_hosts(alloc, first, second)?;
+        Ok(Pair { relays })
+    }
+}
+
+impl<D: Disk> Pair<D> {
+    /// What has come of mail so far, in order: a line for each message that a node has accepted, and for each place
+    /// that has left one.
+    pub fn ledger(&self) -> &[Line]
+        ensures { result.now ≡ self.now.ledger }
+    {
+        self.relays.ledger.as_slice()
+    }
+
+    /// All links, in the order of their numbers, which count from 1, with all octets that were written on them.
+    pub fn links(&self) -> &[Link]
+        ensures { result.now ≡ self.now.links }
+    {
+        self.relays.links.as_slice()
+    }
+
+    /// All attempts to pass mail on, in the order in which they began.
+    pub fn attempts(&self) -> &[Attempt]
+        ensures { result.now ≡ self.now.attempts }
+    {
+        self.relays.attempts.as_slice()
+    }
+
+    /// All held places of the nodes that are up, each with its node and the number of its message, in order. It fails
+    /// where memory runs out.
+    pub fn marks(&self, alloc: Global) -> Result<Vec<(usize, u64, u8)>, AllocError>
+        ensures { IfOk result (λ marks. marks.items ≡ marks_from 0 self.now.hosts) }
+    {
+        self.relays.marks(alloc)
+    }
+
+    /// How many copies of a place of a node's message its attempts have made, among nodes of ours: the messages that
+    /// were accepted on the links of those whose RCPT for the place was answered 2yz. There is one at most, and one
+    /// more at most for each reply that was lost. It fails where memory runs out.
+    pub fn copies(
+        &self,
+        alloc: Global,
+        node: usize,
+        message: u64,
+        place: u64,
+    ) -> Result<usize, AllocError>
+        ensures { IfOk result (CountsCopies D.honest D.words self.now node message place) }
+    {
+        self.relays.copies(alloc, node, message, place)
+    }
+
+    /// The relays of a pair are bound between two events.
+    fn is_bound(&self)
+        ensures { AreBound D.honest D.words self.now }
+    {
+        let _relays = &self.relays;
+    }
+}
+
+impl<D: Reboot + Drop> Pair<D> {
+    /// One event happens. Where it is refused, nothing changes.
+    pub fn step(&mut self, event: &Event) -> Result<Seen, PairFault>
+        requires { D.Disk.honest }
+        ensures steps { Steps D.Disk.honest D.Disk.words self.old event.now self.new result }
+        ensures happened { HasHappened D.Disk.honest D.Disk.words self.old self.new }
+    {
+        self.relays.step(event)
+    }
+
+    /// Events happen, one behind another, also behind one that is refused. Whatever they are, the promise of mail is
+    /// kept.
+    pub fn run(&mut self, events: &[Event])
+        requires { D.Disk.honest }
+        ensures steps { StepsEach D.Disk.honest D.Disk.words self.old events.now self.new }
+        ensures promise { KeepsItsPromise D.Disk.honest D.Disk.words self.old self.new }
+    {
+        promise_is_kept::<D>();
+        self.is_bound();
+        for event in events {
+            let _ = self.step(event);
+        }
+    }
+}
