@@ -11,7 +11,7 @@ use Rattle.clap.specs.declared.builder.value_parser.ValueParser.TheVariants.{Uns
 use Rattle.clap.specs.declared.error.kind.ErrorKind.TheVariants.{DisplayHelp, MissingRequiredArgument}
 use Rattle.clap.specs.declared.error.kind.ErrorKind.TheVariants.{MissingSubcommand, UnknownArgument, ValueValidation}
 use Rattle.relayd.specs.declared.words.Subcommand.{Subcommand}
-use Rattle.relayd.specs.declared.words.Subcommand.TheVariants.{Session, Init, List as ListHeld, Serve, Push}
+use Rattle.relayd.specs.declared.words.Subcommand.TheVariants.{Session, Play, Init, List as ListHeld, Serve, Push}
 
 -- a program that wants a subcommand, and has none for help
 abbrev pub without_subcommands : App
@@ -44,11 +44,15 @@ serving = with_rule (with_rule (configured (codes "serve")) rounds_rule) log_rul
 abbrev pub pushing : App
 pushing = with_rule (configured (codes "push")) log_rule
 
--- the program with its subcommands that need no socket
+-- the program with its subcommands that need no file
+abbrev pub without_files : App
+without_files =
+    with_subcommand (with_subcommand without_subcommands (new_app (codes "session")).top) (new_app (codes "play")).top
+
+-- and with those that need no socket
 abbrev pub over_files : App
 over_files =
-    with_subcommand (with_subcommand (with_subcommand without_subcommands (new_app (codes "session")).top)
-    (configured (codes "init")).top) (configured (codes "list")).top
+    with_subcommand (with_subcommand without_files (configured (codes "init")).top) (configured (codes "list")).top
 
 -- the program and its subcommands
 abbrev pub relayd : App
@@ -61,6 +65,7 @@ faults_in words = fault_of relayd words
 -- what a program is asked to do
 pub data Asked : Type 0 where
   AskedSession : Asked
+  AskedPlay : Asked
   AskedInit : Text → Asked
   AskedList : Text → Asked
   AskedServe : Text → ℕ → Bool → Asked
@@ -88,6 +93,7 @@ asked_by name rows =
     else if bytes_eq name (codes "list") then AskedList (config_in rows)
     else if bytes_eq name (codes "serve") then AskedServe (config_in rows) (rounds_in rows) (is_logged_in rows)
     else if bytes_eq name (codes "push") then AskedPush (config_in rows) (is_logged_in rows)
+    else if bytes_eq name (codes "play") then AskedPlay
     else AskedSession
 
 -- a subcommand's name, and what it was given; without one the argument reader refuses the words
@@ -102,6 +108,7 @@ asked_in words = asked_of (subcommand_of relayd words)
 -- what a subcommand asks for
 abbrev pub asked : Subcommand → Asked
 asked Session = AskedSession
+asked Play = AskedPlay
 asked (Init file) = AskedInit file.now
 asked (ListHeld file) = AskedList file.now
 asked (Serve file rounds log) = AskedServe file.now rounds log
@@ -125,8 +132,8 @@ ServesAndPushes name =
     ≡ AskedServe (codes "c") 25 true)
     × (asked_in (words_of name (codes "push") []) ≡ AskedPush (codes "c") false)
 
--- `session` alone is taken, and so are `init` and `list` with a file; without a subcommand, without the file and with a
--- further word they aren't; `--help` asks for help
+-- `session` and `play` alone are taken, and so are `init` and `list` with a file; without a subcommand, without the
+-- file and with a further word they aren't; `--help` asks for help
 abbrev pub WordsAreTaken : Type 0
 WordsAreTaken =
     (name : Text) → (faults_in (name ∷ codes "session" ∷ []) ≡ [])
@@ -139,11 +146,18 @@ WordsAreTaken =
     × (asked_in (name ∷ codes "init" ∷ codes "--config" ∷ codes "relayd.toml" ∷ []) ≡ AskedInit (codes "relayd.toml"))
     × (asked_in (name ∷ codes "list" ∷ codes "--config=relayd.toml" ∷ []) ≡ AskedList (codes "relayd.toml"))
     × (asked_in (name ∷ codes "session" ∷ []) ≡ AskedSession)
+    × (faults_in (name ∷ codes "play" ∷ []) ≡ [])
+    × (faults_in (name ∷ codes "play" ∷ codes "more" ∷ []) ≡ UnknownArgument ∷ [])
+    × (asked_in (name ∷ codes "play" ∷ []) ≡ AskedPlay)
     × ServesAndPushes name
 
 -- the argument reader finds no fault in the words, and they ask for a session
 abbrev pub AskForSession : List Text → Type 0
 AskForSession words = (faults_in words ≡ []) × (asked_in words ≡ AskedSession)
+
+-- so it does, and they ask for a play
+abbrev pub AskForPlay : List Text → Type 0
+AskForPlay words = (faults_in words ≡ []) × (asked_in words ≡ AskedPlay)
 
 -- the words are wrong, and don't ask for help
 abbrev pub AreWrong : Kinds → Type 0

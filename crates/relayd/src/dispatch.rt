@@ -1,13 +1,14 @@
 ghost use Rattle.std.specs.Prelude.{◌≡◌, ◌≢◌, ◌⊎◌, [], ◌∷◌, map, MatchResult};
 ghost use Rattle.clap.specs.Words.{kind_of};
-ghost use Rattle.relayd.specs.Arguments.{AreWrong, AskForSession, faults_in};
+ghost use Rattle.relayd.specs.Arguments.{AreWrong, AskForPlay, AskForSession, faults_in};
 ghost use Rattle.relayd.specs.Session.{EndsAs};
 
 use crate::streams::session;
 use crate::words::{Subcommand, arguments};
 use clap::Error;
 use clap::error::ErrorKind;
-use relay_service::{Fault, init, list, push, serve};
+use relay_play::play;
+use relay_service::{init, list, push, serve};
 use std::alloc::Global;
 use std::convert::AsStr;
 use std::fmt::Display;
@@ -43,11 +44,12 @@ pub fn command<
         → ((result ≡ 1) ⊎ (result ≡ 2)) × (W.contents writer.new ≡ W.contents writer.old) }
     ensures help { faults_in (map S.text words.now) ≡ ErrorKind.DisplayHelp ∷ [] → (result ≡ 0)
         ⊎ (result ≡ 1) }
-    ensures unread { ¬ AskForSession (map S.text words.now)
+    ensures unread { ¬ AskForSession (map S.text words.now) → ¬ AskForPlay (map S.text words.now)
         → R.remaining reader.new ≡ R.remaining reader.old }
 {
     match arguments(alloc, words) {
         Ok(Subcommand::Session) => ended(session(alloc, reader, writer), errors),
+        Ok(Subcommand::Play) => ended(play(alloc, reader, writer), errors),
         Ok(Subcommand::Init(file)) => ended(init(alloc, system, file), errors),
         Ok(Subcommand::List(file)) => ended(list(alloc, system, file, writer), errors),
         Ok(Subcommand::Serve { file, rounds, log }) => {
@@ -63,7 +65,7 @@ pub fn command<
 }
 
 /// The status of a subcommand's end; a fault has its line on `errors`.
-fn ended<E: Write>(end: Result<(), Fault>, errors: &mut E) -> u8
+fn ended<F: Display + Drop, E: Write>(end: Result<(), F>, errors: &mut E) -> u8
     ensures { MatchResult end (λ _. result ≡ 0) (λ _. result ≡ 1) }
 {
     match end {

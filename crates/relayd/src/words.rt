@@ -3,7 +3,7 @@ ghost use Rattle.clap.specs.Words.{FailsBy, app_of, found_of, new_app, rows_of, 
 ghost use Rattle.relayd.specs.Arguments.{WordsAreTaken, asked, asked_by, asked_in, asked_of, config_in};
 ghost use Rattle.relayd.specs.Arguments.{config_rule, configured, faults_in, is_logged_in, log_rule};
 ghost use Rattle.relayd.specs.Arguments.{over_files, pushing, relayd, rounds_in, rounds_of, rounds_rule};
-ghost use Rattle.relayd.specs.Arguments.{serving, without_subcommands};
+ghost use Rattle.relayd.specs.Arguments.{serving, without_files, without_subcommands};
 
 use clap::builder::ValueParser;
 use clap::{Arg, ArgAction, ArgMatches, Command, Error};
@@ -15,6 +15,8 @@ use std::convert::AsStr;
 pub enum Subcommand<'a> {
     /// One session from standard input to standard output.
     Session,
+    /// A play of two relays, by a script from standard input.
+    Play,
     /// A spool is made, by the configuration in this file.
     Init(&'a str),
     /// What is held in the spool is listed, by the configuration in this file.
@@ -80,6 +82,8 @@ fn named<'a>(name: &str, matches: &ArgMatches<'a>) -> Subcommand<'a>
             file: config(matches),
             log: is_logged(matches),
         }
+    } else if name == "play" {
+        Subcommand::Play
     } else {
         Subcommand::Session
     }
@@ -146,20 +150,29 @@ fn program<'a>(alloc: Global) -> Result<Command<'a>, AllocError>
 fn over_files<'a>(alloc: Global) -> Result<Command<'a>, AllocError>
     ensures { IfOk result (λ command. app_of command ≡ over_files) }
 {
-    let session = session(alloc);
-    let with_session = without_subcommands(alloc).subcommand(session)?;
+    let without_files = without_files(alloc)?;
     let init = with_file(
         alloc,
         "init",
         "Makes the spool that the configuration names",
     )?;
-    let with_init = with_session.subcommand(init)?;
+    let with_init = without_files.subcommand(init)?;
     let list = with_file(
         alloc,
         "list",
         "Lists each recipient that the spool holds: message, place, path, due moment",
     )?;
     with_init.subcommand(list)
+}
+
+/// The program with its subcommands that need no file. It fails where memory runs out.
+fn without_files<'a>(alloc: Global) -> Result<Command<'a>, AllocError>
+    ensures { IfOk result (λ command. app_of command ≡ without_files) }
+{
+    let session = session(alloc);
+    let with_session = without_subcommands(alloc).subcommand(session)?;
+    let play = play(alloc);
+    with_session.subcommand(play)
 }
 
 /// The program without its subcommands, of which one has to be entered.
@@ -178,6 +191,15 @@ fn session<'a>(alloc: Global) -> Command<'a>
 {
     Command::new(alloc, "session").about(
         "Holds one SMTP session from standard input to standard output",
+    )
+}
+
+/// `play`
+fn play<'a>(alloc: Global) -> Command<'a>
+    ensures { app_of result ≡ new_app (codes "play") }
+{
+    Command::new(alloc, "play").about(
+        "Plays a script of two relays from standard input, and tells what is seen of each line",
     )
 }
 

@@ -1,0 +1,58 @@
+//! Why a play ends before its script does.
+ghost use Rattle.std.specs.Prelude.{◌≡◌, ◌⊎◌};
+
+use std::alloc::AllocError;
+use std::io;
+use thiserror::Error;
+
+/// Why a play ends before its script does. Its text stands behind `relayd: `.
+#[derive(Clone, Copy, Debug, PartialEq, Eq, Error)]
+pub enum PlayFault {
+    /// The line of this number, from 1, is no line of a script.
+    #[error("script line {0}")]
+    Line(u64),
+    /// The script can't be read.
+    #[error("input")]
+    Input,
+    /// What is seen can't be written.
+    #[error("output")]
+    Output,
+    /// Memory ran out.
+    #[error("no memory")]
+    NoMemory,
+}
+
+impl PlayFault {
+    /// The fault of a reader.
+    pub(crate) fn of_input(error: &io::Error) -> Self
+        ensures { (result ≡ PlayFault.NoMemory) ⊎ (result ≡ PlayFault.Input) }
+    {
+        if error.kind() == io::ErrorKind::OutOfMemory {
+            PlayFault::NoMemory
+        } else {
+            PlayFault::Input
+        }
+    }
+
+    /// The fault of a writer.
+    pub(crate) fn of_output(error: &io::Error) -> Self
+        ensures { (result ≡ PlayFault.NoMemory) ⊎ (result ≡ PlayFault.Output) }
+    {
+        if error.kind() == io::ErrorKind::OutOfMemory {
+            PlayFault::NoMemory
+        } else {
+            PlayFault::Output
+        }
+    }
+}
+
+impl From<AllocError> for PlayFault {
+    ghost use Rattle.std.specs.Prelude.{◌≡◌};
+    ghost use Rattle.relay_play.specs.declared.fault.PlayFault.TheVariants.{NoMemory};
+
+    ghost from_gives = { λ _ fault. fault ≡ NoMemory };
+
+    fn from(_fault: AllocError) -> PlayFault {
+        PlayFault::NoMemory
+    }
+}

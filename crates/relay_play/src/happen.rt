@@ -1,0 +1,37 @@
+//! An event of a script, and what is seen of it.
+use crate::print::{print_refused, print_seen};
+use relay_disk::MemoryDisk;
+use relay_pair::{Event, Pair};
+use relay_script::Event as Said;
+use std::io;
+
+/// An event happens to the relays. What is seen of it, or why it was refused, is added as a line, or a line for each
+/// node that has stopped. It fails where memory runs out.
+pub(crate) fn happen(pair: &mut Pair<MemoryDisk>, said: Said, out: &mut Vec<u8>) -> io::Result<()> {
+    let event = event_of(said);
+    match pair.step(&event) {
+        Ok(seen) => print_seen(pair, &event, &seen, out),
+        Err(fault) => print_refused(fault, out),
+    }
+}
+
+/// The event that a line of a script says.
+fn event_of(said: Said) -> Event {
+    match said {
+        Said::Connect { node } => Event::Connect(node.index()),
+        Said::Send { link, text } => Event::Send(link as usize, text),
+        Said::Carry { link, node, count } => Event::Carry {
+            link: link as usize,
+            node: node.index(),
+            count: count as usize,
+        },
+        Said::Break { link } => Event::Break(link as usize),
+        Said::Tick { moment } => Event::Tick(moment),
+        Said::Give { node } => Event::Give(node.index()),
+        Said::Stop { node, calls, pick } => Event::Stop {
+            node: node.index(),
+            calls,
+            pick,
+        },
+    }
+}

@@ -1,0 +1,11 @@
+//! A play of two relays: a script of what happens to them, read line by line, and for each line what is seen of it.
+#![tactic(auto)]
+
+mod fault;
+mod happen;
+mod print;
+mod script;
+mod show;
+
+pub use fault::PlayFault;
+pub use script::play;

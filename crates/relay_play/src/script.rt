@@ -1,0 +1,117 @@
+//! A script, from its first line to its last.
+use crate::fault::PlayFault;
+use crate::happen::happen;
+use crate::show::{show_copies, show_ledger, show_marks};
+use bstr::ByteSlice;
+use relay_disk::MemoryDisk;
+use relay_pair::Pair;
+use relay_script::{ScriptLine, script_line};
+use std::alloc::Global;
+use std::io::{ErrorKind, Read, Write};
+use std::mem;
+
+/// How many octets are read at a time.
+const BLOCK: usize = 65_536;
+
+/// How many times a reader is read at most: 2^40.
+const READS: u64 = 1_099_511_627_776;
+
+/// A play that goes on: its relays, how many lines of its script were read, and the octets of a line whose end hasn't
+/// come.
+#[derive(Drop)]
+struct Player {
+    alloc: Global,
+    pair: Pair<MemoryDisk>,
+    lines: u64,
+    begun: Vec<u8>,
+}
+
+/// Plays a script of two relays from `reader`, over disks in memory, and writes what is seen of each line to `writer`,
+/// before it reads on. A line ends at LF, and the last one where the input does. It ends with the script, or at the
+/// first line that isn't one; at its 2^40th read it ends as by a fault of the reader.
+pub fn play<R: Read, W: Write>(
+    alloc: Global,
+    reader: &mut R,
+    writer: &mut W,
+) -> Result<(), PlayFault> {
+    let mut player = Player {
+        alloc,
+        pair: Pair::new(alloc)?,
+        lines: 0,
+        begun: Vec::new(alloc),
+    };
+    let mut block = vec![in alloc; 0; BLOCK]?;
+    for _ in 0..READS {
+        match reader.read(block.as_mut_slice()) {
+            Ok(0) => return player.end(writer),
+            Ok(count) => player.go_on(&block[..count], writer)?,
+            Err(error) if error.kind() == ErrorKind::Interrupted => {}
+            Err(error) => return Err(PlayFault::of_input(&error)),
+        }
+    }
+    Err(PlayFault::Input)
+}
+
+impl Player {
+    /// Plays the lines that have come to their ends with these octets.
+    fn go_on<W: Write>(&mut self, octets: &[u8], writer: &mut W) -> Result<(), PlayFault> {
+        let Some((whole, begun)) = octets.rsplit_once_str(b"\n") else {
+            return Ok(self.begun.extend_from_slice(octets)?);
+        };
+        self.begun.extend_from_slice(whole)?;
+        self.play_begun(writer)?;
+        Ok(self.begun.extend_from_slice(begun)?)
+    }
+
+    /// Plays a last line that no LF ends.
+    fn end<W: Write>(&mut self, writer: &mut W) -> Result<(), PlayFault> {
+        if self.begun.is_empty() {
+            return Ok(());
+        }
+        self.play_begun(writer)
+    }
+
+    /// Plays the lines that have come, between their LFs, and writes what is seen of them.
+    fn play_begun<W: Write>(&mut self, writer: &mut W) -> Result<(), PlayFault> {
+        let lines = mem::replace(&mut self.begun, Vec::new(self.alloc));
+        let mut seen = Vec::new(self.alloc);
+        let end = self.play_lines(lines.as_slice(), &mut seen);
+        // What was seen before a fault is written before the fault is told.
+        match writer
+            .write_all(seen.as_slice())
+            .and_then(|()| writer.flush())
+        {
+            Ok(()) => end,
+            Err(error) => Err(PlayFault::of_output(&error)),
+        }
+    }
+
+    /// Plays lines, and adds what is seen of them.
+    fn play_lines(&mut self, lines: &[u8], seen: &mut Vec<u8>) -> Result<(), PlayFault> {
+        for line in lines.split_str(b"\n") {
+            self.lines = self.lines.saturating_add(1);
+            self.play_line(line, seen)?;
+        }
+        Ok(())
+    }
+
+    /// Plays a line, which comes without its LF, and adds what is seen of it.
+    fn play_line(&mut self, line: &[u8], seen: &mut Vec<u8>) -> Result<(), PlayFault> {
+        let Some(said) = script_line(self.alloc, line)? else {
+            return Err(PlayFault::Line(self.lines));
+        };
+        let shown = match said {
+            ScriptLine::Skipped => Ok(()),
+            ScriptLine::Event(event) => happen(&mut self.pair, event, seen),
+            ScriptLine::Ledger => show_ledger(&self.pair, seen),
+            ScriptLine::Marks => show_marks(self.alloc, &self.pair, seen),
+            ScriptLine::Copies {
+                node,
+                number,
+                place,
+            } => show_copies(self.alloc, &self.pair, node, number, place, seen),
+        };
+        // Octets in memory fail to be written by want of memory alone.
+        shown.map_err(|_| PlayFault::NoMemory)
+    }
+}
