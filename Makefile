@@ -20,6 +20,8 @@ test:
 	tests/want_of_descriptors.py build/relayd
 	tests/fault_lines.sh build/relayd
 	tests/two_relays.py build/relayd
+	tests/plays.py build/relayd
+	tests/plays_without_memory.py build/relayd
 	tests/each_allocation_refused.sh build/relayd
 	tests/book_without_memory.sh crates/relay_book_tests/out/relay_book_tests
 	tests/node_without_memory.sh crates/relay_node_tests/out/relay_node_tests

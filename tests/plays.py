@@ -1,0 +1,266 @@
+#!/usr/bin/env python3
+"""Plays scripts of two relays with `relayd play`: those of docs/plays/, whose output stands beside each; each refusal, in its
+order; faults of a script and of the streams; a message that goes round in a circle until it has too many Received fields; a
+stop whose telling stops the other node; and how long a circle and 10,000 carries take. It ends at the first difference.
+
+    tests/plays.py build/relayd
+"""
+import pathlib
+import subprocess
+import sys
+import time
+
+sys.dont_write_bytecode = True
+
+from relay_program import Difference, PATIENCE, same
+
+HERE = pathlib.Path(__file__).resolve().parent
+PLAYS = HERE.parent / "docs" / "plays"
+
+GREETED = r"link {} out 220 {}.example ESMTP relay ready\r\n"
+MAIL = r"EHLO x\r\nMAIL FROM:<s@out.example>\r\nRCPT TO:<r@{}>\r\nDATA\r\nhi\r\n.\r\n"
+QUEUED = r"250-{0}.example\r\n250-PIPELINING\r\n250-CHUNKING\r\n250 DSN\r\n250 sender OK\r\n250 recipient OK\r\n" \
+    r"354 end with a line of one period\r\n250 queued as {1}\r\n"
+
+
+def run(program, script):
+    """The status, output and fault line of a play."""
+    done = subprocess.run([program, "play"], input=script, capture_output=True, timeout=PATIENCE)
+    return done.returncode, done.stdout, done.stderr
+
+
+def played(program, rows):
+    """Plays lines, each with what is to be seen of it: a line, several, or nothing."""
+    script = "".join(f"{line}\n" for line, _ in rows).encode()
+    status, out, errors = run(program, script)
+    wanted = [one for _, seen in rows for one in ([seen] if isinstance(seen, str) else seen)]
+    found = out.decode().split("\n")[:-1]
+    for number, (one, other) in enumerate(zip(found, wanted)):
+        same(f"line {number + 1} of what is seen", one, other)
+    same("how many lines are seen", len(found), len(wanted))
+    same("the end", (status, errors), (0, b""))
+
+
+class Play:
+    """A play that goes on: each line is answered before the next is written."""
+
+    def __init__(self, program):
+        self.process = subprocess.Popen([program, "play"], stdin=subprocess.PIPE, stdout=subprocess.PIPE, text=True, bufsize=1)
+
+    def __enter__(self):
+        return self
+
+    def __exit__(self, *_):
+        self.process.stdin.close()
+        self.process.wait(PATIENCE)
+        self.process.stdout.close()
+
+    def say(self, line):
+        self.process.stdin.write(line + "\n")
+        self.process.stdin.flush()
+        return self.process.stdout.readline().rstrip("\n")
+
+    def lines(self, question):
+        """The lines that answer a question, up to that of a tick behind it."""
+        self.process.stdin.write(f"{question}\ntick 0\n")
+        self.process.stdin.flush()
+        found = []
+        while (line := self.process.stdout.readline().rstrip("\n")) != "now 0":
+            found.append(line)
+        return found
+
+
+def scripts(program):
+    for script in sorted(PLAYS.glob("*.play")):
+        status, out, errors = run(program, script.read_bytes())
+        for number, (one, other) in enumerate(zip(out.decode().split("\n"), script.with_suffix(".seen").read_text().split("\n"))):
+            same(f"{script.name}: line {number + 1} of what is seen", one, other)
+        same(script.name, (status, out, errors), (0, script.with_suffix(".seen").read_bytes(), b""))
+
+
+def refusals(program):
+    greeted = GREETED.format(1, "a")
+    played(program, [
+        ("# no link is there yet", []),
+        ("", []),
+        ("send 1 x", "refused NoLink"),
+        ("carry 0 a 1", "refused NoLink"),
+        ("carry 1 a 1", "refused NoLink"),
+        ("break 1", "refused NoLink"),
+        ("give a", "refused Nothing"),
+        ("ledger", []),
+        ("marks", []),
+        ("copies a 1 0", "0"),
+        ("connect a", greeted),
+        ("carry 1 b 1", "refused NotYours"),
+        ("carry 1 a 1", "refused Nothing"),
+        ("send 1 NOOP", "ok"),
+        ("carry 1 a 0", "refused Nothing"),
+        ("carry 1 a 3", "node a link 1 used 3 out "),
+        (r"send 1 \r\nQUIT\r\nNOOP\r\n", "ok"),
+        ("carry 1 a 3", r"node a link 1 used 3 out 250 OK\r\n"),
+        ("carry 1 a 1000", r"node a link 1 used 6 out 221 a.example closing\r\n end"),
+        ("carry 1 a 1000", "refused Nothing"),
+        ("break 1", "broken 1"),
+        ("carry 1 a 1000", "refused NoLink"),
+        ("break 1", "refused NoLink"),
+        ("send 1 x", "refused NoLink"),
+        ("connect b", GREETED.format(2, "b")),
+        ("send 2 " + MAIL.format("a.example"), "ok"),
+        ("carry 2 b 1000", "node b link 2 used 71 out " + QUEUED.format("b", 1) + " change 1"),
+        ("give a", "refused Nothing"),
+        ("give b", "start b 1 a.example link 3"),
+        ("give b", "refused Nothing"),
+        ("send 3 x", "refused NotYours"),
+        ("carry 3 a 1", "refused Nothing"),
+        ("carry 3 b 0", "refused Nothing"),
+        ("stop a 0 0", "stopped a"),
+        ("carry 3 b 1", "refused NoLink"),
+        ("give b", "refused Nothing"),
+        ("tick 253370764799", "now 253370764799"),
+        ("give b", "start b 1 a.example link 4"),
+        ("stop a 0 1", "stopped a"),
+        ("ledger", ["accept b 1 1 link 2", "end b 1 0 failed link 4 report 3"]),
+        ("marks", "b 3 0"),
+        ("give b", "start b 3 out.example link 5"),
+        ("send 5 220 x\\r\\n", "ok"),
+        ("carry 5 b 1000", r"node b link 5 used 7 out EHLO b.example\r\n"),
+        ("send 5 250 x\\r\\n", "ok"),
+        ("carry 5 b 1000", r"node b link 5 used 7 out MAIL FROM:<>\r\n"),
+        ("carry 5 a 1000", "refused NotYours"),
+        ("break 5", "broken 5"),
+        ("marks", "b 3 0"),
+    ])
+
+
+def too_many(program):
+    rows = [("connect a", GREETED.format(number, "a")) for number in range(1, 65)]
+    played(program, rows + [
+        ("connect a", "refused TooMany"),
+        ("connect b", GREETED.format(65, "b")),
+        ("send 65 " + MAIL.format("a.example"), "ok"),
+        ("carry 65 b 1000", "node b link 65 used 71 out " + QUEUED.format("b", 1) + " change 1"),
+        ("give b", "refused TooMany"),
+        ("break 1", "broken 1"),
+        ("give b", "start b 1 a.example link 66"),
+    ])
+
+
+def no_route(program):
+    """A place whose domain only the other node has a route for isn't taken; a report whose domain none has is given up."""
+    played(program, [
+        ("connect a", GREETED.format(1, "a")),
+        (r"send 1 EHLO x\r\nMAIL FROM:<s@nowhere.example>\r\nRCPT TO:<r@nowhere.example>\r\nRCPT TO:<r@b.example>\r\n", "ok"),
+        ("carry 1 a 1000", r"node a link 1 used 91 out 250-a.example\r\n250-PIPELINING\r\n250-CHUNKING\r\n250 DSN\r\n250 sender OK\r\n"
+         r"550 no route\r\n250 recipient OK\r\n"),
+        (r"send 1 BDAT 4 LAST\r\nhi\r\n", "ok"),
+        ("carry 1 a 1000", r"node a link 1 used 17 out 250 queued as 1\r\n change 1"),
+        ("give a", "start a 1 b.example link 2"),
+        ("tick 432000", "now 432000"),
+        ("break 2", "broken 2"),
+        ("ledger", ["accept a 1 1 link 1", "end a 1 0 failed link 2 report 2"]),
+        ("marks", "a 2 0"),
+        ("give a", "noroute a 2 change 3"),
+        ("ledger", ["accept a 1 1 link 1", "end a 1 0 failed link 2 report 2", "end a 2 0 failed link 0 report 0"]),
+        ("marks", []),
+        ("give a", "refused Nothing"),
+    ])
+
+
+def cascade(program):
+    """Node b is armed; node a stops; b's attempt on the link is told of the loss, and b stops in that call."""
+    played(program, [
+        ("connect b", GREETED.format(1, "b")),
+        ("send 1 " + MAIL.format("a.example"), "ok"),
+        ("carry 1 b 1000", "node b link 1 used 71 out " + QUEUED.format("b", 1) + " change 1"),
+        ("give b", "start b 1 a.example link 2"),
+        ("stop b 1 0", "armed b"),
+        ("stop a 0 0", ["stopped a", "stopped b"]),
+        ("marks", "b 1 0"),
+        ("give b", "start b 1 a.example link 3"),
+    ])
+
+
+def faults(program):
+    for script, wanted in [
+        (b"connect c\n", (1, b"", b"relayd: script line 1\n")),
+        (b"\n# x\n\nconnect  a\n", (1, b"", b"relayd: script line 4\n")),
+        (b"tick 1\ntick 253370764800\n", (1, b"now 1\n", b"relayd: script line 2\n")),
+        (b"tick 7", (0, b"now 7\n", b"")),
+        (b"tick 7\ntick 8 ", (1, b"now 7\n", b"relayd: script line 2\n")),
+        (b"", (0, b"", b"")),
+        (b"send 1 \\q\n", (1, b"", b"relayd: script line 1\n")),
+    ]:
+        same(shown(script), run(program, script), wanted)
+    with open("/dev/full", "wb") as full:
+        done = subprocess.run([program, "play"], input=b"tick 1\n", stdout=full, stderr=subprocess.PIPE, timeout=PATIENCE)
+    same("a full output", (done.returncode, done.stderr), (1, b"relayd: output\n"))
+    with open("/", "rb") if False else subprocess.Popen(["true"], stdout=subprocess.PIPE).stdout as nothing:
+        done = subprocess.run([program, "play"], stdin=nothing, capture_output=True, timeout=PATIENCE)
+    same("an empty input", (done.returncode, done.stdout), (0, b""))
+    done = subprocess.run(f"{program} play < /", shell=True, capture_output=True, timeout=PATIENCE)
+    same("an input that can't be read", (done.returncode, done.stderr), (1, b"relayd: input\n"))
+
+
+def shown(script):
+    return f"the script {script!r}"
+
+
+def circle(program):
+    """A message for `loop.example`: 50 accepts by each node, then 554, the end and its report."""
+    began = time.monotonic()
+    with Play(program) as play:
+        play.say("connect a")
+        play.say("send 1 " + MAIL.format("loop.example"))
+        same("the first accept", play.say("carry 1 a 1000")[-9:], " change 1")
+        node, refused, carries = "a", None, 0
+        while refused is None:
+            start = play.say(f"give {node}")
+            link, other = start.split()[-1], "b" if node == "a" else "a"
+            for turn in range(40):
+                reader = (node, other)[turn % 2]
+                line = play.say(f"carry {link} {reader} 100000")
+                carries += 1
+                if "554 too many Received fields" in line:
+                    refused = reader
+                if line.endswith(" end") and reader == other:
+                    break
+            node = other
+        ledger = play.lines("ledger")
+        accepts = [line.split()[1] for line in ledger if line.startswith("accept")]
+        same("accepts", (len(accepts), accepts.count("a"), accepts.count("b")), (100, 50, 50))
+        same("who refused", refused, "a")
+        same("the last line", ledger[-1].split()[:2] + ledger[-1].split()[3:5], ["end", "b", "0", "failed"])
+        report = ledger[-1].split()[-1]
+        same("marks", play.lines("marks"), [f"b {report} 0"])
+    return carries, time.monotonic() - began
+
+
+def carries(program):
+    """10,000 carries of 1,000 octets."""
+    noops = r"NOOP\r\n" * 166 + r"RSET"
+    script = ["connect a"]
+    for _ in range(100):
+        script += [f"send 1 {noops}"] * 100 + ["carry 1 a 1000"] * 100
+    text = ("\n".join(script) + "\n").encode()
+    began = time.monotonic()
+    status, out, _ = run(program, text)
+    taken = time.monotonic() - began
+    same("carries", (status, out.count(b"used 1000")), (0, 10000))
+    return taken
+
+
+def main(program):
+    program = str(pathlib.Path(program).resolve())
+    for check in (scripts, refusals, too_many, no_route, cascade, faults):
+        check(program)
+    count, seconds = circle(program)
+    print(f"ok: plays: scripts, refusals, stops, faults; a circle of {count} carries in {seconds:.2f} s, "
+          f"10,000 carries in {carries(program):.2f} s")
+
+
+if __name__ == "__main__":
+    try:
+        main(*sys.argv[1:])
+    except Difference as difference:
+        sys.exit(f"plays: {difference}")
