@@ -14,7 +14,7 @@ use Rattle.relay_book.specs.declared.message.Message.{Message}
 use Rattle.relay_book.specs.Queue.{Queue, message_of, step}
 use Rattle.relay_client.specs.Attempt.{Follows}
 use Rattle.relay_attempts.specs.declared.runs.Run.{Run}
-use Rattle.relay_attempts.specs.Attempts.{Serves, Standing}
+use Rattle.relay_attempts.specs.Attempts.{Serves, AttemptTable}
 use Rattle.relay_attempts.specs.Hops.{goes_to, hop_of_place, stranded_of}
 use Rattle.relay_attempts.specs.Outcomes.{outcome_of, rulings_of}
 use Rattle.relay_attempts.specs.Runs.{AllGoTo, AreHeld, EachRuns, NoneTwice, RunsFor}
@@ -72,7 +72,7 @@ still_free (run ∷ runs) zero free = ap (λ (r : Option Run). r ∷ runs) (sym 
 still_free (run ∷ runs) (suc number) free = ap (λ (l : List (Option Run)). run ∷ l) (still_free runs number free)
 
 -- The others go on behind an attempt that is gone.
-module _ (host : List ℕ) (table : RouteTable) (queue : Queue) (number : ℕ) (run : Run) (before after : Standing)
+module _ (host : List ℕ) (table : RouteTable) (queue : Queue) (number : ℕ) (run : Run) (before after : AttemptTable)
     (serves : Serves host table before queue) (its : slot_at before.runs number ≡ Some run)
     (gone : after.runs ≡ slice_set before.runs number None) where
   -- what runs behind it ran before, under another number
@@ -140,7 +140,7 @@ some_run : (run other : Run) → Some run ≡ Some other → run ≡ other
 some_run run other e = cc
 
 -- An attempt goes on among the others: it was taken out, and put back for the same message, hop and places.
-module _ (host : List ℕ) (table : RouteTable) (queue : Queue) (number : ℕ) (run new : Run) (before after : Standing)
+module _ (host : List ℕ) (table : RouteTable) (queue : Queue) (number : ℕ) (run new : Run) (before after : AttemptTable)
     (serves : Serves host table before queue) (its : slot_at before.runs number ≡ Some run)
     (back : after.runs ≡ slice_set (slice_set before.runs number None) number (Some new))
     (message : new.message ≡ run.message) (hop : new.hop ≡ run.hop) (places : new.places ≡ run.places) where

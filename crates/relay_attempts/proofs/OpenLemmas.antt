@@ -10,7 +10,7 @@ use Rattle.relay_book.specs.declared.message.Message.{Message}
 use Rattle.relay_book.specs.Book.{Rise}
 use Rattle.relay_book.specs.Queue.{Queue, accepted, step}
 use Rattle.relay_attempts.specs.declared.runs.Run.{Run}
-use Rattle.relay_attempts.specs.Attempts.{Serves, Standing}
+use Rattle.relay_attempts.specs.Attempts.{Serves, AttemptTable}
 use Rattle.relay_attempts.specs.Hops.{is_any, is_stranded_at, stranded_of, stranded_places}
 use Rattle.relay_attempts.specs.Runs.{RunsFor}
 use Rattle.relay_attempts.proofs.MessageLemmas.{found_first, found_last, none_at_next}
@@ -26,7 +26,7 @@ free_has_none (None ∷ runs) (suc n) run free is = free_has_none runs n run fre
 free_has_none (Some other ∷ runs) n run free is = absurd free
 
 -- no attempt serves any queue whose stranded messages are known
-pub idle_serves : (host : List ℕ) (table : RouteTable) (attempts : Standing) (queue : Queue) → AreFree attempts.runs → attempts.stranded ≡ stranded_of table queue.messages → Serves host table attempts queue
+pub idle_serves : (host : List ℕ) (table : RouteTable) (attempts : AttemptTable) (queue : Queue) → AreFree attempts.runs → attempts.stranded ≡ stranded_of table queue.messages → Serves host table attempts queue
 idle_serves host table attempts queue free known = record {
   stranded = known;
   runs = λ n run is. absurd (free_has_none attempts.runs n run free is);
@@ -34,7 +34,7 @@ idle_serves host table attempts queue free known = record {
 }
 
 -- behind an accept the attempts go on, and the message that was accepted may be stranded
-pub accepted_serves : (host : List ℕ) (table : RouteTable) (queue new : Queue) (accept : Accept) (number : ℕ) (before after : Standing) → Rise 0 queue.next queue.messages → number ≡ queue.next
+pub accepted_serves : (host : List ℕ) (table : RouteTable) (queue new : Queue) (accept : Accept) (number : ℕ) (before after : AttemptTable) → Rise 0 queue.next queue.messages → number ≡ queue.next
     → new ≡ step queue (change.Accept accept) → after.runs ≡ before.runs
     → after.stranded ≡ before.stranded ++ (if is_stranded_at table new.messages number then number ∷ [] else []) → Serves host table before queue → Serves host table after new
 accepted_serves host table queue new accept number before after rise number_is new_is runs_are noted serves = record {

@@ -18,7 +18,7 @@ use Rattle.relay_records.specs.declared.fault.NodeFault.TheVariants.{NoMemory, S
 use Rattle.relay_records.specs.Records.{Kept}
 use Rattle.relay_attempts.specs.AddedOutcome.{HasNoRoom, MayCome, RefusesOutcome, RulesOn}
 use Rattle.relay_attempts.specs.declared.runs.Run.{Run}
-use Rattle.relay_attempts.specs.Attempts.{Serves, Standing}
+use Rattle.relay_attempts.specs.Attempts.{Serves, AttemptTable}
 use Rattle.relay_attempts.specs.Hops.{goes_to, hop_of_place, is_any, is_stranded, stranded_of, stranded_places}
 use Rattle.relay_attempts.specs.Outcomes.{RefusesToGiveUp, unroutable, unrouted}
 use Rattle.relay_attempts.specs.Runs.{AllGoTo, AreHeld, RunsFor}
@@ -182,7 +182,7 @@ module _ (table : RouteTable) (message : Message) (hop : List ℕ) where
   routed_are_apart (n ∷ numbers) all = (one_apart n all.0, routed_are_apart numbers all.1)
 
 -- the attempts go on where a message is given up
-pub given_up_serves : (host : List ℕ) (table : RouteTable) (queue new : Queue) (number at : ℕ) (message : Message) (outcome : Outcome) (report : List ℕ) (before after : Standing)
+pub given_up_serves : (host : List ℕ) (table : RouteTable) (queue new : Queue) (number at : ℕ) (message : Message) (outcome : Outcome) (report : List ℕ) (before after : AttemptTable)
     → outcome ≡ unroutable table number at message → message_of queue.messages number ≡ Some message
     → new ≡ step queue (change.Outcome (record outcome { report = report })) → after.runs ≡ before.runs → after.stranded ≡ stranded_of table new.messages
     → Serves host table before queue → Serves host table after new

@@ -7,7 +7,7 @@ use Rattle.relay_records.specs.declared.fault.NodeFault.TheVariants.{NoMemory, S
 use Rattle.relay_records.specs.Records.{Kept}
 use Rattle.relay_attempts.specs.AddedOutcome.{HasNoRoom, RefusesOutcome}
 use Rattle.relay_attempts.specs.declared.runs.Run.{Run}
-use Rattle.relay_attempts.specs.Attempts.{Standing}
+use Rattle.relay_attempts.specs.Attempts.{AttemptTable}
 use Rattle.relay_attempts.specs.Reply.{IsGone, RefusesToHear}
 
 pub some_there : {A : Type 0} (found : Option A) (x : A) → found ≡ Some x → found ≢ None
@@ -25,7 +25,7 @@ pub same_fault : (A B : Type 0) (fault other : NodeFault) → refused_with A fau
 same_fault A B fault other is = ap (refused_with B) (fault_is A fault other is)
 
 -- attempts are the same where all that callers see of them is
-pub same_standing : (before after : Standing) → after.runs ≡ before.runs → after.stranded ≡ before.stranded
+pub same_standing : (before after : AttemptTable) → after.runs ≡ before.runs → after.stranded ≡ before.stranded
     → after.room ≡ before.room → after ≡ before
 same_standing before after runs stranded room =
     ap (λ (l : List (Option Run)). record { runs = l; stranded = after.stranded; room = after.room }) runs
@@ -53,7 +53,7 @@ module _ {D : Type 0} (words : DiskWords D) (host : List ℕ) (outcome : Outcome
   queue_stays Full refused = ap (λ (r : Kept D). r.queue) refused.0
 
   -- the attempt is gone where its outcome isn't added
-  pub refused_to_hear : (number : ℕ) (before after : Standing) (fault : NodeFault) → IsGone number before after old
+  pub refused_to_hear : (number : ℕ) (before after : AttemptTable) (fault : NodeFault) → IsGone number before after old
       → RefusesOutcome words host outcome old new fault → RefusesToHear words number before after old new fault
   refused_to_hear number before after NoMemory gone refused = (gone, refused)
   refused_to_hear number before after Stopped gone refused = inr (gone, refused)

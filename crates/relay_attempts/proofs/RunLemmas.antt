@@ -10,7 +10,7 @@ use Rattle.relay_book.specs.Queue.{Queue, message_of}
 use Rattle.relay_client.specs.Attempt.{Follows}
 use Rattle.relay_attempts.specs.declared.runs.Run.{Run}
 use Rattle.relay_attempts.specs.declared.start.Started.{Started}
-use Rattle.relay_attempts.specs.Attempts.{Serves, Standing, Starts}
+use Rattle.relay_attempts.specs.Attempts.{Serves, AttemptTable, Starts}
 use Rattle.relay_attempts.specs.Hops.{due_places_in}
 use Rattle.relay_attempts.specs.Runs.{AllGoTo, AreHeld, EachRuns, NoneTwice, RunsFor, is_run_for, is_running}
 use Rattle.relay_attempts.proofs.PlaceLemmas.{due_are_held, due_go_there}
@@ -101,7 +101,7 @@ module _ (host : List ℕ) (table : RouteTable) (number : ℕ) (hop : List ℕ) 
       by (inr before) (inr also) = once one other run another before also same its
 
   -- behind a start the attempts still are those of the queue
-  pub start_serves : (before after : Standing) → before.runs ≡ old → after.runs ≡ new → after.stranded ≡ before.stranded → Serves host table before queue → Serves host table after queue
+  pub start_serves : (before after : AttemptTable) → before.runs ≡ old → after.runs ≡ new → after.stranded ≡ before.stranded → Serves host table before queue → Serves host table after queue
   start_serves before after old_is new_is same serves = record {
     stranded = same ∙ serves.stranded;
     runs = subst (λ (l : List (Option Run)). EachRuns host table queue l) (sym new_is) (each_runs (subst (λ (l : List (Option Run)). EachRuns host table queue l) old_is serves.runs));

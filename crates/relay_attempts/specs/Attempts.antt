@@ -16,17 +16,17 @@ use Rattle.relay_attempts.specs.Runs.{EachRuns, NoneTwice, is_running}
 
 -- the running attempts by number; the numbers of the messages with a held place that has no hop, and how many more can
 -- be noted without memory
-pub record Standing : Type 0 where
+pub record AttemptTable : Type 0 where
   pub runs : List (Option Run)
   pub stranded : List ℕ
   pub room : ℕ
 
 -- the numbers are those of this queue under this table
-abbrev pub KnowsStranded : Standing → RouteTable → Queue → Type 0
+abbrev pub KnowsStranded : AttemptTable → RouteTable → Queue → Type 0
 KnowsStranded attempts table queue = attempts.stranded ≡ stranded_of table queue.messages
 
 -- the attempts are those of a node of this name and table, and of this queue
-pub record Serves (host : List ℕ) (table : RouteTable) (attempts : Standing) (queue : Queue) : Type 0 where
+pub record Serves (host : List ℕ) (table : RouteTable) (attempts : AttemptTable) (queue : Queue) : Type 0 where
   pub stranded : KnowsStranded attempts table queue
   pub runs : EachRuns host table queue attempts.runs
   pub once : NoneTwice attempts.runs

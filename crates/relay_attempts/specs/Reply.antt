@@ -17,7 +17,7 @@ use Rattle.relay_course.specs.VerdictTable.{all_later}
 use Rattle.relay_client.specs.Attempt.{Follows}
 use Rattle.relay_attempts.specs.declared.runs.Run.{Run}
 use Rattle.relay_attempts.specs.declared.reply.Replied.{Replied}
-use Rattle.relay_attempts.specs.Attempts.{Standing}
+use Rattle.relay_attempts.specs.Attempts.{AttemptTable}
 use Rattle.relay_attempts.specs.Outcomes.{outcome_of, rulings_of}
 
 -- of an attempt: its message, hop and places, the envelope and stored text that it hands on, and what it has
@@ -70,13 +70,14 @@ pub record ReadsToEnd (host : List ℕ) (told : Told) (piece : List ℕ) : Type 
 module _ {D : Type 0} (honest : Type 0) (words : DiskWords D) (host : List ℕ) (now : ℕ) (changes : List Change)
     (number : ℕ) (told : Told) where
   -- it goes on behind the whole piece, and nothing was added
-  pub record GoesOn (piece : List ℕ) (old new : Kept D) (runs : List (Option Run)) (replied : Replied) : Type 0 where
+  pub record AttemptGoesOn (piece : List ℕ) (old new : Kept D) (runs : List (Option Run)) (replied : Replied)
+      : Type 0 where
     pub used : replied.used ≡ length piece
     pub same : new ≡ old
     pub tells : TellsAt host new.queue runs number (told_more told (take replied.used piece) replied.out.items)
 
   -- it has ended, and its outcome was added, with the report that is due of it, as the change of this number
-  pub record HasEnded (piece : List ℕ) (new : Kept D) (runs : List (Option Run)) (replied : Replied) (change : ℕ)
+  pub record AttemptHasEnded (piece : List ℕ) (new : Kept D) (runs : List (Option Run)) (replied : Replied) (change : ℕ)
       : Type 0 where
     pub verdicts : List Verdict
     pub course : IsItsCourse host (told_more told (take replied.used piece) replied.out.items) false verdicts
@@ -84,8 +85,8 @@ module _ {D : Type 0} (honest : Type 0) (words : DiskWords D) (host : List ℕ) 
     pub gone : slot_at runs number ≡ None
 
   abbrev pub Replies : List ℕ → Kept D → Kept D → List (Option Run) → Replied → Option ℕ → Type 0
-  Replies piece old new runs replied None = GoesOn piece old new runs replied
-  Replies piece old new runs replied (Some change) = HasEnded piece new runs replied change
+  Replies piece old new runs replied None = AttemptGoesOn piece old new runs replied
+  Replies piece old new runs replied (Some change) = AttemptHasEnded piece new runs replied change
 
   -- a stop came while its outcome was added
   pub record CutsReply (piece : List ℕ) (new : Kept D) : Type 0 where
@@ -140,14 +141,14 @@ module _ {D : Type 0} (words : DiskWords D) (host : List ℕ) (now number : ℕ)
       pub makes : Makes before after old new replied.change
 
 -- the attempt ran beside live records, and runs no more
-pub record IsGone {D : Type 0} (number : ℕ) (before after : Standing) (old : Kept D) : Type 0 where
+pub record IsGone {D : Type 0} (number : ℕ) (before after : AttemptTable) (old : Kept D) : Type 0 where
   pub live : old.spool.live ≡ true
   pub was : slot_at before.runs number ≢ None
   pub gone : slot_at after.runs number ≡ None
 
 -- what is left where a reply to the attempt of a number is refused, or its loss
 abbrev pub RefusesToHear
-    : {D : Type 0} → DiskWords D → ℕ → Standing → Standing → Kept D → Kept D → NodeFault → Type 0
+    : {D : Type 0} → DiskWords D → ℕ → AttemptTable → AttemptTable → Kept D → Kept D → NodeFault → Type 0
 RefusesToHear words number before after old new NoMemory = IsGone number before after old × (new ≡ old)
 RefusesToHear words number before after old new Stopped =
     ((old.spool.live ≡ false) × (after ≡ before) × (new ≡ old))

@@ -38,9 +38,9 @@ impl Drop for Attempts {
 
 impl Model for Attempts {
     ghost use Rattle.std.specs.Prelude.{◌-◌, vec_capacity, vec_len};
-    ghost use Rattle.relay_attempts.specs.Attempts.{Standing};
+    ghost use Rattle.relay_attempts.specs.Attempts.{AttemptTable};
 
-    ghost Value = { Standing };
+    ghost Value = { AttemptTable };
 
     ghost view = { λ attempts. record {
       runs = attempts.runs;

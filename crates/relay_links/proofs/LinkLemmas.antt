@@ -19,13 +19,13 @@ use Rattle.relay_records.specs.declared.fault.NodeFault.TheVariants as node_faul
 use Rattle.relay_records.specs.Records.{Keeps, Kept}
 use Rattle.relay_node.specs.declared.receive.Received.{Received}
 use Rattle.relay_node.specs.Acceptance.{Acceptance, acceptance_by}
-use Rattle.relay_node.specs.Node.{CutsTalk, Makes, Receives, RefusesToReceive, SaysAt, Standing, greeted_by, GoesOn as GoesOnNode}
+use Rattle.relay_node.specs.Node.{CutsTalk, Makes, Receives, RefusesToReceive, SeatHasSaid, NodeState, greeted_by, SessionGoesOn}
 use Rattle.relay_node.specs.Room.{AnswersMore, HasRoom, Overfills, refusals, size_with}
 use Rattle.relay_slots.specs.Slots.{OthersStay}
 use Rattle.relay_links.specs.declared.fault.LinkFault.{LinkFault}
 use Rattle.relay_links.specs.declared.fault.LinkFault.TheVariants.{Input, Output, NoMemory, Full, Device}
 use Rattle.relay_links.specs.Accepted.{Accepts}
-use Rattle.relay_links.specs.Link.{GoesOn, HasBegun, HasSaid, HasServed, HasTaken, HaveCome, Leaves, Start, link_fault_of, rule, start_at}
+use Rattle.relay_links.specs.Link.{LinkGoesOn, HasBegun, HasSaid, HasServed, HasTaken, HaveCome, Leaves, Start, link_fault_of, rule, start_at}
 use Rattle.relay_links.proofs.AcceptedLemmas.{come_on, none_come, one_comes}
 
 -- a read that gave nothing
@@ -47,15 +47,15 @@ used_first : (said waiting : List ℕ) (used : ℕ) → said ++ waiting ≡ (sai
 used_first said waiting used = ap (λ l. said ++ l) (sym (take-append-drop used waiting)) ∙ sym (append_assoc said (take used waiting) (drop used waiting))
 
 -- the other sessions, the configuration and the attempts stay from call to call
-abbrev pub RestStays : {D : Type 0} → Standing D → Standing D → ℕ → Type 0
+abbrev pub RestStays : {D : Type 0} → NodeState D → NodeState D → ℕ → Type 0
 RestStays old new number = OthersStay old.seats new.seats number × (new.config ≡ old.config) × (new.attempts ≡ old.attempts)
 
-pub others_stay : {D : Type 0} (old mid new : Standing D) (number : ℕ) → RestStays old mid number → RestStays mid new number → RestStays old new number
+pub others_stay : {D : Type 0} (old mid new : NodeState D) (number : ℕ) → RestStays old mid number → RestStays mid new number → RestStays old new number
 others_stay old mid new number before now = (λ other differs. now.0 other differs ∙ before.0 other differs, now.1 ∙ before.1, now.2 ∙ before.2)
 
 module _ {D : Type 0} (honest : Type 0) (words : DiskWords D) (start : Start) (at number : ℕ) where
   -- what a session has said is a dialogue
-  dialogue_at : (node : Standing D) (said : Said) → SaysAt start.config node.seats number start.peer said → IsDialogue (setup_of_config start.config) said
+  dialogue_at : (node : NodeState D) (said : Said) → SeatHasSaid start.config node.seats number start.peer said → IsDialogue (setup_of_config start.config) said
   dialogue_at node said s = what_stands_is_a_dialogue (setup_of_config start.config) s.seat.session said s.says.stands
 
   -- of a fault that isn't the device's the node keeps what it has taken; it is full where changes have no numbers any more
@@ -67,7 +67,7 @@ module _ {D : Type 0} (honest : Type 0) (words : DiskWords D) (start : Start) (a
   as_taken Device said added records other full taken = absurd (other refl)
 
   -- a fault behind what was said, of a node whose records are the same
-  pub breaks : (left held : Option (List ℕ)) (waiting : List ℕ) (node : Standing D) (records : Kept D) (fault : LinkFault) → HasSaid honest words start at number left held waiting node → records ≡ node.records → (fault ≡ Device → ⊥) → (fault ≡ Full → 2 ^ 62 < records.queue.next) → HasBegun honest words start at left held records fault
+  pub breaks : (left held : Option (List ℕ)) (waiting : List ℕ) (node : NodeState D) (records : Kept D) (fault : LinkFault) → HasSaid honest words start at number left held waiting node → records ≡ node.records → (fault ≡ Device → ⊥) → (fault ≡ Full → 2 ^ 62 < records.queue.next) → HasBegun honest words start at left held records fault
   breaks left held waiting node records fault h same other full = record {
     said = h.said;
     dialogue = dialogue_at node h.said h.says;
@@ -83,7 +83,7 @@ module _ {D : Type 0} (honest : Type 0) (words : DiskWords D) (start : Start) (a
   }
 
   -- octets were read, which wait
-  pub reads : (left new_left held : Option (List ℕ)) (octets : List ℕ) (node : Standing D) → HasSaid honest words start at number left held [] node → Consumes left new_left octets → HasSaid honest words start at number new_left held octets node
+  pub reads : (left new_left held : Option (List ℕ)) (octets : List ℕ) (node : NodeState D) → HasSaid honest words start at number left held [] node → Consumes left new_left octets → HasSaid honest words start at number new_left held octets node
   reads left new_left held octets node h read = record {
     said = h.said;
     config = h.config;
@@ -97,7 +97,7 @@ module _ {D : Type 0} (honest : Type 0) (words : DiskWords D) (start : Start) (a
   }
 
   -- the input has come to its end
-  pub ends : (left new_left held : Option (List ℕ)) (node : Standing D) → HasSaid honest words start at number left held [] node → Consumes left new_left [] → IsAtEnd new_left → HasServed honest words start at new_left held node.records
+  pub ends : (left new_left held : Option (List ℕ)) (node : NodeState D) → HasSaid honest words start at number left held [] node → Consumes left new_left [] → IsAtEnd new_left → HasServed honest words start at new_left held node.records
   ends left new_left held node h read end = record {
     said = h.said;
     dialogue = dialogue_at node h.said h.says;
@@ -161,7 +161,7 @@ module _ {D : Type 0} (honest : Type 0) (words : DiskWords D) (start : Start) (a
   )
 
   -- what a call did with octets that waited, and what was written
-  module _ (left held new_held : Option (List ℕ)) (waiting : List ℕ) (old new : Standing D) (received : Received) (h : HasSaid honest words start at number left held waiting old) (r : Receives honest words start.config (start.changes ++ h.added) start.peer at number h.said waiting old new received) where
+  module _ (left held new_held : Option (List ℕ)) (waiting : List ℕ) (old new : NodeState D) (received : Received) (h : HasSaid honest words start at number left held waiting old) (r : Receives honest words start.config (start.changes ++ h.added) start.peer at number h.said waiting old new received) where
     gained : (gained : List Change) × HasTaken honest words start at r.later gained new.records
     gained = takes h.said r.later r.talks.refused received.used old.records new.records received.change h.added r.talks.no_room r.talks.makes h.taken
 
@@ -198,7 +198,7 @@ module _ {D : Type 0} (honest : Type 0) (words : DiskWords D) (start : Start) (a
           taken = record { come = gained.1.come; keeps = gained.1.keeps; note = gained.1.note };
         }
 
-    closed_or_open : (is_closed : Bool) → GoesOnNode start.config new.seats number start.peer r.later is_closed → IsDialogue (setup_of_config start.config) r.later
+    closed_or_open : (is_closed : Bool) → SessionGoesOn start.config new.seats number start.peer r.later is_closed → IsDialogue (setup_of_config start.config) r.later
     closed_or_open true gone = gone.1.dialogue
     closed_or_open false says = dialogue_at new r.later says
 
@@ -219,7 +219,7 @@ module _ {D : Type 0} (honest : Type 0) (words : DiskWords D) (start : Start) (a
     }
 
   -- the device failed while a change was added
-  pub halts : (left held : Option (List ℕ)) (waiting : List ℕ) (old : Standing D) (new : Kept D) → (h : HasSaid honest words start at number left held waiting old) → CutsTalk honest words start.config (start.changes ++ h.added) start.peer at h.said waiting old.records new → HasBegun honest words start at left held new Device
+  pub halts : (left held : Option (List ℕ)) (waiting : List ℕ) (old : NodeState D) (new : Kept D) → (h : HasSaid honest words start at number left held waiting old) → CutsTalk honest words start.config (start.changes ++ h.added) start.peer at h.said waiting old.records new → HasBegun honest words start at left held new Device
   halts left held waiting old new h c = record {
     said = c.later;
     dialogue = c.dialogue;
@@ -240,16 +240,16 @@ module _ {D : Type 0} (honest : Type 0) (words : DiskWords D) (start : Start) (a
   }
 
   -- what the session has said, by the node's own configuration
-  pub says_here : (left held : Option (List ℕ)) (waiting : List ℕ) (node : Standing D) (h : HasSaid honest words start at number left held waiting node) → SaysAt node.config node.seats number start.peer h.said
-  says_here left held waiting node h = subst (λ (config : Config). SaysAt config node.seats number start.peer h.said) (sym h.config) h.says
+  pub says_here : (left held : Option (List ℕ)) (waiting : List ℕ) (node : NodeState D) (h : HasSaid honest words start at number left held waiting node) → SeatHasSaid node.config node.seats number start.peer h.said
+  says_here left held waiting node h = subst (λ (config : Config). SeatHasSaid config node.seats number start.peer h.said) (sym h.config) h.says
 
   -- the node has refused
-  pub refuses : (left held : Option (List ℕ)) (waiting : List ℕ) (old new : Standing D) (fault : NodeFault) → (h : HasSaid honest words start at number left held waiting old) → RefusesToReceive words number old new fault
+  pub refuses : (left held : Option (List ℕ)) (waiting : List ℕ) (old new : NodeState D) (fault : NodeFault) → (h : HasSaid honest words start at number left held waiting old) → RefusesToReceive words number old new fault
       → (fault ≡ node_fault.Stopped → CutsTalk honest words old.config (start.changes ++ h.added) start.peer at h.said waiting old.records new.records) → HasBegun honest words start at left held new.records (link_fault_of fault)
   refuses left held waiting old new node_fault.NoMemory h gone cut = breaks left held waiting old new.records NoMemory h gone.records (λ e. absurd cc) (λ e. absurd cc)
   refuses left held waiting old new node_fault.Stopped h stopped cut =
       halts left held waiting old new.records h (subst (λ (config : Config). CutsTalk honest words config (start.changes ++ h.added) start.peer at h.said waiting old.records new.records) h.config (cut refl))
-  refuses left held waiting old new node_fault.Unknown h same cut = breaks left held waiting old new.records Input h (ap (λ (node : Standing D). node.records) same) (λ e. absurd cc) (λ e. absurd cc)
+  refuses left held waiting old new node_fault.Unknown h same cut = breaks left held waiting old new.records Input h (ap (λ (node : NodeState D). node.records) same) (λ e. absurd cc) (λ e. absurd cc)
   refuses left held waiting old new node_fault.TooMany h never cut = absurd never
   refuses left held waiting old new node_fault.NotDue h never cut = absurd never
   refuses left held waiting old new node_fault.Busy h never cut = absurd never
@@ -258,24 +258,24 @@ module _ {D : Type 0} (honest : Type 0) (words : DiskWords D) (start : Start) (a
       breaks left held waiting old new.records Full h gone.0.records (λ e. absurd cc) (λ _. subst (λ (records : Kept D). 2 ^ 62 < records.queue.next) (sym gone.0.records) gone.1)
 
   -- the replies to what was received are written
-  pub received_on : (left held new_held : Option (List ℕ)) (waiting : List ℕ) (old new : Standing D) (received : Received) (h : HasSaid honest words start at number left held waiting old) → Receives honest words old.config (start.changes ++ h.added) start.peer at number h.said waiting old new received
-      → new.config ≡ old.config → Appends held new_held received.out.items → GoesOn honest words start at number left new_held (drop received.used waiting) new received.close
+  pub received_on : (left held new_held : Option (List ℕ)) (waiting : List ℕ) (old new : NodeState D) (received : Received) (h : HasSaid honest words start at number left held waiting old) → Receives honest words old.config (start.changes ++ h.added) start.peer at number h.said waiting old new received
+      → new.config ≡ old.config → Appends held new_held received.out.items → LinkGoesOn honest words start at number left new_held (drop received.used waiting) new received.close
   received_on left held new_held waiting old new received h r same wrote = by_close received.close refl
     where
       here : Receives honest words start.config (start.changes ++ h.added) start.peer at number h.said waiting old new received
       here = subst (λ (config : Config). Receives honest words config (start.changes ++ h.added) start.peer at number h.said waiting old new received) h.config r
 
-      by_close : (is_closed : Bool) → received.close ≡ is_closed → GoesOn honest words start at number left new_held (drop received.used waiting) new is_closed
+      by_close : (is_closed : Bool) → received.close ≡ is_closed → LinkGoesOn honest words start at number left new_held (drop received.used waiting) new is_closed
       by_close true e = closes left held new_held waiting old new received h here e wrote
       by_close false e = goes_on left held new_held waiting old new received h here (same ∙ h.config) e wrote
 
   -- the replies to what was received are written in part
-  pub received_part : (left held new_held : Option (List ℕ)) (waiting : List ℕ) (old new : Standing D) (received : Received) (h : HasSaid honest words start at number left held waiting old) → Receives honest words old.config (start.changes ++ h.added) start.peer at number h.said waiting old new received
+  pub received_part : (left held new_held : Option (List ℕ)) (waiting : List ℕ) (old new : NodeState D) (received : Received) (h : HasSaid honest words start at number left held waiting old) → Receives honest words old.config (start.changes ++ h.added) start.peer at number h.said waiting old new received
       → (front rest : List ℕ) → received.out.items ≡ front ++ rest → Appends held new_held front → HasBegun honest words start at left new_held new.records Output
   received_part left held new_held waiting old new received h r front rest parts wrote =
       cut_off left held new_held waiting old new received h (subst (λ (config : Config). Receives honest words config (start.changes ++ h.added) start.peer at number h.said waiting old new received) h.config r) front rest parts wrote
 
-module _ {D : Type 0} (honest : Type 0) (words : DiskWords D) (at number : ℕ) (left held new_held : Option (List ℕ)) (peer : List ℕ) (node : Standing D) (changes : List Change) (out : List ℕ) where
+module _ {D : Type 0} (honest : Type 0) (words : DiskWords D) (at number : ℕ) (left held new_held : Option (List ℕ)) (peer : List ℕ) (node : NodeState D) (changes : List Change) (out : List ℕ) where
   -- before the first read nothing was taken
   taken_nothing : Keeps honest words node.records changes → HasTaken honest words (start_at left held peer node changes) at (greeted_by out) [] node.records
   taken_nothing keeps = record {
@@ -285,7 +285,7 @@ module _ {D : Type 0} (honest : Type 0) (words : DiskWords D) (at number : ℕ) 
   }
 
   -- the greeting was written
-  pub started : Keeps honest words node.records changes → SaysAt node.config node.seats number peer (greeted_by out) → Appends held new_held out → HasSaid honest words (start_at left held peer node changes) at number left new_held [] node
+  pub started : Keeps honest words node.records changes → SeatHasSaid node.config node.seats number peer (greeted_by out) → Appends held new_held out → HasSaid honest words (start_at left held peer node changes) at number left new_held [] node
   started keeps says wrote = record {
     said = greeted_by out;
     config = refl;
@@ -297,7 +297,7 @@ module _ {D : Type 0} (honest : Type 0) (words : DiskWords D) (at number : ℕ) 
   }
 
   -- the greeting was written in part
-  pub begun : Keeps honest words node.records changes → SaysAt node.config node.seats number peer (greeted_by out) → (front rest : List ℕ) → out ≡ front ++ rest → Appends held new_held front → HasBegun honest words (start_at left held peer node changes) at left new_held node.records Output
+  pub begun : Keeps honest words node.records changes → SeatHasSaid node.config node.seats number peer (greeted_by out) → (front rest : List ℕ) → out ≡ front ++ rest → Appends held new_held front → HasBegun honest words (start_at left held peer node changes) at left new_held node.records Output
   begun keeps says front rest parts wrote = record {
     said = greeted_by out;
     dialogue = what_stands_is_a_dialogue (setup_of_config node.config) says.seat.session (greeted_by out) says.says.stands;

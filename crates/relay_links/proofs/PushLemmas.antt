@@ -16,9 +16,9 @@ use Rattle.relay_course.specs.VerdictTable.{all_later}
 use Rattle.relay_client.proofs.Theorems.{followed_is_course}
 use Rattle.relay_attempts.specs.declared.reply.Replied.{Replied}
 use Rattle.relay_attempts.specs.declared.runs.Run.{Run}
-use Rattle.relay_attempts.specs.Reply.{CutsLoss, CutsReply, EndsBy, HasNoRoomAtEnd, HasNoRoomAtLoss, IsLost, Makes, ReadsToEnd, Told, outcome_at, told_more, HasEnded as EndsOf}
+use Rattle.relay_attempts.specs.Reply.{CutsLoss, CutsReply, EndsBy, HasNoRoomAtEnd, HasNoRoomAtLoss, IsLost, Makes, ReadsToEnd, Told, outcome_at, told_more, PushHasEnded as EndsOf}
 use Rattle.relay_node.specs.Attempts.{IsDropped, ReadsOn, RefusesToReply, Replies, RepliesBy, Tells, UsesReply}
-use Rattle.relay_node.specs.Node.{Standing}
+use Rattle.relay_node.specs.Node.{NodeState}
 use Rattle.relay_links.specs.declared.fault.LinkFault.{LinkFault}
 use Rattle.relay_links.specs.declared.fault.LinkFault.TheVariants.{Input, Output, NoMemory, Full, Device}
 use Rattle.relay_links.specs.declared.push.Pushed.{Pushed}
@@ -26,7 +26,7 @@ use Rattle.relay_links.specs.declared.push.Pushed.TheVariants.{Lost}
 use Rattle.relay_links.specs.declared.push.Way.{Way}
 use Rattle.relay_links.specs.declared.push.Way.TheVariants as way
 use Rattle.relay_links.specs.Link.{link_fault_of}
-use Rattle.relay_links.specs.Push.{Concludes, Ends, Goes, HasDropped, HasEnded, HasFailed, HasFilled, HasGrown, HasLost, HasStopped, IsAt, IsCut, LeavesRecords, Moves, PushStart, push_start_at}
+use Rattle.relay_links.specs.Push.{Concludes, Ends, Goes, HasDropped, PushHasEnded, HasFailed, HasFilled, HasGrown, HasLost, HasStopped, IsAt, IsCut, LeavesRecords, Moves, PushStart, push_start_at}
 
 -- octets that wait are those that are used, and those behind them
 used_first : (read waiting : List ℕ) (used : ℕ) → read ++ waiting ≡ (read ++ take used waiting) ++ drop used waiting
@@ -39,21 +39,21 @@ in_parts held written out front rest parts =
     ∙ ap (λ l. held ++ l) (ap₂ (λ (a b : List ℕ). a ++ b) (append-nil written) parts ∙ sym (append_assoc written front rest))
 
 -- the other attempts, the configuration and the sessions stay from call to call
-abbrev pub RestStays : {D : Type 0} → Standing D → Standing D → ℕ → Type 0
+abbrev pub RestStays : {D : Type 0} → NodeState D → NodeState D → ℕ → Type 0
 RestStays old new number = OthersStay old.attempts new.attempts number × (new.config ≡ old.config) × (new.seats ≡ old.seats)
 
-pub rest_stays : {D : Type 0} (old mid new : Standing D) (number : ℕ) → RestStays old mid number → RestStays mid new number → RestStays old new number
+pub rest_stays : {D : Type 0} (old mid new : NodeState D) (number : ℕ) → RestStays old mid number → RestStays mid new number → RestStays old new number
 rest_stays old mid new number before now = (λ other differs. now.0 other differs ∙ before.0 other differs, now.1 ∙ before.1, now.2 ∙ before.2)
 
 -- an attempt is gone behind a fault of a node that lives on
-pub gone_by_fault : {D : Type 0} (words : DiskWords D) (number : ℕ) (old new : Standing D) (fault : NodeFault) → (old.records.spool.live ≡ true → RefusesToReply words number old new fault) → (old.records.spool.live ≡ false → new ≡ old)
+pub gone_by_fault : {D : Type 0} (words : DiskWords D) (number : ℕ) (old new : NodeState D) (fault : NodeFault) → (old.records.spool.live ≡ true → RefusesToReply words number old new fault) → (old.records.spool.live ≡ false → new ≡ old)
     → (fault ≡ node_fault.Unknown → slot_at old.attempts number ≡ None) → new.records.spool.live ≡ true → slot_at new.attempts number ≡ None
 gone_by_fault {D} words number old new fault refused stopped unknown live = by_live old.records.spool.live refl
   where
     by_fault : (fault : NodeFault) → RefusesToReply words number old new fault → (fault ≡ node_fault.Unknown → slot_at old.attempts number ≡ None) → slot_at new.attempts number ≡ None
     by_fault node_fault.NoMemory gone unknown = gone.attempt
     by_fault node_fault.Stopped halted unknown = absurd (true≢false (sym live ∙ halted.live))
-    by_fault node_fault.Unknown same unknown = ap (λ (node : Standing D). slot_at node.attempts number) same ∙ unknown refl
+    by_fault node_fault.Unknown same unknown = ap (λ (node : NodeState D). slot_at node.attempts number) same ∙ unknown refl
     by_fault node_fault.TooMany never unknown = absurd never
     by_fault node_fault.NotDue never unknown = absurd never
     by_fault node_fault.Busy never unknown = absurd never
@@ -62,20 +62,20 @@ gone_by_fault {D} words number old new fault refused stopped unknown live = by_l
 
     by_live : (is_live : Bool) → old.records.spool.live ≡ is_live → slot_at new.attempts number ≡ None
     by_live true e = by_fault fault (refused e) unknown
-    by_live false e = absurd (true≢false (sym live ∙ (ap (λ (node : Standing D). node.records.spool.live) (stopped e) ∙ e)))
+    by_live false e = absurd (true≢false (sym live ∙ (ap (λ (node : NodeState D). node.records.spool.live) (stopped e) ∙ e)))
 
 pub same_fault : {T : Type 0} (fault other : NodeFault) → ◌≡◌ {A = Result T NodeFault} (Err fault) (Err other) → fault ≡ other
 same_fault fault other e = cc
 
 -- the records behind a fault of the node
-pub left_by_fault : {D : Type 0} (words : DiskWords D) (number : ℕ) (old new : Standing D) (fault : NodeFault) → (old.records.spool.live ≡ true → RefusesToReply words number old new fault) → (old.records.spool.live ≡ false → (fault ≡ node_fault.Stopped) × (new ≡ old))
+pub left_by_fault : {D : Type 0} (words : DiskWords D) (number : ℕ) (old new : NodeState D) (fault : NodeFault) → (old.records.spool.live ≡ true → RefusesToReply words number old new fault) → (old.records.spool.live ≡ false → (fault ≡ node_fault.Stopped) × (new ≡ old))
     → LeavesRecords words old new (link_fault_of fault)
 left_by_fault {D} words number old new fault refused stopped = by_live old.records.spool.live refl
   where
     by_fault : (fault : NodeFault) → RefusesToReply words number old new fault → LeavesRecords words old new (link_fault_of fault)
     by_fault node_fault.NoMemory gone = gone.records
     by_fault node_fault.Stopped halted = inl halted
-    by_fault node_fault.Unknown same = ap (λ (node : Standing D). node.records) same
+    by_fault node_fault.Unknown same = ap (λ (node : NodeState D). node.records) same
     by_fault node_fault.TooMany never = absurd never
     by_fault node_fault.NotDue never = absurd never
     by_fault node_fault.Busy never = absurd never
@@ -86,20 +86,20 @@ left_by_fault {D} words number old new fault refused stopped = by_live old.recor
     by_live true e = by_fault fault (refused e)
     by_live false e =
         subst (λ (f : NodeFault). LeavesRecords words old new (link_fault_of f)) (sym (stopped e).0)
-        (inr (e, ap (λ (node : Standing D). node.records) (stopped e).1))
+        (inr (e, ap (λ (node : NodeState D). node.records) (stopped e).1))
 
 -- a reply that made a change has grown the records, and any other has left them
-pub grown_by : {D : Type 0} (words : DiskWords D) (now number : ℕ) (old new : Standing D) (made : Option ℕ) (change : ℕ) → made ≡ Some change → Makes words old.config.host now number old.attempts new.attempts old.records new.records made → HasGrown words old new
+pub grown_by : {D : Type 0} (words : DiskWords D) (now number : ℕ) (old new : NodeState D) (made : Option ℕ) (change : ℕ) → made ≡ Some change → Makes words old.config.host now number old.attempts new.attempts old.records new.records made → HasGrown words old new
 grown_by {D} words now number old new made change is makes =
     let ends = subst (Makes words old.config.host now number old.attempts new.attempts old.records new.records) is makes in
     (_, change, ends.grows)
 
-pub same_by : {D : Type 0} (words : DiskWords D) (now number : ℕ) (old new : Standing D) (made : Option ℕ) → made ≡ None → Makes words old.config.host now number old.attempts new.attempts old.records new.records made → new.records ≡ old.records
+pub same_by : {D : Type 0} (words : DiskWords D) (now number : ℕ) (old new : NodeState D) (made : Option ℕ) → made ≡ None → Makes words old.config.host now number old.attempts new.attempts old.records new.records made → new.records ≡ old.records
 same_by {D} words now number old new made is makes =
     (subst (Makes words old.config.host now number old.attempts new.attempts old.records new.records) is makes).2
 
 -- what was done to equal records of a node of the same name
-module _ {D : Type 0} (words : DiskWords D) (old mid new : Standing D) (config : mid.config ≡ old.config) (same : mid.records ≡ old.records) where
+module _ {D : Type 0} (words : DiskWords D) (old mid new : NodeState D) (config : mid.config ≡ old.config) (same : mid.records ≡ old.records) where
   grown_since : HasGrown words mid new → HasGrown words old new
   grown_since grown = (
     grown.0,
@@ -137,7 +137,7 @@ some_number change number is none = not_both (sym is ∙ none)
 
 module _ {D : Type 0} (honest : Type 0) (words : DiskWords D) (start : PushStart) (at number : ℕ) where
   -- octets were read, which wait
-  pub read_on : (left new_left held : Option (List ℕ)) (octets : List ℕ) (node : Standing D) → IsAt honest words start at number left held [] [] node → Consumes left new_left octets → IsAt honest words start at number new_left held octets [] node
+  pub read_on : (left new_left held : Option (List ℕ)) (octets : List ℕ) (node : NodeState D) → IsAt honest words start at number left held [] [] node → Consumes left new_left octets → IsAt honest words start at number new_left held octets [] node
   read_on left new_left held octets node h read = record {
     input = h.input;
     written = h.written;
@@ -151,16 +151,16 @@ module _ {D : Type 0} (honest : Type 0) (words : DiskWords D) (start : PushStart
   }
 
   -- what is told of the attempt
-  told_at : (left held : Option (List ℕ)) (waiting unwritten : List ℕ) (node : Standing D) → IsAt honest words start at number left held waiting unwritten node → Told
+  told_at : (left held : Option (List ℕ)) (waiting unwritten : List ℕ) (node : NodeState D) → IsAt honest words start at number left held waiting unwritten node → Told
   told_at left held waiting unwritten node h = told_more start.told h.input (h.written ++ unwritten)
 
   -- the node's own name for its host
-  pub tells_here : (left held : Option (List ℕ)) (waiting unwritten : List ℕ) (node : Standing D) (h : IsAt honest words start at number left held waiting unwritten node) → Tells node.config.host start.changes node.attempts number (told_more start.told h.input (h.written ++ unwritten))
+  pub tells_here : (left held : Option (List ℕ)) (waiting unwritten : List ℕ) (node : NodeState D) (h : IsAt honest words start at number left held waiting unwritten node) → Tells node.config.host start.changes node.attempts number (told_more start.told h.input (h.written ++ unwritten))
   tells_here left held waiting unwritten node h =
       subst (λ host. Tells host start.changes node.attempts number (told_more start.told h.input (h.written ++ unwritten))) (sym h.host) h.tells
 
   -- What the attempt made of octets that waited. A beginning of what it wrote then was written.
-  module _ (left held new_held : Option (List ℕ)) (waiting : List ℕ) (old new : Standing D) (replied : Replied)
+  module _ (left held new_held : Option (List ℕ)) (waiting : List ℕ) (old new : NodeState D) (replied : Replied)
       (h : IsAt honest words start at number left held waiting [] old) (front rest : List ℕ)
       (parts : replied.out.items ≡ front ++ rest) (wrote : Appends held new_held front) where
     outputs : (start.told.output ++ (h.written ++ [])) ++ replied.out.items ≡ start.told.output ++ ((h.written ++ front) ++ rest)
@@ -191,7 +191,7 @@ module _ {D : Type 0} (honest : Type 0) (words : DiskWords D) (start : PushStart
         }
 
     -- it has ended
-    pub has_ended : (change : ℕ) → EndsOf honest words start.host at start.changes number (told_more start.told h.input (h.written ++ [])) waiting new.records new.attempts replied change → HasEnded honest words start at left new_held rest new.records
+    pub has_ended : (change : ℕ) → EndsOf honest words start.host at start.changes number (told_more start.told h.input (h.written ++ [])) waiting new.records new.attempts replied change → PushHasEnded honest words start at left new_held rest new.records
     has_ended change e =
         let told = start.told in
         record {
@@ -210,7 +210,7 @@ module _ {D : Type 0} (honest : Type 0) (words : DiskWords D) (start : PushStart
         }
 
   -- the attempt is gone without an outcome
-  drops : (left held : Option (List ℕ)) (waiting unwritten : List ℕ) (node : Standing D) (records : Kept D) → IsAt honest words start at number left held waiting unwritten node → records ≡ node.records → HasDropped honest words start at left held records
+  drops : (left held : Option (List ℕ)) (waiting unwritten : List ℕ) (node : NodeState D) (records : Kept D) → IsAt honest words start at number left held waiting unwritten node → records ≡ node.records → HasDropped honest words start at left held records
   drops left held waiting unwritten node records h same = record {
     unwritten = unwritten;
     goes = record {
@@ -227,7 +227,7 @@ module _ {D : Type 0} (honest : Type 0) (words : DiskWords D) (start : PushStart
   }
 
   -- the course came to its end behind octets that waited
-  comes_to_end : (left held : Option (List ℕ)) (waiting : List ℕ) (old : Standing D) (h : IsAt honest words start at number left held waiting [] old) (ends : ReadsToEnd start.host (told_more start.told h.input (h.written ++ [])) waiting) → Goes honest words start at left held ends.out false (Some ends.verdicts)
+  comes_to_end : (left held : Option (List ℕ)) (waiting : List ℕ) (old : NodeState D) (h : IsAt honest words start at number left held waiting [] old) (ends : ReadsToEnd start.host (told_more start.told h.input (h.written ++ [])) waiting) → Goes honest words start at left held ends.out false (Some ends.verdicts)
   comes_to_end left held waiting old h ends =
       let told = start.told in
       record {
@@ -245,7 +245,7 @@ module _ {D : Type 0} (honest : Type 0) (words : DiskWords D) (start : PushStart
       outputs = append_assoc start.told.output (h.written ++ []) ends.out ∙ ap (λ l. start.told.output ++ (l ++ ends.out)) (append-nil h.written)
 
   -- the device failed while the outcome was added
-  halts : (left held : Option (List ℕ)) (waiting : List ℕ) (old : Standing D) (new : Kept D) (h : IsAt honest words start at number left held waiting [] old) → CutsReply honest words start.host at start.changes number (told_more start.told h.input (h.written ++ [])) waiting new → HasStopped honest words start at left held new
+  halts : (left held : Option (List ℕ)) (waiting : List ℕ) (old : NodeState D) (new : Kept D) (h : IsAt honest words start at number left held waiting [] old) → CutsReply honest words start.host at start.changes number (told_more start.told h.input (h.written ++ [])) waiting new → HasStopped honest words start at left held new
   halts left held waiting old new h c = record {
     unwritten = c.ends.out;
     lost = false;
@@ -255,7 +255,7 @@ module _ {D : Type 0} (honest : Type 0) (words : DiskWords D) (start : PushStart
   }
 
   -- there was no room for the outcome
-  fills : (left held : Option (List ℕ)) (waiting : List ℕ) (old : Standing D) (new : Kept D) (h : IsAt honest words start at number left held waiting [] old) → HasNoRoomAtEnd start.host at (told_more start.told h.input (h.written ++ [])) waiting old.records → new ≡ old.records → HasFilled honest words start at left held new
+  fills : (left held : Option (List ℕ)) (waiting : List ℕ) (old : NodeState D) (new : Kept D) (h : IsAt honest words start at number left held waiting [] old) → HasNoRoomAtEnd start.host at (told_more start.told h.input (h.written ++ [])) waiting old.records → new ≡ old.records → HasFilled honest words start at left held new
   fills left held waiting old new h none same = record {
     unwritten = none.ends.out;
     lost = false;
@@ -266,14 +266,14 @@ module _ {D : Type 0} (honest : Type 0) (words : DiskWords D) (start : PushStart
   }
 
   -- an attempt of which something is told is there
-  is_there : (left held : Option (List ℕ)) (waiting unwritten : List ℕ) (node : Standing D) → IsAt honest words start at number left held waiting unwritten node → slot_at node.attempts number ≡ None → ⊥
+  is_there : (left held : Option (List ℕ)) (waiting unwritten : List ℕ) (node : NodeState D) → IsAt honest words start at number left held waiting unwritten node → slot_at node.attempts number ≡ None → ⊥
   is_there left held waiting unwritten node h none = not_both (sym h.tells.at ∙ none)
     where
       not_both : Some h.tells.run ≡ None → ⊥
       not_both e = cc
 
   -- the node has refused octets, or a loss
-  refuses : (left held : Option (List ℕ)) (waiting unwritten : List ℕ) (old new : Standing D) (fault : NodeFault) → IsAt honest words start at number left held waiting unwritten old → RefusesToReply words number old new fault
+  refuses : (left held : Option (List ℕ)) (waiting unwritten : List ℕ) (old new : NodeState D) (fault : NodeFault) → IsAt honest words start at number left held waiting unwritten old → RefusesToReply words number old new fault
       → (fault ≡ node_fault.Stopped → HasStopped honest words start at left held new.records) → (fault ≡ node_fault.Full → new.records ≡ old.records → HasFilled honest words start at left held new.records)
       → (fault ≡ node_fault.Unknown → slot_at old.attempts number ≡ None) → HasFailed honest words start at left held new.records (link_fault_of fault)
   refuses left held waiting unwritten old new node_fault.NoMemory h gone cut full unknown = drops left held waiting unwritten old new.records h gone.records
@@ -286,7 +286,7 @@ module _ {D : Type 0} (honest : Type 0) (words : DiskWords D) (start : PushStart
   refuses left held waiting unwritten old new node_fault.Full h gone cut full unknown = full refl gone.records
 
   -- the node has refused octets
-  pub refuses_octets : (left held : Option (List ℕ)) (waiting : List ℕ) (old new : Standing D) (fault : NodeFault) (h : IsAt honest words start at number left held waiting [] old) → RefusesToReply words number old new fault
+  pub refuses_octets : (left held : Option (List ℕ)) (waiting : List ℕ) (old new : NodeState D) (fault : NodeFault) (h : IsAt honest words start at number left held waiting [] old) → RefusesToReply words number old new fault
       → (fault ≡ node_fault.Stopped → CutsReply honest words old.config.host at start.changes number (told_more start.told h.input (h.written ++ [])) waiting new.records)
       → (fault ≡ node_fault.Full → HasNoRoomAtEnd old.config.host at (told_more start.told h.input (h.written ++ [])) waiting old.records)
       → (fault ≡ node_fault.Unknown → slot_at old.attempts number ≡ None) → HasFailed honest words start at left held new.records (link_fault_of fault)
@@ -297,7 +297,7 @@ module _ {D : Type 0} (honest : Type 0) (words : DiskWords D) (start : PushStart
       unknown
 
   -- the connection is lost
-  pub loses : (left held : Option (List ℕ)) (waiting unwritten : List ℕ) (old new : Standing D) (change : ℕ) (h : IsAt honest words start at number left held waiting unwritten old)
+  pub loses : (left held : Option (List ℕ)) (waiting unwritten : List ℕ) (old new : NodeState D) (change : ℕ) (h : IsAt honest words start at number left held waiting unwritten old)
       → IsLost honest words old.config.host at start.changes number (told_more start.told h.input (h.written ++ unwritten)) new.records new.attempts change → HasLost honest words start at left held new.records
   loses left held waiting unwritten old new change h lost =
       let here = subst (λ host. IsLost honest words host at start.changes number (told_more start.told h.input (h.written ++ unwritten)) new.records new.attempts change) h.host lost in
@@ -315,7 +315,7 @@ module _ {D : Type 0} (honest : Type 0) (words : DiskWords D) (start : PushStart
       }
 
   -- the node has refused a loss
-  pub refuses_loss : (left held : Option (List ℕ)) (waiting unwritten : List ℕ) (old new : Standing D) (fault : NodeFault) (h : IsAt honest words start at number left held waiting unwritten old) → RefusesToReply words number old new fault
+  pub refuses_loss : (left held : Option (List ℕ)) (waiting unwritten : List ℕ) (old new : NodeState D) (fault : NodeFault) (h : IsAt honest words start at number left held waiting unwritten old) → RefusesToReply words number old new fault
       → (fault ≡ node_fault.Stopped → CutsLoss honest words old.config.host at start.changes number (told_more start.told h.input (h.written ++ unwritten)) new.records)
       → (fault ≡ node_fault.Full → HasNoRoomAtLoss old.config.host at (told_more start.told h.input (h.written ++ unwritten)) old.records)
       → (fault ≡ node_fault.Unknown → slot_at old.attempts number ≡ None) → HasFailed honest words start at left held new.records (link_fault_of fault)
@@ -357,7 +357,7 @@ module _ {D : Type 0} (honest : Type 0) (words : DiskWords D) (start : PushStart
       unknown
 
   -- What the node made of octets that waited. A beginning of what it wrote then was written.
-  module _ (left held new_held : Option (List ℕ)) (waiting : List ℕ) (old new : Standing D) (replied : Replied)
+  module _ (left held new_held : Option (List ℕ)) (waiting : List ℕ) (old new : NodeState D) (replied : Replied)
       (h : IsAt honest words start at number left held waiting [] old)
       (r : Replies honest words old.config.host at start.changes number (told_more start.told h.input (h.written ++ [])) waiting old new replied)
       (front rest : List ℕ) (parts : replied.out.items ≡ front ++ rest) (wrote : Appends held new_held front) where
@@ -368,7 +368,7 @@ module _ {D : Type 0} (honest : Type 0) (words : DiskWords D) (start : PushStart
     by_change change is = subst (RepliesBy honest words start.host at start.changes number (told_more start.told h.input (h.written ++ [])) waiting old new replied) is here
 
     -- it has ended
-    pub answered_end : (change : ℕ) → replied.change ≡ Some change → HasEnded honest words start at left new_held rest new.records
+    pub answered_end : (change : ℕ) → replied.change ≡ Some change → PushHasEnded honest words start at left new_held rest new.records
     answered_end change is = has_ended left held new_held waiting old new replied h front rest parts wrote change (by_change (Some change) is)
 
     -- it goes on
@@ -376,7 +376,7 @@ module _ {D : Type 0} (honest : Type 0) (words : DiskWords D) (start : PushStart
     answered_on none same = goes_on left held new_held waiting old new replied h front rest parts wrote same (by_change None none)
 
 -- before the first read nothing was read or written
-pub begins : {D : Type 0} (honest : Type 0) (words : DiskWords D) (at number : ℕ) (left held : Option (List ℕ)) (node : Standing D) (changes : List Change) (told : Told) → Keeps honest words node.records changes → Tells node.config.host changes node.attempts number told
+pub begins : {D : Type 0} (honest : Type 0) (words : DiskWords D) (at number : ℕ) (left held : Option (List ℕ)) (node : NodeState D) (changes : List Change) (told : Told) → Keeps honest words node.records changes → Tells node.config.host changes node.attempts number told
     → IsAt honest words (push_start_at left held node changes told) at number left held [] [] node
 begins honest words at number left held node changes told keeps tells = record {
   input = [];

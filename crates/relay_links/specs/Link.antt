@@ -13,7 +13,7 @@ use Rattle.relay_records.specs.declared.noted.Noted.{Noted}
 use Rattle.relay_records.specs.declared.fault.NodeFault.{NodeFault}
 use Rattle.relay_records.specs.declared.fault.NodeFault.TheVariants as node_fault
 use Rattle.relay_node.specs.Acceptance.{acceptance_by}
-use Rattle.relay_node.specs.Node.{SaysAt, Standing}
+use Rattle.relay_node.specs.Node.{SeatHasSaid, NodeState}
 use Rattle.relay_links.specs.declared.fault.LinkFault.{LinkFault}
 use Rattle.relay_links.specs.declared.fault.LinkFault.TheVariants.{Input, Output, NoMemory, Full, Device}
 use Rattle.relay_links.specs.Accepted.{Accepts, Rule}
@@ -30,7 +30,7 @@ pub record Start : Type 0 where
   pub noted : Option Noted
 
 -- a link of this node begins, which keeps these changes
-abbrev pub start_at : {D : Type 0} → Option (List ℕ) → Option (List ℕ) → List ℕ → Standing D → List Change → Start
+abbrev pub start_at : {D : Type 0} → Option (List ℕ) → Option (List ℕ) → List ℕ → NodeState D → List Change → Start
 start_at left held peer node changes =
     record {
       left = left;
@@ -85,10 +85,10 @@ module _ {D : Type 0} (honest : Type 0) (words : DiskWords D) (start : Start) (a
     pub note : HasNote added records.noted
 
   -- So far the session of this number has said what was written, and what was read but for these octets, which wait.
-  pub record HasSaid (number : ℕ) (left held : Option (List ℕ)) (waiting : List ℕ) (node : Standing D) : Type 0 where
+  pub record HasSaid (number : ℕ) (left held : Option (List ℕ)) (waiting : List ℕ) (node : NodeState D) : Type 0 where
     pub said : Said
     pub config : node.config ≡ start.config
-    pub says : SaysAt start.config node.seats number start.peer said
+    pub says : SeatHasSaid start.config node.seats number start.peer said
     pub read : Consumes start.left left (said.input ++ waiting)
     pub written : Appends start.held held said.output
     pub added : List Change
@@ -105,9 +105,9 @@ module _ {D : Type 0} (honest : Type 0) (words : DiskWords D) (start : Start) (a
     pub taken : HasTaken said added records
 
   -- the link goes on, or has come to its end
-  abbrev pub GoesOn : ℕ → Option (List ℕ) → Option (List ℕ) → List ℕ → Standing D → Bool → Type 0
-  GoesOn number left held waiting node true = HasServed left held node.records
-  GoesOn number left held waiting node false = HasSaid number left held waiting node
+  abbrev pub LinkGoesOn : ℕ → Option (List ℕ) → Option (List ℕ) → List ℕ → NodeState D → Bool → Type 0
+  LinkGoesOn number left held waiting node true = HasServed left held node.records
+  LinkGoesOn number left held waiting node false = HasSaid number left held waiting node
 
   -- the device failed while the last of these changes was added: a stop leaves the changes before it, or these with it
   pub record HasHalted (said : Said) (added : List Change) (records : Kept D) : Type 0 where
@@ -145,10 +145,11 @@ module _ {D : Type 0} (honest : Type 0) (words : DiskWords D) (start : Start) (a
     pub leaves : Leaves fault said added records
 
   -- a link has ended, well or by a fault
-  abbrev pub HasEnded : Option (List ℕ) → Option (List ℕ) → Kept D → Result (Unit {0}) LinkFault → Type 0
-  HasEnded left held records result = MatchResult result (λ _. HasServed left held records) (HasBegun left held records)
+  abbrev pub LinkHasEnded : Option (List ℕ) → Option (List ℕ) → Kept D → Result (Unit {0}) LinkFault → Type 0
+  LinkHasEnded left held records result =
+      MatchResult result (λ _. HasServed left held records) (HasBegun left held records)
 
   -- a link has gone on, or has ended, well or by a fault
-  abbrev pub HasGone : ℕ → Option (List ℕ) → Option (List ℕ) → List ℕ → Standing D → Result Bool LinkFault → Type 0
+  abbrev pub HasGone : ℕ → Option (List ℕ) → Option (List ℕ) → List ℕ → NodeState D → Result Bool LinkFault → Type 0
   HasGone number left held waiting node result =
-      MatchResult result (GoesOn number left held waiting node) (HasBegun left held node.records)
+      MatchResult result (LinkGoesOn number left held waiting node) (HasBegun left held node.records)

@@ -12,7 +12,7 @@ use Rattle.relay_course.specs.VerdictTable.{all_later}
 use Rattle.relay_attempts.specs.Reply.{Told, outcome_at, told_more}
 use Rattle.relay_slots.specs.Slots.{slot_at}
 use Rattle.relay_node.specs.Attempts.{Tells}
-use Rattle.relay_node.specs.Node.{Standing}
+use Rattle.relay_node.specs.Node.{NodeState}
 use Rattle.relay_links.specs.declared.fault.LinkFault.{LinkFault}
 use Rattle.relay_links.specs.declared.fault.LinkFault.TheVariants.{Input, Output, NoMemory, Full, Device}
 use Rattle.relay_links.specs.declared.push.Pushed.{Pushed}
@@ -30,7 +30,7 @@ pub record PushStart : Type 0 where
   pub told : Told
 
 -- a link of this node's attempt begins, of which this is told; the node keeps these changes
-abbrev pub push_start_at : {D : Type 0} → Option (List ℕ) → Option (List ℕ) → Standing D → List Change → Told
+abbrev pub push_start_at : {D : Type 0} → Option (List ℕ) → Option (List ℕ) → NodeState D → List Change → Told
     → PushStart
 push_start_at left held node changes told =
     record { left = left; held = held; host = node.config.host; changes = changes; told = told }
@@ -39,7 +39,7 @@ push_start_at left held node changes told =
 module _ {D : Type 0} (honest : Type 0) (words : DiskWords D) (start : PushStart) (at : ℕ) where
   -- The attempt of this number has read what was read but for these octets, which wait, and it wrote what was written
   -- and these octets behind that, which weren't; the node keeps the changes of before.
-  pub record IsAt (number : ℕ) (left held : Option (List ℕ)) (waiting unwritten : List ℕ) (node : Standing D)
+  pub record IsAt (number : ℕ) (left held : Option (List ℕ)) (waiting unwritten : List ℕ) (node : NodeState D)
       : Type 0 where
     pub input : List ℕ
     pub written : List ℕ
@@ -73,7 +73,7 @@ module _ {D : Type 0} (honest : Type 0) (words : DiskWords D) (start : PushStart
     pub cuts : CutsOutcome honest words start.host start.changes (outcome_at at start.told verdicts) used records
 
   -- the course has come to verdicts, and its outcome was added
-  pub record HasEnded (left held : Option (List ℕ)) (unwritten : List ℕ) (records : Kept D) : Type 0 where
+  pub record PushHasEnded (left held : Option (List ℕ)) (unwritten : List ℕ) (records : Kept D) : Type 0 where
     pub verdicts : List Verdict
     pub goes : Goes left held unwritten false (Some verdicts)
     pub concludes : Concludes verdicts records
@@ -86,8 +86,9 @@ module _ {D : Type 0} (honest : Type 0) (words : DiskWords D) (start : PushStart
 
   -- how a link has ended: what wasn't written of what an attempt wrote at its end is one octet at least
   abbrev pub HasPushed : Option (List ℕ) → Option (List ℕ) → Kept D → Pushed → Type 0
-  HasPushed left held records Ended = HasEnded left held [] records
-  HasPushed left held records Unwritten = (unwritten : List ℕ) × (unwritten ≢ []) × HasEnded left held unwritten records
+  HasPushed left held records Ended = PushHasEnded left held [] records
+  HasPushed left held records Unwritten =
+      (unwritten : List ℕ) × (unwritten ≢ []) × PushHasEnded left held unwritten records
   HasPushed left held records Lost = HasLost left held records
 
   -- the attempt is gone without an outcome, and the node keeps the changes of before
@@ -128,38 +129,38 @@ module _ {D : Type 0} (honest : Type 0) (words : DiskWords D) (start : PushStart
   PushesTo left held records (Err fault) = HasFailed left held records fault
 
   -- the attempt goes on, or it has ended, or the input has, or its connection is of no use any more
-  abbrev pub TakesWay : ℕ → Option (List ℕ) → Option (List ℕ) → Standing D → Way → Type 0
+  abbrev pub TakesWay : ℕ → Option (List ℕ) → Option (List ℕ) → NodeState D → Way → Type 0
   TakesWay number left held node way.On = IsAt number left held [] [] node
-  TakesWay number left held node way.Ended = HasEnded left held [] node.records
+  TakesWay number left held node way.Ended = PushHasEnded left held [] node.records
   TakesWay number left held node way.Unwritten =
-      (unwritten : List ℕ) × (unwritten ≢ []) × HasEnded left held unwritten node.records
+      (unwritten : List ℕ) × (unwritten ≢ []) × PushHasEnded left held unwritten node.records
   TakesWay number left held node way.AtEnd = IsAtEnd left × IsAt number left held [] [] node
   TakesWay number left held node way.Broken =
       (waiting : List ℕ) × (unwritten : List ℕ) × IsAt number left held waiting unwritten node
 
   -- it has gone some way, or a fault has come
-  abbrev pub WaysTo : ℕ → Option (List ℕ) → Option (List ℕ) → Standing D → Result Way LinkFault → Type 0
+  abbrev pub WaysTo : ℕ → Option (List ℕ) → Option (List ℕ) → NodeState D → Result Way LinkFault → Type 0
   WaysTo number left held node (Ok step) = TakesWay number left held node step
   WaysTo number left held node (Err fault) = HasFailed left held node.records fault
 
 -- What a link of an attempt did to the records, whatever list they keep: an outcome was added, with the report that is
 -- due of it, and the spool has grown by the link of that record alone.
-abbrev pub HasGrown : {D : Type 0} → DiskWords D → Standing D → Standing D → Type 0
+abbrev pub HasGrown : {D : Type 0} → DiskWords D → NodeState D → NodeState D → Type 0
 HasGrown words old new =
     (outcome : Outcome) × (number : ℕ) × GrowsBy words old.config.host outcome old.records new.records number
 
 -- A fault of the device has stopped them, or they were stopped before; at any other fault they are the same.
-abbrev pub LeavesRecords : {D : Type 0} → DiskWords D → Standing D → Standing D → LinkFault → Type 0
+abbrev pub LeavesRecords : {D : Type 0} → DiskWords D → NodeState D → NodeState D → LinkFault → Type 0
 LeavesRecords words old new Device =
     IsStopped words old.records new.records ⊎ ((old.records.spool.live ≡ false) × (new.records ≡ old.records))
 LeavesRecords words old new other = new.records ≡ old.records
 
 -- what a link that has ended, or one that has gone some way, did to them
-abbrev pub Ends : {D : Type 0} → DiskWords D → Standing D → Standing D → Result Pushed LinkFault → Type 0
+abbrev pub Ends : {D : Type 0} → DiskWords D → NodeState D → NodeState D → Result Pushed LinkFault → Type 0
 Ends words old new (Ok pushed) = HasGrown words old new
 Ends words old new (Err fault) = LeavesRecords words old new fault
 
-abbrev pub Moves : {D : Type 0} → DiskWords D → Standing D → Standing D → Result Way LinkFault → Type 0
+abbrev pub Moves : {D : Type 0} → DiskWords D → NodeState D → NodeState D → Result Way LinkFault → Type 0
 Moves words old new (Ok way.On) = new.records ≡ old.records
 Moves words old new (Ok way.Ended) = HasGrown words old new
 Moves words old new (Ok way.Unwritten) = HasGrown words old new
@@ -169,7 +170,7 @@ Moves words old new (Err fault) = LeavesRecords words old new fault
 
 -- The attempt of a number is gone, unless it goes on, or its connection is lost of which the node wasn't told. Of a
 -- node that is stopped nothing is said.
-abbrev pub IsGoneBy : {D : Type 0} → ℕ → Standing D → Result Way LinkFault → Type 0
+abbrev pub IsGoneBy : {D : Type 0} → ℕ → NodeState D → Result Way LinkFault → Type 0
 IsGoneBy number new (Ok way.On) = Unit {0}
 IsGoneBy number new (Ok way.Ended) = slot_at new.attempts number ≡ None
 IsGoneBy number new (Ok way.Unwritten) = slot_at new.attempts number ≡ None

@@ -1,9 +1,9 @@
 ghost use Rattle.std.specs.Prelude.{◌≡◌, ◌≤◌, ◌<◌, ◌↔◌, [], ℕ, List, Option, None, drop, length, true, false, IfOk};
 ghost use Rattle.relay_book.specs.declared.change.Change.{Change};
-ghost use Rattle.relay_node.specs.Node.{SaysAt, greeted_by};
+ghost use Rattle.relay_node.specs.Node.{SeatHasSaid, greeted_by};
 ghost use Rattle.relay_slots.specs.Slots.{OthersStay, slot_at};
 ghost use Rattle.relay_records.specs.Records.{Keeps};
-ghost use Rattle.relay_links.specs.Link.{HasEnded, HasGone, HasSaid, Start, start_at};
+ghost use Rattle.relay_links.specs.Link.{LinkHasEnded, HasGone, HasSaid, Start, start_at};
 
 use crate::block::read_block;
 use crate::fault::{LinkFault, link_fault};
@@ -31,8 +31,8 @@ pub fn serve_link<D: Disk, R: Read, W: Write>(
     now: Moment,
 ) -> Result<(), LinkFault>
     ensures served { (changes : List Change) (peer : List ℕ) → Keeps D.honest D.words node.old.records changes
-        → SaysAt node.old.config node.old.seats connected.session peer (greeted_by connected.out.items)
-        → HasEnded D.honest D.words
+        → SeatHasSaid node.old.config node.old.seats connected.session peer (greeted_by connected.out.items)
+        → LinkHasEnded D.honest D.words
         (start_at (R.remaining reader.old) (W.contents writer.old) peer node.old changes) now
         (R.remaining reader.new) (W.contents writer.new) node.new.records result }
     ensures gone { node.new.records.spool.live ≡ true → slot_at node.new.seats connected.session ≡ None }
@@ -56,8 +56,8 @@ fn greet<D: Disk, R: Read, W: Write>(
     now: Moment,
 ) -> Result<(), LinkFault>
     ensures served { (changes : List Change) (peer : List ℕ) → Keeps D.honest D.words node.old.records changes
-        → SaysAt node.old.config node.old.seats connected.now.session peer (greeted_by connected.now.out.items)
-        → HasEnded D.honest D.words
+        → SeatHasSaid node.old.config node.old.seats connected.now.session peer (greeted_by connected.now.out.items)
+        → LinkHasEnded D.honest D.words
         (start_at (R.remaining reader.old) (W.contents writer.old) peer node.old changes) now
         (R.remaining reader.new) (W.contents writer.new) node.new.records result }
     ensures rest { OthersStay node.old.seats node.new.seats connected.now.session
@@ -82,7 +82,7 @@ fn converse<D: Disk, R: Read, W: Write>(
     ensures served { (start : Start)
         → HasSaid D.honest D.words start now session (R.remaining reader.old) (W.contents writer.old)
         [] node.old
-        → HasEnded D.honest D.words start now (R.remaining reader.new) (W.contents writer.new)
+        → LinkHasEnded D.honest D.words start now (R.remaining reader.new) (W.contents writer.new)
         node.new.records result }
     ensures rest { OthersStay node.old.seats node.new.seats session × (node.new.config ≡ node.old.config)
         × (node.new.attempts ≡ node.old.attempts) }

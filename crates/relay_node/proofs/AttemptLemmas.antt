@@ -16,13 +16,13 @@ use Rattle.relay_records.specs.declared.fault.NodeFault.{NodeFault}
 use Rattle.relay_records.specs.declared.fault.NodeFault.TheVariants.{NoMemory, Stopped, Unknown, TooMany, NotDue, Busy, Open, Full}
 use Rattle.relay_attempts.specs.declared.runs.Run.{Run}
 use Rattle.relay_attempts.specs.declared.start.Started.{Started}
-use Rattle.relay_attempts.specs.Attempts.{Serves, Standing, Starts}
+use Rattle.relay_attempts.specs.Attempts.{Serves, AttemptTable, Starts}
 use Rattle.relay_attempts.specs.Runs.{EachRuns, NoneTwice, RunsFor}
 use Rattle.relay_node.specs.Attempts.{Begins, Tells, ToldStays}
 use Rattle.relay_node.specs.Node.{RefusesToHear}
 
 -- attempts serve a queue as long as these parts stay
-pub same_serves : (host : List ℕ) (table : RouteTable) (old new : Standing) (queue after : Queue) → new.runs ≡ old.runs → new.stranded ≡ old.stranded → after ≡ queue → Serves host table old queue → Serves host table new after
+pub same_serves : (host : List ℕ) (table : RouteTable) (old new : AttemptTable) (queue after : Queue) → new.runs ≡ old.runs → new.stranded ≡ old.stranded → after ≡ queue → Serves host table old queue → Serves host table new after
 same_serves host table old new queue after runs stranded same serves =
     subst (λ (q : Queue). Serves host table new q) (sym same) (record {
       stranded = stranded ∙ serves.stranded;

@@ -16,7 +16,7 @@ use Rattle.relay_records.specs.Records.{Kept}
 use Rattle.relay_attempts.specs.declared.runs.Run.{Run}
 use Rattle.relay_node.specs.declared.receive.Received.{Received}
 use Rattle.relay_node.specs.declared.seat.Seat.{Seat}
-use Rattle.relay_node.specs.Node.{GoesOn, HasClosed, HasHistory, HaveHistories, Hears, IsOpen, Receives, Says, SaysAt, Standing}
+use Rattle.relay_node.specs.Node.{SessionGoesOn, HasClosed, HasHistory, HaveHistories, Hears, IsOpen, Receives, SessionHasSaid, SeatHasSaid, NodeState}
 use Rattle.relay_slots.specs.Slots.{AreFree, slot_at}
 use Rattle.relay_slots.proofs.Theorems.{taken_is_none}
 
@@ -59,7 +59,7 @@ module _ (config : Config) where
   free_histories (Some seat ∷ seats) free = absurd free
 
   -- a session was put under its number
-  pub says_at : (seats all : List (Option Seat)) (number : ℕ) (seat : Seat) (peer : List ℕ) (said : Said) → number < length seats → all ≡ slice_set seats number (Some seat) → seat.peer ≡ peer → Says (setup_of_config config) seat.session said → SaysAt config all number peer said
+  pub says_at : (seats all : List (Option Seat)) (number : ℕ) (seat : Seat) (peer : List ℕ) (said : Said) → number < length seats → all ≡ slice_set seats number (Some seat) → seat.peer ≡ peer → SessionHasSaid (setup_of_config config) seat.session said → SeatHasSaid config all number peer said
   says_at seats all number seat peer said within is peer_is says = record {
     seat = seat;
     at = ap (λ (l : List (Option Seat)). slot_at l number) is ∙ get_or-set_same seats number (Some seat) None within;
@@ -68,7 +68,7 @@ module _ (config : Config) where
   }
 
 -- a node of these parts
-abbrev pub standing_of : {D : Type 0} → Config → List (Option Seat) → List (Option Run) → Kept D → Standing D
+abbrev pub standing_of : {D : Type 0} → Config → List (Option Seat) → List (Option Run) → Kept D → NodeState D
 standing_of config seats attempts records = record { config = config; seats = seats; attempts = attempts; records = records }
 
 -- a session that tells its caller to close has closed
@@ -98,15 +98,15 @@ one_some : (seat other : Seat) → Some seat ≡ Some other → seat ≡ other
 one_some seat other e = cc
 
 module _ {D : Type 0} (honest : Type 0) (words : DiskWords D) (config : Config) (changes : List Change) (peer : List ℕ) (at number : ℕ) (said : Said) (piece : List ℕ)
-    (old : List (Option Seat)) (taken : Seat) (runs more : List (Option Run)) (is : SaysAt config old number peer said) (was : Some taken ≡ slot_at old number) where
+    (old : List (Option Seat)) (taken : Seat) (runs more : List (Option Run)) (is : SeatHasSaid config old number peer said) (was : Some taken ≡ slot_at old number) where
   pub peer_of_taken : taken.peer ≡ peer
   peer_of_taken = ap (λ (s : Seat). s.peer) (one_some taken is.seat (was ∙ is.at)) ∙ is.peer_is
 
-  pub taken_says : Says (setup_of_config config) taken.session said
-  taken_says = subst (λ (s : Seat). Says (setup_of_config config) s.session said) (sym (one_some taken is.seat (was ∙ is.at))) is.says
+  pub taken_says : SessionHasSaid (setup_of_config config) taken.session said
+  taken_says = subst (λ (s : Seat). SessionHasSaid (setup_of_config config) s.session said) (sym (one_some taken is.seat (was ∙ is.at))) is.says
 
   module _ (new : Seat) (peer_kept : new.peer ≡ taken.peer) (before after : Kept D) (received : Received)
-      (hears : Says (setup_of_config config) taken.session said → Hears honest words config changes taken.peer at said piece new.session before after received) where
+      (hears : SessionHasSaid (setup_of_config config) taken.session said → Hears honest words config changes taken.peer at said piece new.session before after received) where
     heard : Hears honest words config changes peer at said piece new.session before after received
     heard = subst (λ p. Hears honest words config changes p at said piece new.session before after received) peer_of_taken (hears taken_says)
 
@@ -122,7 +122,7 @@ module _ {D : Type 0} (honest : Type 0) (words : DiskWords D) (config : Config) 
         → Receives honest words config changes peer at number said piece (standing_of config old runs before) (standing_of config all more after) received
     receives_on mid all going within set = record {
       later = heard.later;
-      goes_on = subst (GoesOn config all number peer heard.later) (sym going) (says_at config mid all number new peer heard.later within set (peer_kept ∙ peer_of_taken) heard.says);
+      goes_on = subst (SessionGoesOn config all number peer heard.later) (sym going) (says_at config mid all number new peer heard.later within set (peer_kept ∙ peer_of_taken) heard.says);
       is_open = λ _. open_at mid all going within set;
       talks = heard.talks;
     }
@@ -133,7 +133,7 @@ module _ {D : Type 0} (honest : Type 0) (words : DiskWords D) (config : Config) 
     receives_last rest is_last set = record {
       later = heard.later;
       goes_on =
-          subst (GoesOn config rest number peer heard.later) (sym is_last)
+          subst (SessionGoesOn config rest number peer heard.later) (sym is_last)
           (ap (λ (l : List (Option Seat)). slot_at l number) set ∙ taken_is_none old number, has_closed (setup_of_config config) new.session heard.later heard.says.stands (heard.closed.0 is_last));
       is_open = λ going. absurd (not_closed (sym is_last ∙ going));
       talks = heard.talks;

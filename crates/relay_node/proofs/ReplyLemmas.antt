@@ -13,18 +13,18 @@ use Rattle.relay_records.specs.declared.fault.NodeFault.{NodeFault}
 use Rattle.relay_records.specs.declared.fault.NodeFault.TheVariants.{NoMemory, Stopped, Unknown, TooMany, NotDue, Busy, Open, Full}
 use Rattle.relay_attempts.specs.declared.reply.Replied.{Replied}
 use Rattle.relay_attempts.specs.declared.runs.Run.{Run}
-use Rattle.relay_attempts.specs.Attempts.{Serves, Standing as Attempting}
+use Rattle.relay_attempts.specs.Attempts.{Serves, AttemptTable}
 use Rattle.relay_attempts.specs.Reply.{EndsBy, HasHeard, Makes, RefusesToHear, TellsAt, Told, told_more, Replies as RepliesOfQueue}
 use Rattle.relay_node.specs.Attempts.{RefusesToReply, Replies, RepliesBy, Tells, UsesReply}
 use Rattle.relay_node.specs.declared.seat.Seat.{Seat}
-use Rattle.relay_node.specs.Node.{Standing}
+use Rattle.relay_node.specs.Node.{NodeState}
 
 one_some : (first second : Accept) → Some first ≡ Some second → first ≡ second
 one_some first second e = cc
 
 module _ (host : List ℕ) (changes : List Change) (queue : Queue) (fitting : Fitting changes) (queue_is : queue ≡ queue_of changes) where
   -- what is told by the list is told by the queue
-  pub told_by_queue : (table : RouteTable) (attempts : Attempting) (number : ℕ) (told : Told) → Serves host table attempts queue → Tells host changes attempts.runs number told → TellsAt host queue attempts.runs number told
+  pub told_by_queue : (table : RouteTable) (attempts : AttemptTable) (number : ℕ) (told : Told) → Serves host table attempts queue → Tells host changes attempts.runs number told → TellsAt host queue attempts.runs number told
   told_by_queue table attempts number told serves t =
       let runs = serves.runs number t.run t.at in
       let found : message_of queue.messages told.message ≡ Some runs.message = subst (λ n. message_of queue.messages n ≡ Some runs.message) t.its_message runs.found in
@@ -61,7 +61,7 @@ module _ (host : List ℕ) (changes : List Change) (queue : Queue) (fitting : Fi
       }
 
 -- what a reply has done by the queue it has done by the list
-module _ {D : Type 0} (honest : Type 0) (words : DiskWords D) (host : List ℕ) (now : ℕ) (changes : List Change) (number : ℕ) (told : Told) (piece : List ℕ) (old new : Standing D)
+module _ {D : Type 0} (honest : Type 0) (words : DiskWords D) (host : List ℕ) (now : ℕ) (changes : List Change) (number : ℕ) (told : Told) (piece : List ℕ) (old new : NodeState D)
     (fitting : Fitting changes) (queue_is : old.records.queue ≡ queue_of changes) where
   by_change : (replied : Replied) (change : Option ℕ) → RepliesOfQueue honest words host now changes number told piece old.records new.records new.attempts replied change → RepliesBy honest words host now changes number told piece old new replied change
   by_change replied None r = record {
@@ -76,7 +76,7 @@ module _ {D : Type 0} (honest : Type 0) (words : DiskWords D) (host : List ℕ) 
   replies (Err fault) r = tt
 
 -- what was used, whatever is told
-pub uses : {D : Type 0} (words : DiskWords D) (now number len : ℕ) (old new : Standing D) (result : Result Replied NodeFault)
+pub uses : {D : Type 0} (words : DiskWords D) (now number len : ℕ) (old new : NodeState D) (result : Result Replied NodeFault)
     → IfOk result (HasHeard words old.config.host now number len old.attempts new.attempts old.records new.records) → IfOk result (UsesReply words now number len old new)
 uses {D = D} words now number len old new (Err fault) heard = tt
 uses {D = D} words now number len old new (Ok replied) heard = record {
@@ -96,7 +96,7 @@ uses {D = D} words now number len old new (Ok replied) heard = record {
     not_failed (Some change) made = made.grows.grows.failures
 
 -- a fault of a live node
-module _ {D : Type 0} (words : DiskWords D) (number : ℕ) (before after : Attempting) (old new : Standing D) (was : old.attempts ≡ before.runs) (is : new.attempts ≡ after.runs) (config : new.config ≡ old.config)
+module _ {D : Type 0} (words : DiskWords D) (number : ℕ) (before after : AttemptTable) (old new : NodeState D) (was : old.attempts ≡ before.runs) (is : new.attempts ≡ after.runs) (config : new.config ≡ old.config)
     (seats : new.seats ≡ old.seats) (live : old.records.spool.live ≡ true) where
   -- what is left behind it
   refuses : (fault : NodeFault) → RefusesToHear words number before after old.records new.records fault → RefusesToReply words number old new fault
@@ -106,9 +106,9 @@ module _ {D : Type 0} (words : DiskWords D) (number : ℕ) (before after : Attem
       dead : true ≡ false → ⊥
       dead e = cc
   refuses Stopped (inr stopped) = stopped.1
-  refuses Unknown r = same_node (is ∙ ap (λ (s : Attempting). s.runs) r.2 ∙ sym was) r.3
+  refuses Unknown r = same_node (is ∙ ap (λ (s : AttemptTable). s.runs) r.2 ∙ sym was) r.3
     where
-      parts : Config → List (Option Seat) → List (Option Run) → Kept D → Standing D
+      parts : Config → List (Option Seat) → List (Option Run) → Kept D → NodeState D
       parts config seats attempts records = record { config = config; seats = seats; attempts = attempts; records = records }
 
       same_node : new.attempts ≡ old.attempts → new.records ≡ old.records → new ≡ old
@@ -128,7 +128,7 @@ module _ {D : Type 0} (words : DiskWords D) (number : ℕ) (before after : Attem
   refuses_reply (Err fault) r = refuses fault r
 
 -- an attempt that isn't there is unknown, and only such a one
-module _ {D : Type 0} (words : DiskWords D) (number : ℕ) (before after : Attempting) (old new : Kept D) (live : old.spool.live ≡ true) where
+module _ {D : Type 0} (words : DiskWords D) (number : ℕ) (before after : AttemptTable) (old new : Kept D) (live : old.spool.live ≡ true) where
   none_else : (fault : NodeFault) → RefusesToHear words number before after old new fault → slot_at before.runs number ≡ None → fault ≡ Unknown
   none_else NoMemory r none = absurd (r.0.was none)
   none_else Stopped (inl r) none = absurd (dead (sym live ∙ r.0))

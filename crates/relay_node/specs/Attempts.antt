@@ -16,9 +16,9 @@ use Rattle.relay_attempts.specs.declared.reply.Replied.{Replied}
 use Rattle.relay_attempts.specs.declared.runs.Run.{Run}
 use Rattle.relay_attempts.specs.declared.start.Started.{Started}
 use Rattle.relay_attempts.specs.Hops.{due_places_in}
-use Rattle.relay_attempts.specs.Reply.{HasEnded, Makes, Told, told_more}
+use Rattle.relay_attempts.specs.Reply.{AttemptHasEnded, Makes, Told, told_more}
 use Rattle.relay_attempts.specs.Runs.{is_running}
-use Rattle.relay_node.specs.Node.{Standing}
+use Rattle.relay_node.specs.Node.{NodeState}
 
 -- This is told of the attempt of a number: by the list of changes its message was accepted with this envelope and
 -- stored text, and its client has read and written this.
@@ -72,23 +72,23 @@ pub record Begins (config : Config) (changes : List Change) (number : ℕ) (hop 
 module _ {D : Type 0} (honest : Type 0) (words : DiskWords D) (host : List ℕ) (now : ℕ) (changes : List Change)
     (number : ℕ) (told : Told) where
   -- it goes on: all of the piece was read, and the records are the same
-  pub record ReadsOn (piece : List ℕ) (old new : Standing D) (replied : Replied) : Type 0 where
+  pub record ReadsOn (piece : List ℕ) (old new : NodeState D) (replied : Replied) : Type 0 where
     pub used : replied.used ≡ length piece
     pub same : new.records ≡ old.records
     pub tells : Tells host changes new.attempts number (told_more told (take replied.used piece) replied.out.items)
 
   -- it goes on, or it has ended, and its outcome is the change of this number
-  abbrev pub RepliesBy : List ℕ → Standing D → Standing D → Replied → Option ℕ → Type 0
+  abbrev pub RepliesBy : List ℕ → NodeState D → NodeState D → Replied → Option ℕ → Type 0
   RepliesBy piece old new replied None = ReadsOn piece old new replied
   RepliesBy piece old new replied (Some change) =
-      HasEnded honest words host now changes number told piece new.records new.attempts replied change
+      AttemptHasEnded honest words host now changes number told piece new.records new.attempts replied change
 
-  abbrev pub Replies : List ℕ → Standing D → Standing D → Replied → Type 0
+  abbrev pub Replies : List ℕ → NodeState D → NodeState D → Replied → Type 0
   Replies piece old new replied = RepliesBy piece old new replied replied.change
 
 -- Octets of a piece of this length were used: all, unless a change was made, and then the attempt is gone. The records
 -- are the same, or have grown by that change, and no call of the device has failed.
-pub record UsesReply {D : Type 0} (words : DiskWords D) (now number len : ℕ) (old new : Standing D) (replied : Replied)
+pub record UsesReply {D : Type 0} (words : DiskWords D) (now number len : ℕ) (old new : NodeState D) (replied : Replied)
     : Type 0 where
   pub within : replied.used ≤ len
   pub whole : replied.change ≡ None → replied.used ≡ len
@@ -97,12 +97,12 @@ pub record UsesReply {D : Type 0} (words : DiskWords D) (now number len : ℕ) (
   pub failures : FailsNot words old.records.spool.disk new.records.spool.disk
 
 -- the attempt is gone, and the records are unchanged
-pub record IsDropped {D : Type 0} (number : ℕ) (old new : Standing D) : Type 0 where
+pub record IsDropped {D : Type 0} (number : ℕ) (old new : NodeState D) : Type 0 where
   pub attempt : slot_at new.attempts number ≡ None
   pub records : new.records ≡ old.records
 
 -- what a live node leaves where it refuses a reply to an attempt, or the loss of its connection
-abbrev pub RefusesToReply : {D : Type 0} → DiskWords D → ℕ → Standing D → Standing D → NodeFault → Type 0
+abbrev pub RefusesToReply : {D : Type 0} → DiskWords D → ℕ → NodeState D → NodeState D → NodeFault → Type 0
 RefusesToReply words number old new NoMemory = IsDropped number old new
 RefusesToReply words number old new Stopped = IsStopped words old.records new.records
 RefusesToReply words number old new Unknown = new ≡ old

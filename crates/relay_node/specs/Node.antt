@@ -30,28 +30,28 @@ use Rattle.relay_node.specs.Room.{AnswersMore, EndsWithOffer, HasRoom, Overfills
 use Rattle.relay_slots.specs.Slots.{AreFree, HasPlaces, IsLeastFree, OthersStay, slot_at}
 
 -- what callers see of a node: its configuration, its sessions and its running attempts by number, and its records
-pub record Standing (D : Type 0) : Type 0 where
+pub record NodeState (D : Type 0) : Type 0 where
   pub config : Config
   pub seats : List (Option Seat)
   pub attempts : List (Option Run)
   pub records : Kept D
 
 -- the session stands behind what was said, and each offer is answered
-pub record Says (setup : Setup) (session : Session) (said : Said) : Type 0 where
+pub record SessionHasSaid (setup : Setup) (session : Session) (said : Said) : Type 0 where
   pub stands : Stands setup session said
   pub settled : open_offers session ≡ []
 
 -- the session of this number, whose client is at this address, stands behind what was said
-pub record SaysAt (config : Config) (seats : List (Option Seat)) (number : ℕ) (peer : List ℕ)
+pub record SeatHasSaid (config : Config) (seats : List (Option Seat)) (number : ℕ) (peer : List ℕ)
     (said : Said) : Type 0 where
   pub seat : Seat
   pub at : slot_at seats number ≡ Some seat
   pub peer_is : seat.peer ≡ peer
-  pub says : Says (setup_of_config config) seat.session said
+  pub says : SessionHasSaid (setup_of_config config) seat.session said
 
 -- something was said on a session
 abbrev pub HasHistory : Config → Session → Type 0
-HasHistory config session = (said : Said) × Says (setup_of_config config) session said
+HasHistory config session = (said : Said) × SessionHasSaid (setup_of_config config) session said
 
 -- something was said on each session
 abbrev pub HaveHistories : Config → List (Option Seat) → Type 0
@@ -66,10 +66,10 @@ pub record HasClosed (setup : Setup) (said : Said) : Type 0 where
       × (dialogue.state ≡ Closed)
 
 -- the session of this number goes on behind what was said, or it has closed, and is gone
-abbrev pub GoesOn : Config → List (Option Seat) → ℕ → List ℕ → Said → Bool → Type 0
-GoesOn config seats number peer said true =
+abbrev pub SessionGoesOn : Config → List (Option Seat) → ℕ → List ℕ → Said → Bool → Type 0
+SessionGoesOn config seats number peer said true =
     (slot_at seats number ≡ None) × HasClosed (setup_of_config config) said
-GoesOn config seats number peer said false = SaysAt config seats number peer said
+SessionGoesOn config seats number peer said false = SeatHasSaid config seats number peer said
 
 -- the session of this number waits for more octets: it has not closed
 abbrev pub IsOpen : List (Option Seat) → ℕ → Type 0
@@ -127,15 +127,15 @@ module _ {D : Type 0} (honest : Type 0) (words : DiskWords D) (config : Config) 
   pub record Hears (said : Said) (piece : List ℕ) (new_session : Session) (old new : Kept D)
       (received : Received) : Type 0 where
     pub later : Said
-    pub says : Says (setup_of_config config) new_session later
+    pub says : SessionHasSaid (setup_of_config config) new_session later
     pub closed : (received.close ≡ true) ↔ (next_of new_session ≡ next.Close)
     pub talks : TalksOn said later piece old new received
 
   -- the same, on the session of this number of a node
-  pub record Receives (number : ℕ) (said : Said) (piece : List ℕ) (old new : Standing D)
+  pub record Receives (number : ℕ) (said : Said) (piece : List ℕ) (old new : NodeState D)
       (received : Received) : Type 0 where
     pub later : Said
-    pub goes_on : GoesOn config new.seats number peer later received.close
+    pub goes_on : SessionGoesOn config new.seats number peer later received.close
     pub is_open : received.close ≡ false → IsOpen new.seats number
     pub talks : TalksOn said later piece old.records new.records received
 
@@ -182,14 +182,14 @@ pub record IsHeard {D : Type 0} (words : DiskWords D) (config : Config) (len : �
 
 -- A call on the session or the attempt of a number is refused so: by a stopped node always, and nothing
 -- changes; and by a live one as unknown exactly where the number is free, and each fault leaves this.
-pub record RefusesAt {D T : Type 0} (old new : Standing D) (IsFreeNumber : Type 0) (Leaves : NodeFault → Type 0)
+pub record RefusesAt {D T : Type 0} (old new : NodeState D) (IsFreeNumber : Type 0) (Leaves : NodeFault → Type 0)
     (result : Result T NodeFault) : Type 0 where
   pub refused : old.records.spool.live ≡ true → IfErr result Leaves
   pub stopped : old.records.spool.live ≡ false → (result ≡ Err Stopped) × (new ≡ old)
   pub unknown : (result ≡ Err Unknown) ↔ ((old.records.spool.live ≡ true) × IsFreeNumber)
 
 -- a node with room for 64 sessions and 64 attempts, and without one, and without a note
-pub record IsIdle {D : Type 0} (config : Config) (node : Standing D) : Type 0 where
+pub record IsIdle {D : Type 0} (config : Config) (node : NodeState D) : Type 0 where
   pub config_is : node.config ≡ config
   pub free : AreFree node.seats
   pub none_runs : AreFree node.attempts
@@ -209,30 +209,30 @@ RefusesToMake honest words old new cause =
     ((cause ≡ Spool spool_fault.NoMemory) × (new ≡ old)) ⊎ RefusesDisk honest words old new cause
 
 -- the least free number has a session, and its client was greeted
-pub record Connects {D : Type 0} (peer : List ℕ) (old new : Standing D) (connected : Connected) : Type 0 where
+pub record Connects {D : Type 0} (peer : List ℕ) (old new : NodeState D) (connected : Connected) : Type 0 where
   pub free : IsLeastFree old.seats connected.session
-  pub says : SaysAt old.config new.seats connected.session peer (greeted_by connected.out.items)
+  pub says : SeatHasSaid old.config new.seats connected.session peer (greeted_by connected.out.items)
   pub others : OthersStay old.seats new.seats connected.session
 
 -- what a refused connection leaves
-abbrev pub RefusesToConnect : {D : Type 0} → Standing D → Standing D → NodeFault → Type 0
+abbrev pub RefusesToConnect : {D : Type 0} → NodeState D → NodeState D → NodeFault → Type 0
 RefusesToConnect old new NoMemory = new ≡ old
 RefusesToConnect old new Stopped = new ≡ old
 RefusesToConnect old new TooMany = new ≡ old
 RefusesToConnect old new other = ⊥
 
 -- what an `ended` leaves that is refused by a live node
-abbrev pub RefusesToEnd : {D : Type 0} → Standing D → Standing D → NodeFault → Type 0
+abbrev pub RefusesToEnd : {D : Type 0} → NodeState D → NodeState D → NodeFault → Type 0
 RefusesToEnd old new Unknown = new ≡ old
 RefusesToEnd old new other = ⊥
 
 -- the session is gone, and the records are unchanged
-pub record IsGone {D : Type 0} (number : ℕ) (old new : Standing D) : Type 0 where
+pub record IsGone {D : Type 0} (number : ℕ) (old new : NodeState D) : Type 0 where
   pub session : slot_at new.seats number ≡ None
   pub records : new.records ≡ old.records
 
 -- what a `receive` leaves that is refused by a live node
-abbrev pub RefusesToReceive : {D : Type 0} → DiskWords D → ℕ → Standing D → Standing D → NodeFault → Type 0
+abbrev pub RefusesToReceive : {D : Type 0} → DiskWords D → ℕ → NodeState D → NodeState D → NodeFault → Type 0
 RefusesToReceive words number old new NoMemory = IsGone number old new
 RefusesToReceive words number old new Stopped = IsStopped words old.records new.records
 RefusesToReceive words number old new Unknown = new ≡ old

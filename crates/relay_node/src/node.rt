@@ -5,7 +5,7 @@ ghost use Rattle.relay_book.specs.declared.change.Change.{Change};
 ghost use Rattle.relay_book.specs.Marks.{Held};
 ghost use Rattle.relay_book.specs.Queue.{held_of};
 ghost use Rattle.relay_disk.specs.Device.{AddsNoImage, FailsNot, Only};
-ghost use Rattle.relay_node.specs.Node.{Connects, CutsTalk, IsFused, IsIdle, Receives, RefusesAt, SaysAt, UsesOctets};
+ghost use Rattle.relay_node.specs.Node.{Connects, CutsTalk, IsFused, IsIdle, Receives, RefusesAt, SeatHasSaid, UsesOctets};
 ghost use Rattle.relay_node.specs.Node.{RefusesToConnect, RefusesToEnd, RefusesToMake, RefusesToReceive};
 ghost use Rattle.relay_node.specs.Room.{ComesToOffer};
 ghost use Rattle.relay_slots.specs.Slots.{IsFull, OthersStay, slot_at};
@@ -67,9 +67,9 @@ impl<D: Disk + Drop> Drop for Node<D> {
 
 impl<D: Disk> Model for Node<D> {
     ghost use Rattle.relay_attempts.specs.Attempts.{Serves};
-    ghost use Rattle.relay_node.specs.Node.{Standing, HaveHistories};
+    ghost use Rattle.relay_node.specs.Node.{NodeState, HaveHistories};
 
-    ghost Value = { Standing D };
+    ghost Value = { NodeState D };
 
     ghost view = { λ node. record {
       config = node.config;
@@ -248,16 +248,16 @@ impl<D: Disk> Node<D> {
     ) -> Result<Received, NodeFault>
         ensures receives { (changes : List Change) (peer : List ℕ) (said : Said)
             → Keeps D.honest D.words self.old.records changes
-            → SaysAt self.old.config self.old.seats session peer said
+            → SeatHasSaid self.old.config self.old.seats session peer said
             → IfOk result (Receives D.honest D.words self.old.config changes peer now session said piece.now
             self.old self.new) }
         ensures cut { (changes : List Change) (peer : List ℕ) (said : Said)
             → Keeps D.honest D.words self.old.records changes
-            → SaysAt self.old.config self.old.seats session peer said
+            → SeatHasSaid self.old.config self.old.seats session peer said
             → result ≡ Err NodeFault.Stopped
             → CutsTalk D.honest D.words self.old.config changes peer now said piece.now
             self.old.records self.new.records }
-        ensures full { (peer : List ℕ) (said : Said) → SaysAt self.old.config self.old.seats session peer said
+        ensures full { (peer : List ℕ) (said : Said) → SeatHasSaid self.old.config self.old.seats session peer said
             → result ≡ Err NodeFault.Full → ComesToOffer (setup_of_config self.old.config) said piece.now }
         ensures used { IfOk result (UsesOctets D.words (length piece.now) self.old.records self.new.records) }
         ensures rest { OthersStay self.old.seats self.new.seats session

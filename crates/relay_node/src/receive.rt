@@ -1,6 +1,6 @@
 ghost use Rattle.std.specs.Prelude.{◌≡◌, List, length, IfErr, IfOk, IsTrue, Err};
 ghost use Rattle.relay_book.specs.declared.change.Change.{Change};
-ghost use Rattle.relay_node.specs.Node.{CutsTalk, HasHistory, Hears, IsHeard, RefusesToHear, Says};
+ghost use Rattle.relay_node.specs.Node.{CutsTalk, HasHistory, Hears, IsHeard, RefusesToHear, SessionHasSaid};
 ghost use Rattle.relay_node.specs.Room.{ComesToOffer};
 ghost use Rattle.relay_records.specs.Records.{Keeps};
 ghost use Rattle.relay_server.specs.Dialogue.{Said};
@@ -42,14 +42,14 @@ pub(crate) fn hear<D: Disk>(
     requires live { IsTrue records.old.spool.live }
     requires history { HasHistory config.now seat.old.session }
     ensures hears { (changes : List Change) (said : Said) → Keeps D.honest D.words records.old changes
-        → Says (setup_of_config config.now) seat.old.session said
+        → SessionHasSaid (setup_of_config config.now) seat.old.session said
         → IfOk result (Hears D.honest D.words config.now changes seat.old.peer now said piece.now
         seat.new.session records.old records.new) }
     ensures cut { (changes : List Change) (said : Said) → Keeps D.honest D.words records.old changes
-        → Says (setup_of_config config.now) seat.old.session said → result ≡ Err NodeFault.Stopped
+        → SessionHasSaid (setup_of_config config.now) seat.old.session said → result ≡ Err NodeFault.Stopped
         → CutsTalk D.honest D.words config.now changes seat.old.peer now said piece.now
         records.old records.new }
-    ensures full { (said : Said) → Says (setup_of_config config.now) seat.old.session said
+    ensures full { (said : Said) → SessionHasSaid (setup_of_config config.now) seat.old.session said
         → result ≡ Err NodeFault.Full → ComesToOffer (setup_of_config config.now) said piece.now }
     ensures heard { IfOk result (IsHeard D.words config.now (length piece.now) records.old records.new
         seat.new.session) }

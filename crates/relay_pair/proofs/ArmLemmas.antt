@@ -4,12 +4,12 @@ use Rattle.relay_disk.specs.Device.{DiskWords}
 use Rattle.relay_book.specs.declared.change.Change.{Change}
 use Rattle.relay_records.specs.Records.{Keeps}
 use Rattle.relay_routes.specs.declared.config.Config.{Config}
-use Rattle.relay_node.specs.Node.{IsFused, Standing}
+use Rattle.relay_node.specs.Node.{IsFused, NodeState}
 use Rattle.relay_world.specs.World.{Host, Up}
 use Rattle.relay_pair.specs.Host.{host_of}
 use Rattle.relay_pair.specs.StopNow.{IsArmed}
 
-pub is_armed : {D : Type 0} (honest : Type 0) (words : DiskWords D) (before after : Standing D) (records : List (List ℕ)) (old : Host D)
+pub is_armed : {D : Type 0} (honest : Type 0) (words : DiskWords D) (before after : NodeState D) (records : List (List ℕ)) (old : Host D)
     → old ≡ host_of before records
     → (after.config ≡ before.config) × (after.seats ≡ before.seats) × (after.attempts ≡ before.attempts)
     → IsFused before.records after.records
@@ -25,5 +25,5 @@ is_armed honest words before after records old is rest fused keeps =
       config = rest.0;
       seats = rest.1;
       attempts = rest.2;
-      new_is = ap (λ (c : Config). record { config = c; holder = Up after; records = records }) rest.0;
+      new_is = ap (λ (c : Config). record { config = c; state = Up after; records = records }) rest.0;
     })

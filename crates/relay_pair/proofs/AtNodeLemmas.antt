@@ -44,13 +44,13 @@ module _ {D : Type 0} (old : World D) (hop : List ℕ) (to : ℕ) (named : IsFir
   -- the node of the name is up, so that it isn't down
   pub up_named : unless_up old to None ≡ None → names_down old hop old.hosts ≡ false
   up_named up =
-      first_is_down old old.hosts hop to named.host named.host_at named.named named.first ∙ ap not (up_holder up)
+      first_is_down old old.hosts hop to named.host named.host_at named.named named.first ∙ ap not (up_state up)
     where
-      up_holder : unless_up old to None ≡ None → holds_up named.host.holder ≡ true
-      up_holder up = by (is_up (slice_get old.hosts to)) up (ap is_up named.host_at)
+      up_state : unless_up old to None ≡ None → holds_up named.host.state ≡ true
+      up_state up = by (is_up (slice_get old.hosts to)) up (ap is_up named.host_at)
         where
-          by : (b : Bool) → (if b then None else Some fault.Down) ≡ None → b ≡ holds_up named.host.holder
-              → holds_up named.host.holder ≡ true
+          by : (b : Bool) → (if b then None else Some fault.Down) ≡ None → b ≡ holds_up named.host.state
+              → holds_up named.host.state ≡ true
           by true up is = sym is
           by false up is = absurd (none-some fault.Down (sym up))
 
@@ -60,9 +60,9 @@ module _ {D : Type 0} (honest : Type 0) (words : DiskWords D) (old opened : Worl
   same_clock : opened.clock ≡ old.clock
   same_clock = ap (λ (w : World D). w.clock) links.new_is
 
-  works_still : (host : Host D) → slice_get (works_in old.clock host.holder) 0 ≡ Some (Try message hop)
-      → slice_get (works_in opened.clock host.holder) 0 ≡ Some (Try message hop)
-  works_still host its = ap (λ n. slice_get (works_in n host.holder) 0) same_clock ∙ its
+  works_still : (host : Host D) → slice_get (works_in old.clock host.state) 0 ≡ Some (Try message hop)
+      → slice_get (works_in opened.clock host.state) 0 ≡ Some (Try message hop)
+  works_still host its = ap (λ n. slice_get (works_in n host.state) 0) same_clock ∙ its
 
   -- the work is still the first
   pub first_still : IsFirstWork opened node (Try message hop)
@@ -77,7 +77,7 @@ module _ {D : Type 0} (honest : Type 0) (words : DiskWords D) (old opened : Worl
               ∙ (linked_host honest words old opened to peer greeting links).at;
           first = works_still links.now
               (ap (λ ws. slice_get ws 0) (same_work old.clock links.was links.now peer links.connected links.opens)
-              ∙ ap (λ (h : Host D). slice_get (works_in old.clock h.holder) 0) same ∙ first.first);
+              ∙ ap (λ (h : Host D). slice_get (works_in old.clock h.state) 0) same ∙ first.first);
         }
     | inr off ↦ record {
       host = first.host;

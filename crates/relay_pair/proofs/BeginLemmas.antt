@@ -10,10 +10,10 @@ use Rattle.relay_routes.specs.declared.config.Config.{Config}
 use Rattle.relay_records.specs.Records.{Keeps}
 use Rattle.relay_book.specs.declared.change.Change.{Change}
 use Rattle.relay_world.specs.declared.link.Link.{Link}
-use Rattle.relay_world.specs.Bound.{HolderKeeps, HostKeeps, IsBound}
+use Rattle.relay_world.specs.Bound.{StateKeeps, HostKeeps, IsBound}
 use Rattle.relay_world.specs.Ledger.{steps_in, steps_of}
-use Rattle.relay_world.specs.World.{Down, Holder, Host, Undecided, Up, link_at}
-use Rattle.relay_node.specs.Node.{IsIdle, Standing}
+use Rattle.relay_world.specs.World.{Down, HostState, Host, Undecided, Up, link_at}
+use Rattle.relay_node.specs.Node.{IsIdle, NodeState}
 use Rattle.relay_world.specs.Once.{OnceAtFirst}
 use Rattle.relay_world.specs.HopLinks.{HopLinksAtFirst}
 use Rattle.relay_pair.specs.Begin.{IsNew, begun_by}
@@ -39,8 +39,8 @@ names_differ same = let first : 97 ≡ 98 = ap (λ (l : List ℕ). get_or l 0 0)
 abbrev nothing : List Change
 nothing = []
 
--- whether a holder is up
-abbrev is_up : {D : Type 0} → Holder D → Bool
+-- whether a state is up
+abbrev is_up : {D : Type 0} → HostState D → Bool
 is_up (Up node) = true
 is_up (Down disk undecided) = false
 
@@ -48,7 +48,7 @@ module _ {D : Type 0} (honest : Type 0) (words : DiskWords D) where
   new_keeps : (config : Config) (host : Host D) → IsNew honest words config host → HostKeeps honest words host []
   new_keeps config host is = record {
     list = record { fitting = is.keeps.fitting; records_are = is.records };
-    holds = subst (λ h. HolderKeeps honest words host.config h []) (sym is.up)
+    holds = subst (λ h. StateKeeps honest words host.config h []) (sym is.up)
         (record { config_is = is.idle.config_is ∙ sym is.config_is; keeps = is.keeps });
     reports = tt;
   }
@@ -60,9 +60,9 @@ module _ {D : Type 0} (honest : Type 0) (words : DiskWords D) where
 
   -- a host that has just begun isn't down
   not_down : (config : Config) (new host : Host D) (disk : D) (undecided : Option Undecided) → IsNew honest words config new
-      → Some new ≡ Some host → host.holder ≡ Down disk undecided → ⊥
+      → Some new ≡ Some host → host.state ≡ Down disk undecided → ⊥
   not_down config new host disk undecided is at down =
-      false≢true (sym (ap is_up (sym is.up ∙ ap (λ (h : Host D). h.holder) (same_Some new host at) ∙ down)))
+      false≢true (sym (ap is_up (sym is.up ∙ ap (λ (h : Host D). h.state) (same_Some new host at) ∙ down)))
 
   module _ (one other : Config) (a b : Host D) (first : IsNew honest words one a) (second : IsNew honest words other b) where
     both_keep : (node : ℕ) (host : Host D) (changes : List Change) → slice_get (a ∷ b ∷ []) node ≡ Some host
@@ -72,7 +72,7 @@ module _ {D : Type 0} (honest : Type 0) (words : DiskWords D) where
     both_keep (suc (suc node)) host changes at list = absurd (none_there node host at)
 
     none_down : (node : ℕ) (host : Host D) (disk : D) (undecided : Option Undecided) → slice_get (a ∷ b ∷ []) node ≡ Some host
-        → host.holder ≡ Down disk undecided → ⊥
+        → host.state ≡ Down disk undecided → ⊥
     none_down zero host disk undecided at down = not_down one a host disk undecided first at down
     none_down (suc zero) host disk undecided at down = not_down other b host disk undecided second at down
     none_down (suc (suc node)) host disk undecided at down = absurd (none_there node host at)
@@ -106,9 +106,9 @@ module _ {D : Type 0} (honest : Type 0) (words : DiskWords D) where
     no_changes (suc (suc node)) changes list = absurd (none_there node changes list)
 
     both_up : (node : ℕ) (host : Host D) → slice_get (a ∷ b ∷ []) node ≡ Some host
-        → (standing : Standing D) × (host.holder ≡ Up standing)
-    both_up zero host at = (first.node, ap (λ (h : Host D). h.holder) (sym (same_Some a host at)) ∙ first.up)
-    both_up (suc zero) host at = (second.node, ap (λ (h : Host D). h.holder) (sym (same_Some b host at)) ∙ second.up)
+        → (standing : NodeState D) × (host.state ≡ Up standing)
+    both_up zero host at = (first.node, ap (λ (h : Host D). h.state) (sym (same_Some a host at)) ∙ first.up)
+    both_up (suc zero) host at = (second.node, ap (λ (h : Host D). h.state) (sym (same_Some b host at)) ∙ second.up)
     both_up (suc (suc node)) host at = absurd (none_there node host at)
 
     -- they have names of their own
@@ -145,13 +145,13 @@ module _ {D : Type 0} (honest : Type 0) (words : DiskWords D) where
 
     none_left : (node : ℕ) → lines_left node (a ∷ b ∷ []) ≡ 0
     none_left node =
-        ap (λ (h : Holder D). lines_held node h + (lines_held (node + 1) b.holder + 0)) first.up
-        ∙ ap (λ (h : Holder D). 0 + (lines_held (node + 1) h + 0)) second.up
+        ap (λ (h : HostState D). lines_held node h + (lines_held (node + 1) b.state + 0)) first.up
+        ∙ ap (λ (h : HostState D). 0 + (lines_held (node + 1) h + 0)) second.up
 
     pub begun_has_room : (free : ℕ) → HasRoom (begun_by a b) free
     begun_has_room free = subst (λ (lines : ℕ). 0 + lines ≤ free) (sym (none_left 0)) (omega arith)
 
 -- a node that has just begun owes no note
-pub new_owes_none : {D : Type 0} (honest : Type 0) (words : DiskWords D) (config : Config) (node : Standing D)
+pub new_owes_none : {D : Type 0} (honest : Type 0) (words : DiskWords D) (config : Config) (node : NodeState D)
     → Keeps honest words node.records [] → IsIdle config node → notes_of node ≡ 0
 new_owes_none honest words config node keeps idle = owed_live node keeps.live ∙ count_free node.attempts idle.none_runs

@@ -14,10 +14,10 @@ use Rattle.relay_records.specs.declared.noted.Noted.{Noted}
 use Rattle.relay_records.specs.Note.{IsNoted}
 use Rattle.relay_records.specs.Records.{Keeps, Kept}
 use Rattle.relay_attempts.specs.declared.reply.Replied.{Replied}
-use Rattle.relay_attempts.specs.Reply.{CutsLoss, CutsReply, HasEnded, Told}
+use Rattle.relay_attempts.specs.Reply.{CutsLoss, CutsReply, AttemptHasEnded, Told}
 use Rattle.relay_node.specs.Attempts.{RefusesToReply, Replies, RepliesBy, Tells}
 use Rattle.relay_node.specs.declared.receive.Received.{Received}
-use Rattle.relay_node.specs.Node.{CutsTalk, Makes, Receives, RefusesToReceive, SaysAt, Standing}
+use Rattle.relay_node.specs.Node.{CutsTalk, Makes, Receives, RefusesToReceive, SeatHasSaid, NodeState}
 use Rattle.relay_world.specs.Steps.{without_note}
 use Rattle.relay_world.specs.World.{Up}
 use Rattle.relay_pair.specs.declared.recorded.Recorded.{Recorded}
@@ -41,15 +41,15 @@ pub noted_some : (noted : Option Noted) (changes : List Change) (change : Change
 noted_some noted changes change used is = ap is_some is.is
 
 -- what is owed by a node that is live, and by one that isn't
-pub owed_live : {D : Type 0} (node : Standing D) → node.records.spool.live ≡ true → notes_of node ≡ count_some node.attempts
+pub owed_live : {D : Type 0} (node : NodeState D) → node.records.spool.live ≡ true → notes_of node ≡ count_some node.attempts
 owed_live node live = ap (λ b. cond b (count_some node.attempts) 1) live
 
-pub owed_stopped : {D : Type 0} (node : Standing D) → node.records.spool.live ≡ false → notes_of node ≡ 1
+pub owed_stopped : {D : Type 0} (node : NodeState D) → node.records.spool.live ≡ false → notes_of node ≡ 1
 owed_stopped node stopped = ap (λ b. cond b (count_some node.attempts) 1) stopped
 
-module _ {D : Type 0} (before after : Standing D) (records : List (List ℕ)) (config : after.config ≡ before.config) where
-  host_is : host_of after records ≡ record (host_of before records) { holder = Up after }
-  host_is = ap (λ (c : Config). record { config = c; holder = Up after; records = records }) config
+module _ {D : Type 0} (before after : NodeState D) (records : List (List ℕ)) (config : after.config ≡ before.config) where
+  host_is : host_of after records ≡ record (host_of before records) { state = Up after }
+  host_is = ap (λ (c : Config). record { config = c; state = Up after; records = records }) config
 
   pub runs_on : Runs (host_of before records) (host_of after records) before after
   runs_on = record { up = refl; config = config; new_is = host_is }
@@ -60,7 +60,7 @@ module _ {D : Type 0} (before after : Standing D) (records : List (List ℕ)) (c
         → RefusesToReceive words session before after fault → after.records ≡ before.records
     session_records session NoMemory ok refuses = refuses.records
     session_records session Stopped ok refuses = absurd (true≢false ok)
-    session_records session Unknown ok refuses = ap (λ (n : Standing D). n.records) refuses
+    session_records session Unknown ok refuses = ap (λ (n : NodeState D). n.records) refuses
     session_records session TooMany ok refuses = absurd refuses
     session_records session NotDue ok refuses = absurd refuses
     session_records session Busy ok refuses = absurd refuses
@@ -83,7 +83,7 @@ module _ {D : Type 0} (before after : Standing D) (records : List (List ℕ)) (c
         → RefusesToReply words slot before after fault → after.records ≡ before.records
     attempt_records slot NoMemory ok refuses = refuses.records
     attempt_records slot Stopped ok refuses = absurd (true≢false ok)
-    attempt_records slot Unknown ok refuses = ap (λ (n : Standing D). n.records) refuses
+    attempt_records slot Unknown ok refuses = ap (λ (n : NodeState D). n.records) refuses
     attempt_records slot TooMany ok refuses = absurd refuses
     attempt_records slot NotDue ok refuses = absurd refuses
     attempt_records slot Busy ok refuses = absurd refuses
@@ -125,7 +125,7 @@ module _ {D : Type 0} (before after : Standing D) (records : List (List ℕ)) (c
   }
 
 -- the note of a call that made a change was taken
-pub notes_one : {D : Type 0} (before after now : Standing D) (old new : List (List ℕ)) (recorded : Recorded)
+pub notes_one : {D : Type 0} (before after now : NodeState D) (old new : List (List ℕ)) (recorded : Recorded)
     → after.config ≡ before.config → (takes : TakesNote after now old new recorded)
     → NotesOne (host_of before old) (host_of now new) after recorded
 notes_one before after now old new recorded config takes = record {
@@ -133,27 +133,27 @@ notes_one before after now old new recorded config takes = record {
   note_is = takes.note_is;
   tells = takes.tells;
   new_is =
-      ap (λ (n : Standing _). host_of n new) takes.after_is
-      ∙ ap (λ (c : Config). record { config = c; holder = Up (without_note after); records = new }) config
-      ∙ ap (λ (rs : List (List ℕ)). record { config = before.config; holder = Up (without_note after); records = rs })
+      ap (λ (n : NodeState _). host_of n new) takes.after_is
+      ∙ ap (λ (c : Config). record { config = c; state = Up (without_note after); records = new }) config
+      ∙ ap (λ (rs : List (List ℕ)). record { config = before.config; state = Up (without_note after); records = rs })
       takes.records;
 }
 
-pub notes_some : {D : Type 0} (before after now : Standing D) (old new : List (List ℕ)) (recorded : Recorded) (change : Option ℕ)
+pub notes_some : {D : Type 0} (before after now : NodeState D) (old new : List (List ℕ)) (recorded : Recorded) (change : Option ℕ)
     → (change ≡ None → ⊥) → NotesOne (host_of before old) (host_of now new) after recorded
     → NotesChange (host_of before old) (host_of now new) after change (Some recorded)
 notes_some before after now old new recorded None there notes = absurd (there refl)
 notes_some before after now old new recorded (Some number) there notes = notes
 
-pub notes_none : {D : Type 0} (before after : Standing D) (records : List (List ℕ)) (change : Option ℕ)
+pub notes_none : {D : Type 0} (before after : NodeState D) (records : List (List ℕ)) (change : Option ℕ)
     → after.config ≡ before.config → change ≡ None
     → NotesChange (host_of before records) (host_of after records) after change None
 notes_none before after records change config is =
     subst (λ ch. NotesChange (host_of before records) (host_of after records) after ch None) (sym is)
-    (ap (λ (c : Config). record { config = c; holder = Up after; records = records }) config)
+    (ap (λ (c : Config). record { config = c; state = Up after; records = records }) config)
 
 -- what is owed behind a call for an attempt that is gone: one record less, or as much as before, where it had none
-module _ {D : Type 0} (honest : Type 0) (words : DiskWords D) (before after : Standing D) (slot len capacity owed : ℕ)
+module _ {D : Type 0} (honest : Type 0) (words : DiskWords D) (before after : NodeState D) (slot len capacity owed : ℕ)
     (knows : KnowsAttempt honest words before slot) (room : OwesWithin (notes_of before) len capacity owed)
     (others : OthersStay before.attempts after.attempts slot) where
   pub owes_one : 1 ≤ owed
@@ -190,7 +190,7 @@ module _ {D : Type 0} (honest : Type 0) (words : DiskWords D) (before after : St
       (omega (arith, one, now), room.1)
 
 -- a call for an attempt that stopped its node
-module _ {D : Type 0} (honest : Type 0) (words : DiskWords D) (before after : Standing D) (records : List (List ℕ)) (slot now : ℕ)
+module _ {D : Type 0} (honest : Type 0) (words : DiskWords D) (before after : NodeState D) (records : List (List ℕ)) (slot now : ℕ)
     (knows : KnowsAttempt honest words before slot) (config : after.config ≡ before.config) where
   pub stops_losing : ((changes : List Change) (told : Told) → Keeps honest words before.records changes
       → Tells before.config.host changes before.attempts slot told
@@ -225,14 +225,14 @@ module _ {D : Type 0} (honest : Type 0) (words : DiskWords D) (before after : St
       }
 
 -- room behind a note that was taken
-pub owes_taken : {D : Type 0} (after now : Standing D) (old new : List (List ℕ)) (recorded : Recorded) (len capacity owed : ℕ)
+pub owes_taken : {D : Type 0} (after now : NodeState D) (old new : List (List ℕ)) (recorded : Recorded) (len capacity owed : ℕ)
     → TakesNote after now old new recorded → OwesWithin (notes_of (without_note after)) len capacity owed
     → OwesWithin (notes_of now) len capacity owed
 owes_taken after now old new recorded len capacity owed takes room =
-    subst (λ (n : Standing _). OwesWithin (notes_of n) len capacity owed) (sym takes.after_is) room
+    subst (λ (n : NodeState _). OwesWithin (notes_of n) len capacity owed) (sym takes.after_is) room
 
 -- replies that ended no attempt left the records as they were, and others recorded its outcome
-module _ {D : Type 0} (honest : Type 0) (words : DiskWords D) (before after : Standing D) (host : List ℕ) (now : ℕ)
+module _ {D : Type 0} (honest : Type 0) (words : DiskWords D) (before after : NodeState D) (host : List ℕ) (now : ℕ)
     (changes : List Change) (slot : ℕ) (told : Told) (piece : List ℕ) (replied : Replied) where
   pub read_same : Replies honest words host now changes slot told piece before after replied → replied.change ≡ None
       → after.records ≡ before.records
@@ -244,20 +244,20 @@ module _ {D : Type 0} (honest : Type 0) (words : DiskWords D) (before after : St
       by (Some number) ended none = absurd (none-some number (sym none))
 
   pub read_ended : Replies honest words host now changes slot told piece before after replied → (replied.change ≡ None → ⊥)
-      → (number : ℕ) × HasEnded honest words host now changes slot told piece after.records after.attempts replied number
+      → (number : ℕ) × AttemptHasEnded honest words host now changes slot told piece after.records after.attempts replied number
   read_ended replies some = by replied.change replies some
     where
       by : (change : Option ℕ) → RepliesBy honest words host now changes slot told piece before after replied change
           → (change ≡ None → ⊥)
-          → (number : ℕ) × HasEnded honest words host now changes slot told piece after.records after.attempts replied number
+          → (number : ℕ) × AttemptHasEnded honest words host now changes slot told piece after.records after.attempts replied number
       by None on there = absurd (there refl)
       by (Some number) ended there = (number, ended)
 
 -- a call on a session that stopped its node
-pub stops_hearing : {D : Type 0} (honest : Type 0) (words : DiskWords D) (before after : Standing D) (old new : List (List ℕ))
+pub stops_hearing : {D : Type 0} (honest : Type 0) (words : DiskWords D) (before after : NodeState D) (old new : List (List ℕ))
     (session now : ℕ) (piece : List ℕ) → KnowsSession honest words before session → new ≡ old → after.config ≡ before.config
     → ((changes : List Change) (peer : List ℕ) (said : Said) → Keeps honest words before.records changes
-    → SaysAt before.config before.seats session peer said
+    → SeatHasSaid before.config before.seats session peer said
     → CutsTalk honest words before.config changes peer now said piece before.records after.records)
     → StopsHearing honest words now (host_of before old) (host_of after new) session piece
 stops_hearing honest words before after old new session now piece knows same config cuts =
@@ -273,7 +273,7 @@ stops_hearing honest words before after old new session now piece knows same con
     })
 
 -- what is owed behind a call on a session: the attempts are the same
-pub owes_heard : {D : Type 0} (before after : Standing D) (len capacity owed len_now capacity_now : ℕ)
+pub owes_heard : {D : Type 0} (before after : NodeState D) (len capacity owed len_now capacity_now : ℕ)
     → OwesWithin (notes_of before) len capacity owed → before.records.spool.live ≡ true → after.records.spool.live ≡ true
     → after.attempts ≡ before.attempts → len_now + owed ≤ capacity_now
     → OwesWithin (notes_of after) len_now capacity_now owed
@@ -285,7 +285,7 @@ owes_heard before after len capacity owed len_now capacity_now room was now atte
     (omega (arith, few, live, live_now, same), fits)
 
 -- octets that made no change left the records as they were, and others added an accept
-module _ {D : Type 0} (honest : Type 0) (words : DiskWords D) (before after : Standing D) (changes : List Change)
+module _ {D : Type 0} (honest : Type 0) (words : DiskWords D) (before after : NodeState D) (changes : List Change)
     (peer : List ℕ) (now session : ℕ) (said : Said) (piece : List ℕ) (received : Received) where
   pub heard_same : Receives honest words before.config changes peer now session said piece before after received
       → received.change ≡ None → after.records ≡ before.records
@@ -309,7 +309,7 @@ module _ {D : Type 0} (honest : Type 0) (words : DiskWords D) (before after : St
       by (Some number) later refused makes there = (noted_some _ _ _ _ makes.adds.noted, makes.adds.keeps.live)
 
 -- a note that was taken out of a node that is live owes no more and no less
-pub owes_noted : {D : Type 0} (before after now : Standing D) (old new : List (List ℕ)) (recorded : Recorded)
+pub owes_noted : {D : Type 0} (before after now : NodeState D) (old new : List (List ℕ)) (recorded : Recorded)
     (len capacity owed len_now capacity_now : ℕ) → TakesNote after now old new recorded
     → OwesWithin (notes_of before) len capacity owed → before.records.spool.live ≡ true → after.records.spool.live ≡ true
     → after.attempts ≡ before.attempts → len_now + owed ≤ capacity_now

@@ -78,9 +78,9 @@ module _ {D : Type 0} (honest : Type 0) (words : DiskWords D) (old new : World D
   pub linked_held : lines_left 0 new.hosts ≡ lines_left 0 old.hosts
   linked_held =
       let put = held_put old.hosts node 0 node linked.was linked.now (omega arith) linked.was_at in
-      let none : lines_held node linked.was.holder ≡ 0 = ap (λ h. lines_held node h) linked.opens.runs.up in
-      let none_now : lines_held node linked.now.holder ≡ 0 =
-      ap (λ (h : Host D). lines_held node h.holder) linked.opens.runs.new_is in
+      let none : lines_held node linked.was.state ≡ 0 = ap (λ h. lines_held node h) linked.opens.runs.up in
+      let none_now : lines_held node linked.now.state ≡ 0 =
+      ap (λ (h : Host D). lines_held node h.state) linked.opens.runs.new_is in
       let hosts : lines_left 0 new.hosts ≡ lines_left 0 (slice_set old.hosts node linked.now) =
       ap (λ (hs : List (Host D)). lines_left 0 hs) hosts_are in
       omega (arith, put, none, none_now, hosts)

@@ -6,7 +6,7 @@ use Rattle.std.proofs.lemmas.List.{length-set}
 use Rattle.std.proofs.lemmas.Option.{same_Some}
 use Rattle.relay_disk.specs.Device.{DiskWords}
 use Rattle.relay_book.specs.declared.change.Change.{Change}
-use Rattle.relay_node.specs.Node.{CutsTalk, Standing}
+use Rattle.relay_node.specs.Node.{CutsTalk, NodeState}
 use Rattle.relay_world.specs.Bound.{IsBound}
 use Rattle.relay_world.specs.Crashes.{CrashesHearing, GoesDown, let_go}
 use Rattle.relay_world.specs.HangUp.{hung_up_attempt}
@@ -57,17 +57,17 @@ module _ {D : Type 0} (honest : Type 0) (words : DiskWords D) (old called : Worl
   cut_short = record {
     host = calls.now;
     host_at = now_at;
-    cut = subst (λ (h : Host D). IsCutShort h.holder) (sym calls.hears.runs.new_is)
+    cut = subst (λ (h : Host D). IsCutShort h.state) (sym calls.hears.runs.new_is)
         (calls.hears.live, ap is_some calls.hears.note_is);
   }
 
   module _ (down : World D) (crashes : CrashesAt honest words called down node (FromClient number)) where
-    pub host_same : crashes.host ≡ record calls.of.host { holder = Up calls.hears.after }
+    pub host_same : crashes.host ≡ record calls.of.host { state = Up calls.hears.after }
     host_same = same_Some crashes.host calls.now (sym crashes.host_at ∙ now_at) ∙ calls.hears.runs.new_is
 
     pub stopped_same : calls.hears.after ≡ crashes.before
     stopped_same =
-        same_up calls.hears.after crashes.before (sym (ap (λ (h : Host D). h.holder) host_same) ∙ crashes.up)
+        same_up calls.hears.after crashes.before (sym (ap (λ (h : Host D). h.state) host_same) ∙ crashes.up)
 
     abbrev pub undecided_now : Undecided
     undecided_now = record { note = crashes.noted; origin = world.FromClient number }
@@ -78,7 +78,7 @@ module _ {D : Type 0} (honest : Type 0) (words : DiskWords D) (old called : Worl
       put = record {
         at =
             crashes.down.put.at
-            ∙ ap (λ (h : Host D). Some (record h { holder = Down crashes.disk (Some undecided_now) })) host_same;
+            ∙ ap (λ (h : Host D). Some (record h { state = Down crashes.disk (Some undecided_now) })) host_same;
         others = λ other off. crashes.down.put.others other off
             ∙ ap (λ (hs : List (Host D)). slice_get hs other) hosts_are
             ∙ (value_put old.hosts node calls.of.host calls.now host_at).others other off;
@@ -95,7 +95,7 @@ module _ {D : Type 0} (honest : Type 0) (words : DiskWords D) (old called : Worl
       of = record calls.of { before = calls.hears.before; up = calls.hears.runs.up };
       stopped = crashes.before.records;
       cuts = λ changes said keeps says. subst
-          (λ (n : Standing D). CutsTalk honest words calls.hears.before.config changes calls.of.end.peer old.clock said
+          (λ (n : NodeState D). CutsTalk honest words calls.hears.before.config changes calls.of.end.peer old.clock said
           (waiting_up count calls.of.link) calls.hears.before.records n.records)
           stopped_same (calls.hears.cuts changes calls.of.end.peer said keeps says);
       noted = crashes.noted;
@@ -122,10 +122,10 @@ module _ {D : Type 0} (honest : Type 0) (words : DiskWords D) (old called : Worl
         let before = ap (λ (hs : List (Host D)). lines_left 0 hs) hosts_are in
         let put = held_put old.hosts node 0 node calls.of.host calls.now (omega arith) host_at in
         let fell = held_put called.hosts node 0 node calls.now
-        (record crashes.host { holder = Down crashes.disk (Some undecided_now) }) (omega arith) now_at in
-        let none : lines_held node calls.of.host.holder ≡ 0 = ap (λ h. lines_held node h) calls.hears.runs.up in
-        let none_now : lines_held node calls.now.holder ≡ 0 =
-        ap (λ (h : Host D). lines_held node h.holder) calls.hears.runs.new_is in
+        (record crashes.host { state = Down crashes.disk (Some undecided_now) }) (omega arith) now_at in
+        let none : lines_held node calls.of.host.state ≡ 0 = ap (λ h. lines_held node h) calls.hears.runs.up in
+        let none_now : lines_held node calls.now.state ≡ 0 =
+        ap (λ (h : Host D). lines_held node h.state) calls.hears.runs.new_is in
         omega (arith, room, less, attempts, hosts, before, put, fell, none, none_now)
 
     pub crash_running : running_of down.attempts ≤ running_of old.attempts

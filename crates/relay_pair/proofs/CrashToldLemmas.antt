@@ -12,7 +12,7 @@ use Rattle.relay_records.specs.Records.{Keeps}
 use Rattle.relay_attempts.specs.Reply.{CutsLoss}
 use Rattle.relay_course.specs.VerdictTable.{all_later}
 use Rattle.relay_node.specs.Attempts.{Tells}
-use Rattle.relay_node.specs.Node.{Standing}
+use Rattle.relay_node.specs.Node.{NodeState}
 use Rattle.relay_world.specs.declared.attempt.Attempt.{Attempt}
 use Rattle.relay_world.specs.Bound.{IsBound}
 use Rattle.relay_world.specs.Crashes.{CrashesLosing, GoesDown}
@@ -52,17 +52,17 @@ module _ {D : Type 0} (honest : Type 0) (words : DiskWords D) (old : World D) (n
   cut_short = record {
     host = now;
     host_at = now_at;
-    cut = subst (λ (h : Host D). IsCutShort h.holder) (sym stops.runs.new_is) (stops.live, ap is_some stops.note_is);
+    cut = subst (λ (h : Host D). IsCutShort h.state) (sym stops.runs.new_is) (stops.live, ap is_some stops.note_is);
   }
 
   module _ (down : World D)
       (crashes : CrashesAt honest words called_world down attempt.node (FromLoss number place attempt.message)) where
-    host_same : crashes.host ≡ record was { holder = Up stops.after }
+    host_same : crashes.host ≡ record was { state = Up stops.after }
     host_same = same_Some crashes.host now (sym crashes.host_at ∙ now_at) ∙ stops.runs.new_is
 
     stopped_same : stops.after ≡ crashes.before
     stopped_same =
-        same_up stops.after crashes.before (sym (ap (λ (h : Host D). h.holder) host_same) ∙ crashes.up)
+        same_up stops.after crashes.before (sym (ap (λ (h : Host D). h.state) host_same) ∙ crashes.up)
 
     its : AttemptOf old number
     its = attempt_of honest words old number place slot attempt on was now was_is stops.before stops.runs.up
@@ -76,7 +76,7 @@ module _ {D : Type 0} (honest : Type 0) (words : DiskWords D) (old : World D) (n
       put = record {
         at =
             crashes.down.put.at
-            ∙ ap (λ (h : Host D). Some (record h { holder = Down crashes.disk (Some undecided_now) })) host_same;
+            ∙ ap (λ (h : Host D). Some (record h { state = Down crashes.disk (Some undecided_now) })) host_same;
         others = λ other off. crashes.down.put.others other off
             ∙ (put_of honest words old number place slot attempt on was now was_is now refl).others other off;
       };
@@ -90,7 +90,7 @@ module _ {D : Type 0} (honest : Type 0) (words : DiskWords D) (old : World D) (n
         of = attempt_of honest words old number place slot attempt on was now was_is stops.before stops.runs.up;
         stopped = crashes.before.records;
         cuts = λ changes told keeps tells. subst
-            (λ (n : Standing D). CutsLoss honest words stops.before.config.host old.clock changes slot told n.records)
+            (λ (n : NodeState D). CutsLoss honest words stops.before.config.host old.clock changes slot told n.records)
             stopped_same (stops.cuts changes told keeps tells);
         crash = record {
           noted = crashes.noted;
@@ -110,12 +110,12 @@ module _ {D : Type 0} (honest : Type 0) (words : DiskWords D) (old : World D) (n
     few_noted : length crashes.noted.left.items ≤ length attempt.places.items
     few_noted =
         let same = same_before honest words old number place slot attempt on was now was_is stops.before stops.runs.up in
-        let cut = stops.cuts on.changes on.told (subst (λ (n : Standing D). Keeps honest words n.records on.changes) same on.keeps)
-        (subst (λ (n : Standing D). Tells n.config.host on.changes n.attempts slot on.told) same on.tells) in
+        let cut = stops.cuts on.changes on.told (subst (λ (n : NodeState D). Keeps honest words n.records on.changes) same on.keeps)
+        (subst (λ (n : NodeState D). Tells n.config.host on.changes n.attempts slot on.told) same on.tells) in
         let noted = cut.cuts.cuts.noted in
         let one : crashes.noted ≡ noted.note =
         same_Some crashes.noted noted.note
-        (sym crashes.note_is ∙ ap (λ (n : Standing D). n.records.noted) (sym stopped_same) ∙ noted.is) in
+        (sym crashes.note_is ∙ ap (λ (n : NodeState D). n.records.noted) (sym stopped_same) ∙ noted.is) in
         let left = ap (λ (n : Noted). length n.left.items) one ∙ ap (λ (l : List (ℕ × Way)). length l) noted.left in
         let few = few_left on.changes on.told.message old.clock on.told.hop on.told.places (all_later on.told.places) cut.cuts.report in
         let places = ap (λ (l : List ℕ). length l) on.places in
@@ -129,10 +129,10 @@ module _ {D : Type 0} (honest : Type 0) (words : DiskWords D) (old : World D) (n
         let called = held_put old.hosts attempt.node 0 attempt.node was now (omega arith)
         (was_at honest words old number place slot attempt on was now was_is) in
         let fell = held_put (slice_set old.hosts attempt.node now) attempt.node 0 attempt.node now
-        (record crashes.host { holder = Down crashes.disk (Some undecided_now) }) (omega arith) now_at in
-        let none : lines_held attempt.node was.holder ≡ 0 = ap (λ h. lines_held attempt.node h) stops.runs.up in
-        let none_now : lines_held attempt.node now.holder ≡ 0 =
-        ap (λ (h : Host D). lines_held attempt.node h.holder) stops.runs.new_is in
+        (record crashes.host { state = Down crashes.disk (Some undecided_now) }) (omega arith) now_at in
+        let none : lines_held attempt.node was.state ≡ 0 = ap (λ h. lines_held attempt.node h) stops.runs.up in
+        let none_now : lines_held attempt.node now.state ≡ 0 =
+        ap (λ (h : Host D). lines_held attempt.node h.state) stops.runs.new_is in
         let lines : length (left_lines attempt.node attempt.message number (report_told crashes.noted.number crashes.noted.report)
         crashes.noted.left.items) ≡ length crashes.noted.left.items =
         length-map crashes.noted.left.items _ in

@@ -52,7 +52,7 @@ pub crashed_down : {D : Type 0} (honest : Type 0) (words : DiskWords D) (old new
     → CrashesAt honest words old new node origin → IsDownAt new node
 crashed_down honest words old new node origin crashes = record {
   host = record crashes.host {
-    holder = Down crashes.disk (Some (record { note = crashes.noted; origin = origin_in origin }));
+    state = Down crashes.disk (Some (record { note = crashes.noted; origin = origin_in origin }));
   };
   host_at =
       ap (λ (hs : List (Host _)). slice_get hs node) crashes.hosts_are

@@ -31,8 +31,8 @@ use Rattle.relay_attempts.specs.Outcomes.{HasNoRoomFor, RefusesToGiveUp}
 use Rattle.relay_attempts.specs.Runs.{is_running}
 use Rattle.relay_attempts.specs.Work.{message_works, tries, works_of}
 use Rattle.relay_node.specs.declared.node.Connected.{Connected}
-use Rattle.relay_node.specs.Node.{Standing}
-use Rattle.relay_world.specs.World.{Holder, Host, Up}
+use Rattle.relay_node.specs.Node.{NodeState}
+use Rattle.relay_world.specs.World.{HostState, Host, Up}
 use Rattle.relay_pair.specs.declared.work.Begun.{Begun}
 use Rattle.relay_pair.specs.declared.work.Begun.TheVariants as begun
 use Rattle.relay_pair.specs.declared.work.GivenUp.{GivenUp}
@@ -268,7 +268,7 @@ module _ (table : RouteTable) (runs : List (Option Run)) (now : ℕ) where
 not_full : (runs : List (Option Run)) (number : ℕ) → IsLeastFree runs number → IsFull runs → ⊥
 not_full runs number least full = full.1 number least.within least.free
 
-module _ {D : Type 0} (node : Standing D) (now message : ℕ) (live : node.records.spool.live ≡ true) where
+module _ {D : Type 0} (node : NodeState D) (now message : ℕ) (live : node.records.spool.live ≡ true) where
   -- a node refuses the attempt of its first work for want of memory, or of a free number, and of nothing else
   refused_try : (hop : List ℕ) (fault : NodeFault)
       → IsWorkOf node.config.routes node.attempts now node.records.queue (Try message hop)
@@ -313,25 +313,25 @@ module _ {D : Type 0} (node : Standing D) (now message : ℕ) (live : node.recor
 
 module _ {D : Type 0} (honest : Type 0) (words : DiskWords D) (now message : ℕ) (old new : Host D) where
   -- the work of a host that is up with a node
-  work_of : (node : Standing D) (work : Work) → old.holder ≡ Up node → KnowsChanges honest words node
-      → slice_get (works_in now old.holder) 0 ≡ Some work → IsWorkOf node.config.routes node.attempts now node.records.queue work
+  work_of : (node : NodeState D) (work : Work) → old.state ≡ Up node → KnowsChanges honest words node
+      → slice_get (works_in now old.state) 0 ≡ Some work → IsWorkOf node.config.routes node.attempts now node.records.queue work
   work_of node work up knows first =
       first_is_due node.config.routes node.attempts now knows.changes node.records.queue work knows.keeps.queue
-      (ap (λ (h : Holder D). slice_get (works_in now h) 0) (sym up) ∙ first)
+      (ap (λ (h : HostState D). slice_get (works_in now h) 0) (sym up) ∙ first)
 
   pub begins_unless_full : (hop : List ℕ) (result : Begun) → HasChanges honest words old
       → BeginsOrNot honest words now old new message hop result
-      → slice_get (works_in now old.holder) 0 ≡ Some (Try message hop) → BeginsUnlessFull old result
+      → slice_get (works_in now old.state) 0 ≡ Some (Try message hop) → BeginsUnlessFull old result
   begins_unless_full hop (begun.Done started) has begins first =
       let knows : KnowsChanges honest words begins.before =
-      subst (λ (h : Holder D). HoldsChanges honest words h) begins.runs.up has in
+      subst (λ (h : HostState D). HoldsChanges honest words h) begins.runs.up has in
       let began = begins.begins knows.changes knows.keeps in
-      subst (λ (h : Holder D). IsFull (attempts_in h) → ⊥) (sym begins.runs.up)
+      subst (λ (h : HostState D). IsFull (attempts_in h) → ⊥) (sym begins.runs.up)
       (not_full begins.before.attempts started.attempt began.least)
   begins_unless_full hop (begun.Refused fault) has refuses first =
       let knows : KnowsChanges honest words refuses.before =
-      subst (λ (h : Holder D). HoldsChanges honest words h) refuses.up has in
-      subst (λ (h : Holder D). ((fault ≡ NoMemory) × (IsFull (attempts_in h) → ⊥))
+      subst (λ (h : HostState D). HoldsChanges honest words h) refuses.up has in
+      subst (λ (h : HostState D). ((fault ≡ NoMemory) × (IsFull (attempts_in h) → ⊥))
       ⊎ ((fault ≡ TooMany) × IsFull (attempts_in h))) (sym refuses.up)
       (refused_try refuses.before now message knows.keeps.live hop fault
       (work_of refuses.before (Try message hop) refuses.up knows first) refuses.refused)
@@ -339,13 +339,13 @@ module _ {D : Type 0} (honest : Type 0) (words : DiskWords D) (now message : ℕ
 
   pub gives_up_unless_full : (result : GivenUp) → HasChanges honest words old
       → GivesUpOrNot honest words now old new message result
-      → slice_get (works_in now old.holder) 0 ≡ Some (NoRoute message)
+      → slice_get (works_in now old.state) 0 ≡ Some (NoRoute message)
       → GivesUpUnlessFull honest words now old message result
   gives_up_unless_full (given.Done change recorded) has gives first = tt
   gives_up_unless_full (given.Refused fault) has refuses first =
       let knows : KnowsChanges honest words refuses.before =
-      subst (λ (h : Holder D). HoldsChanges honest words h) refuses.up has in
-      subst (λ (h : Holder D). (fault ≡ NoMemory) ⊎ ((fault ≡ Full) × LacksRoom honest words now h message)) (sym refuses.up)
+      subst (λ (h : HostState D). HoldsChanges honest words h) refuses.up has in
+      subst (λ (h : HostState D). (fault ≡ NoMemory) ⊎ ((fault ≡ Full) × LacksRoom honest words now h message)) (sym refuses.up)
       (refused_no_route refuses.before now message knows.keeps.live words fault
       (work_of refuses.before (NoRoute message) refuses.up knows first) refuses.refused)
   gives_up_unless_full given.Stopped has stops first = tt
@@ -353,10 +353,10 @@ module _ {D : Type 0} (honest : Type 0) (words : DiskWords D) (now message : ℕ
 
 -- a client that is let in changes nothing of the work, nor of the attempts
 pub same_work : {D : Type 0} (now : ℕ) (old new : Host D) (peer : List ℕ) (connected : Connected)
-    → OpensSession old new peer connected → works_in now new.holder ≡ works_in now old.holder
+    → OpensSession old new peer connected → works_in now new.state ≡ works_in now old.state
 same_work now old new peer connected opens =
-    ap (λ (h : Host _). works_in now h.holder) opens.runs.new_is
+    ap (λ (h : Host _). works_in now h.state) opens.runs.new_is
     ∙ ap (λ (c : Config). works_of c.routes opens.after.attempts now opens.after.records.queue) opens.runs.config
     ∙ ap (λ (a : List (Option Run)). works_of opens.before.config.routes a now opens.after.records.queue) opens.attempts
     ∙ ap (λ (k : Kept _). works_of opens.before.config.routes opens.before.attempts now k.queue) opens.records
-    ∙ ap (λ (h : Holder _). works_in now h) (sym opens.runs.up)
+    ∙ ap (λ (h : HostState _). works_in now h) (sym opens.runs.up)

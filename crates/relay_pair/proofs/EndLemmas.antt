@@ -10,10 +10,10 @@ use Rattle.relay_disk.specs.Device.{DiskWords}
 use Rattle.relay_book.specs.declared.change.Change.{Change}
 use Rattle.relay_server.specs.Dialogue.{Said}
 use Rattle.relay_routes.specs.declared.config.Config.{Config}
-use Rattle.relay_node.specs.Node.{SaysAt, Standing}
+use Rattle.relay_node.specs.Node.{SeatHasSaid, NodeState}
 use Rattle.relay_world.specs.declared.link.Link.{Link}
 use Rattle.relay_world.specs.declared.link.ServerEnd.{ServerEnd}
-use Rattle.relay_world.specs.Bound.{HolderKeeps, IsBound, NodeKeeps, SaysThere}
+use Rattle.relay_world.specs.Bound.{StateKeeps, IsBound, NodeKeeps, SaysThere}
 use Rattle.relay_world.specs.Crashes.{is_tried_for, serves_for, tries_for}
 use Rattle.relay_world.specs.Steps.{AttemptOf, EndsSession, IsPut, IsPutAt, SessionOf}
 use Rattle.relay_world.specs.World.{Host, Up, World, link_at}
@@ -36,20 +36,20 @@ module _ {D : Type 0} (honest : Type 0) (words : DiskWords D) where
   pub record ServesThere (world : World D) (end : ServerEnd) (session : ℕ) : Type 0 where
     pub host : Host D
     pub host_at : slice_get world.hosts end.node ≡ Some host
-    pub before : Standing D
-    pub up : host.holder ≡ Up before
+    pub before : NodeState D
+    pub up : host.state ≡ Up before
     pub has : HasSession honest words host session
 
-  knows_session : (host : Host D) (changes : List Change) (peer : List ℕ) (said : Said) (session : ℕ) (before : Standing D)
-      → host.holder ≡ Up before → NodeKeeps honest words host.config before changes
-      → SaysAt host.config before.seats session peer said → HasSession honest words host session
+  knows_session : (host : Host D) (changes : List Change) (peer : List ℕ) (said : Said) (session : ℕ) (before : NodeState D)
+      → host.state ≡ Up before → NodeKeeps honest words host.config before changes
+      → SeatHasSaid host.config before.seats session peer said → HasSession honest words host session
   knows_session host changes peer said session before up keeps says =
       subst (λ h. HoldsSession honest words h session) (sym up) (record {
         changes = changes;
         keeps = keeps.keeps;
         peer = peer;
         said = said;
-        says = subst (λ (c : Config). SaysAt c before.seats session peer said) (sym keeps.config_is) says;
+        says = subst (λ (c : Config). SeatHasSaid c before.seats session peer said) (sym keeps.config_is) says;
       })
 
   pub serves_there : (world : World D) (lists : List (List Change)) (number : ℕ) (link : Link) (end : ServerEnd) (session : ℕ)
@@ -60,8 +60,8 @@ module _ {D : Type 0} (honest : Type 0) (words : DiskWords D) where
       let there : SaysThere served.host (Some session) end.peer served.serves.said =
       subst (λ s. SaysThere served.host s end.peer served.serves.said) goes_on served.serves.live in
       let kept = bound.hosts end.node served.host served.changes served.stands in
-      let keeps : HolderKeeps honest words served.host.config (Up there.0) served.changes =
-      subst (λ h. HolderKeeps honest words served.host.config h served.changes) there.1 kept.holds in
+      let keeps : StateKeeps honest words served.host.config (Up there.0) served.changes =
+      subst (λ h. StateKeeps honest words served.host.config h served.changes) there.1 kept.holds in
       record {
         host = served.host;
         host_at = served.stands.host_at;
@@ -109,8 +109,8 @@ module _ {D : Type 0} (old : World D) (number : ℕ) (link : Link) (link_is : li
   pub ended_room : (free : ℕ) → HasRoom old free → HasRoom ended_world free
   ended_room free room =
       let put = held_put old.hosts end.node 0 end.node was now (omega arith) was_at in
-      let none : lines_held end.node was.holder ≡ 0 = ap (λ h. lines_held end.node h) loses.runs.up in
-      let none_now : lines_held end.node now.holder ≡ 0 = ap (λ (h : Host D). lines_held end.node h.holder) loses.runs.new_is in
+      let none : lines_held end.node was.state ≡ 0 = ap (λ h. lines_held end.node h) loses.runs.up in
+      let none_now : lines_held end.node now.state ≡ 0 = ap (λ (h : Host D). lines_held end.node h.state) loses.runs.new_is in
       omega (arith, room, put, none, none_now)
 
   pub ended_fewer : ends_of ended_world < ends_of old

@@ -10,7 +10,7 @@ use Rattle.relay_attempts.specs.declared.reply.Replied.{Replied}
 use Rattle.relay_attempts.specs.declared.start.Started.{Started}
 use Rattle.relay_node.specs.declared.node.Connected.{Connected}
 use Rattle.relay_node.specs.declared.receive.Received.{Received}
-use Rattle.relay_node.specs.Node.{Standing}
+use Rattle.relay_node.specs.Node.{NodeState}
 use Rattle.relay_world.specs.declared.attempt.Attempt.{Attempt}
 use Rattle.relay_world.specs.declared.attempt.Fate.{Fate}
 use Rattle.relay_world.specs.declared.attempt.Fate.TheVariants.{Dropped, Replied as RepliedBy, Lost as LostBy}
@@ -30,7 +30,7 @@ use Rattle.relay_pair.specs.Crash.{CrashesInCall}
 use Rattle.relay_pair.specs.Host.{origin_in}
 use Rattle.relay_pair.specs.Work.{BeginsAttempt, GivesUp, OpensSession, StopsGivingUp}
 
-same_up : {D : Type 0} (one other : Standing D) → Up one ≡ Up other → one ≡ other
+same_up : {D : Type 0} (one other : NodeState D) → Up one ≡ Up other → one ≡ other
 same_up one other same = cc
 
 module _ {D : Type 0} (honest : Type 0) (words : DiskWords D) (old new : World D) where
@@ -56,7 +56,7 @@ module _ {D : Type 0} (honest : Type 0) (words : DiskWords D) (old new : World D
     records = opens.records;
     config = opens.runs.config;
     attempts = opens.attempts;
-    hosts = put_as node next (record host { holder = Up opens.after }) opens.runs.new_is put;
+    hosts = put_as node next (record host { state = Up opens.after }) opens.runs.new_is put;
     links = links;
     rest = rest;
   }
@@ -68,17 +68,17 @@ module _ {D : Type 0} (honest : Type 0) (words : DiskWords D) (old new : World D
   LedgerHeard node number (Some change) (Some recorded) =
       new.ledger ≡ old.ledger ++ Accepted node change recorded.accepted number ∷ []
 
-  pub records_heard : (node number : ℕ) (host next : Host D) (after : Standing D) (change : Option ℕ) (recorded : Option Recorded)
+  pub records_heard : (node number : ℕ) (host next : Host D) (after : NodeState D) (change : Option ℕ) (recorded : Option Recorded)
       → NotesChange host next after change recorded → IsPut old.hosts new.hosts node next
       → LedgerHeard node number change recorded → RecordsHeard old new node number host after change
   records_heard node number host next after None None notes put ledger =
-      (put_as node next (record host { holder = Up after }) notes put, ledger)
+      (put_as node next (record host { state = Up after }) notes put, ledger)
   records_heard node number host next after None (Some recorded) notes put ledger = absurd notes
   records_heard node number host next after (Some change) None notes put ledger = absurd notes
   records_heard node number host next after (Some change) (Some recorded) notes put ledger = (
     notes.noted,
     notes.note_is,
-    put_as node next (record host { holder = Up (without_note after); records = host.records ++ notes.noted.octets ∷ [] })
+    put_as node next (record host { state = Up (without_note after); records = host.records ++ notes.noted.octets ∷ [] })
         notes.new_is put,
     subst (λ (places : ℕ). new.ledger ≡ old.ledger ++ Accepted node change places number ∷ []) notes.tells.accepted ledger,
   )
@@ -120,13 +120,13 @@ module _ {D : Type 0} (honest : Type 0) (words : DiskWords D) (old new : World D
     others = loses.others;
     config = loses.runs.config;
     attempts = loses.attempts;
-    hosts = put_as of.end.node next (record of.host { holder = Up loses.after }) loses.runs.new_is put;
+    hosts = put_as of.end.node next (record of.host { state = Up loses.after }) loses.runs.new_is put;
     links = links;
     rest = rest;
   }
 
   -- an attempt has ended, and its outcome is recorded
-  pub records_outcome : (number : ℕ) (of : AttemptOf old number) (next : Host D) (after : Standing D) (fate : Fate) (change : ℕ)
+  pub records_outcome : (number : ℕ) (of : AttemptOf old number) (next : Host D) (after : NodeState D) (fate : Fate) (change : ℕ)
       (recorded : Recorded) → NotesOne of.host next after recorded → IsPut old.hosts new.hosts of.attempt.node next
       → new.ledger
       ≡ old.ledger ++ left_lines of.attempt.node of.attempt.message number (report_told change recorded.report) recorded.left.items
@@ -136,7 +136,7 @@ module _ {D : Type 0} (honest : Type 0) (words : DiskWords D) (old new : World D
     noted = notes.noted;
     note_is = notes.note_is;
     hosts = put_as of.attempt.node next
-        (record of.host { holder = Up (without_note after); records = of.host.records ++ notes.noted.octets ∷ [] }) notes.new_is put;
+        (record of.host { state = Up (without_note after); records = of.host.records ++ notes.noted.octets ∷ [] }) notes.new_is put;
     ledger = ledger
         ∙ ap (λ (report : _). old.ledger ++ left_lines of.attempt.node of.attempt.message number (report_told change report)
         recorded.left.items) notes.tells.report
@@ -154,12 +154,12 @@ module _ {D : Type 0} (honest : Type 0) (words : DiskWords D) (old new : World D
       ≡ old.ledger ++ left_lines of.attempt.node of.attempt.message number (report_told change recorded.report) recorded.left.items)
       × IsPut old.attempts new.attempts of.place (record of.attempt { fate = RepliedBy change })
 
-  pub records_read : (number : ℕ) (of : AttemptOf old number) (next : Host D) (after : Standing D) (change : Option ℕ)
+  pub records_read : (number : ℕ) (of : AttemptOf old number) (next : Host D) (after : NodeState D) (change : Option ℕ)
       (recorded : Option Recorded) → NotesChange of.host next after change recorded
       → IsPut old.hosts new.hosts of.attempt.node next → AttemptRead number of change recorded
       → RecordsRead old new number of after change
   records_read number of next after None None notes put became =
-      (put_as of.attempt.node next (record of.host { holder = Up after }) notes put, became.0, became.1)
+      (put_as of.attempt.node next (record of.host { state = Up after }) notes put, became.0, became.1)
   records_read number of next after None (Some recorded) notes put became = absurd notes
   records_read number of next after (Some change) None notes put became = absurd notes
   records_read number of next after (Some change) (Some recorded) notes put became =
@@ -221,7 +221,7 @@ module _ {D : Type 0} (honest : Type 0) (words : DiskWords D) (old new : World D
     others = loses.others;
     config = loses.runs.config;
     seats = loses.seats;
-    hosts = put_as of.attempt.node next (record of.host { holder = Up loses.after }) loses.runs.new_is put;
+    hosts = put_as of.attempt.node next (record of.host { state = Up loses.after }) loses.runs.new_is put;
     attempts = attempts;
     links = links;
     ledger = ledger;
@@ -253,7 +253,7 @@ module _ {D : Type 0} (honest : Type 0) (words : DiskWords D) (old new : World D
         is_attempt = is_attempt;
         blank = blank;
         is_blank = is_blank;
-        hosts = put_as attempt.node next (record host { holder = Up begins.after }) begins.runs.new_is put;
+        hosts = put_as attempt.node next (record host { state = Up begins.after }) begins.runs.new_is put;
         links = links;
         attempts = attempts;
         linked = linked;
@@ -280,7 +280,7 @@ module _ {D : Type 0} (honest : Type 0) (words : DiskWords D) (old new : World D
     noted = gives.notes.noted;
     note_is = gives.notes.note_is;
     hosts = put_as node next
-        (record host { holder = Up (without_note gives.after); records = host.records ++ gives.notes.noted.octets ∷ [] })
+        (record host { state = Up (without_note gives.after); records = host.records ++ gives.notes.noted.octets ∷ [] })
         gives.notes.new_is put;
     ledger = ledger
         ∙ ap (λ (report : _). old.ledger ++ left_lines node message 0 (report_told change report) recorded.left.items)
@@ -297,20 +297,20 @@ module _ {D : Type 0} (honest : Type 0) (words : DiskWords D) (old new : World D
     pub disk : D
     pub left : IsLeftBy honest words stopped disk
     pub down_is : down
-        ≡ record host { holder = Down disk (Some (record { note = noted; origin = origin_in origin })) }
+        ≡ record host { state = Down disk (Some (record { note = noted; origin = origin_in origin })) }
 
-  comes_down : (host middle down : Host D) (before after : Standing D) (origin : Origin) → Runs host middle before after
+  comes_down : (host middle down : Host D) (before after : NodeState D) (origin : Origin) → Runs host middle before after
       → CrashesInCall honest words middle down origin → ComesDown host down after.records origin
   comes_down host middle down before after origin runs crashes =
       let same : crashes.before ≡ after =
-      same_up crashes.before after (sym crashes.up ∙ ap (λ (h : Host D). h.holder) runs.new_is) in
+      same_up crashes.before after (sym crashes.up ∙ ap (λ (h : Host D). h.state) runs.new_is) in
       record {
         noted = crashes.noted;
-        note_is = subst (λ (n : Standing D). n.records.noted ≡ Some crashes.noted) same crashes.note_is;
+        note_is = subst (λ (n : NodeState D). n.records.noted ≡ Some crashes.noted) same crashes.note_is;
         disk = crashes.disk;
-        left = subst (λ (n : Standing D). IsLeftBy honest words n.records crashes.disk) same crashes.left;
+        left = subst (λ (n : NodeState D). IsLeftBy honest words n.records crashes.disk) same crashes.left;
         down_is = crashes.new_is ∙ ap (λ (h : Host D). let down : Host D = record h {
-          holder = Down crashes.disk (Some (record { note = crashes.noted; origin = origin_in origin }));
+          state = Down crashes.disk (Some (record { note = crashes.noted; origin = origin_in origin }));
         } in down) runs.new_is;
       }
 
@@ -349,7 +349,7 @@ module _ {D : Type 0} (honest : Type 0) (words : DiskWords D) (old new : World D
         down = goes_down of.end.node of.host down stops.after.records (FromClient number) comes lets;
       }
 
-  crashes_ending : (number : ℕ) (of : AttemptOf old number) (middle down : Host D) (before after : Standing D) (origin : Origin)
+  crashes_ending : (number : ℕ) (of : AttemptOf old number) (middle down : Host D) (before after : NodeState D) (origin : Origin)
       → Runs of.host middle before after → CrashesInCall honest words middle down origin → LetsGo of.attempt.node down
       → CrashesEnding honest words old new number of after.records (origin_in origin)
   crashes_ending number of middle down before after origin runs crashes lets =

@@ -10,7 +10,7 @@ use Rattle.relay_attempts.specs.declared.work.Work.TheVariants.{NoRoute, Try}
 use Rattle.relay_world.specs.declared.attempt.Attempt.{Attempt}
 use Rattle.relay_world.specs.declared.line.Line.{Line}
 use Rattle.relay_world.specs.declared.link.Link.{Link}
-use Rattle.relay_world.specs.World.{Down, Holder, Host, Up, World}
+use Rattle.relay_world.specs.World.{Down, HostState, Host, Up, World}
 use Rattle.relay_pair.specs.declared.event.Event.TheVariants.{Give}
 use Rattle.relay_pair.specs.declared.fault.PairFault.{PairFault}
 use Rattle.relay_pair.specs.declared.fault.PairFault.TheVariants as fault
@@ -27,8 +27,8 @@ use Rattle.relay_pair.proofs.BoundLemmas.{keeps_changes}
 use Rattle.relay_pair.proofs.StepLemmas.{told_already}
 
 -- where a host has work, it is up
-pub works_up : {D : Type 0} (now : ℕ) (holder : Holder D) (work : Work) → slice_get (works_in now holder) 0 ≡ Some work
-    → holds_up holder ≡ true
+pub works_up : {D : Type 0} (now : ℕ) (state : HostState D) (work : Work) → slice_get (works_in now state) 0 ≡ Some work
+    → holds_up state ≡ true
 works_up now (Up standing) work first = refl
 works_up now (Down disk undecided) work first = absurd (none-some work first)
 
@@ -41,14 +41,14 @@ module _ {D : Type 0} (world : World D) (node : ℕ) where
   head [] work first = absurd (none-some work first)
   head (x ∷ xs) work first = cut x xs ∙ ap (λ w. work_fault world (w ∷ [])) (same_Some x work first)
 
-  due_is : (holder : Holder D) (work : Work) → slice_get (works_in world.clock holder) 0 ≡ Some work
-      → due_fault world holder ≡ work_fault world (work ∷ [])
+  due_is : (state : HostState D) (work : Work) → slice_get (works_in world.clock state) 0 ≡ Some work
+      → due_fault world state ≡ work_fault world (work ∷ [])
   due_is (Up standing) work first = head (works_in world.clock (Up standing)) work first
   due_is (Down disk undecided) work first = absurd (none-some work first)
 
   -- the first fault is that of the first work
   pub first_is : (work : Work) → IsFirstWork world node work → first_fault world (Give node) ≡ work_fault world (work ∷ [])
-  first_is work its = ap (λ h. give_fault world h) its.host_at ∙ due_is its.host.holder work its.first
+  first_is work its = ap (λ h. give_fault world h) its.host_at ∙ due_is its.host.state work its.first
 
   pub first_not_down : (message : ℕ) (hop : List ℕ) → IsFirstWork world node (Try message hop) → names_down world hop world.hosts ≡ false
       → first_fault world (Give node) ≡ None
@@ -60,8 +60,8 @@ module _ {D : Type 0} (world : World D) (node : ℕ) where
   first_down message hop its down =
       first_is (Try message hop) its ∙ ap (λ b. if b then Some fault.Down else None) down
 
-  none_due : (holder : Holder D) → holds_up holder ≡ true → slice_get (works_in world.clock holder) 0 ≡ None
-      → due_fault world holder ≡ Some fault.Nothing
+  none_due : (state : HostState D) → holds_up state ≡ true → slice_get (works_in world.clock state) 0 ≡ None
+      → due_fault world state ≡ Some fault.Nothing
   none_due (Up standing) up none = by (works_in world.clock (Up standing)) none
     where
       by : (works : List Work) → slice_get works 0 ≡ None → work_fault world works ≡ Some fault.Nothing
@@ -70,19 +70,19 @@ module _ {D : Type 0} (world : World D) (node : ℕ) where
   none_due (Down disk undecided) up none = absurd (false≢true up)
 
   -- where there is no work, there is nothing to do
-  pub no_work : (host : Host D) → slice_get world.hosts node ≡ Some host → holds_up host.holder ≡ true
-      → slice_get (works_in world.clock host.holder) 0 ≡ None → first_fault world (Give node) ≡ Some fault.Nothing
-  no_work host at up none = ap (λ h. give_fault world h) at ∙ none_due host.holder up none
+  pub no_work : (host : Host D) → slice_get world.hosts node ≡ Some host → holds_up host.state ≡ true
+      → slice_get (works_in world.clock host.state) 0 ≡ None → first_fault world (Give node) ≡ Some fault.Nothing
+  no_work host at up none = ap (λ h. give_fault world h) at ∙ none_due host.state up none
 
-  due_down : (holder : Holder D) (why : PairFault) → (if holds_up holder then None else Some fault.Down) ≡ Some why
-      → due_fault world holder ≡ Some why
+  due_down : (state : HostState D) (why : PairFault) → (if holds_up state then None else Some fault.Down) ≡ Some why
+      → due_fault world state ≡ Some why
   due_down (Up standing) why is = absurd (none-some why is)
   due_down (Down disk undecided) why is = is
 
   give_down : (host : Option (Host D)) (why : PairFault) → (if is_up host then None else Some fault.Down) ≡ Some why
       → give_fault world host ≡ Some why
   give_down None why is = is
-  give_down (Some host) why is = due_down host.holder why is
+  give_down (Some host) why is = due_down host.state why is
 
   -- a node that is down does nothing
   pub down_first : (why : PairFault) → unless_up world node None ≡ Some why → first_fault world (Give node) ≡ Some why
@@ -92,7 +92,7 @@ module _ {D : Type 0} (world : World D) (node : ℕ) where
 pub first_has : {D : Type 0} (honest : Type 0) (words : DiskWords D) (world : World D) (node : ℕ) (work : Work)
     → (first : IsFirstWork world node work) → AreBound honest words world → HasChanges honest words first.host
 first_has honest words world node work first bound =
-    keeps_changes honest words world node first.host bound first.host_at (works_up world.clock first.host.holder work first.first)
+    keeps_changes honest words world node first.host bound first.host_at (works_up world.clock first.host.state work first.first)
 
 -- parts that have got room are the same parts
 pub same_parts : {D : Type 0} (world : World D) (links : List Link) (attempts : List Attempt) (ledger : List Line)

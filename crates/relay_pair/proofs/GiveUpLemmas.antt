@@ -19,7 +19,7 @@ use Rattle.relay_book.specs.Queue.{FitsFrom, Queue, empty_queue, step}
 use Rattle.relay_book.specs.Record.{IsOutcome}
 use Rattle.relay_records.specs.declared.noted.Noted.{Noted}
 use Rattle.relay_records.specs.Note.{IsNoted}
-use Rattle.relay_node.specs.Node.{Standing}
+use Rattle.relay_node.specs.Node.{NodeState}
 use Rattle.relay_world.specs.declared.line.Line.{Line}
 use Rattle.relay_world.specs.Crashes.{CrashesGivingUp, GoesDown}
 use Rattle.relay_world.specs.CrashRuns.{RestingCrashHappens}
@@ -90,7 +90,7 @@ few_noted changes outcome noted note used stored its is =
 module _ {D : Type 0} (honest : Type 0) (words : DiskWords D) (old : World D) (node message : ℕ) (was now : Host D)
     (was_at : slice_get old.hosts node ≡ Some was) where
   -- the changes of a host that is up with this node
-  knows_of : (before : Standing D) → was.holder ≡ Up before → HasChanges honest words was → KnowsChanges honest words before
+  knows_of : (before : NodeState D) → was.state ≡ Up before → HasChanges honest words was → KnowsChanges honest words before
   knows_of before up has = subst (λ h. HoldsChanges honest words h) up has
 
   put_of : (host : Host D) → now ≡ host → IsPut old.hosts (slice_set old.hosts node now) node host
@@ -145,8 +145,8 @@ module _ {D : Type 0} (honest : Type 0) (words : DiskWords D) (old : World D) (n
           → free ≤ free_now + 100 → HasRoom (given_world ledger) free_now
       given_room free free_now room most =
           let put = held_put old.hosts node 0 node was now (omega arith) was_at in
-          let none : lines_held node was.holder ≡ 0 = ap (λ h. lines_held node h) gives.up in
-          let none_now : lines_held node now.holder ≡ 0 = ap (λ (h : Host D). lines_held node h.holder) gives.notes.new_is in
+          let none : lines_held node was.state ≡ 0 = ap (λ h. lines_held node h) gives.up in
+          let none_now : lines_held node now.state ≡ 0 = ap (λ (h : Host D). lines_held node h.state) gives.notes.new_is in
           omega (arith, room, most, put, none, none_now)
 
   module _ (stops : StopsGivingUp honest words old.clock was now message) where
@@ -161,15 +161,15 @@ module _ {D : Type 0} (honest : Type 0) (words : DiskWords D) (old : World D) (n
     halted_short = record {
       host = now;
       host_at = now_at;
-      cut = subst (λ (h : Host D). IsCutShort h.holder) (sym stops.runs.new_is) (stops.live, ap is_some stops.note_is);
+      cut = subst (λ (h : Host D). IsCutShort h.state) (sym stops.runs.new_is) (stops.live, ap is_some stops.note_is);
     }
 
     module _ (down : World D) (crashes : CrashesAt honest words halted_world down node (FromNoHop message)) where
-      host_same : crashes.host ≡ record was { holder = Up stops.after }
+      host_same : crashes.host ≡ record was { state = Up stops.after }
       host_same = same_Some crashes.host now (sym crashes.host_at ∙ now_at) ∙ stops.runs.new_is
 
       stopped_same : stops.after ≡ crashes.before
-      stopped_same = same_up stops.after crashes.before (sym (ap (λ (h : Host D). h.holder) host_same) ∙ crashes.up)
+      stopped_same = same_up stops.after crashes.before (sym (ap (λ (h : Host D). h.state) host_same) ∙ crashes.up)
 
       abbrev undecided_now : Undecided
       undecided_now = record { note = crashes.noted; origin = world.FromNoHop message }
@@ -180,7 +180,7 @@ module _ {D : Type 0} (honest : Type 0) (words : DiskWords D) (old : World D) (n
         put = record {
           at =
               crashes.down.put.at
-              ∙ ap (λ (h : Host D). Some (record h { holder = Down crashes.disk (Some undecided_now) })) host_same;
+              ∙ ap (λ (h : Host D). Some (record h { state = Down crashes.disk (Some undecided_now) })) host_same;
           others = λ other off. crashes.down.put.others other off ∙ (put_of now refl).others other off;
         };
         as_many = crashes.down.as_many ∙ length-set old.hosts node now;
@@ -195,7 +195,7 @@ module _ {D : Type 0} (honest : Type 0) (words : DiskWords D) (old : World D) (n
         up = stops.runs.up;
         stopped = crashes.before.records;
         cuts = λ changes keeps. subst
-            (λ (n : Standing D). CutsUnroutable honest words stops.before.config.host stops.before.config.routes message old.clock
+            (λ (n : NodeState D). CutsUnroutable honest words stops.before.config.host stops.before.config.routes message old.clock
             changes stops.before.records n.records) stopped_same (stops.cuts changes keeps);
         noted = crashes.noted;
         note_is = crashes.note_is;
@@ -215,7 +215,7 @@ module _ {D : Type 0} (honest : Type 0) (words : DiskWords D) (old : World D) (n
             report = cut.cuts.report;
           } in
           few_noted knows.changes outcome stops.after.records.noted crashes.noted 0 cut.cuts.cuts.fits.2 cut.cuts.cuts.noted
-          (ap (λ (n : Standing D). n.records.noted) stopped_same ∙ crashes.note_is)
+          (ap (λ (n : NodeState D). n.records.noted) stopped_same ∙ crashes.note_is)
 
       crash_room : (free : ℕ) → HasChanges honest words was → lines_to_come old.attempts + lines_left 0 old.hosts + 100 ≤ free
           → HasRoom down free
@@ -225,9 +225,9 @@ module _ {D : Type 0} (honest : Type 0) (words : DiskWords D) (old : World D) (n
           let hosts = ap (λ (hs : List (Host D)). lines_left 0 hs) crashes.hosts_are in
           let called = held_put old.hosts node 0 node was now (omega arith) was_at in
           let fell = held_put (slice_set old.hosts node now) node 0 node now
-          (record crashes.host { holder = Down crashes.disk (Some undecided_now) }) (omega arith) now_at in
-          let none : lines_held node was.holder ≡ 0 = ap (λ h. lines_held node h) stops.runs.up in
-          let none_now : lines_held node now.holder ≡ 0 = ap (λ (h : Host D). lines_held node h.holder) stops.runs.new_is in
+          (record crashes.host { state = Down crashes.disk (Some undecided_now) }) (omega arith) now_at in
+          let none : lines_held node was.state ≡ 0 = ap (λ h. lines_held node h) stops.runs.up in
+          let none_now : lines_held node now.state ≡ 0 = ap (λ (h : Host D). lines_held node h.state) stops.runs.new_is in
           let lines : length (left_lines node message 0 (report_told crashes.noted.number crashes.noted.report)
           crashes.noted.left.items) ≡ length crashes.noted.left.items =
           length-map crashes.noted.left.items _ in

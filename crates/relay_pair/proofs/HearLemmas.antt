@@ -7,7 +7,7 @@ use Rattle.std.proofs.lemmas.List.{append-nil, length-set, length-take}
 use Rattle.std.proofs.lemmas.Option.{same_Some}
 use Rattle.relay_disk.specs.Device.{DiskWords}
 use Rattle.relay_node.specs.declared.receive.Received.{Received}
-use Rattle.relay_node.specs.Node.{Standing}
+use Rattle.relay_node.specs.Node.{NodeState}
 use Rattle.relay_records.specs.declared.fault.NodeFault.{NodeFault}
 use Rattle.relay_world.specs.declared.line.Line.{Line}
 use Rattle.relay_world.specs.declared.link.Link.{Link}
@@ -181,18 +181,18 @@ module _ {D : Type 0} (honest : Type 0) (words : DiskWords D) (old : World D) (n
   }
 
   -- a node that is up holds no lines of the ledger
-  up_after : (after : Standing D) (change : Option ℕ) (recorded : Option Recorded)
-      → NotesChange of.host now after change recorded → lines_held of.end.node now.holder ≡ 0
-  up_after after None None is = ap (λ (h : Host D). lines_held of.end.node h.holder) is
+  up_after : (after : NodeState D) (change : Option ℕ) (recorded : Option Recorded)
+      → NotesChange of.host now after change recorded → lines_held of.end.node now.state ≡ 0
+  up_after after None None is = ap (λ (h : Host D). lines_held of.end.node h.state) is
   up_after after None (Some recorded) never = absurd never
   up_after after (Some change) None never = absurd never
-  up_after after (Some change) (Some recorded) notes = ap (λ (h : Host D). lines_held of.end.node h.holder) notes.new_is
+  up_after after (Some change) (Some recorded) notes = ap (λ (h : Host D). lines_held of.end.node h.state) notes.new_is
 
-  lines_same : lines_held of.end.node now.holder ≡ 0
+  lines_same : lines_held of.end.node now.state ≡ 0
       → lines_left 0 (slice_set old.hosts of.end.node now) ≡ lines_left 0 old.hosts
   lines_same none_now =
       let put = held_put old.hosts of.end.node 0 of.end.node of.host now (omega arith) of.host_at in
-      let none : lines_held of.end.node of.host.holder ≡ 0 = ap (λ h. lines_held of.end.node h) of.up in
+      let none : lines_held of.end.node of.host.state ≡ 0 = ap (λ h. lines_held of.end.node h) of.up in
       omega (arith, put, none, none_now)
 
 module _ {D : Type 0} (honest : Type 0) (words : DiskWords D) (old called : World D) (number node count : ℕ)
@@ -355,7 +355,7 @@ module _ {D : Type 0} (honest : Type 0) (words : DiskWords D) (old called : Worl
         let attempts = ap lines_to_come gone_attempts in
         let hosts = ap (λ (w : World D). lines_left 0 w.hosts) calls.new_is in
         let same = lines_same honest words old number count calls.of calls.now
-        (ap (λ (h : Host D). lines_held calls.of.end.node h.holder) calls.hears.0.runs.new_is) in
+        (ap (λ (h : Host D). lines_held calls.of.end.node h.state) calls.hears.0.runs.new_is) in
         omega (arith, room, attempts, hosts, same)
 
   -- it wasn't called

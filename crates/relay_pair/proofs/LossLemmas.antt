@@ -20,16 +20,16 @@ use Rattle.relay_attempts.specs.Reply.{Told}
 use Rattle.relay_course.specs.VerdictTable.{all_later}
 use Rattle.relay_routes.specs.declared.config.Config.{Config}
 use Rattle.relay_node.specs.Attempts.{Tells}
-use Rattle.relay_node.specs.Node.{Standing}
+use Rattle.relay_node.specs.Node.{NodeState}
 use Rattle.relay_world.specs.declared.attempt.Attempt.{Attempt}
 use Rattle.relay_world.specs.declared.attempt.Fate.{Fate}
 use Rattle.relay_world.specs.declared.attempt.Fate.TheVariants.{Running, Replied, Lost, Dropped}
 use Rattle.relay_world.specs.declared.line.Line.{Line}
 use Rattle.relay_world.specs.declared.link.Link.{Link}
-use Rattle.relay_world.specs.Bound.{HasFate, HolderKeeps, IsBound, told_by}
+use Rattle.relay_world.specs.Bound.{HasFate, StateKeeps, IsBound, told_by}
 use Rattle.relay_world.specs.Ledger.{left_lines, report_told}
 use Rattle.relay_world.specs.Steps.{AttemptOf, DropsAttempt, HasLost, IsPut}
-use Rattle.relay_world.specs.World.{Holder, Host, Up, Down, World, link_at}
+use Rattle.relay_world.specs.World.{HostState, Host, Up, Down, World, link_at}
 use Rattle.relay_pair.specs.declared.recorded.Recorded.{Recorded}
 use Rattle.relay_pair.specs.Call.{HasAttempt, HoldsAttempt, Loses, LosesAttempt}
 use Rattle.relay_pair.specs.FirstFault.{is_running, runs_there}
@@ -83,12 +83,12 @@ pub few_left : (changes : List Change) (message at : ℕ) (hop places : List ℕ
     → length (leaving changes (reported_as (outcome_of message at hop (rulings_of places verdicts)) report)) ≤ length places
 few_left changes message at hop places verdicts report = few_of (message_at changes message) at places verdicts
 
--- the node of an up holder
-abbrev node_or : {D : Type 0} → Standing D → Holder D → Standing D
+-- the node of an up state
+abbrev node_or : {D : Type 0} → NodeState D → HostState D → NodeState D
 node_or other (Up node) = node
 node_or other (Down disk undecided) = other
 
-pub same_up : {D : Type 0} (one other : Standing D) → Up one ≡ Up other → one ≡ other
+pub same_up : {D : Type 0} (one other : NodeState D) → Up one ≡ Up other → one ≡ other
 same_up one other same = ap (node_or one) same
 
 module _ {D : Type 0} (honest : Type 0) (words : DiskWords D) where
@@ -101,8 +101,8 @@ module _ {D : Type 0} (honest : Type 0) (words : DiskWords D) where
     pub runs : attempt.fate ≡ Running slot
     pub host : Host D
     pub host_at : slice_get world.hosts attempt.node ≡ Some host
-    pub before : Standing D
-    pub up : host.holder ≡ Up before
+    pub before : NodeState D
+    pub up : host.state ≡ Up before
     pub changes : List Change
     pub keeps : Keeps honest words before.records changes
     pub told : Told
@@ -110,7 +110,7 @@ module _ {D : Type 0} (honest : Type 0) (words : DiskWords D) where
     pub tells : Tells before.config.host changes before.attempts slot told
     pub has : HasAttempt honest words host slot
 
-  has_attempt : (host : Host D) (slot : ℕ) (before : Standing D) (changes : List Change) (told : Told) → host.holder ≡ Up before
+  has_attempt : (host : Host D) (slot : ℕ) (before : NodeState D) (changes : List Change) (told : Told) → host.state ≡ Up before
       → Keeps honest words before.records changes → Tells before.config.host changes before.attempts slot told
       → HasAttempt honest words host slot
   has_attempt host slot before changes told up keeps tells =
@@ -145,8 +145,8 @@ module _ {D : Type 0} (honest : Type 0) (words : DiskWords D) where
       let kept = bound.hosts tried.attempt.node tried.host tried.changes tried.stands in
       let before = fate.2.0 in
       let up = fate.2.1 in
-      let keeps : HolderKeeps honest words tried.host.config (Up before) tried.changes =
-      subst (λ h. HolderKeeps honest words tried.host.config h tried.changes) up kept.holds in
+      let keeps : StateKeeps honest words tried.host.config (Up before) tried.changes =
+      subst (λ h. StateKeeps honest words tried.host.config h tried.changes) up kept.holds in
       let told = told_by tried.attempt passes.accept (take link.down_read link.down) passes.output in
       let tells : Tells before.config.host tried.changes before.attempts slot told =
       subst (λ (cf : Config). Tells cf.host tried.changes before.attempts slot told) (sym keeps.config_is) fate.2.2 in
@@ -178,10 +178,10 @@ module _ {D : Type 0} (honest : Type 0) (words : DiskWords D) (old : World D) (n
   has_it = subst (λ h. HasAttempt honest words h slot) (sym was_is) on.has
 
   -- its node is the one that runs there
-  pub same_before : (before : Standing D) → was.holder ≡ Up before → on.before ≡ before
-  same_before before up = same_up on.before before (sym on.up ∙ ap (λ (h : Host D). h.holder) (sym was_is) ∙ up)
+  pub same_before : (before : NodeState D) → was.state ≡ Up before → on.before ≡ before
+  same_before before up = same_up on.before before (sym on.up ∙ ap (λ (h : Host D). h.state) (sym was_is) ∙ up)
 
-  abbrev pub attempt_of : (before : Standing D) → was.holder ≡ Up before → AttemptOf old number
+  abbrev pub attempt_of : (before : NodeState D) → was.state ≡ Up before → AttemptOf old number
   attempt_of before up = record {
     link = on.link;
     link_is = on.link_is;
@@ -225,7 +225,7 @@ module _ {D : Type 0} (honest : Type 0) (words : DiskWords D) (old : World D) (n
     others = loses.others;
     config = loses.runs.config;
     seats = loses.seats;
-    hosts = put_of (record was { holder = Up loses.after }) loses.runs.new_is;
+    hosts = put_of (record was { state = Up loses.after }) loses.runs.new_is;
     attempts = ended_put ended Dropped is;
     links = refl;
     ledger = refl;
@@ -264,8 +264,8 @@ module _ {D : Type 0} (honest : Type 0) (words : DiskWords D) (old : World D) (n
       → length recorded.left.items ≤ length attempt.places.items
   few_recorded change recorded loses =
       let same = same_before loses.before loses.up in
-      let lost = loses.loses on.changes on.told (subst (λ (n : Standing D). Keeps honest words n.records on.changes) same on.keeps)
-      (subst (λ (n : Standing D). Tells n.config.host on.changes n.attempts slot on.told) same on.tells) in
+      let lost = loses.loses on.changes on.told (subst (λ (n : NodeState D). Keeps honest words n.records on.changes) same on.keeps)
+      (subst (λ (n : NodeState D). Tells n.config.host on.changes n.attempts slot on.told) same on.tells) in
       let noted = lost.adds.adds.noted in
       let its : loses.notes.noted ≡ noted.note = same_Some loses.notes.noted noted.note (sym loses.notes.note_is ∙ noted.is) in
       let left = ap (λ (l : List (ℕ × Way)). length l) (loses.notes.tells.left ∙ ap (λ (n : Noted). n.left.items) its ∙ noted.left) in
@@ -273,18 +273,18 @@ module _ {D : Type 0} (honest : Type 0) (words : DiskWords D) (old : World D) (n
       let places = ap (λ (l : List ℕ). length l) on.places in
       omega (arith, left, few, places)
 
-  up_held : (node : Standing D) (host : Host D) → host.holder ≡ Up node → lines_held attempt.node host.holder ≡ 0
+  up_held : (node : NodeState D) (host : Host D) → host.state ≡ Up node → lines_held attempt.node host.state ≡ 0
   up_held node host up = ap (λ h. lines_held attempt.node h) up
 
-  pub over_room : (ended : Attempt) (fate : Fate) (ledger : List Line) (after : Standing D) (left free free_now : ℕ)
-      → ended ≡ record attempt { fate = fate } → is_running fate ≡ false → now.holder ≡ Up after → left ≤ length attempt.places.items
+  pub over_room : (ended : Attempt) (fate : Fate) (ledger : List Line) (after : NodeState D) (left free free_now : ℕ)
+      → ended ≡ record attempt { fate = fate } → is_running fate ≡ false → now.state ≡ Up after → left ≤ length attempt.places.items
       → free ≤ free_now + left → HasRoom old free → HasRoom (over_world ended ledger) free_now
   over_room ended fate ledger after left free free_now is over up few most room =
       let less = lines_less old.attempts place attempt ended on.attempt_at
       (ap (λ (a : Attempt). is_running a.fate) is ∙ over) in
       let one = ap (λ b. if b then length attempt.places.items else 0) (running_is attempt.fate slot on.runs) in
       let put = held_put old.hosts attempt.node 0 attempt.node was now (omega arith) was_at in
-      let none = up_held on.before was (ap (λ (h : Host D). h.holder) was_is ∙ on.up) in
+      let none = up_held on.before was (ap (λ (h : Host D). h.state) was_is ∙ on.up) in
       let none_now = up_held after now up in
       omega (arith, less, one, put, none, none_now, few, most, room)
 

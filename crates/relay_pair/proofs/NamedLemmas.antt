@@ -59,25 +59,25 @@ none_is_down {D} world (host ∷ hosts) name none =
     by (none_is_down world hosts name (λ node other at. none (suc node) other at)) (bytes_eq host.config.host name) refl
   where
     by : names_down world name hosts ≡ false → (b : Bool) → bytes_eq host.config.host name ≡ b
-        → (if b then not (holds_up host.holder) else names_down world name hosts) ≡ false
+        → (if b then not (holds_up host.state) else names_down world name hosts) ≡ false
     by rest true is = absurd (none 0 host refl ((bytes_eq-Decides host.config.host name).0 is))
     by rest false is = rest
 
 pub first_is_down : {D : Type 0} (world : World D) (hosts : List (Host D)) (name : List ℕ) (node : ℕ) (host : Host D)
     → slice_get hosts node ≡ Some host → host.config.host ≡ name → NoneIsNamedBefore hosts name node
-    → names_down world name hosts ≡ not (holds_up host.holder)
+    → names_down world name hosts ≡ not (holds_up host.state)
 first_is_down world [] name node host at named none = absurd (true≢false (ap is_none at))
 first_is_down {D} world (other ∷ hosts) name zero host at named none =
     let same : other ≡ host = same_Some other host at in
     let its : bytes_eq other.config.host name ≡ true =
     (bytes_eq-Decides other.config.host name).1 (ap (λ (h : Host D). h.config.host) same ∙ named) in
-    ap (λ (b : Bool). if b then not (holds_up other.holder) else names_down world name hosts) its
-    ∙ ap (λ (h : Host D). not (holds_up h.holder)) same
+    ap (λ (b : Bool). if b then not (holds_up other.state) else names_down world name hosts) its
+    ∙ ap (λ (h : Host D). not (holds_up h.state)) same
 first_is_down {D} world (other ∷ hosts) name (suc node) host at named none =
     by (first_is_down world hosts name node host at named (λ lower one below there. none (suc lower) one (omega (arith, below)) there))
     (bytes_eq other.config.host name) refl
   where
-    by : names_down world name hosts ≡ not (holds_up host.holder) → (b : Bool) → bytes_eq other.config.host name ≡ b
-        → (if b then not (holds_up other.holder) else names_down world name hosts) ≡ not (holds_up host.holder)
+    by : names_down world name hosts ≡ not (holds_up host.state) → (b : Bool) → bytes_eq other.config.host name ≡ b
+        → (if b then not (holds_up other.state) else names_down world name hosts) ≡ not (holds_up host.state)
     by rest true is = absurd (none 0 other (omega arith) refl ((bytes_eq-Decides other.config.host name).0 is))
     by rest false is = rest

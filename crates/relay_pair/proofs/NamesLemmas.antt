@@ -4,7 +4,7 @@ use Rattle.std.specs.Prelude.{slice_get}
 use Rattle.std.proofs.lemmas.Bool.Decides.{eqb_tells}
 use Rattle.std.proofs.lemmas.Option.{same_Some}
 use Rattle.relay_disk.specs.Device.{DiskWords}
-use Rattle.relay_node.specs.Node.{Standing}
+use Rattle.relay_node.specs.Node.{NodeState}
 use Rattle.relay_routes.specs.declared.config.Config.{Config}
 use Rattle.relay_world.specs.declared.attempt.Fate.{Fate}
 use Rattle.relay_world.specs.declared.attempt.Fate.TheVariants.{Lost, Replied}
@@ -50,91 +50,91 @@ module _ {D : Type 0} where
       (before.0, before.1, was.2 ∙ before.2)
 
   module _ (old new : World D) where
-    recorded : (number change : ℕ) (of : AttemptOf old number) (after : Standing D) (fate : Fate)
+    recorded : (number change : ℕ) (of : AttemptOf old number) (after : NodeState D) (fate : Fate)
         → RecordsOutcome old new number of after fate change → SameNames old.hosts new.hosts
     recorded number change of after fate records =
         names_put old.hosts new.hosts of.attempt.node of.host
-        (record of.host { holder = Up (without_note after); records = of.host.records ++ records.noted.octets ∷ [] })
+        (record of.host { state = Up (without_note after); records = of.host.records ++ records.noted.octets ∷ [] })
         of.host_at records.hosts refl
 
-    heard : (node number : ℕ) (host : Host D) (after : Standing D) (change : Option ℕ) → slice_get old.hosts node ≡ Some host
+    heard : (node number : ℕ) (host : Host D) (after : NodeState D) (change : Option ℕ) → slice_get old.hosts node ≡ Some host
         → RecordsHeard old new node number host after change → SameNames old.hosts new.hosts
     heard node number host after None at records =
-        names_put old.hosts new.hosts node host (record host { holder = Up after }) at records.0 refl
+        names_put old.hosts new.hosts node host (record host { state = Up after }) at records.0 refl
     heard node number host after (Some change) at records =
         names_put old.hosts new.hosts node host
-        (record host { holder = Up (without_note after); records = host.records ++ records.0.octets ∷ [] }) at records.2 refl
+        (record host { state = Up (without_note after); records = host.records ++ records.0.octets ∷ [] }) at records.2 refl
 
-    read : (number : ℕ) (of : AttemptOf old number) (after : Standing D) (change : Option ℕ)
+    read : (number : ℕ) (of : AttemptOf old number) (after : NodeState D) (change : Option ℕ)
         → RecordsRead old new number of after change → SameNames old.hosts new.hosts
     read number of after None records =
-        names_put old.hosts new.hosts of.attempt.node of.host (record of.host { holder = Up after }) of.host_at records.0 refl
+        names_put old.hosts new.hosts of.attempt.node of.host (record of.host { state = Up after }) of.host_at records.0 refl
     read number of after (Some change) records = recorded number change of after (Replied change) records
 
     dropped_at : {honest : Type 0} {words : DiskWords D} (number : ℕ) (of : AttemptOf old number) (stopped : Kept D)
         (origin : Origin) → DropsAtStop honest words old new number of stopped origin → SameNames old.hosts new.hosts
     dropped_at number of stopped origin drops =
         names_put old.hosts new.hosts of.attempt.node of.host
-        (record of.host { holder = Down drops.disk (Some (record { note = drops.noted; origin = origin })) }) of.host_at
+        (record of.host { state = Down drops.disk (Some (record { note = drops.noted; origin = origin })) }) of.host_at
         drops.hosts refl
 
-    decided : (node : ℕ) (host : Host D) (after : Standing D) (undecided : Option Undecided)
+    decided : (node : ℕ) (host : Host D) (after : NodeState D) (undecided : Option Undecided)
         → slice_get old.hosts node ≡ Some host → Decides old new node host after undecided → SameNames old.hosts new.hosts
     decided node host after None at none =
-        names_put old.hosts new.hosts node host (record host { holder = Up after }) at none.hosts refl
+        names_put old.hosts new.hosts node host (record host { state = Up after }) at none.hosts refl
     decided node host after (Some undecided) at (inl none) =
-        names_put old.hosts new.hosts node host (record host { holder = Up after }) at none.1.hosts refl
+        names_put old.hosts new.hosts node host (record host { state = Up after }) at none.1.hosts refl
     decided node host after (Some undecided) at (inr its) =
         names_put old.hosts new.hosts node host
-        (record host { holder = Up after; records = host.records ++ undecided.note.octets ∷ [] }) at its.1.hosts refl
+        (record host { state = Up after; records = host.records ++ undecided.note.octets ∷ [] }) at its.1.hosts refl
 
     -- an event leaves each node its configuration
     pub event_names : {honest : Type 0} {words : DiskWords D} → Happens honest words old new → SameNames old.hosts new.hosts
     event_names (Opens node peer opens) =
-        names_put old.hosts new.hosts node opens.host (record opens.host { holder = Up opens.after }) opens.host_at opens.hosts refl
+        names_put old.hosts new.hosts node opens.host (record opens.host { state = Up opens.after }) opens.host_at opens.hosts refl
     event_names (Writes number octets writes) = names_same old.hosts new.hosts (ap (λ (w : World D). w.hosts) writes.new_is)
     event_names (Hears number count hears) =
         heard hears.of.end.node number hears.of.host hears.after hears.received.change hears.of.host_at hears.records
     event_names (Ends number ends) =
-        names_put old.hosts new.hosts ends.of.end.node ends.of.host (record ends.of.host { holder = Up ends.after })
+        names_put old.hosts new.hosts ends.of.end.node ends.of.host (record ends.of.host { state = Up ends.after })
         ends.of.host_at ends.hosts refl
     event_names (Reads number count reads) = read number reads.of reads.after reads.replied.change reads.records
     event_names (Loses number change loses) = recorded number change loses.of loses.after (Lost change) loses.records
     event_names (Drops number drops) =
-        names_put old.hosts new.hosts drops.of.attempt.node drops.of.host (record drops.of.host { holder = Up drops.after })
+        names_put old.hosts new.hosts drops.of.attempt.node drops.of.host (record drops.of.host { state = Up drops.after })
         drops.of.host_at drops.hosts refl
     event_names (BreaksOff number breaks) = names_same old.hosts new.hosts (ap (λ (w : World D). w.hosts) breaks.new_is)
     event_names (Starts number message hop starts) =
-        names_put old.hosts new.hosts starts.attempt.node starts.host (record starts.host { holder = Up starts.after })
+        names_put old.hosts new.hosts starts.attempt.node starts.host (record starts.host { state = Up starts.after })
         starts.host_at starts.hosts refl
     event_names (GivesUp node message change gives) =
         names_put old.hosts new.hosts node gives.host
         (record gives.host {
-          holder = Up (without_note gives.after);
+          state = Up (without_note gives.after);
           records = gives.host.records ++ gives.noted.octets ∷ [];
         }) gives.host_at gives.hosts refl
     event_names (Stops node stops) =
-        names_put old.hosts new.hosts node stops.host (record stops.host { holder = Down stops.disk None }) stops.host_at
+        names_put old.hosts new.hosts node stops.host (record stops.host { state = Down stops.disk None }) stops.host_at
         stops.hosts refl
     event_names (StopsInHearing number count stops) =
         names_put old.hosts new.hosts stops.of.end.node stops.of.host
-        (record stops.of.host { holder = Down stops.disk (Some (record { note = stops.noted; origin = FromClient number })) })
+        (record stops.of.host { state = Down stops.disk (Some (record { note = stops.noted; origin = FromClient number })) })
         stops.of.host_at stops.hosts refl
     event_names (StopsInReading number count stops) = dropped_at number stops.of stops.stopped _ stops.drops
     event_names (StopsInLosing number stops) = dropped_at number stops.of stops.stopped _ stops.drops
     event_names (StopsInGivingUp node message stops) =
         names_put old.hosts new.hosts node stops.host
-        (record stops.host { holder = Down stops.disk (Some (record { note = stops.noted; origin = FromNoHop message })) })
+        (record stops.host { state = Down stops.disk (Some (record { note = stops.noted; origin = FromNoHop message })) })
         stops.host_at stops.hosts refl
     event_names (IsNotOpened node stays) =
-        names_put old.hosts new.hosts node stays.host (record stays.host { holder = Down stays.again stays.undecided })
+        names_put old.hosts new.hosts node stays.host (record stays.host { state = Down stays.again stays.undecided })
         stays.host_at stays.hosts refl
     event_names (Reopens node reopens) =
         decided node reopens.host reopens.after reopens.undecided reopens.host_at reopens.decides
     event_names (Ticks clock ticks) = names_same old.hosts new.hosts (ap (λ (w : World D). w.hosts) ticks.new_is)
     event_names (LetsGo node hangs) = names_same old.hosts new.hosts (ap (λ (w : World D). w.hosts) hangs.new_is)
     event_names (Arms node arms) =
-        names_put old.hosts new.hosts node arms.host (record arms.host { holder = Up arms.after }) arms.host_at arms.hosts refl
+        names_put old.hosts new.hosts node arms.host (record arms.host { state = Up arms.after }) arms.host_at arms.hosts refl
 
   -- and so do events, one behind another
   pub run_names : (honest : Type 0) (words : DiskWords D) (count : ℕ) (old new : World D) → Happen honest words count old new

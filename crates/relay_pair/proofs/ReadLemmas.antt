@@ -11,7 +11,7 @@ use Rattle.relay_records.specs.declared.noted.Noted.{Noted}
 use Rattle.relay_records.specs.Records.{Keeps}
 use Rattle.relay_attempts.specs.declared.reply.Replied.{Replied}
 use Rattle.relay_node.specs.Attempts.{RepliesBy, Tells}
-use Rattle.relay_node.specs.Node.{Standing}
+use Rattle.relay_node.specs.Node.{NodeState}
 use Rattle.relay_world.specs.declared.attempt.Attempt.{Attempt}
 use Rattle.relay_world.specs.declared.attempt.Fate.TheVariants.{Dropped, Replied as RepliedBy, Running}
 use Rattle.relay_world.specs.declared.line.Line.{Line}
@@ -171,7 +171,7 @@ module _ {D : Type 0} (honest : Type 0) (words : DiskWords D) (old : World D) (n
   }
 
   pub became : (change : Option ℕ) (lines : Option Recorded)
-      (after : Standing D) (ended : Attempt) (ledger : List Line) (links : List Link) → ended ≡ replied_attempt attempt change
+      (after : NodeState D) (ended : Attempt) (ledger : List Line) (links : List Link) → ended ≡ replied_attempt attempt change
       → ledger ≡ old.ledger ++ replied_lines number attempt change lines → NotesChange was now after change lines
       → AttemptRead honest words old (read_world ended ledger links) number
       (attempt_of honest words old number place slot attempt on was now was_is reads.before reads.up) change lines
@@ -198,7 +198,7 @@ module _ {D : Type 0} (honest : Type 0) (words : DiskWords D) (old : World D) (n
       (refl, length-set old.hosts attempt.node now)
 
   -- no more places have left than the attempt has
-  few_by : (before after : Standing D) (change : Option ℕ) (lines : Option Recorded) → NotesChange was now after change lines
+  few_by : (before after : NodeState D) (change : Option ℕ) (lines : Option Recorded) → NotesChange was now after change lines
       → RepliesBy honest words before.config.host old.clock on.changes slot on.told (waiting_down count on.link) before after replied
       change → length (replied_lines number attempt change lines) ≤ length attempt.places.items
   few_by before after None lines notes replies = omega arith
@@ -218,18 +218,18 @@ module _ {D : Type 0} (honest : Type 0) (words : DiskWords D) (old : World D) (n
   few_replied =
       let same = same_before honest words old number place slot attempt on was now was_is reads.before reads.up in
       few_by reads.before reads.after replied.change recorded reads.notes (reads.replies on.changes on.told
-      (subst (λ (n : Standing D). Keeps honest words n.records on.changes) same on.keeps)
-      (subst (λ (n : Standing D). Tells n.config.host on.changes n.attempts slot on.told) same on.tells))
+      (subst (λ (n : NodeState D). Keeps honest words n.records on.changes) same on.keeps)
+      (subst (λ (n : NodeState D). Tells n.config.host on.changes n.attempts slot on.told) same on.tells))
 
-  up_by : (after : Standing D) (change : Option ℕ) (lines : Option Recorded) → NotesChange was now after change lines
-      → (node : Standing D) × (now.holder ≡ Up node)
-  up_by after None None notes = (after, ap (λ (h : Host D). h.holder) notes)
+  up_by : (after : NodeState D) (change : Option ℕ) (lines : Option Recorded) → NotesChange was now after change lines
+      → (node : NodeState D) × (now.state ≡ Up node)
+  up_by after None None notes = (after, ap (λ (h : Host D). h.state) notes)
   up_by after None (Some one) notes = absurd notes
   up_by after (Some change) None notes = absurd notes
-  up_by after (Some change) (Some one) notes = (_, ap (λ (h : Host D). h.holder) notes.new_is)
+  up_by after (Some change) (Some one) notes = (_, ap (λ (h : Host D). h.state) notes.new_is)
 
-  room_by : (change : Option ℕ) (lines : Option Recorded) (ended : Attempt) (ledger : List Line) (after : Standing D)
-      (free free_now : ℕ) → ended ≡ replied_attempt attempt change → now.holder ≡ Up after
+  room_by : (change : Option ℕ) (lines : Option Recorded) (ended : Attempt) (ledger : List Line) (after : NodeState D)
+      (free free_now : ℕ) → ended ≡ replied_attempt attempt change → now.state ≡ Up after
       → length (replied_lines number attempt change lines) ≤ length attempt.places.items
       → free ≤ free_now + length (replied_lines number attempt change lines) → HasRoom old free
       → HasRoom (record old {
@@ -241,9 +241,9 @@ module _ {D : Type 0} (honest : Type 0) (words : DiskWords D) (old : World D) (n
       let attempts = ap lines_to_come (set_same old.attempts place attempt ended on.attempt_at is) in
       let put = held_put old.hosts attempt.node 0 attempt.node was now (omega arith)
       (was_at honest words old number place slot attempt on was now was_is) in
-      let none : lines_held attempt.node was.holder ≡ 0 =
-      ap (λ h. lines_held attempt.node h) (ap (λ (h : Host D). h.holder) was_is ∙ on.up) in
-      let none_now : lines_held attempt.node now.holder ≡ 0 = ap (λ h. lines_held attempt.node h) up in
+      let none : lines_held attempt.node was.state ≡ 0 =
+      ap (λ h. lines_held attempt.node h) (ap (λ (h : Host D). h.state) was_is ∙ on.up) in
+      let none_now : lines_held attempt.node now.state ≡ 0 = ap (λ h. lines_held attempt.node h) up in
       omega (arith, attempts, put, none, none_now, most, room)
   room_by (Some change) lines ended ledger after free free_now is up few most room =
       over_room honest words old number place slot attempt on was now was_is ended (RepliedBy change) ledger after _ free free_now is

@@ -10,7 +10,7 @@ use Rattle.relay_book.specs.declared.change.Change.{Change}
 use Rattle.relay_records.specs.declared.noted.Noted.{Noted}
 use Rattle.relay_routes.specs.declared.config.Config.{Config}
 use Rattle.relay_records.specs.Open.{Opens}
-use Rattle.relay_node.specs.Node.{IsIdle, Standing}
+use Rattle.relay_node.specs.Node.{IsIdle, NodeState}
 use Rattle.relay_world.specs.declared.line.Line.{Line}
 use Rattle.relay_world.specs.Bound.{IsBound, MayHaveCome}
 use Rattle.relay_world.specs.Ledger.{lines_by}
@@ -32,12 +32,12 @@ use Rattle.relay_pair.proofs.TellLemmas.{get_within}
 -- the lines that nodes which are down hold, where one host is put in the place of another
 pub held_put : {D : Type 0} (hosts : List (Host D)) (place base node : ℕ) (was now : Host D) → node ≡ base + place
     → slice_get hosts place ≡ Some was
-    → lines_left base (slice_set hosts place now) + lines_held node was.holder ≡ lines_left base hosts + lines_held node now.holder
+    → lines_left base (slice_set hosts place now) + lines_held node was.state ≡ lines_left base hosts + lines_held node now.state
 held_put [] place base node was now at is = absurd (true≢false (ap is_none is))
 held_put (x ∷ xs) zero base node was now at is =
-    let there : lines_held node was.holder ≡ lines_held base x.holder =
-    ap (λ n. lines_held n was.holder) (at_base base node at) ∙ ap (λ (h : Host _). lines_held base h.holder) (sym (same_Some x was is)) in
-    let moved : lines_held node now.holder ≡ lines_held base now.holder = ap (λ n. lines_held n now.holder) (at_base base node at) in
+    let there : lines_held node was.state ≡ lines_held base x.state =
+    ap (λ n. lines_held n was.state) (at_base base node at) ∙ ap (λ (h : Host _). lines_held base h.state) (sym (same_Some x was is)) in
+    let moved : lines_held node now.state ≡ lines_held base now.state = ap (λ n. lines_held n now.state) (at_base base node at) in
     omega (arith, there, moved)
   where
     at_base : (base node : ℕ) → node ≡ base + 0 → node ≡ base
@@ -47,11 +47,11 @@ held_put (x ∷ xs) (suc place) base node was now at is =
 
 -- what one of them holds is among them
 pub held_within : {D : Type 0} (hosts : List (Host D)) (place base node : ℕ) (was : Host D) → node ≡ base + place
-    → slice_get hosts place ≡ Some was → lines_held node was.holder ≤ lines_left base hosts
+    → slice_get hosts place ≡ Some was → lines_held node was.state ≤ lines_left base hosts
 held_within [] place base node was at is = absurd (true≢false (ap is_none is))
 held_within (x ∷ xs) zero base node was at is =
-    let there : lines_held node was.holder ≡ lines_held base x.holder =
-    ap (λ n. lines_held n was.holder) (at_base base node at) ∙ ap (λ (h : Host _). lines_held base h.holder) (sym (same_Some x was is)) in
+    let there : lines_held node was.state ≡ lines_held base x.state =
+    ap (λ n. lines_held n was.state) (at_base base node at) ∙ ap (λ (h : Host _). lines_held base h.state) (sym (same_Some x was is)) in
     omega (arith, there)
   where
     at_base : (base node : ℕ) → node ≡ base + 0 → node ≡ base
@@ -68,16 +68,16 @@ module _ {D : Type 0} (honest : Type 0) (words : DiskWords D) (old : World D) (n
   put_now : (host : Host D) → now ≡ host → IsPut old.hosts (slice_set old.hosts node now) node host
   put_now host is = subst (λ h. IsPut old.hosts (slice_set old.hosts node now) node h) is (value_put old.hosts node was now was_at)
 
-  up_is : (after : Standing D) → after.config ≡ was.config → now ≡ host_of after was.records → now ≡ record was { holder = Up after }
+  up_is : (after : NodeState D) → after.config ≡ was.config → now ≡ host_of after was.records → now ≡ record was { state = Up after }
   up_is after config is =
-      is ∙ ap (λ (c : Config). record { config = c; holder = Up after; records = was.records }) config
+      is ∙ ap (λ (c : Config). record { config = c; state = Up after; records = was.records }) config
 
-  not_found : (after : Standing D) → after.config ≡ was.config → now ≡ host_of after was.records
+  not_found : (after : NodeState D) → after.config ≡ was.config → now ≡ host_of after was.records
       → HasNotFound old with_now node was after
   not_found after config is =
-      record { hosts = put_now (record was { holder = Up after }) (up_is after config is); links = refl; attempts = refl; ledger = refl }
+      record { hosts = put_now (record was { state = Up after }) (up_is after config is); links = refl; attempts = refl; ledger = refl }
 
-  decides_without : (after : Standing D) (undecided : Option Undecided) → after.config ≡ was.config
+  decides_without : (after : NodeState D) (undecided : Option Undecided) → after.config ≡ was.config
       → Decided after was.records undecided now None → Decides old with_now node was after (option_map undecided_in undecided)
   decides_without after None config is = not_found after config is
   decides_without after (Some undecided) config is = inl (is.0, not_found after config is.1)
@@ -103,20 +103,20 @@ module _ {D : Type 0} (honest : Type 0) (words : DiskWords D) (old : World D) (n
     down = stays.down;
     again = stays.again;
     left = stays.left;
-    hosts = put_now (record was { holder = Down stays.again stays.undecided }) stays.new_is;
+    hosts = put_now (record was { state = Down stays.again stays.undecided }) stays.new_is;
     rest = (refl, refl, refl, refl, length-set old.hosts node now);
   })
 
-  held_without_up : (after : Standing D) (undecided : Option Undecided) → Decided after was.records undecided now None
-      → lines_held node now.holder ≡ 0
-  held_without_up after None is = ap (λ (h : Host D). lines_held node h.holder) is
-  held_without_up after (Some undecided) is = ap (λ (h : Host D). lines_held node h.holder) is.1
+  held_without_up : (after : NodeState D) (undecided : Option Undecided) → Decided after was.records undecided now None
+      → lines_held node now.state ≡ 0
+  held_without_up after None is = ap (λ (h : Host D). lines_held node h.state) is
+  held_without_up after (Some undecided) is = ap (λ (h : Host D). lines_held node h.state) is.1
 
-  held_less : OpensOrNot honest words was now None → lines_held node now.holder ≤ lines_held node was.holder
+  held_less : OpensOrNot honest words was now None → lines_held node now.state ≤ lines_held node was.state
   held_less (inl comes) = let none = held_without_up comes.after comes.undecided comes.decides in omega (arith, none)
   held_less (inr stays) =
-      let same : lines_held node now.holder ≡ lines_held node was.holder =
-      ap (λ (h : Host D). lines_held node h.holder) stays.new_is ∙ ap (λ h. lines_held node h) (sym stays.down) in
+      let same : lines_held node now.state ≡ lines_held node was.state =
+      ap (λ (h : Host D). lines_held node h.state) stays.new_is ∙ ap (λ h. lines_held node h) (sym stays.down) in
       omega (arith, same)
 
   pub room_without : (free : ℕ) → OpensOrNot honest words was now None → HasRoom old free → HasRoom with_now free
@@ -148,8 +148,8 @@ same_ends honest words old new node found at = ap (λ w. ends_of w) at.new_is
 record IsUpWith {D : Type 0} (honest : Type 0) (words : DiskWords D) (was now : Host D) (found : Undecided) : Type 0 where
   pub disk : D
   pub undecided : Undecided
-  pub down : was.holder ≡ Down disk (Some (undecided_in undecided))
-  pub after : Standing D
+  pub down : was.state ≡ Down disk (Some (undecided_in undecided))
+  pub after : NodeState D
   pub opens : Opens honest words disk after.records
   pub idle : IsIdle was.config after
   pub above : undecided.note.number < after.records.queue.next
@@ -160,7 +160,7 @@ up_with : {D : Type 0} (honest : Type 0) (words : DiskWords D) (was now : Host D
     → OpensOrNot honest words was now (Some found) → IsUpWith honest words was now found
 up_with {D} honest words was now found (inl comes) = by comes.undecided comes.down comes.decides
   where
-    by : (undecided : Option Undecided) → was.holder ≡ Down comes.disk (option_map undecided_in undecided)
+    by : (undecided : Option Undecided) → was.state ≡ Down comes.disk (option_map undecided_in undecided)
         → Decided comes.after was.records undecided now (Some found) → IsUpWith honest words was now found
     by None down is = absurd is
     by (Some undecided) down is = record {
@@ -252,7 +252,7 @@ module _ {D : Type 0} (honest : Type 0) (words : DiskWords D) (old middle : Worl
       (subst (λ (u : Undecided). MayBeFound old.links old.attempts u.note.used u.origin) (sym up.found_is)
       (may_found old node at.was list.0 may.change up.undecided.note up.undecided.origin may.came))
 
-  held_is : lines_held node at.was.holder ≡ found_lines node found
+  held_is : lines_held node at.was.state ≡ found_lines node found
   held_is =
       let up = its_up in
       ap (λ h. lines_held node h) up.down
@@ -275,11 +275,11 @@ module _ {D : Type 0} (honest : Type 0) (words : DiskWords D) (old middle : Worl
         let up = its_up in
         let undecided = up.undecided in
         let now_is : at.now
-        ≡ record at.was { holder = Up up.after; records = at.was.records ++ undecided.note.octets ∷ [] } =
+        ≡ record at.was { state = Up up.after; records = at.was.records ++ undecided.note.octets ∷ [] } =
         up.now_is
         ∙ ap (λ (c : Config). record {
           config = c;
-          holder = Up up.after;
+          state = Up up.after;
           records = at.was.records ++ undecided.note.octets ∷ [];
         }) up.idle.config_is in
         let its : FindsChange middle new node (without_octets undecided).note (origin_in undecided.origin) =
@@ -300,7 +300,7 @@ module _ {D : Type 0} (honest : Type 0) (words : DiskWords D) (old middle : Worl
             up.above,
             record {
               hosts = subst (λ hs. IsPut old.hosts hs node (record at.was {
-                holder = Up up.after;
+                state = Up up.after;
                 records = at.was.records ++ undecided.note.octets ∷ [];
               })) (sym hosts_now) (put_now honest words old node at.was at.now at.was_at _ now_is);
               ledger =
@@ -320,7 +320,7 @@ module _ {D : Type 0} (honest : Type 0) (words : DiskWords D) (old middle : Worl
         let up = its_up in
         let held = held_is in
         let put = held_put old.hosts node 0 node at.was at.now (omega arith) at.was_at in
-        let none : lines_held node at.now.holder ≡ 0 = ap (λ (h : Host D). lines_held node h.holder) up.now_is in
+        let none : lines_held node at.now.state ≡ 0 = ap (λ (h : Host D). lines_held node h.state) up.now_is in
         let hosts = ap (λ (hs : List (Host D)). lines_left 0 hs) hosts_now in
         let attempts = ap (λ (w : World D). lines_to_come w.attempts) at.new_is in
         let fewer = finds.lines_fewer in

@@ -31,18 +31,18 @@ lines_none_more (x ∷ xs) (suc place) beyond = lines_none_more xs place (omega 
 
 left_behind : {D : Type 0} (hosts : List (Host D)) (node base : ℕ) (host : Host D) → node < length hosts
     → host ≡ slice_index_or hosts node host
-    → lines_left base (drop node hosts) ≡ lines_held base host.holder + lines_left (base + 1) (drop (suc node) hosts)
+    → lines_left base (drop node hosts) ≡ lines_held base host.state + lines_left (base + 1) (drop (suc node) hosts)
 left_behind [] node base host within there = absurd (omega (arith, within))
 left_behind (x ∷ xs) zero base host within there =
-    ap (λ (h : Host _). lines_held base h.holder + lines_left (base + 1) xs) (sym there)
+    ap (λ (h : Host _). lines_held base h.state + lines_left (base + 1) xs) (sym there)
 left_behind (x ∷ xs) (suc node) base host within there = left_behind xs node base host (omega (arith, within)) there
 
 pub left_one_more : {D : Type 0} (hosts : List (Host D)) (node base : ℕ) (host : Host D) → node < length hosts
     → host ≡ slice_index_or hosts node host
-    → lines_left base (drop node hosts) ≡ lines_held base host.holder + lines_left (base + 1) (drop (node + 1) hosts)
+    → lines_left base (drop node hosts) ≡ lines_held base host.state + lines_left (base + 1) (drop (node + 1) hosts)
 left_one_more hosts node base host within there =
     left_behind hosts node base host within there
-    ∙ ap (λ n. lines_held base host.holder + lines_left (base + 1) (drop n hosts)) (one_more node)
+    ∙ ap (λ n. lines_held base host.state + lines_left (base + 1) (drop n hosts)) (one_more node)
 
 pub left_none_more : {D : Type 0} (hosts : List (Host D)) (node base : ℕ) → length hosts ≤ node
     → lines_left base (drop node hosts) ≡ 0

@@ -163,8 +163,8 @@ module _ {D : Type 0} (honest : Type 0) (words : DiskWords D) (old mid new : Wor
       is_attempt = (refl, begun.is_attempt.1, begun.is_attempt.2, begun.is_attempt.3, begun.is_attempt.4, begun.is_attempt.5);
       blank = blank;
       is_blank = is_blank;
-      hosts = subst (λ n. IsPut old.hosts new.hosts n (record begun.was { holder = Up begun.begins.after })) (sym same_node)
-          (put_as honest words old new node begun.now (record begun.was { holder = Up begun.begins.after }) begun.begins.runs.new_is
+      hosts = subst (λ n. IsPut old.hosts new.hosts n (record begun.was { state = Up begun.begins.after })) (sym same_node)
+          (put_as honest words old new node begun.now (record begun.was { state = Up begun.begins.after }) begun.begins.runs.new_is
           host_put);
       links = link_put_now;
       attempts = attempt_put;
@@ -199,9 +199,9 @@ module _ {D : Type 0} (honest : Type 0) (words : DiskWords D) (old mid new : Wor
       → HasRoom new free
   started_room free bound room =
       let put = held_put old.hosts node 0 node begun.was begun.now (omega arith) begun.was_at in
-      let none : lines_held node begun.was.holder ≡ 0 = ap (λ h. lines_held node h) begun.begins.runs.up in
-      let none_now : lines_held node begun.now.holder ≡ 0 =
-      ap (λ (h : Host D). lines_held node h.holder) begun.begins.runs.new_is in
+      let none : lines_held node begun.was.state ≡ 0 = ap (λ h. lines_held node h) begun.begins.runs.up in
+      let none_now : lines_held node begun.now.state ≡ 0 =
+      ap (λ (h : Host D). lines_held node h.state) begun.begins.runs.new_is in
       let attempts : lines_to_come new.attempts ≡ lines_to_come (old.attempts ++ begun.attempt ∷ []) =
       ap (λ (w : World D). lines_to_come w.attempts) new_is in
       let hosts : lines_left 0 new.hosts ≡ lines_left 0 (slice_set old.hosts node begun.now) =

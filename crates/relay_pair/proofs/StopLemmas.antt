@@ -3,47 +3,47 @@ use Rattle.std.proofs.Common.{inl, inr, ◌≡◌, ℕ, List, Option, None, Some
 use Rattle.std.specs.Option.{option_map}
 use Rattle.relay_disk.specs.Device.{DiskWords, ImagesWithin}
 use Rattle.relay_records.specs.Open.{Opens}
-use Rattle.relay_node.specs.Node.{IsIdle, Standing}
+use Rattle.relay_node.specs.Node.{IsIdle, NodeState}
 use Rattle.relay_routes.specs.declared.config.Config.{Config}
 use Rattle.relay_world.specs.World as world
 use Rattle.relay_pair.specs.declared.host.DownNode.{DownNode}
-use Rattle.relay_pair.specs.declared.host.Holder.{Holder}
-use Rattle.relay_pair.specs.declared.host.Holder.TheVariants.{Up, Down}
+use Rattle.relay_pair.specs.declared.host.HostState.{HostState}
+use Rattle.relay_pair.specs.declared.host.HostState.TheVariants.{Up, Down}
 use Rattle.relay_pair.specs.declared.host.Origin.{Origin}
 use Rattle.relay_pair.specs.declared.host.Undecided.{Undecided}
-use Rattle.relay_pair.specs.Crash.{CrashesInCall, Decided, HolderCrashes, HolderStops, NodeCrashes, NodeStops, OpensOrNot, StopsAtRest}
+use Rattle.relay_pair.specs.Crash.{CrashesInCall, Decided, StateCrashes, StateStops, NodeCrashes, NodeStops, OpensOrNot, StopsAtRest}
 use Rattle.relay_pair.specs.Host.{host_in, notes_of, undecided_in}
 use Rattle.relay_pair.proofs.CallLemmas.{owed_live}
 use Rattle.relay_pair.proofs.SlotLemmas.{count_free}
 
 module _ {D : Type 0} (honest : Type 0) (words : DiskWords D) where
-  pub holder_stops : (was : Holder D) (before : Standing D) (down : DownNode D) → was ≡ Up before
-      → NodeStops honest words before down → HolderStops honest words was (Down down)
-  holder_stops was before down is stops = subst (λ h. HolderStops honest words h (Down down)) (sym is) stops
+  pub state_stops : (was : HostState D) (before : NodeState D) (down : DownNode D) → was ≡ Up before
+      → NodeStops honest words before down → StateStops honest words was (Down down)
+  state_stops was before down is stops = subst (λ h. StateStops honest words h (Down down)) (sym is) stops
 
-  pub holder_crashes : (was : Holder D) (before : Standing D) (down : DownNode D) (origin : Origin) → was ≡ Up before
-      → NodeCrashes honest words before down origin → HolderCrashes honest words was (Down down) origin
-  holder_crashes was before down origin is crashes =
-      subst (λ h. HolderCrashes honest words h (Down down) origin) (sym is) crashes
+  pub state_crashes : (was : HostState D) (before : NodeState D) (down : DownNode D) (origin : Origin) → was ≡ Up before
+      → NodeCrashes honest words before down origin → StateCrashes honest words was (Down down) origin
+  state_crashes was before down origin is crashes =
+      subst (λ h. StateCrashes honest words h (Down down) origin) (sym is) crashes
 
   -- the host of a node that is down
-  same_down : (before : Standing D) (down : DownNode D) (records : List (List ℕ)) (undecided : Option Undecided)
+  same_down : (before : NodeState D) (down : DownNode D) (records : List (List ℕ)) (undecided : Option Undecided)
       → down.config ≡ before.config → down.undecided ≡ undecided
       → host_in (Down down) records
-      ≡ record { config = before.config; holder = world.Down down.disk (option_map undecided_in undecided); records = records }
+      ≡ record { config = before.config; state = world.Down down.disk (option_map undecided_in undecided); records = records }
   same_down before down records undecided config is =
       ap (λ (c : Config). record {
         config = c;
-        holder = world.Down down.disk (option_map undecided_in down.undecided);
+        state = world.Down down.disk (option_map undecided_in down.undecided);
         records = records;
       }) config
       ∙ ap (λ (u : Option Undecided). record {
         config = before.config;
-        holder = world.Down down.disk (option_map undecided_in u);
+        state = world.Down down.disk (option_map undecided_in u);
         records = records;
       }) is
 
-  pub host_stops : (was now : Holder D) (records : List (List ℕ)) → HolderStops honest words was now
+  pub host_stops : (was now : HostState D) (records : List (List ℕ)) → StateStops honest words was now
       → StopsAtRest honest words (host_in was records) (host_in now records)
   host_stops (Up before) (Up after) records stops = absurd stops
   host_stops (Up before) (Down down) records stops = record {
@@ -55,7 +55,7 @@ module _ {D : Type 0} (honest : Type 0) (words : DiskWords D) where
   }
   host_stops (Down was) now records stops = absurd stops
 
-  pub host_crashes : (was now : Holder D) (records : List (List ℕ)) (origin : Origin) → HolderCrashes honest words was now origin
+  pub host_crashes : (was now : HostState D) (records : List (List ℕ)) (origin : Origin) → StateCrashes honest words was now origin
       → CrashesInCall honest words (host_in was records) (host_in now records) origin
   host_crashes (Up before) (Up after) records origin crashes = absurd crashes
   host_crashes (Up before) (Down down) records origin crashes = record {
@@ -71,10 +71,10 @@ module _ {D : Type 0} (honest : Type 0) (words : DiskWords D) where
 
 module _ {D : Type 0} (honest : Type 0) (words : DiskWords D) (down : DownNode D) (records : List (List ℕ)) where
   -- a node that was opened owes nothing
-  pub owes_none : (node : Standing D) → Opens honest words down.disk node.records → IsIdle down.config node → notes_of node ≡ 0
+  pub owes_none : (node : NodeState D) → Opens honest words down.disk node.records → IsIdle down.config node → notes_of node ≡ 0
   owes_none node opens idle = owed_live node opens.keeps.live ∙ count_free node.attempts idle.none_runs
 
-  pub comes_up : (node : Standing D) (host : world.Host D) (found : Option Undecided)
+  pub comes_up : (node : NodeState D) (host : world.Host D) (found : Option Undecided)
       → Opens honest words down.disk node.records → IsIdle down.config node → Decided node records down.undecided host found
       → OpensOrNot honest words (host_in (Down down) records) host found
   comes_up node host found opens idle decides = inl (record {
@@ -98,7 +98,7 @@ module _ {D : Type 0} (honest : Type 0) (words : DiskWords D) (down : DownNode D
     left = left;
     new_is = ap (λ (c : Config). record {
       config = c;
-      holder = world.Down again (option_map undecided_in down.undecided);
+      state = world.Down again (option_map undecided_in down.undecided);
       records = records;
     }) same;
     none = refl;

@@ -18,8 +18,8 @@ use Rattle.relay_pair.specs.declared.event.Event.TheVariants.{Stop}
 use Rattle.relay_pair.specs.declared.fault.PairFault.{PairFault}
 use Rattle.relay_pair.specs.declared.fault.PairFault.TheVariants as fault
 use Rattle.relay_pair.specs.declared.host.DownNode.{DownNode}
-use Rattle.relay_pair.specs.declared.host.Holder.{Holder}
-use Rattle.relay_pair.specs.declared.host.Holder.TheVariants.{Up, Down}
+use Rattle.relay_pair.specs.declared.host.HostState.{HostState}
+use Rattle.relay_pair.specs.declared.host.HostState.TheVariants.{Up, Down}
 use Rattle.relay_pair.specs.declared.host.Undecided.{Undecided}
 use Rattle.relay_pair.specs.declared.seen.Seen.TheVariants.{Armed}
 use Rattle.relay_pair.specs.Crash.{StaysSo}
@@ -30,7 +30,7 @@ use Rattle.relay_pair.specs.Relays.{AreBound}
 use Rattle.relay_pair.specs.Restart.{IsDownAt}
 use Rattle.relay_pair.specs.Room.{HasRoom, lines_held, lines_left, lines_to_come}
 use Rattle.relay_pair.specs.Step.{Shows, Steps}
-use Rattle.relay_pair.specs.StopNow.{DownStops, HolderStopsAgain, IsArmed, IsTakenDown}
+use Rattle.relay_pair.specs.StopNow.{DownStops, StateStopsAgain, IsArmed, IsTakenDown}
 use Rattle.relay_pair.specs.Told.{IsToldOfBreaks, running_of}
 use Rattle.relay_pair.proofs.HungLemmas.{hung_lines, hung_running}
 use Rattle.relay_pair.proofs.PlaceLemmas.{value_put}
@@ -39,11 +39,11 @@ use Rattle.relay_pair.proofs.RunLemmas.{one_happened, still_bound}
 use Rattle.relay_pair.proofs.StepLemmas.{told_already}
 
 module _ {D : Type 0} (honest : Type 0) (words : DiskWords D) where
-  pub holder_stops_again : (was : Holder D) (down now : DownNode D) → was ≡ Down down → DownStops honest words down now
-      → HolderStopsAgain honest words was (Down now)
-  holder_stops_again was down now is stops = subst (λ h. HolderStopsAgain honest words h (Down now)) (sym is) stops
+  pub state_stops_again : (was : HostState D) (down now : DownNode D) → was ≡ Down down → DownStops honest words down now
+      → StateStopsAgain honest words was (Down now)
+  state_stops_again was down now is stops = subst (λ h. StateStopsAgain honest words h (Down now)) (sym is) stops
 
-  pub host_stops_again : (was now : Holder D) (records : List (List ℕ)) → HolderStopsAgain honest words was now
+  pub host_stops_again : (was now : HostState D) (records : List (List ℕ)) → StateStopsAgain honest words was now
       → StaysSo honest words (host_in was records) (host_in now records) None
   host_stops_again (Up before) now records stops = absurd stops
   host_stops_again (Down was) (Up after) records stops = absurd stops
@@ -56,12 +56,12 @@ module _ {D : Type 0} (honest : Type 0) (words : DiskWords D) where
     new_is =
         ap (λ (c : Config). record {
           config = c;
-          holder = world.Down now.disk (option_map undecided_in now.undecided);
+          state = world.Down now.disk (option_map undecided_in now.undecided);
           records = records;
         }) stops.config
         ∙ ap (λ (u : Option Undecided). record {
           config = was.config;
-          holder = world.Down now.disk (option_map undecided_in u);
+          state = world.Down now.disk (option_map undecided_in u);
           records = records;
         }) stops.undecided;
     none = refl;
@@ -89,7 +89,7 @@ module _ {D : Type 0} (honest : Type 0) (words : DiskWords D) where
         left = rest.0.left;
         down = record {
           hosts = slice_set old.hosts node taken.now;
-          put = put_by (record taken.was { holder = world.Down rest.0.disk None }) rest.0.new_is;
+          put = put_by (record taken.was { state = world.Down rest.0.disk None }) rest.0.new_is;
           as_many = length-set old.hosts node taken.now;
           new_is = rest.1;
         };
@@ -102,9 +102,9 @@ module _ {D : Type 0} (honest : Type 0) (words : DiskWords D) where
         down = again.0.down;
         again = again.0.again;
         left = again.0.left;
-        hosts = subst (λ hs. IsPut old.hosts hs node (record taken.was { holder = world.Down again.0.again again.0.undecided }))
+        hosts = subst (λ hs. IsPut old.hosts hs node (record taken.was { state = world.Down again.0.again again.0.undecided }))
             (sym (ap (λ (w : World D). w.hosts) again.1))
-            (put_by (record taken.was { holder = world.Down again.0.again again.0.undecided }) again.0.new_is);
+            (put_by (record taken.was { state = world.Down again.0.again again.0.undecided }) again.0.new_is);
         rest = (
           ap (λ (w : World D). w.links) again.1,
           ap (λ (w : World D). w.attempts) again.1,
@@ -134,12 +134,12 @@ module _ {D : Type 0} (honest : Type 0) (words : DiskWords D) where
       | inl rest ↦ record {
         host = taken.now;
         host_at = ap (λ (w : World D). slice_get w.hosts node) rest.1 ∙ now_there;
-        down = ap (λ (h : Host D). holds_up h.holder) rest.0.new_is;
+        down = ap (λ (h : Host D). holds_up h.state) rest.0.new_is;
       }
       | inr again ↦ record {
         host = taken.now;
         host_at = ap (λ (w : World D). slice_get w.hosts node) again.1 ∙ now_there;
-        down = ap (λ (h : Host D). holds_up h.holder) again.0.new_is;
+        down = ap (λ (h : Host D). holds_up h.state) again.0.new_is;
       }
     ]
 
@@ -147,16 +147,16 @@ module _ {D : Type 0} (honest : Type 0) (words : DiskWords D) where
     taken_room free room = elim taken.stops [
       | inl rest ↦
           let put = held_put old.hosts node 0 node taken.was taken.now (omega arith) taken.was_at in
-          let none : lines_held node taken.was.holder ≡ 0 = ap (λ h. lines_held node h) rest.0.up in
-          let none_now : lines_held node taken.now.holder ≡ 0 = ap (λ (h : Host D). lines_held node h.holder) rest.0.new_is in
+          let none : lines_held node taken.was.state ≡ 0 = ap (λ h. lines_held node h) rest.0.up in
+          let none_now : lines_held node taken.now.state ≡ 0 = ap (λ (h : Host D). lines_held node h.state) rest.0.new_is in
           let attempts = ap (λ (w : World D). lines_to_come w.attempts) rest.1 in
           let hosts = ap (λ (w : World D). lines_left 0 w.hosts) rest.1 in
           let less = hung_lines node old.attempts in
           omega (arith, room, put, none, none_now, attempts, hosts, less)
       | inr again ↦
           let put = held_put old.hosts node 0 node taken.was taken.now (omega arith) taken.was_at in
-          let same : lines_held node taken.now.holder ≡ lines_held node taken.was.holder =
-          ap (λ (h : Host D). lines_held node h.holder) again.0.new_is ∙ ap (λ h. lines_held node h) (sym again.0.down) in
+          let same : lines_held node taken.now.state ≡ lines_held node taken.was.state =
+          ap (λ (h : Host D). lines_held node h.state) again.0.new_is ∙ ap (λ h. lines_held node h) (sym again.0.down) in
           let attempts = ap (λ (w : World D). lines_to_come w.attempts) again.1 in
           let hosts = ap (λ (w : World D). lines_left 0 w.hosts) again.1 in
           omega (arith, room, put, same, attempts, hosts)
@@ -199,7 +199,7 @@ module _ {D : Type 0} (honest : Type 0) (words : DiskWords D) (old : World D) (n
   arm_refused calls why later is = inl (later_fault calls later ∙ is, refl)
 
   -- the node is there, and up
-  pub up_there : unless_up old node None ≡ None → (host : Host D) × (slice_get old.hosts node ≡ Some host) × (holds_up host.holder ≡ true)
+  pub up_there : unless_up old node None ≡ None → (host : Host D) × (slice_get old.hosts node ≡ Some host) × (holds_up host.state ≡ true)
   up_there none = by (slice_get old.hosts node) refl (up (is_up (slice_get old.hosts node)) none)
     where
       up : (b : Bool) → (if b then None else Some fault.Down) ≡ None → b ≡ true
@@ -207,7 +207,7 @@ module _ {D : Type 0} (honest : Type 0) (words : DiskWords D) (old : World D) (n
       up false is = absurd (none-some fault.Down (sym is))
 
       by : (found : Option (Host D)) → slice_get old.hosts node ≡ found → is_up found ≡ true
-          → (host : Host D) × (slice_get old.hosts node ≡ Some host) × (holds_up host.holder ≡ true)
+          → (host : Host D) × (slice_get old.hosts node ≡ Some host) × (holds_up host.state ≡ true)
       by None is none = absurd (false≢true none)
       by (Some host) is its = (host, is, its)
 
@@ -247,6 +247,6 @@ module _ {D : Type 0} (honest : Type 0) (words : DiskWords D) (old : World D) (n
     pub armed_room : (free : ℕ) → HasRoom old free → HasRoom armed_world free
     armed_room free room =
         let put = held_put old.hosts node 0 node was now (omega arith) was_at in
-        let none : lines_held node was.holder ≡ 0 = ap (λ h. lines_held node h) armed.up in
-        let none_now : lines_held node now.holder ≡ 0 = ap (λ (h : Host D). lines_held node h.holder) armed.new_is in
+        let none : lines_held node was.state ≡ 0 = ap (λ h. lines_held node h) armed.up in
+        let none_now : lines_held node now.state ≡ 0 = ap (λ (h : Host D). lines_held node h.state) armed.new_is in
         omega (arith, room, put, none, none_now)

@@ -17,7 +17,7 @@ use Rattle.relay_attempts.specs.Outcomes.{CutsUnroutable, RefusesToGiveUp}
 use Rattle.relay_attempts.specs.Work.{works_of}
 use Rattle.relay_node.specs.declared.seat.Seat.{Seat}
 use Rattle.relay_node.specs.declared.node.Connected.{Connected}
-use Rattle.relay_node.specs.Node.{Connects, RefusesToConnect, Standing}
+use Rattle.relay_node.specs.Node.{Connects, RefusesToConnect, NodeState}
 use Rattle.relay_world.specs.World.{Host}
 use Rattle.relay_pair.specs.Call.{is_stop}
 use Rattle.relay_pair.specs.Host.{OwesWithin, host_of, notes_of}
@@ -26,29 +26,29 @@ use Rattle.relay_pair.proofs.CallLemmas.{owed_live, runs_on}
 use Rattle.relay_pair.proofs.SlotLemmas.{count_more}
 
 -- a host whose node and records are as they were
-pub same_host : {D : Type 0} (before after : Standing D) (old new : List (List ℕ)) → after ≡ before → new ≡ old
+pub same_host : {D : Type 0} (before after : NodeState D) (old new : List (List ℕ)) → after ≡ before → new ≡ old
     → host_of after new ≡ host_of before old
 same_host before after old new node records =
-    ap (λ (n : Standing _). host_of n new) node ∙ ap (λ (l : List (List ℕ)). host_of before l) records
+    ap (λ (n : NodeState _). host_of n new) node ∙ ap (λ (l : List (List ℕ)). host_of before l) records
 
 -- a node whose parts are as they were
-pub same_node : {D : Type 0} (before after : Standing D) → after.config ≡ before.config → after.seats ≡ before.seats
+pub same_node : {D : Type 0} (before after : NodeState D) → after.config ≡ before.config → after.seats ≡ before.seats
     → after.attempts ≡ before.attempts → after.records ≡ before.records → after ≡ before
 same_node {D} before after config seats attempts records =
-    ap (λ (c : Config). let node : Standing D = record { config = c; seats = after.seats; attempts = after.attempts; records = after.records } in node) config
-    ∙ ap (λ (s : List (Option Seat)). let node : Standing D = record { config = before.config; seats = s; attempts = after.attempts; records = after.records } in node) seats
-    ∙ ap (λ (a : List (Option Run)). let node : Standing D = record { config = before.config; seats = before.seats; attempts = a; records = after.records } in node) attempts
-    ∙ ap (λ (k : Kept D). let node : Standing D = record { config = before.config; seats = before.seats; attempts = before.attempts; records = k } in node) records
+    ap (λ (c : Config). let node : NodeState D = record { config = c; seats = after.seats; attempts = after.attempts; records = after.records } in node) config
+    ∙ ap (λ (s : List (Option Seat)). let node : NodeState D = record { config = before.config; seats = s; attempts = after.attempts; records = after.records } in node) seats
+    ∙ ap (λ (a : List (Option Run)). let node : NodeState D = record { config = before.config; seats = before.seats; attempts = a; records = after.records } in node) attempts
+    ∙ ap (λ (k : Kept D). let node : NodeState D = record { config = before.config; seats = before.seats; attempts = before.attempts; records = k } in node) records
 
 -- what is owed by a node that is as it was
-pub owes_unchanged : {D : Type 0} (before after : Standing D) (len capacity owed len_now capacity_now : ℕ)
+pub owes_unchanged : {D : Type 0} (before after : NodeState D) (len capacity owed len_now capacity_now : ℕ)
     → OwesWithin (notes_of before) len capacity owed → after ≡ before → len_now + owed ≤ capacity_now
     → OwesWithin (notes_of after) len_now capacity_now owed
 owes_unchanged before after len capacity owed len_now capacity_now room same fits =
-    (subst (λ (n : Standing _). notes_of n ≤ owed) (sym same) room.0, fits)
+    (subst (λ (n : NodeState _). notes_of n ≤ owed) (sym same) room.0, fits)
 
 -- what is owed where an attempt has begun: a record more
-pub owes_more : {D : Type 0} (before after : Standing D) (slot len capacity owed more len_now capacity_now : ℕ)
+pub owes_more : {D : Type 0} (before after : NodeState D) (slot len capacity owed more len_now capacity_now : ℕ)
     → OwesWithin (notes_of before) len capacity owed → before.records.spool.live ≡ true → after.records ≡ before.records
     → OthersStay before.attempts after.attempts slot → more ≡ owed + 1 → len_now + more ≤ capacity_now
     → OwesWithin (notes_of after) len_now capacity_now more
@@ -71,7 +71,7 @@ given_up_same words host table message now old new Busy ok refuses = absurd refu
 given_up_same words host table message now old new (Open cause) ok refuses = absurd refuses
 given_up_same words host table message now old new Full ok refuses = refuses.1
 
-module _ {D : Type 0} (honest : Type 0) (words : DiskWords D) (before after : Standing D) (old new : List (List ℕ))
+module _ {D : Type 0} (honest : Type 0) (words : DiskWords D) (before after : NodeState D) (old new : List (List ℕ))
     (message now : ℕ) where
   -- a node that refused to begin an attempt
   pub refuses_attempt : (hop : List ℕ) (fault : NodeFault) → after ≡ before → new ≡ old
@@ -92,7 +92,7 @@ module _ {D : Type 0} (honest : Type 0) (words : DiskWords D) (before after : St
     before = before;
     up = refl;
     refused = subst
-        (λ (n : Standing D). RefusesToGiveUp words before.config.host before.config.routes message now before.records n.records fault)
+        (λ (n : NodeState D). RefusesToGiveUp words before.config.host before.config.routes message now before.records n.records fault)
         node refused;
     new_is = same_host before after old new node records;
   }
@@ -116,7 +116,7 @@ module _ {D : Type 0} (honest : Type 0) (words : DiskWords D) (before after : St
       })
 
 -- a node that opened a session for a client, or refused it
-module _ {D : Type 0} (before after : Standing D) (records : List (List ℕ)) (peer : List ℕ) where
+module _ {D : Type 0} (before after : NodeState D) (records : List (List ℕ)) (peer : List ℕ) where
   unchanged_by : (fault : NodeFault) → RefusesToConnect before after fault → after ≡ before
   unchanged_by NoMemory refuses = refuses
   unchanged_by Stopped refuses = refuses
@@ -180,12 +180,12 @@ none_of [] is = refl
 none_of (work ∷ works) is = let never : ⊥ = omega (arith, is) in absurd never
 
 -- the work of a node, where a host is up with it
-pub works_are : {D : Type 0} (now : ℕ) (old : Host D) (node : Standing D) (records : List (List ℕ)) (found : Option Work)
+pub works_are : {D : Type 0} (now : ℕ) (old : Host D) (node : NodeState D) (records : List (List ℕ)) (found : Option Work)
     → old ≡ host_of node records
     → found ≡ slice_get (works_of node.config.routes node.attempts now node.records.queue) 0
-    → found ≡ slice_get (works_in now old.holder) 0
+    → found ≡ slice_get (works_in now old.state) 0
 works_are now old node records found is first =
-    subst (λ (h : Host _). found ≡ slice_get (works_in now h.holder) 0) (sym is) first
+    subst (λ (h : Host _). found ≡ slice_get (works_in now h.state) 0) (sym is) first
 
 -- want of memory is the fault of a look for work, where the node goes on
 pub only_memory : (fault : NodeFault) → (fault ≡ Stopped) ⊎ (fault ≡ NoMemory) → (fault ≡ Stopped → ⊥) → fault ≡ NoMemory
@@ -193,7 +193,7 @@ only_memory fault (inl stopped) goes_on = absurd (goes_on stopped)
 only_memory fault (inr memory) goes_on = memory
 
 -- the node of a host that keeps a list of changes goes on
-pub live_of : {D : Type 0} (honest : Type 0) (words : DiskWords D) (node : Standing D) (old : Host D) (records : List (List ℕ))
+pub live_of : {D : Type 0} (honest : Type 0) (words : DiskWords D) (node : NodeState D) (old : Host D) (records : List (List ℕ))
     → old ≡ host_of node records → HasChanges honest words old → node.records.spool.live ≡ true
 live_of honest words node old records is has =
     let knows : KnowsChanges honest words node = subst (λ (h : Host _). HasChanges honest words h) is has in knows.keeps.live

@@ -71,7 +71,7 @@ tries_counted node attempts place tries all so_far =
 
 -- the same of hosts
 pub host_counted : {D : Type 0} (hosts : List (Host D)) (node lines more : ℕ) (host : Host D) → node < length hosts
-    → host ≡ slice_index_or hosts node host → more ≡ lines_held node host.holder
+    → host ≡ slice_index_or hosts node host → more ≡ lines_held node host.state
     → lines + lines_left node (drop node hosts) ≡ lines_left 0 hosts
     → lines + more + lines_left (node + 1) (drop (node + 1) hosts) ≡ lines_left 0 hosts
 host_counted hosts node lines more host within there its so_far =

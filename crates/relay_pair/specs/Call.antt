@@ -12,9 +12,9 @@ use Rattle.relay_attempts.specs.declared.reply.Replied.{Replied}
 use Rattle.relay_attempts.specs.Reply.{CutsLoss, CutsReply, IsLost, Told}
 use Rattle.relay_node.specs.declared.receive.Received.{Received}
 use Rattle.relay_node.specs.Attempts.{Replies, Tells}
-use Rattle.relay_node.specs.Node.{CutsTalk, Receives, SaysAt, Standing}
+use Rattle.relay_node.specs.Node.{CutsTalk, Receives, SeatHasSaid, NodeState}
 use Rattle.relay_world.specs.Steps.{without_note}
-use Rattle.relay_world.specs.World.{Down, Holder, Host, Up}
+use Rattle.relay_world.specs.World.{Down, HostState, Host, Up}
 use Rattle.relay_pair.specs.declared.recorded.Recorded.{Recorded}
 use Rattle.relay_pair.specs.declared.calls.Heard.{Heard}
 use Rattle.relay_pair.specs.declared.calls.Heard.TheVariants as heard
@@ -39,10 +39,10 @@ abbrev pub IsWant : NodeFault → Type 0
 IsWant fault = (fault ≡ node_fault.NoMemory) ⊎ (fault ≡ node_fault.Full)
 
 -- the host is up with this node, and becomes the same host with that node
-pub record Runs {D : Type 0} (old new : Host D) (before after : Standing D) : Type 0 where
-  pub up : old.holder ≡ Up before
+pub record Runs {D : Type 0} (old new : Host D) (before after : NodeState D) : Type 0 where
+  pub up : old.state ≡ Up before
   pub config : after.config ≡ before.config
-  pub new_is : new ≡ record old { holder = Up after }
+  pub new_is : new ≡ record old { state = Up after }
 
 -- this was recorded by a change, as its note tells
 pub record TellsNote (noted : Noted) (recorded : Recorded) : Type 0 where
@@ -51,7 +51,7 @@ pub record TellsNote (noted : Noted) (recorded : Recorded) : Type 0 where
   pub report : recorded.report ≡ noted.report
 
 -- the note of a node was taken, and its record added to those before
-pub record TakesNote {D : Type 0} (before after : Standing D) (old new : List (List ℕ)) (recorded : Recorded)
+pub record TakesNote {D : Type 0} (before after : NodeState D) (old new : List (List ℕ)) (recorded : Recorded)
     : Type 0 where
   pub noted : Noted
   pub note_is : before.records.noted ≡ Some noted
@@ -60,23 +60,23 @@ pub record TakesNote {D : Type 0} (before after : Standing D) (old new : List (L
   pub records : new ≡ old ++ noted.octets ∷ []
 
 -- A host whose node has become this one by a call that made a change: its note was taken, and its record noted.
-pub record NotesOne {D : Type 0} (old new : Host D) (after : Standing D) (recorded : Recorded) : Type 0 where
+pub record NotesOne {D : Type 0} (old new : Host D) (after : NodeState D) (recorded : Recorded) : Type 0 where
   pub noted : Noted
   pub note_is : after.records.noted ≡ Some noted
   pub tells : TellsNote noted recorded
-  pub new_is : new ≡ record old { holder = Up (without_note after); records = old.records ++ noted.octets ∷ [] }
+  pub new_is : new ≡ record old { state = Up (without_note after); records = old.records ++ noted.octets ∷ [] }
 
 -- the same of a call that made the change of this number, or none
-abbrev pub NotesChange : {D : Type 0} → Host D → Host D → Standing D → Option ℕ → Option Recorded → Type 0
-NotesChange old new after None None = new ≡ record old { holder = Up after }
+abbrev pub NotesChange : {D : Type 0} → Host D → Host D → NodeState D → Option ℕ → Option Recorded → Type 0
+NotesChange old new after None None = new ≡ record old { state = Up after }
 NotesChange old new after None (Some recorded) = ⊥
 NotesChange old new after (Some change) None = ⊥
 NotesChange old new after (Some change) (Some recorded) = NotesOne old new after recorded
 
 -- A host's node has lost the session of this number, and nothing else.
 pub record LosesSession {D : Type 0} (old new : Host D) (session : ℕ) : Type 0 where
-  pub before : Standing D
-  pub after : Standing D
+  pub before : NodeState D
+  pub after : NodeState D
   pub runs : Runs old new before after
   pub records : after.records ≡ before.records
   pub others : OthersStay before.seats after.seats session
@@ -84,8 +84,8 @@ pub record LosesSession {D : Type 0} (old new : Host D) (session : ℕ) : Type 0
 
 -- the same of the attempt of this number
 pub record LosesAttempt {D : Type 0} (old new : Host D) (slot : ℕ) : Type 0 where
-  pub before : Standing D
-  pub after : Standing D
+  pub before : NodeState D
+  pub after : NodeState D
   pub runs : Runs old new before after
   pub records : after.records ≡ before.records
   pub others : OthersStay before.attempts after.attempts slot
@@ -93,43 +93,43 @@ pub record LosesAttempt {D : Type 0} (old new : Host D) (slot : ℕ) : Type 0 wh
 
 module _ {D : Type 0} (honest : Type 0) (words : DiskWords D) where
   -- the node keeps a list of changes, and something was said on its session of this number
-  pub record KnowsSession (node : Standing D) (session : ℕ) : Type 0 where
+  pub record KnowsSession (node : NodeState D) (session : ℕ) : Type 0 where
     pub changes : List Change
     pub keeps : Keeps honest words node.records changes
     pub peer : List ℕ
     pub said : Said
-    pub says : SaysAt node.config node.seats session peer said
+    pub says : SeatHasSaid node.config node.seats session peer said
 
   -- the same of its attempt of this number
-  pub record KnowsAttempt (node : Standing D) (slot : ℕ) : Type 0 where
+  pub record KnowsAttempt (node : NodeState D) (slot : ℕ) : Type 0 where
     pub changes : List Change
     pub keeps : Keeps honest words node.records changes
     pub told : Told
     pub tells : Tells node.config.host changes node.attempts slot told
 
-  abbrev pub HoldsSession : Holder D → ℕ → Type 0
+  abbrev pub HoldsSession : HostState D → ℕ → Type 0
   HoldsSession (Up node) session = KnowsSession node session
   HoldsSession (Down disk undecided) session = ⊥
 
-  abbrev pub HoldsAttempt : Holder D → ℕ → Type 0
+  abbrev pub HoldsAttempt : HostState D → ℕ → Type 0
   HoldsAttempt (Up node) slot = KnowsAttempt node slot
   HoldsAttempt (Down disk undecided) slot = ⊥
 
   -- the host is up, and has a session or an attempt of this number, that goes on
   abbrev pub HasSession : Host D → ℕ → Type 0
-  HasSession host session = HoldsSession host.holder session
+  HasSession host session = HoldsSession host.state session
 
   abbrev pub HasAttempt : Host D → ℕ → Type 0
-  HasAttempt host slot = HoldsAttempt host.holder slot
+  HasAttempt host slot = HoldsAttempt host.state slot
 
   -- A host has heard octets on a session, without a fault.
   pub record Hears (now : ℕ) (old new : Host D) (session : ℕ) (piece : List ℕ) (received : Received)
       (recorded : Option Recorded) : Type 0 where
-    pub before : Standing D
-    pub up : old.holder ≡ Up before
-    pub after : Standing D
+    pub before : NodeState D
+    pub up : old.state ≡ Up before
+    pub after : NodeState D
     pub receives : (changes : List Change) (peer : List ℕ) (said : Said) → Keeps honest words before.records changes
-        → SaysAt before.config before.seats session peer said
+        → SeatHasSaid before.config before.seats session peer said
         → Receives honest words before.config changes peer now session said piece before after received
     pub used : received.used ≤ length piece
     pub others : OthersStay before.seats after.seats session
@@ -139,11 +139,11 @@ module _ {D : Type 0} (honest : Type 0) (words : DiskWords D) where
 
   -- A host's node stopped in that call, with a note of the accept.
   pub record StopsHearing (now : ℕ) (old new : Host D) (session : ℕ) (piece : List ℕ) : Type 0 where
-    pub before : Standing D
-    pub after : Standing D
+    pub before : NodeState D
+    pub after : NodeState D
     pub runs : Runs old new before after
     pub cuts : (changes : List Change) (peer : List ℕ) (said : Said) → Keeps honest words before.records changes
-        → SaysAt before.config before.seats session peer said
+        → SeatHasSaid before.config before.seats session peer said
         → CutsTalk honest words before.config changes peer now said piece before.records after.records
     pub live : after.records.spool.live ≡ false
     pub noted : Noted
@@ -159,9 +159,9 @@ module _ {D : Type 0} (honest : Type 0) (words : DiskWords D) where
   -- A host has read replies for an attempt, without a fault.
   pub record Reads (now : ℕ) (old new : Host D) (slot : ℕ) (piece : List ℕ) (replied : Replied)
       (recorded : Option Recorded) : Type 0 where
-    pub before : Standing D
-    pub up : old.holder ≡ Up before
-    pub after : Standing D
+    pub before : NodeState D
+    pub up : old.state ≡ Up before
+    pub after : NodeState D
     pub replies : (changes : List Change) (told : Told) → Keeps honest words before.records changes
         → Tells before.config.host changes before.attempts slot told
         → Replies honest words before.config.host now changes slot told piece before after replied
@@ -173,8 +173,8 @@ module _ {D : Type 0} (honest : Type 0) (words : DiskWords D) where
 
   -- A host's node stopped in that call, with a note of the outcome.
   pub record StopsReading (now : ℕ) (old new : Host D) (slot : ℕ) (piece : List ℕ) : Type 0 where
-    pub before : Standing D
-    pub after : Standing D
+    pub before : NodeState D
+    pub after : NodeState D
     pub runs : Runs old new before after
     pub cuts : (changes : List Change) (told : Told) → Keeps honest words before.records changes
         → Tells before.config.host changes before.attempts slot told
@@ -190,9 +190,9 @@ module _ {D : Type 0} (honest : Type 0) (words : DiskWords D) where
 
   -- A host was told that the connection of an attempt is lost, and has recorded its outcome, under this number.
   pub record Loses (now : ℕ) (old new : Host D) (slot change : ℕ) (recorded : Recorded) : Type 0 where
-    pub before : Standing D
-    pub up : old.holder ≡ Up before
-    pub after : Standing D
+    pub before : NodeState D
+    pub up : old.state ≡ Up before
+    pub after : NodeState D
     pub loses : (changes : List Change) (told : Told) → Keeps honest words before.records changes
         → Tells before.config.host changes before.attempts slot told
         → IsLost honest words before.config.host now changes slot told after.records after.attempts change
@@ -203,8 +203,8 @@ module _ {D : Type 0} (honest : Type 0) (words : DiskWords D) where
 
   -- A host's node stopped in that call, with a note of the outcome.
   pub record StopsLosing (now : ℕ) (old new : Host D) (slot : ℕ) : Type 0 where
-    pub before : Standing D
-    pub after : Standing D
+    pub before : NodeState D
+    pub after : NodeState D
     pub runs : Runs old new before after
     pub cuts : (changes : List Change) (told : Told) → Keeps honest words before.records changes
         → Tells before.config.host changes before.attempts slot told

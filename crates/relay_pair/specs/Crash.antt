@@ -4,27 +4,27 @@ use Rattle.std.specs.Option.{is_some, option_map}
 use Rattle.relay_disk.specs.Device.{DiskWords, ImagesWithin}
 use Rattle.relay_records.specs.declared.noted.Noted.{Noted}
 use Rattle.relay_records.specs.Open.{Opens}
-use Rattle.relay_node.specs.Node.{IsIdle, Standing}
+use Rattle.relay_node.specs.Node.{IsIdle, NodeState}
 use Rattle.relay_world.specs.Stops.{IsLeftBy}
 use Rattle.relay_world.specs.World as world
 use Rattle.relay_pair.specs.declared.host.DownNode.{DownNode}
-use Rattle.relay_pair.specs.declared.host.Holder.{Holder}
-use Rattle.relay_pair.specs.declared.host.Holder.TheVariants.{Up, Down}
+use Rattle.relay_pair.specs.declared.host.HostState.{HostState}
+use Rattle.relay_pair.specs.declared.host.HostState.TheVariants.{Up, Down}
 use Rattle.relay_pair.specs.declared.host.Origin.{Origin}
 use Rattle.relay_pair.specs.declared.host.Undecided.{Undecided}
 use Rattle.relay_pair.specs.Host.{host_of, origin_in, undecided_in}
 
 -- the node has stopped in a call, and has a note of the change that it was adding
-abbrev pub IsCutShort : {D : Type 0} → world.Holder D → Type 0
+abbrev pub IsCutShort : {D : Type 0} → world.HostState D → Type 0
 IsCutShort (world.Up node) = (node.records.spool.live ≡ false) × (is_some node.records.noted ≡ true)
 IsCutShort (world.Down disk undecided) = ⊥
 
 -- the same of the parts of a host
-abbrev pub is_up_now : {D : Type 0} → Holder D → Bool
+abbrev pub is_up_now : {D : Type 0} → HostState D → Bool
 is_up_now (Up node) = true
 is_up_now (Down down) = false
 
-abbrev pub WasCutShort : {D : Type 0} → Holder D → Type 0
+abbrev pub WasCutShort : {D : Type 0} → HostState D → Type 0
 WasCutShort (Up node) = (node.records.spool.live ≡ false) × (is_some node.records.noted ≡ true)
 WasCutShort (Down down) = ⊥
 
@@ -34,7 +34,7 @@ without_octets undecided = record undecided { note = record undecided.note { oct
 
 -- A node that was opened has the undecided change exactly where its next number is above the change's own: then its
 -- record stands behind the others, and it is found.
-abbrev pub Decided : {D : Type 0} → Standing D → List (List ℕ) → Option Undecided → world.Host D → Option Undecided
+abbrev pub Decided : {D : Type 0} → NodeState D → List (List ℕ) → Option Undecided → world.Host D → Option Undecided
     → Type 0
 Decided node records None host None = host ≡ host_of node records
 Decided node records None host (Some found) = ⊥
@@ -45,14 +45,14 @@ Decided node records (Some undecided) host (Some found) =
     × (host ≡ host_of node (records ++ undecided.note.octets ∷ []))
 
 -- what a stop between two calls made of a node that was up, whose configuration and disk these are now
-pub record NodeStops {D : Type 0} (honest : Type 0) (words : DiskWords D) (before : Standing D) (new : DownNode D)
+pub record NodeStops {D : Type 0} (honest : Type 0) (words : DiskWords D) (before : NodeState D) (new : DownNode D)
     : Type 0 where
   pub config : new.config ≡ before.config
   pub left : IsLeftBy honest words before.records new.disk
   pub none : new.undecided ≡ None
 
 -- and what one in a call made of it
-pub record NodeCrashes {D : Type 0} (honest : Type 0) (words : DiskWords D) (before : Standing D) (new : DownNode D)
+pub record NodeCrashes {D : Type 0} (honest : Type 0) (words : DiskWords D) (before : NodeState D) (new : DownNode D)
     (origin : Origin) : Type 0 where
   pub config : new.config ≡ before.config
   pub left : IsLeftBy honest words before.records new.disk
@@ -60,42 +60,42 @@ pub record NodeCrashes {D : Type 0} (honest : Type 0) (words : DiskWords D) (bef
   pub note_is : before.records.noted ≡ Some noted
   pub some : new.undecided ≡ Some (record { note = noted; origin = origin })
 
-abbrev pub HolderStops : {D : Type 0} → Type 0 → DiskWords D → Holder D → Holder D → Type 0
-HolderStops honest words (Up before) (Up after) = ⊥
-HolderStops honest words (Up before) (Down down) = NodeStops honest words before down
-HolderStops honest words (Down was) new = ⊥
+abbrev pub StateStops : {D : Type 0} → Type 0 → DiskWords D → HostState D → HostState D → Type 0
+StateStops honest words (Up before) (Up after) = ⊥
+StateStops honest words (Up before) (Down down) = NodeStops honest words before down
+StateStops honest words (Down was) new = ⊥
 
-abbrev pub HolderCrashes : {D : Type 0} → Type 0 → DiskWords D → Holder D → Holder D → Origin → Type 0
-HolderCrashes honest words (Up before) (Up after) origin = ⊥
-HolderCrashes honest words (Up before) (Down down) origin = NodeCrashes honest words before down origin
-HolderCrashes honest words (Down was) new origin = ⊥
+abbrev pub StateCrashes : {D : Type 0} → Type 0 → DiskWords D → HostState D → HostState D → Origin → Type 0
+StateCrashes honest words (Up before) (Up after) origin = ⊥
+StateCrashes honest words (Up before) (Down down) origin = NodeCrashes honest words before down origin
+StateCrashes honest words (Down was) new origin = ⊥
 
 module _ {D : Type 0} (honest : Type 0) (words : DiskWords D) (old new : world.Host D) where
   -- A host that was up is down between two calls, with a disk of which a stop leaves no more than of the one before.
   pub record StopsAtRest : Type 0 where
-    pub before : Standing D
-    pub up : old.holder ≡ world.Up before
+    pub before : NodeState D
+    pub up : old.state ≡ world.Up before
     pub disk : D
     pub left : IsLeftBy honest words before.records disk
-    pub new_is : new ≡ record old { holder = world.Down disk None }
+    pub new_is : new ≡ record old { state = world.Down disk None }
 
   -- A host that stopped in a call is down, with such a disk, and the change that it was adding is undecided.
   pub record CrashesInCall (origin : Origin) : Type 0 where
-    pub before : Standing D
-    pub up : old.holder ≡ world.Up before
+    pub before : NodeState D
+    pub up : old.state ≡ world.Up before
     pub noted : Noted
     pub note_is : before.records.noted ≡ Some noted
     pub disk : D
     pub left : IsLeftBy honest words before.records disk
     pub new_is : new
-        ≡ record old { holder = world.Down disk (Some (record { note = noted; origin = origin_in origin })) }
+        ≡ record old { state = world.Down disk (Some (record { note = noted; origin = origin_in origin })) }
 
   -- A host that was down is opened, with this undecided change or none.
   pub record ComesUp (found : Option Undecided) : Type 0 where
     pub disk : D
     pub undecided : Option Undecided
-    pub down : old.holder ≡ world.Down disk (option_map undecided_in undecided)
-    pub after : Standing D
+    pub down : old.state ≡ world.Down disk (option_map undecided_in undecided)
+    pub after : NodeState D
     pub opens : Opens honest words disk after.records
     pub idle : IsIdle old.config after
     pub decides : Decided after old.records undecided new found
@@ -104,10 +104,10 @@ module _ {D : Type 0} (honest : Type 0) (words : DiskWords D) (old new : world.H
   pub record StaysSo (found : Option Undecided) : Type 0 where
     pub disk : D
     pub undecided : Option world.Undecided
-    pub down : old.holder ≡ world.Down disk undecided
+    pub down : old.state ≡ world.Down disk undecided
     pub again : D
     pub left : honest → ImagesWithin words disk again
-    pub new_is : new ≡ record old { holder = world.Down again undecided }
+    pub new_is : new ≡ record old { state = world.Down again undecided }
     pub none : found ≡ None
 
   abbrev pub OpensOrNot : Option Undecided → Type 0

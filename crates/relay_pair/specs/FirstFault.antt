@@ -11,7 +11,7 @@ use Rattle.relay_world.specs.declared.attempt.Fate.TheVariants.{Running, Replied
 use Rattle.relay_world.specs.declared.link.Link.{Link}
 use Rattle.relay_world.specs.declared.link.ServerEnd.{ServerEnd}
 use Rattle.relay_world.specs.Crashes.{is_tried_for, serves_for}
-use Rattle.relay_world.specs.World.{Down, Holder, Host, Up, World, link_at}
+use Rattle.relay_world.specs.World.{Down, HostState, Host, Up, World, link_at}
 use Rattle.relay_pair.specs.declared.event.Event.{Event}
 use Rattle.relay_pair.specs.declared.event.Event.TheVariants.{Connect, Send, Carry, Break, Tick, Give, Stop}
 use Rattle.relay_pair.specs.declared.fault.PairFault.{PairFault}
@@ -26,13 +26,13 @@ abbrev pub whole_link : List Link → ℕ → Option Link
 whole_link links number = if_whole (link_at links number)
 
 -- whether a node is there, and up
-abbrev pub holds_up : {D : Type 0} → Holder D → Bool
+abbrev pub holds_up : {D : Type 0} → HostState D → Bool
 holds_up (Up standing) = true
 holds_up (Down disk undecided) = false
 
 abbrev pub is_up : {D : Type 0} → Option (Host D) → Bool
 is_up None = false
-is_up (Some host) = holds_up host.holder
+is_up (Some host) = holds_up host.state
 
 -- whether an attempt goes on
 abbrev pub is_running : Fate → Bool
@@ -107,7 +107,7 @@ module _ {D : Type 0} (world : World D) where
   abbrev pub names_down : List ℕ → List (Host D) → Bool
   names_down name [] = false
   names_down name (host ∷ hosts) =
-      if bytes_eq host.config.host name then not (holds_up host.holder) else names_down name hosts
+      if bytes_eq host.config.host name then not (holds_up host.state) else names_down name hosts
 
   -- the first fault of this work
   abbrev pub work_fault : List Work → Option PairFault
@@ -115,13 +115,13 @@ module _ {D : Type 0} (world : World D) where
   work_fault (NoRoute number ∷ works) = None
   work_fault (Try number hop ∷ works) = if names_down hop world.hosts then Some fault.Down else None
 
-  abbrev pub due_fault : Holder D → Option PairFault
+  abbrev pub due_fault : HostState D → Option PairFault
   due_fault (Up node) = work_fault (works_of node.config.routes node.attempts world.clock node.records.queue)
   due_fault (Down disk undecided) = Some fault.Down
 
   abbrev pub give_fault : Option (Host D) → Option PairFault
   give_fault None = Some fault.Down
-  give_fault (Some host) = due_fault host.holder
+  give_fault (Some host) = due_fault host.state
 
   -- only where it stops now it may be down already
   abbrev pub stop_fault : ℕ → ℕ → Option PairFault

@@ -21,7 +21,7 @@ use Rattle.relay_pair.specs.Work.{BeginsAttempt, LacksRoom, attempts_in, works_i
 pub record IsFirstWork {D : Type 0} (world : World D) (node : ℕ) (work : Work) : Type 0 where
   pub host : Host D
   pub host_at : slice_get world.hosts node ≡ Some host
-  pub first : slice_get (works_in world.clock host.holder) 0 ≡ Some work
+  pub first : slice_get (works_in world.clock host.state) 0 ≡ Some work
 
 -- whether an attempt is this node's, and runs
 abbrev pub is_tried_by : ℕ → Attempt → Bool
@@ -34,12 +34,12 @@ tries_of node (attempt ∷ attempts) = (if is_tried_by node attempt then 1 else 
 
 -- why a node may refuse to begin an attempt: it has no memory, or 64 attempts of it run
 abbrev pub IsWhyNotBegun : {D : Type 0} → Host D → NodeFault → Type 0
-IsWhyNotBegun host why = (why ≡ node_fault.NoMemory) ⊎ ((why ≡ node_fault.TooMany) × IsFull (attempts_in host.holder))
+IsWhyNotBegun host why = (why ≡ node_fault.NoMemory) ⊎ ((why ≡ node_fault.TooMany) × IsFull (attempts_in host.state))
 
 -- and to give up places without a hop: it has no memory, or no room for their outcome
 abbrev pub IsWhyNotGivenUp : {D : Type 0} → Type 0 → DiskWords D → ℕ → Host D → ℕ → NodeFault → Type 0
 IsWhyNotGivenUp honest words now host message why =
-    (why ≡ node_fault.NoMemory) ⊎ ((why ≡ node_fault.Full) × LacksRoom honest words now host.holder message)
+    (why ≡ node_fault.NoMemory) ⊎ ((why ≡ node_fault.Full) × LacksRoom honest words now host.state message)
 
 -- the node that the hop of another is, and the address from which that comes there
 pub record LeadsOn {D : Type 0} (world : World D) (node : ℕ) (hop : List ℕ) (to : ℕ) (peer : List ℕ) : Type 0 where

@@ -1,10 +1,10 @@
 -- A node of a pair as its parts, and the room that is kept for the notes that may still come of it.
 use Rattle.std.specs.Prelude.{ℕ, suc, ◌+◌, ◌≤◌, List, [], ◌∷◌, Option, None, Some, if◌then◌else◌}
 use Rattle.std.specs.Option.{option_map}
-use Rattle.relay_node.specs.Node.{Standing}
+use Rattle.relay_node.specs.Node.{NodeState}
 use Rattle.relay_world.specs.World as world
-use Rattle.relay_pair.specs.declared.host.Holder.{Holder}
-use Rattle.relay_pair.specs.declared.host.Holder.TheVariants.{Up, Down}
+use Rattle.relay_pair.specs.declared.host.HostState.{HostState}
+use Rattle.relay_pair.specs.declared.host.HostState.TheVariants.{Up, Down}
 use Rattle.relay_pair.specs.declared.host.Origin.{Origin}
 use Rattle.relay_pair.specs.declared.host.Origin.TheVariants.{FromClient, FromReplies, FromLoss, FromNoHop}
 use Rattle.relay_pair.specs.declared.host.Undecided.{Undecided}
@@ -19,14 +19,14 @@ abbrev pub undecided_in : Undecided → world.Undecided
 undecided_in undecided = record { note = undecided.note; origin = origin_in undecided.origin }
 
 -- the host of this node, which is up, with these records
-abbrev pub host_of : {D : Type 0} → Standing D → List (List ℕ) → world.Host D
-host_of node records = record { config = node.config; holder = world.Up node; records = records }
+abbrev pub host_of : {D : Type 0} → NodeState D → List (List ℕ) → world.Host D
+host_of node records = record { config = node.config; state = world.Up node; records = records }
 
-abbrev pub host_in : {D : Type 0} → Holder D → List (List ℕ) → world.Host D
+abbrev pub host_in : {D : Type 0} → HostState D → List (List ℕ) → world.Host D
 host_in (Up node) records = host_of node records
 host_in (Down down) records = record {
   config = down.config;
-  holder = world.Down down.disk (option_map undecided_in down.undecided);
+  state = world.Down down.disk (option_map undecided_in down.undecided);
   records = records;
 }
 
@@ -38,11 +38,11 @@ count_some (Some value ∷ slots) = suc (count_some slots)
 
 -- The notes that may still come of a node: one of each attempt that runs; and of a node that has stopped the one of the
 -- call that stopped it.
-abbrev pub notes_of : {D : Type 0} → Standing D → ℕ
+abbrev pub notes_of : {D : Type 0} → NodeState D → ℕ
 notes_of node = if node.records.spool.live then count_some node.attempts else 1
 
 -- or, of a node that is down, the one that its opening decides
-abbrev pub notes_to_come : {D : Type 0} → Holder D → ℕ
+abbrev pub notes_to_come : {D : Type 0} → HostState D → ℕ
 notes_to_come (Up node) = notes_of node
 notes_to_come (Down down) = count_some (down.undecided ∷ [])
 

@@ -10,4 +10,4 @@ mark_of node held = (node, held.0, held.1)
 -- the held places of nodes, of which the first has this number
 abbrev pub marks_from : {D : Type 0} → ℕ → List (Host D) → List (ℕ × ℕ × ℕ)
 marks_from node [] = []
-marks_from node (host ∷ hosts) = map (mark_of node) (marks_in host.holder) ++ marks_from (node + 1) hosts
+marks_from node (host ∷ hosts) = map (mark_of node) (marks_in host.state) ++ marks_from (node + 1) hosts

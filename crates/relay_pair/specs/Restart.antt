@@ -1,7 +1,7 @@
 -- What a crash of a node in a call, and its opening, make of the parts of a pair.
 use Rattle.std.specs.Prelude.{◌≡◌, ◌≤◌, ◌++◌, ℕ, ◌+◌, false, List, length, Option, Some, slice_get, slice_set}
 use Rattle.relay_disk.specs.Device.{DiskWords}
-use Rattle.relay_node.specs.Node.{Standing}
+use Rattle.relay_node.specs.Node.{NodeState}
 use Rattle.relay_records.specs.declared.noted.Noted.{Noted}
 use Rattle.relay_world.specs.declared.attempt.Attempt.{Attempt}
 use Rattle.relay_world.specs.declared.line.Line.{Line}
@@ -26,21 +26,21 @@ module _ {D : Type 0} (world : World D) (node : ℕ) where
   pub record IsDownAt : Type 0 where
     pub host : Host D
     pub host_at : slice_get world.hosts node ≡ Some host
-    pub down : holds_up host.holder ≡ false
+    pub down : holds_up host.state ≡ false
 
   -- it is there, and has stopped in a call
   pub record IsCutShortAt : Type 0 where
     pub host : Host D
     pub host_at : slice_get world.hosts node ≡ Some host
-    pub cut : IsCutShort host.holder
+    pub cut : IsCutShort host.state
 
 module _ {D : Type 0} (honest : Type 0) (words : DiskWords D) (old new : World D) (node : ℕ) where
   -- A node that had stopped in a call has gone down, with the change that it was adding, and has let go of its ends.
   pub record CrashesAt (origin : Origin) : Type 0 where
     pub host : Host D
     pub host_at : slice_get old.hosts node ≡ Some host
-    pub before : Standing D
-    pub up : host.holder ≡ Up before
+    pub before : NodeState D
+    pub up : host.state ≡ Up before
     pub noted : Noted
     pub note_is : before.records.noted ≡ Some noted
     pub disk : D
@@ -48,7 +48,7 @@ module _ {D : Type 0} (honest : Type 0) (words : DiskWords D) (old new : World D
     pub down : GoesDown old new node host disk (Some (record { note = noted; origin = origin_in origin }))
     pub hosts_are : new.hosts
         ≡ slice_set old.hosts node
-        (record host { holder = Down disk (Some (record { note = noted; origin = origin_in origin })) })
+        (record host { state = Down disk (Some (record { note = noted; origin = origin_in origin })) })
 
   -- A node that was down was opened or not, with this undecided change or none. Nothing else has changed yet.
   pub record OpensAt (found : Option Undecided) : Type 0 where

@@ -2,7 +2,7 @@
 use Rattle.std.specs.Prelude.{ℕ, ◌+◌, ◌≤◌, List, [], ◌∷◌, length, Option, None, Some, if◌then◌else◌}
 use Rattle.relay_world.specs.declared.attempt.Attempt.{Attempt}
 use Rattle.relay_world.specs.Ledger.{lines_of}
-use Rattle.relay_world.specs.World.{Down, Holder, Host, Undecided, Up, World}
+use Rattle.relay_world.specs.World.{Down, HostState, Host, Undecided, Up, World}
 use Rattle.relay_pair.specs.FirstFault.{is_running}
 
 -- lines of the ledger that an attempt may come to need: where it runs, one a place
@@ -20,13 +20,13 @@ abbrev pub lines_if_found : ℕ → Option Undecided → ℕ
 lines_if_found node None = 0
 lines_if_found node (Some undecided) = length (lines_of node undecided)
 
-abbrev pub lines_held : {D : Type 0} → ℕ → Holder D → ℕ
+abbrev pub lines_held : {D : Type 0} → ℕ → HostState D → ℕ
 lines_held node (Up standing) = 0
 lines_held node (Down disk undecided) = lines_if_found node undecided
 
 abbrev pub lines_left : {D : Type 0} → ℕ → List (Host D) → ℕ
 lines_left node [] = 0
-lines_left node (host ∷ hosts) = lines_held node host.holder + lines_left (node + 1) hosts
+lines_left node (host ∷ hosts) = lines_held node host.state + lines_left (node + 1) hosts
 
 -- So many more lines fit into the ledger that all of these do.
 abbrev pub HasRoom : {D : Type 0} → World D → ℕ → Type 0

@@ -3,13 +3,13 @@ use Rattle.std.specs.Prelude.{◌≡◌, ◌⊎◌, ℕ, List, None, Some, slice
 use Rattle.relay_disk.specs.Device.{DiskWords, ImagesWithin}
 use Rattle.relay_book.specs.declared.change.Change.{Change}
 use Rattle.relay_records.specs.Records.{Keeps}
-use Rattle.relay_node.specs.Node.{IsFused, Standing}
+use Rattle.relay_node.specs.Node.{IsFused, NodeState}
 use Rattle.relay_world.specs.Crashes.{let_go}
 use Rattle.relay_world.specs.World as world
 use Rattle.relay_world.specs.World.{Host, World}
 use Rattle.relay_pair.specs.declared.host.DownNode.{DownNode}
-use Rattle.relay_pair.specs.declared.host.Holder.{Holder}
-use Rattle.relay_pair.specs.declared.host.Holder.TheVariants.{Up, Down}
+use Rattle.relay_pair.specs.declared.host.HostState.{HostState}
+use Rattle.relay_pair.specs.declared.host.HostState.TheVariants.{Up, Down}
 use Rattle.relay_pair.specs.Crash.{StaysSo, StopsAtRest}
 
 -- a node that was down has stopped again
@@ -18,24 +18,24 @@ pub record DownStops {D : Type 0} (honest : Type 0) (words : DiskWords D) (old n
   pub undecided : new.undecided ≡ old.undecided
   pub left : honest → ImagesWithin words old.disk new.disk
 
-abbrev pub HolderStopsAgain : {D : Type 0} → Type 0 → DiskWords D → Holder D → Holder D → Type 0
-HolderStopsAgain honest words (Up before) new = ⊥
-HolderStopsAgain honest words (Down was) (Up after) = ⊥
-HolderStopsAgain honest words (Down was) (Down now) = DownStops honest words was now
+abbrev pub StateStopsAgain : {D : Type 0} → Type 0 → DiskWords D → HostState D → HostState D → Type 0
+StateStopsAgain honest words (Up before) new = ⊥
+StateStopsAgain honest words (Down was) (Up after) = ⊥
+StateStopsAgain honest words (Down was) (Down now) = DownStops honest words was now
 
 module _ {D : Type 0} (honest : Type 0) (words : DiskWords D) where
   -- a stop was set for a node that is up
   pub record IsArmed (old new : Host D) : Type 0 where
-    pub before : Standing D
-    pub up : old.holder ≡ world.Up before
-    pub after : Standing D
+    pub before : NodeState D
+    pub up : old.state ≡ world.Up before
+    pub after : NodeState D
     pub fused : IsFused before.records after.records
     pub keeps : (changes : List Change) → Keeps honest words before.records changes
         → Keeps honest words after.records changes
     pub config : after.config ≡ before.config
     pub seats : after.seats ≡ before.seats
     pub attempts : after.attempts ≡ before.attempts
-    pub new_is : new ≡ record old { holder = world.Up after }
+    pub new_is : new ≡ record old { state = world.Up after }
 
   -- A node that was up has stopped between two calls, and has let go of its ends; or one that was down has stopped
   -- again.

@@ -16,8 +16,8 @@ use Rattle.relay_attempts.specs.Outcomes.{AddsUnroutable, CutsUnroutable, HasNoR
 use Rattle.relay_attempts.specs.Work.{works_of}
 use Rattle.relay_node.specs.declared.node.Connected.{Connected}
 use Rattle.relay_node.specs.Attempts.{Begins}
-use Rattle.relay_node.specs.Node.{Connects, Standing}
-use Rattle.relay_world.specs.World.{Down, Holder, Host, Up}
+use Rattle.relay_node.specs.Node.{Connects, NodeState}
+use Rattle.relay_world.specs.World.{Down, HostState, Host, Up}
 use Rattle.relay_pair.specs.declared.recorded.Recorded.{Recorded}
 use Rattle.relay_pair.specs.declared.work.Begun.{Begun}
 use Rattle.relay_pair.specs.declared.work.Begun.TheVariants as begun
@@ -26,33 +26,33 @@ use Rattle.relay_pair.specs.declared.work.GivenUp.TheVariants as given
 use Rattle.relay_pair.specs.Call.{NotesOne, Runs}
 
 -- the work of a node at a moment; none of one that is down
-abbrev pub works_in : {D : Type 0} → ℕ → Holder D → List Work
+abbrev pub works_in : {D : Type 0} → ℕ → HostState D → List Work
 works_in now (Up node) = works_of node.config.routes node.attempts now node.records.queue
 works_in now (Down disk undecided) = []
 
 -- the held places of a node; none of one that is down
-abbrev pub marks_in : {D : Type 0} → Holder D → List (ℕ × ℕ)
+abbrev pub marks_in : {D : Type 0} → HostState D → List (ℕ × ℕ)
 marks_in (Up node) = held_of node.records.queue
 marks_in (Down disk undecided) = []
 
 -- the attempts of a node that is up
-abbrev pub attempts_in : {D : Type 0} → Holder D → List (Option Run)
+abbrev pub attempts_in : {D : Type 0} → HostState D → List (Option Run)
 attempts_in (Up node) = node.attempts
 attempts_in (Down disk undecided) = []
 
 -- Of a host's first work an attempt has begun, unless there was no memory, or no free number: that is said exactly
 -- where there is none.
 abbrev pub BeginsUnlessFull : {D : Type 0} → Host D → Begun → Type 0
-BeginsUnlessFull old (begun.Done started) = IsFull (attempts_in old.holder) → ⊥
+BeginsUnlessFull old (begun.Done started) = IsFull (attempts_in old.state) → ⊥
 BeginsUnlessFull old (begun.Refused fault) =
-    ((fault ≡ node_fault.NoMemory) × (IsFull (attempts_in old.holder) → ⊥))
-    ⊎ ((fault ≡ node_fault.TooMany) × IsFull (attempts_in old.holder))
+    ((fault ≡ node_fault.NoMemory) × (IsFull (attempts_in old.state) → ⊥))
+    ⊎ ((fault ≡ node_fault.TooMany) × IsFull (attempts_in old.state))
 BeginsUnlessFull old begun.NoRoom = Unit {0}
 
 -- A host has opened a session for a client at this address, and greeted it.
 pub record OpensSession {D : Type 0} (old new : Host D) (peer : List ℕ) (connected : Connected) : Type 0 where
-  pub before : Standing D
-  pub after : Standing D
+  pub before : NodeState D
+  pub after : NodeState D
   pub runs : Runs old new before after
   pub connects : Connects peer before after connected
   pub records : after.records ≡ before.records
@@ -60,8 +60,8 @@ pub record OpensSession {D : Type 0} (old new : Host D) (peer : List ℕ) (conne
 
 -- A host has refused a client, for want of memory, or of a free session, exactly where it has none. It is as it was.
 pub record RefusesSession {D : Type 0} (old new : Host D) (fault : NodeFault) : Type 0 where
-  pub before : Standing D
-  pub up : old.holder ≡ Up before
+  pub before : NodeState D
+  pub up : old.state ≡ Up before
   pub only : (fault ≡ node_fault.NoMemory) ⊎ (fault ≡ node_fault.TooMany)
   pub full : (fault ≡ node_fault.TooMany) ↔ IsFull before.seats
   pub new_is : new ≡ old
@@ -72,32 +72,32 @@ OpensOrRefuses old new peer (Err fault) = RefusesSession old new fault
 
 module _ {D : Type 0} (honest : Type 0) (words : DiskWords D) where
   -- the node keeps a list of changes
-  pub record KnowsChanges (node : Standing D) : Type 0 where
+  pub record KnowsChanges (node : NodeState D) : Type 0 where
     pub changes : List Change
     pub keeps : Keeps honest words node.records changes
 
-  abbrev pub HoldsChanges : Holder D → Type 0
+  abbrev pub HoldsChanges : HostState D → Type 0
   HoldsChanges (Up node) = KnowsChanges node
   HoldsChanges (Down disk undecided) = ⊥
 
   -- where it is up
-  abbrev pub KnowsIfUp : Holder D → Type 0
+  abbrev pub KnowsIfUp : HostState D → Type 0
   KnowsIfUp (Up node) = KnowsChanges node
   KnowsIfUp (Down disk undecided) = Unit {0}
 
   -- it is up, and its node keeps these changes
-  abbrev pub KeepsUp : Holder D → List Change → Type 0
+  abbrev pub KeepsUp : HostState D → List Change → Type 0
   KeepsUp (Up node) changes = Keeps honest words node.records changes
   KeepsUp (Down disk undecided) changes = ⊥
 
   -- the host is up, and its node keeps a list of changes
   abbrev pub HasChanges : Host D → Type 0
-  HasChanges host = HoldsChanges host.holder
+  HasChanges host = HoldsChanges host.state
 
   -- A host has begun an attempt for a message and a hop.
   pub record BeginsAttempt (now : ℕ) (old new : Host D) (message : ℕ) (hop : List ℕ) (started : Started) : Type 0 where
-    pub before : Standing D
-    pub after : Standing D
+    pub before : NodeState D
+    pub after : NodeState D
     pub runs : Runs old new before after
     pub begins : (changes : List Change) → Keeps honest words before.records changes
         → Begins before.config changes message hop now before.attempts after.attempts started
@@ -106,8 +106,8 @@ module _ {D : Type 0} (honest : Type 0) (words : DiskWords D) where
 
   -- A host has refused to begin one, for the first cause in the order of the faults. It is as it was.
   pub record RefusesAttempt (now : ℕ) (old new : Host D) (message : ℕ) (hop : List ℕ) (fault : NodeFault) : Type 0 where
-    pub before : Standing D
-    pub up : old.holder ≡ Up before
+    pub before : NodeState D
+    pub up : old.state ≡ Up before
     pub refused : RefusesToStart before.config.host before.config.routes message hop now before.records before.attempts
         fault
     pub new_is : new ≡ old
@@ -119,9 +119,9 @@ module _ {D : Type 0} (honest : Type 0) (words : DiskWords D) where
 
   -- A host has given up the places of a message that have no hop, by the change of this number.
   pub record GivesUp (now : ℕ) (old new : Host D) (message change : ℕ) (recorded : Recorded) : Type 0 where
-    pub before : Standing D
-    pub up : old.holder ≡ Up before
-    pub after : Standing D
+    pub before : NodeState D
+    pub up : old.state ≡ Up before
+    pub after : NodeState D
     pub gives_up : (changes : List Change) → Keeps honest words before.records changes
         → AddsUnroutable honest words before.config.host before.config.routes message now changes before.records
         after.records change
@@ -132,8 +132,8 @@ module _ {D : Type 0} (honest : Type 0) (words : DiskWords D) where
 
   -- A host's node stopped in that call, with a note of the outcome.
   pub record StopsGivingUp (now : ℕ) (old new : Host D) (message : ℕ) : Type 0 where
-    pub before : Standing D
-    pub after : Standing D
+    pub before : NodeState D
+    pub after : NodeState D
     pub runs : Runs old new before after
     pub cuts : (changes : List Change) → Keeps honest words before.records changes
         → CutsUnroutable honest words before.config.host before.config.routes message now changes before.records
@@ -144,8 +144,8 @@ module _ {D : Type 0} (honest : Type 0) (words : DiskWords D) where
 
   -- A host has refused to give them up, for the first cause in the order of the faults. It is as it was.
   pub record RefusesGivingUp (now : ℕ) (old new : Host D) (message : ℕ) (fault : NodeFault) : Type 0 where
-    pub before : Standing D
-    pub up : old.holder ≡ Up before
+    pub before : NodeState D
+    pub up : old.state ≡ Up before
     pub refused : RefusesToGiveUp words before.config.host before.config.routes message now before.records
         before.records fault
     pub new_is : new ≡ old
@@ -157,7 +157,7 @@ module _ {D : Type 0} (honest : Type 0) (words : DiskWords D) where
   GivesUpOrNot now old new message given.NoRoom = new ≡ old
 
   -- there is no room for the outcome that gives up the places of a message
-  abbrev pub LacksRoom : ℕ → Holder D → ℕ → Type 0
+  abbrev pub LacksRoom : ℕ → HostState D → ℕ → Type 0
   LacksRoom now (Up node) message = HasNoRoomFor words node.config.host node.config.routes message now node.records
   LacksRoom now (Down disk undecided) message = ⊥
 
@@ -166,6 +166,6 @@ module _ {D : Type 0} (honest : Type 0) (words : DiskWords D) where
   abbrev pub GivesUpUnlessFull : ℕ → Host D → ℕ → GivenUp → Type 0
   GivesUpUnlessFull now old message (given.Done change recorded) = Unit {0}
   GivesUpUnlessFull now old message (given.Refused fault) =
-      (fault ≡ node_fault.NoMemory) ⊎ ((fault ≡ node_fault.Full) × LacksRoom now old.holder message)
+      (fault ≡ node_fault.NoMemory) ⊎ ((fault ≡ node_fault.Full) × LacksRoom now old.state message)
   GivesUpUnlessFull now old message given.Stopped = Unit {0}
   GivesUpUnlessFull now old message given.NoRoom = Unit {0}

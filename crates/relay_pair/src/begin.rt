@@ -3,7 +3,7 @@ ghost use Rattle.std.specs.Prelude.{◌≡◌, IfOk};
 ghost use Rattle.relay_pair.specs.Begin.{IsNew, begun_by};
 ghost use Rattle.relay_pair.specs.Relays.{world_of};
 
-use crate::host::{Holder, Host};
+use crate::host::{Host, HostState};
 use crate::relays::Relays;
 use relay_disk::Disk;
 use relay_node::{Node, NotOpened};
@@ -18,7 +18,7 @@ impl<D: Disk> Host<D> {
     {
         match Node::create(alloc, config, disk) {
             Ok(node) => Ok(Host {
-                holder: Holder::Up(node),
+                state: HostState::Up(node),
                 records: Vec::new(alloc),
                 owed: 0,
                 pick: 0,

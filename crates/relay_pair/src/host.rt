@@ -5,12 +5,12 @@ ghost use Rattle.relay_book.specs.declared.change.Change.{Change};
 ghost use Rattle.relay_book.specs.Marks.{Held};
 ghost use Rattle.relay_disk.specs.Device.{ImagesWithin};
 ghost use Rattle.relay_pair.specs.Call.{HasAttempt, HasSession, HearsOrNot, IsToldLoss, LosesSession, ReadsOrNot};
-ghost use Rattle.relay_pair.specs.Crash.{CrashesInCall, Decided, HolderCrashes, HolderStops, IsCutShort, OpensOrNot, StaysSo, StopsAtRest, WasCutShort, is_up_now};
+ghost use Rattle.relay_pair.specs.Crash.{CrashesInCall, Decided, StateCrashes, StateStops, IsCutShort, OpensOrNot, StaysSo, StopsAtRest, WasCutShort, is_up_now};
 ghost use Rattle.relay_pair.specs.FirstFault.{holds_up};
 ghost use Rattle.relay_pair.specs.Host.{OwesWithin, count_some, host_in, notes_of, notes_to_come};
-ghost use Rattle.relay_pair.specs.StopNow.{DownStops, HolderStopsAgain, IsArmed};
+ghost use Rattle.relay_pair.specs.StopNow.{DownStops, StateStopsAgain, IsArmed};
 ghost use Rattle.relay_pair.specs.Work.{KeepsUp, KnowsIfUp, marks_in};
-ghost use Rattle.relay_pair.specs.declared.host.Holder.TheVariants.{Down};
+ghost use Rattle.relay_pair.specs.declared.host.HostState.TheVariants.{Down};
 
 use crate::calls::{Heard, Read, ToldLoss, hear_at, lose_at, read_at};
 use relay_disk::{Disk, Reboot};
@@ -72,19 +72,19 @@ impl<D: Disk + Drop> Drop for DownNode<D> {
 }
 
 /// A node that is up, or what a stop has left of one.
-pub(crate) enum Holder<D: Disk> {
+pub(crate) enum HostState<D: Disk> {
     /// It is up.
     Up(Node<D>),
     /// It is down.
     Down(DownNode<D>),
 }
 
-// Written out, so that what drops a holder calls this, and doesn't look into its parts.
-impl<D: Disk + Drop> Drop for Holder<D> {
+// Written out, so that what drops a state calls this, and doesn't look into its parts.
+impl<D: Disk + Drop> Drop for HostState<D> {
     fn drop(self) {
         match self {
-            Holder::Up(_node) => {}
-            Holder::Down(_down) => {}
+            HostState::Up(_node) => {}
+            HostState::Down(_down) => {}
         }
     }
 }
@@ -92,7 +92,7 @@ impl<D: Disk + Drop> Drop for Holder<D> {
 /// A node of a pair, the records of its changes, how many more may be owed, for which there is room, and what a stop
 /// that waits for it leaves of its disk.
 pub(crate) struct Host<D: Disk> {
-    pub(crate) holder: Holder<D>,
+    pub(crate) state: HostState<D>,
     pub(crate) records: Vec<Octets>,
     pub(crate) owed: usize,
     pub(crate) pick: u64,
@@ -102,7 +102,7 @@ pub(crate) struct Host<D: Disk> {
 impl<D: Disk + Drop> Drop for Host<D> {
     fn drop(self) {
         let Host {
-            holder: _holder,
+            state: _state,
             records: _records,
             owed: _,
             pick: _,
@@ -117,20 +117,20 @@ impl<D: Disk> Model for Host<D> {
 
     ghost Value = { HostOf D };
 
-    ghost view = { λ host. host_in host.holder host.records.items };
+    ghost view = { λ host. host_in host.state host.records.items };
 
     ghost invariant = { λ host.
-        OwesWithin (notes_to_come host.holder) (vec_len host.records) (vec_capacity host.records) host.owed };
+        OwesWithin (notes_to_come host.state) (vec_len host.records) (vec_capacity host.records) host.owed };
 }
 
 impl<D: Disk> Host<D> {
     /// Whether the node is up.
     pub(crate) fn is_up(&self) -> bool
-        ensures { result ≡ holds_up self.now.holder }
+        ensures { result ≡ holds_up self.now.state }
     {
-        match &self.holder {
-            Holder::Up(_) => true,
-            Holder::Down(_) => false,
+        match &self.state {
+            HostState::Up(_) => true,
+            HostState::Down(_) => false,
         }
     }
 
@@ -138,24 +138,24 @@ impl<D: Disk> Host<D> {
     pub(crate) fn config(&self) -> &Config
         ensures { result.now ≡ self.now.config }
     {
-        match &self.holder {
-            Holder::Up(node) => node.config(),
-            Holder::Down(down) => &down.config,
+        match &self.state {
+            HostState::Up(node) => node.config(),
+            HostState::Down(down) => &down.config,
         }
     }
 
     /// The held places of the node's messages, in order; none of a node that is down. Its only fault is want of memory.
     pub(crate) fn marks(&self, alloc: Global) -> Result<Vec<(u64, u8)>, NodeFault>
-        requires { KnowsIfUp D.honest D.words self.now.holder }
-        ensures marks { IfOk result (λ marks. marks.items ≡ marks_in self.now.holder) }
-        ensures kept { (changes : List Change) → KeepsUp D.honest D.words self.now.holder changes
+        requires { KnowsIfUp D.honest D.words self.now.state }
+        ensures marks { IfOk result (λ marks. marks.items ≡ marks_in self.now.state) }
+        ensures kept { (changes : List Change) → KeepsUp D.honest D.words self.now.state changes
             → IfOk result (λ marks. (number place : ℕ)
             → Contains {X = ℕ × ℕ} marks.items (number, place) ↔ Held changes number place) }
         ensures fault { IfErr result (λ fault. fault ≡ NodeFault.NoMemory) }
     {
-        match &self.holder {
-            Holder::Up(node) => node.marks(alloc),
-            Holder::Down(_) => Ok(Vec::new(alloc)),
+        match &self.state {
+            HostState::Up(node) => node.marks(alloc),
+            HostState::Down(_) => Ok(Vec::new(alloc)),
         }
     }
 
@@ -164,7 +164,7 @@ impl<D: Disk> Host<D> {
         requires { HasSession D.honest D.words self.old session }
         ensures { LosesSession self.old self.new session }
     {
-        let Holder::Up(node) = &mut self.holder else {
+        let HostState::Up(node) = &mut self.state else {
             unreachable!()
         };
         let _ = node.ended(session);
@@ -175,7 +175,7 @@ impl<D: Disk> Host<D> {
         requires { HasAttempt D.honest D.words self.old slot }
         ensures { IsToldLoss D.honest D.words now self.old self.new slot result }
     {
-        let Holder::Up(node) = &mut self.holder else {
+        let HostState::Up(node) = &mut self.state else {
             unreachable!()
         };
         lose_at(node, &mut self.records, &mut self.owed, slot, now)
@@ -186,7 +186,7 @@ impl<D: Disk> Host<D> {
         requires { HasAttempt D.honest D.words self.old slot }
         ensures { ReadsOrNot D.honest D.words now self.old self.new slot piece.now result }
     {
-        let Holder::Up(node) = &mut self.holder else {
+        let HostState::Up(node) = &mut self.state else {
             unreachable!()
         };
         read_at(node, &mut self.records, &mut self.owed, slot, piece, now)
@@ -197,7 +197,7 @@ impl<D: Disk> Host<D> {
         requires { HasSession D.honest D.words self.old session }
         ensures { HearsOrNot D.honest D.words now self.old self.new session piece.now result }
     {
-        let Holder::Up(node) = &mut self.holder else {
+        let HostState::Up(node) = &mut self.state else {
             unreachable!()
         };
         hear_at(node, &mut self.records, &mut self.owed, session, piece, now)
@@ -207,17 +207,17 @@ impl<D: Disk> Host<D> {
 impl<D: Reboot + Drop> Host<D> {
     /// A node that is up stops between two calls. Where memory runs out, its disk is as it is.
     pub(crate) fn stop(self, pick: u64) -> Self
-        requires { holds_up self.holder ≡ true }
+        requires { holds_up self.state ≡ true }
         ensures { StopsAtRest D.Disk.honest D.Disk.words self result }
     {
         let Host {
-            holder,
+            state,
             records,
             owed,
             pick: _,
         } = self;
         Host {
-            holder: holder.stop(pick),
+            state: state.stop(pick),
             records,
             owed,
             pick: 0,
@@ -226,17 +226,17 @@ impl<D: Reboot + Drop> Host<D> {
 
     /// A node that stopped in a call goes down, with the change that it was adding.
     pub(crate) fn crash(self, origin: Origin) -> Self
-        requires { IsCutShort self.holder }
+        requires { IsCutShort self.state }
         ensures { CrashesInCall D.Disk.honest D.Disk.words self result origin }
     {
         let Host {
-            holder,
+            state,
             records,
             owed,
             pick,
         } = self;
         Host {
-            holder: holder.crash(pick, origin),
+            state: state.crash(pick, origin),
             records,
             owed,
             pick: 0,
@@ -246,64 +246,64 @@ impl<D: Reboot + Drop> Host<D> {
     /// A node that is down is opened, or stays down where its disk is refused, or memory runs out. Where it has the
     /// change that was undecided, that is answered, without its record.
     pub(crate) fn open(self, alloc: Global) -> (Self, Option<Undecided>)
-        requires { holds_up self.holder ≡ false }
+        requires { holds_up self.state ≡ false }
         ensures { OpensOrNot D.Disk.honest D.Disk.words self result.0 result.1 }
     {
         let Host {
-            holder,
+            state,
             records,
             owed,
             pick,
         } = self;
-        holder.open(alloc, records, owed, pick)
+        state.open(alloc, records, owed, pick)
     }
 }
 
-impl<D: Reboot + Drop> Holder<D> {
+impl<D: Reboot + Drop> HostState<D> {
     /// A node that is up stops between two calls.
     fn stop(self, pick: u64) -> Self
         requires { is_up_now self ≡ true }
-        ensures { HolderStops D.Disk.honest D.Disk.words self result }
+        ensures { StateStops D.Disk.honest D.Disk.words self result }
     {
         match self {
-            Holder::Up(node) => {
+            HostState::Up(node) => {
                 let (config, disk) = node.into_parts();
                 let disk = stopped(disk, pick);
-                Holder::Down(DownNode {
+                HostState::Down(DownNode {
                     config,
                     disk,
                     undecided: None,
                 })
             }
-            Holder::Down(_down) => unreachable!(),
+            HostState::Down(_down) => unreachable!(),
         }
     }
 
     /// A node that stopped in a call goes down, with the change that it was adding.
     fn crash(self, pick: u64, origin: Origin) -> Self
         requires { WasCutShort self }
-        ensures { HolderCrashes D.Disk.honest D.Disk.words self result origin }
+        ensures { StateCrashes D.Disk.honest D.Disk.words self result origin }
     {
         match self {
-            Holder::Up(node) => {
+            HostState::Up(node) => {
                 let mut node = node;
                 let Some(note) = node.take_noted() else {
                     unreachable!()
                 };
                 let (config, disk) = node.into_parts();
                 let disk = stopped(disk, pick);
-                Holder::Down(DownNode {
+                HostState::Down(DownNode {
                     config,
                     disk,
                     undecided: Some(Undecided { note, origin }),
                 })
             }
-            Holder::Down(_down) => unreachable!(),
+            HostState::Down(_down) => unreachable!(),
         }
     }
 }
 
-impl<D: Reboot + Drop> Holder<D> {
+impl<D: Reboot + Drop> HostState<D> {
     /// A node that is down is opened.
     fn open(
         self,
@@ -317,8 +317,8 @@ impl<D: Reboot + Drop> Holder<D> {
         ensures { OpensOrNot D.Disk.honest D.Disk.words (host_in self records.items) result.0 result.1 }
     {
         match self {
-            Holder::Up(_node) => unreachable!(),
-            Holder::Down(down) => down.open(alloc, records, owed, pick),
+            HostState::Up(_node) => unreachable!(),
+            HostState::Down(down) => down.open(alloc, records, owed, pick),
         }
     }
 }
@@ -343,14 +343,14 @@ impl<D: Reboot + Drop> DownNode<D> {
         match Node::open_again(alloc, config, disk) {
             Ok(node) => decide(alloc, node, undecided, records, owed, pick),
             Err(not) => {
-                let holder = Holder::Down(DownNode {
+                let state = HostState::Down(DownNode {
                     config: not.config,
                     disk: not.refused.disk,
                     undecided,
                 });
                 (
                     Host {
-                        holder,
+                        state,
                         records,
                         owed,
                         pick,
@@ -365,17 +365,17 @@ impl<D: Reboot + Drop> DownNode<D> {
 impl<D: Reboot + Drop> Host<D> {
     /// A node that is down stops again. Where memory runs out, its disk is as it is.
     pub(crate) fn stop_again(self, pick: u64) -> Self
-        requires { holds_up self.holder ≡ false }
+        requires { holds_up self.state ≡ false }
         ensures { StaysSo D.Disk.honest D.Disk.words self result None }
     {
         let Host {
-            holder,
+            state,
             records,
             owed,
             pick: _,
         } = self;
         Host {
-            holder: holder.stop_again(pick),
+            state: state.stop_again(pick),
             records,
             owed,
             pick: 0,
@@ -384,10 +384,10 @@ impl<D: Reboot + Drop> Host<D> {
 
     /// A stop is set for a node that is up: so many calls of its disk pass, and the next fails.
     pub(crate) fn arm(&mut self, calls: u64, pick: u64)
-        requires { holds_up self.old.holder ≡ true }
+        requires { holds_up self.old.state ≡ true }
         ensures { IsArmed D.Disk.honest D.Disk.words self.old self.new }
     {
-        let Holder::Up(node) = &mut self.holder else {
+        let HostState::Up(node) = &mut self.state else {
             unreachable!()
         };
         node.fuse(calls);
@@ -395,15 +395,15 @@ impl<D: Reboot + Drop> Host<D> {
     }
 }
 
-impl<D: Reboot + Drop> Holder<D> {
+impl<D: Reboot + Drop> HostState<D> {
     /// A node that is down stops again.
     fn stop_again(self, pick: u64) -> Self
         requires { is_up_now self ≡ false }
-        ensures { HolderStopsAgain D.Disk.honest D.Disk.words self result }
+        ensures { StateStopsAgain D.Disk.honest D.Disk.words self result }
     {
         match self {
-            Holder::Up(_node) => unreachable!(),
-            Holder::Down(down) => Holder::Down(down.stop_again(pick)),
+            HostState::Up(_node) => unreachable!(),
+            HostState::Down(down) => HostState::Down(down.stop_again(pick)),
         }
     }
 }
@@ -453,7 +453,7 @@ fn decide<D: Disk>(
     let Some(undecided) = undecided else {
         return (
             Host {
-                holder: Holder::Up(node),
+                state: HostState::Up(node),
                 records,
                 owed,
                 pick,
@@ -464,7 +464,7 @@ fn decide<D: Disk>(
     if node.next_number() <= undecided.note.number {
         return (
             Host {
-                holder: Holder::Up(node),
+                state: HostState::Up(node),
                 records,
                 owed,
                 pick,
@@ -478,7 +478,7 @@ fn decide<D: Disk>(
     records.push(octets).unwrap();
     (
         Host {
-            holder: Holder::Up(node),
+            state: HostState::Up(node),
             records,
             owed: owed - 1,
             pick,

@@ -5,7 +5,7 @@ ghost use Rattle.relay_pair.specs.Relays.{free_lines, world_of};
 ghost use Rattle.relay_pair.specs.Room.{HasRoomFor, lines_held, lines_left, lines_of_attempt, lines_to_come};
 ghost use Rattle.relay_world.specs.Ledger.{lines_of};
 
-use crate::host::{Holder, Host, Origin, Undecided};
+use crate::host::{Host, HostState, Origin, Undecided};
 use crate::links::is_running;
 use crate::relays::Relays;
 use relay_disk::Disk;
@@ -78,9 +78,9 @@ fn lines_of_attempt(attempt: &Attempt) -> usize
 impl<D: Disk> Host<D> {
     /// The lines that the node may come to need, where it is down.
     fn lines_held(&self) -> usize
-        ensures { (node : ℕ) → result ≡ lines_held node self.now.holder }
+        ensures { (node : ℕ) → result ≡ lines_held node self.now.state }
     {
-        let Holder::Down(down) = &self.holder else {
+        let HostState::Down(down) = &self.state else {
             return 0;
         };
         let Some(undecided) = &down.undecided else {

@@ -4,7 +4,7 @@ ghost use Rattle.relay_pair.specs.Host.{OwesWithin, host_of, notes_of};
 ghost use Rattle.relay_pair.specs.Work.{BeginsOrNot, BeginsUnlessFull, GivesUpOrNot, GivesUpUnlessFull, HasChanges, KnowsChanges, OpensOrRefuses, works_in};
 
 use crate::calls::{is_stop, take_note};
-use crate::host::{Holder, Host};
+use crate::host::{Host, HostState};
 use crate::recorded::Recorded;
 use relay_attempts::{Started, Work};
 use relay_disk::Disk;
@@ -108,7 +108,7 @@ impl<D: Disk> Host<D> {
         requires { HasChanges D.honest D.words self.old }
         ensures { OpensOrRefuses self.old self.new peer result }
     {
-        let Holder::Up(node) = &mut self.holder else {
+        let HostState::Up(node) = &mut self.state else {
             unreachable!()
         };
         node.connect(peer)
@@ -117,10 +117,10 @@ impl<D: Disk> Host<D> {
     /// The first work of the node at a moment, if there is any. Its only fault is want of memory.
     pub(crate) fn first_work(&self, alloc: Global, now: Moment) -> Result<Option<Work>, NodeFault>
         requires { HasChanges D.honest D.words self.now }
-        ensures first { IfOk result (λ work. work ≡ slice_get (works_in now self.now.holder) 0) }
+        ensures first { IfOk result (λ work. work ≡ slice_get (works_in now self.now.state) 0) }
         ensures fault { IfErr result (λ fault. fault ≡ NodeFault.NoMemory) }
     {
-        let Holder::Up(node) = &self.holder else {
+        let HostState::Up(node) = &self.state else {
             unreachable!()
         };
         let mut works = match node.due(alloc, now) {
@@ -137,10 +137,10 @@ impl<D: Disk> Host<D> {
     pub(crate) fn start(&mut self, message: u64, hop: &HostName, now: Moment) -> Begun
         requires { HasChanges D.honest D.words self.old }
         ensures begun { BeginsOrNot D.honest D.words now self.old self.new message hop.now result }
-        ensures first { slice_get (works_in now self.old.holder) 0 ≡ Some (Work.Try message hop.now)
+        ensures first { slice_get (works_in now self.old.state) 0 ≡ Some (Work.Try message hop.now)
             → BeginsUnlessFull self.old result }
     {
-        let Holder::Up(node) = &mut self.holder else {
+        let HostState::Up(node) = &mut self.state else {
             unreachable!()
         };
         start_at(node, &mut self.records, &mut self.owed, message, hop, now)
@@ -150,10 +150,10 @@ impl<D: Disk> Host<D> {
     pub(crate) fn give_up(&mut self, message: u64, now: Moment) -> GivenUp
         requires { HasChanges D.honest D.words self.old }
         ensures given { GivesUpOrNot D.honest D.words now self.old self.new message result }
-        ensures first { slice_get (works_in now self.old.holder) 0 ≡ Some (Work.NoRoute message)
+        ensures first { slice_get (works_in now self.old.state) 0 ≡ Some (Work.NoRoute message)
             → GivesUpUnlessFull D.honest D.words now self.old message result }
     {
-        let Holder::Up(node) = &mut self.holder else {
+        let HostState::Up(node) = &mut self.state else {
             unreachable!()
         };
         give_up_at(node, &mut self.records, &mut self.owed, message, now)

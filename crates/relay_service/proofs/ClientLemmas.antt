@@ -9,7 +9,7 @@ use Rattle.relay_server.specs.State.{start}
 use Rattle.relay_server.proofs.Theorems.{no_unit_is_empty}
 use Rattle.relay_book.specs.declared.change.Change.{Change}
 use Rattle.relay_records.specs.Records.{Keeps, Kept}
-use Rattle.relay_node.specs.Node.{Standing}
+use Rattle.relay_node.specs.Node.{NodeState}
 use Rattle.relay_links.specs.declared.fault.LinkFault.TheVariants.{NoMemory}
 use Rattle.relay_links.specs.Link.{HasBegun, Start, start_at}
 
@@ -33,7 +33,7 @@ greeted setup = record {
 }
 
 -- a link of a client that the node refused: before the greeting nothing is read or written
-pub refused : {D : Type 0} (honest : Type 0) (words : DiskWords D) (at : ℕ) (left held : Option (List ℕ)) (peer : List ℕ) (node : Standing D) (changes : List Change) → Keeps honest words node.records changes
+pub refused : {D : Type 0} (honest : Type 0) (words : DiskWords D) (at : ℕ) (left held : Option (List ℕ)) (peer : List ℕ) (node : NodeState D) (changes : List Change) → Keeps honest words node.records changes
     → HasBegun honest words (start_at left held peer node changes) at left held node.records NoMemory
 refused honest words at left held peer node changes keeps = record {
   said = greeted_only node.config.host;
@@ -54,7 +54,7 @@ refused honest words at left held peer node changes keeps = record {
 }
 
 -- a link begins where it began before the client was greeted
-pub same_start : {D : Type 0} (left held : Option (List ℕ)) (peer : List ℕ) (old new : Standing D) (changes : List Change) → new.records ≡ old.records → new.config ≡ old.config → start_at left held peer new changes ≡ start_at left held peer old changes
+pub same_start : {D : Type 0} (left held : Option (List ℕ)) (peer : List ℕ) (old new : NodeState D) (changes : List Change) → new.records ≡ old.records → new.config ≡ old.config → start_at left held peer new changes ≡ start_at left held peer old changes
 same_start {D} left held peer old new changes records config = ap₂ from records config
   where
     from : Kept D → Config → Start

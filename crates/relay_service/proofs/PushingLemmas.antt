@@ -20,25 +20,25 @@ use Rattle.relay_attempts.specs.declared.work.Work.TheVariants.{NoRoute, Try}
 use Rattle.relay_attempts.specs.Outcomes.{AddsUnroutable, RefusesToGiveUp, unroutable}
 use Rattle.relay_attempts.specs.Reply.{Told, outcome_at}
 use Rattle.relay_node.specs.Attempts.{Begins, Tells, begun_with}
-use Rattle.relay_node.specs.Node.{Standing}
+use Rattle.relay_node.specs.Node.{NodeState}
 use Rattle.relay_links.specs.declared.fault.LinkFault.{LinkFault}
 use Rattle.relay_links.specs.declared.fault.LinkFault.TheVariants as link_fault
 use Rattle.relay_links.specs.declared.push.Pushed.{Pushed}
 use Rattle.relay_links.specs.declared.push.Pushed.TheVariants as pushed
-use Rattle.relay_links.specs.Push.{HasEnded, IsAt, PushesTo, push_start_at}
+use Rattle.relay_links.specs.Push.{PushHasEnded, IsAt, PushesTo, push_start_at}
 use Rattle.relay_service.specs.Pushing.{Concludes, DoesEach, DoesOne, DoesSome, Ends, HandsOn, IsDone, IsSameButNote, StaysBeside, TellsDevice, WorksOff, WorksTo, HasEnded as EndsOn}
 
 -- the same node with this note
-abbrev pub noted_as : {D : Type 0} → Option Noted → Standing D → Standing D
+abbrev pub noted_as : {D : Type 0} → Option Noted → NodeState D → NodeState D
 noted_as kept node = record node { records = record node.records { noted = kept } }
 
 -- what is told of an attempt is told by the same name of the host
-pub tells_here : {D : Type 0} (changes : List Change) (old mid : Standing D) (number : ℕ) (told : Told) → mid.config ≡ old.config → Tells old.config.host changes mid.attempts number told → Tells mid.config.host changes mid.attempts number told
+pub tells_here : {D : Type 0} (changes : List Change) (old mid : NodeState D) (number : ℕ) (told : Told) → mid.config ≡ old.config → Tells old.config.host changes mid.attempts number told → Tells mid.config.host changes mid.attempts number told
 tells_here changes old mid number told same tells = subst (λ host. Tells host changes mid.attempts number told) (sym (ap (λ config. config.host) same)) tells
 
 module _ {D : Type 0} (honest : Type 0) (words : DiskWords D) where
   -- a node of the same records keeps the same
-  pub keeps_here : (changes : List Change) (old mid : Standing D) → Keeps honest words old.records changes → mid.records ≡ old.records → Keeps honest words mid.records changes
+  pub keeps_here : (changes : List Change) (old mid : NodeState D) → Keeps honest words old.records changes → mid.records ≡ old.records → Keeps honest words mid.records changes
   keeps_here changes old mid keeps same = subst (λ (records : Kept D). Keeps honest words records changes) (sym same) keeps
 
   -- what the records keep doesn't rest on the note
@@ -63,7 +63,7 @@ module _ {D : Type 0} (honest : Type 0) (words : DiskWords D) where
 
   module _ (now : ℕ) where
     -- whatever its note says, a work is done as before
-    pub done_noted : (kept : Option Noted) (work : Work) (changes : List Change) (old new : Standing D) → IsDone honest words now work changes old new → IsDone honest words now work changes old (noted_as kept new)
+    pub done_noted : (kept : Option Noted) (work : Work) (changes : List Change) (old new : NodeState D) → IsDone honest words now work changes old new → IsDone honest words now work changes old (noted_as kept new)
     done_noted kept work changes old new done =
         let one = done.1 in (
           done.0,
@@ -75,26 +75,26 @@ module _ {D : Type 0} (honest : Type 0) (words : DiskWords D) where
         )
 
     -- a work that is done is so whatever is answered
-    pub whatever : {X Y : Type 0} (work : Work) (changes : List Change) (old new : Standing D) (result : Result X Y) → IsDone honest words now work changes old new → WorksTo honest words now work changes old new result
+    pub whatever : {X Y : Type 0} (work : Work) (changes : List Change) (old new : NodeState D) (result : Result X Y) → IsDone honest words now work changes old new → WorksTo honest words now work changes old new result
     whatever work changes old new (Ok x) done = done
     whatever work changes old new (Err e) done = inl done
 
     -- the same, where its note is another behind it
-    pub whatever_noted : {X Y : Type 0} (kept : Option Noted) (work : Work) (changes : List Change) (old mid new : Standing D) (result : Result X Y) → IsDone honest words now work changes old mid → new ≡ noted_as kept mid → WorksTo honest words now work changes old new result
+    pub whatever_noted : {X Y : Type 0} (kept : Option Noted) (work : Work) (changes : List Change) (old mid new : NodeState D) (result : Result X Y) → IsDone honest words now work changes old mid → new ≡ noted_as kept mid → WorksTo honest words now work changes old new result
     whatever_noted kept work changes old mid new result done same =
-        whatever work changes old new result (subst (λ (node : Standing D). IsDone honest words now work changes old node) (sym same) (done_noted kept work changes old mid done))
+        whatever work changes old new result (subst (λ (node : NodeState D). IsDone honest words now work changes old node) (sym same) (done_noted kept work changes old mid done))
 
     -- nothing was done of a work
-    pub stays_due : (work : Work) (changes : List Change) (old new : Standing D) → Keeps honest words old.records changes → new ≡ old → IsDone honest words now work changes old new
+    pub stays_due : (work : Work) (changes : List Change) (old new : NodeState D) → Keeps honest words old.records changes → new ≡ old → IsDone honest words now work changes old new
     stays_due (NoRoute number) changes old new keeps same = (
       changes,
       record {
         does = inr refl;
-        keeps = subst (λ (node : Standing D). Keeps honest words node.records changes) (sym same) keeps;
+        keeps = subst (λ (node : NodeState D). Keeps honest words node.records changes) (sym same) keeps;
         beside = record {
-          config = ap (λ (node : Standing D). node.config) same;
-          seats = ap (λ (node : Standing D). node.seats) same;
-          attempts = λ number. ap (λ (node : Standing D). slot_at node.attempts number) same;
+          config = ap (λ (node : NodeState D). node.config) same;
+          seats = ap (λ (node : NodeState D). node.seats) same;
+          attempts = λ number. ap (λ (node : NodeState D). slot_at node.attempts number) same;
         };
       },
     )
@@ -102,17 +102,17 @@ module _ {D : Type 0} (honest : Type 0) (words : DiskWords D) where
       changes,
       record {
         does = inr refl;
-        keeps = subst (λ (node : Standing D). Keeps honest words node.records changes) (sym same) keeps;
+        keeps = subst (λ (node : NodeState D). Keeps honest words node.records changes) (sym same) keeps;
         beside = record {
-          config = ap (λ (node : Standing D). node.config) same;
-          seats = ap (λ (node : Standing D). node.seats) same;
-          attempts = λ number. ap (λ (node : Standing D). slot_at node.attempts number) same;
+          config = ap (λ (node : NodeState D). node.config) same;
+          seats = ap (λ (node : NodeState D). node.seats) same;
+          attempts = λ number. ap (λ (node : NodeState D). slot_at node.attempts number) same;
         };
       },
     )
 
     -- the places of a message without a hop have ended
-    pub gave_up : (number : ℕ) (changes : List Change) (old new : Standing D) (added : ℕ) → AddsUnroutable honest words old.config.host old.config.routes number now changes old.records new.records added
+    pub gave_up : (number : ℕ) (changes : List Change) (old new : NodeState D) (added : ℕ) → AddsUnroutable honest words old.config.host old.config.routes number now changes old.records new.records added
         → new.config ≡ old.config → new.seats ≡ old.seats → new.attempts ≡ old.attempts → IsDone honest words now (NoRoute number) changes old new
     gave_up number changes old new added adds config seats attempts =
         let all = concluded old.config.host changes (unroutable old.config.routes number now adds.message) 0 new.records added adds.adds in (
@@ -125,7 +125,7 @@ module _ {D : Type 0} (honest : Type 0) (words : DiskWords D) where
         )
 
     -- what a fault of `give_up_unroutable` leaves, where all but a failed device leaves the work
-    pub gave_up_not : {X : Type 0} {F : Type 0} (ended : F) (number : ℕ) (changes : List Change) (old new : Standing D) (fault : NodeFault) (result : Result X F) → Keeps honest words old.records changes
+    pub gave_up_not : {X : Type 0} {F : Type 0} (ended : F) (number : ℕ) (changes : List Change) (old new : NodeState D) (fault : NodeFault) (result : Result X F) → Keeps honest words old.records changes
         → RefusesToGiveUp words old.config.host old.config.routes number now old.records new.records fault
         → new.config ≡ old.config → new.seats ≡ old.seats → new.attempts ≡ old.attempts
         → MatchResult result (λ _. fault ≢ node_fault.Stopped) (λ e. (fault ≡ node_fault.Stopped) × (e ≡ ended))
@@ -161,11 +161,11 @@ module _ {D : Type 0} (honest : Type 0) (words : DiskWords D) where
         by_result (Err e) is = inr (stopped_by (subst (λ f. RefusesToGiveUp words old.config.host old.config.routes number now old.records new.records f) is.0 refuses))
 
   -- a link has ended, of an attempt of which this was told
-  pub handed : (at : ℕ) (left held new_left new_held : Option (List ℕ)) (node : Standing D) (records : Kept D) (changes : List Change) (told : Told) (result : Result Pushed LinkFault)
+  pub handed : (at : ℕ) (left held new_left new_held : Option (List ℕ)) (node : NodeState D) (records : Kept D) (changes : List Change) (told : Told) (result : Result Pushed LinkFault)
       → PushesTo honest words (push_start_at left held node changes told) at new_left new_held records result → HandsOn honest words node.config.host changes told records result
   handed at left held new_left new_held node records changes told result pushes = by_result result pushes
     where
-      ended : (unwritten : List ℕ) → HasEnded honest words (push_start_at left held node changes told) at new_left new_held unwritten records → EndsOn honest words node.config.host changes told records
+      ended : (unwritten : List ℕ) → PushHasEnded honest words (push_start_at left held node changes told) at new_left new_held unwritten records → EndsOn honest words node.config.host changes told records
       ended unwritten h =
           let all = concluded node.config.host changes (outcome_at at told h.verdicts) h.concludes.used records h.concludes.number h.concludes.adds in
           record {
@@ -201,7 +201,7 @@ module _ {D : Type 0} (honest : Type 0) (words : DiskWords D) where
   keeps_but host changes told records link_fault.Device h other = absurd (other refl)
 
   -- before an attempt has read or written anything its link begins, whatever it is read from and written to
-  pub begins_here : (at number : ℕ) (node : Standing D) (changes : List Change) (told : Told) → Keeps honest words node.records changes → Tells node.config.host changes node.attempts number told
+  pub begins_here : (at number : ℕ) (node : NodeState D) (changes : List Change) (told : Told) → Keeps honest words node.records changes → Tells node.config.host changes node.attempts number told
       → IsAt honest words (push_start_at None None node changes told) at number None None [] [] node
   begins_here at number node changes told keeps tells = record {
     input = [];
@@ -216,7 +216,7 @@ module _ {D : Type 0} (honest : Type 0) (words : DiskWords D) where
   }
 
   -- What has come of an attempt that has begun for a message and a hop, and is gone.
-  module _ (now number : ℕ) (hop : List ℕ) (changes : List Change) (old mid new : Standing D) (started : Started)
+  module _ (now number : ℕ) (hop : List ℕ) (changes : List Change) (old mid new : NodeState D) (started : Started)
       (begins : Begins old.config changes number hop now old.attempts mid.attempts started) (config : mid.config ≡ old.config)
       (seats : mid.seats ≡ old.seats) (gone : new.records.spool.live ≡ true → slot_at new.attempts started.attempt ≡ None)
       (others : OthersStay mid.attempts new.attempts started.attempt) (same_config : new.config ≡ mid.config)
@@ -257,7 +257,7 @@ module _ {D : Type 0} (honest : Type 0) (words : DiskWords D) where
     )
 
     -- it was handed on, and what is said of it then changes no more than the note
-    pub handed_over : {X Y : Type 0} (pushed : Result Pushed LinkFault) (last : Standing D) (result : Result X Y)
+    pub handed_over : {X Y : Type 0} (pushed : Result Pushed LinkFault) (last : NodeState D) (result : Result X Y)
         → HandsOn honest words mid.config.host changes (begun_with number hop started.places.items begins.message) new.records pushed
         → IsSameButNote new last → TellsDevice pushed result → WorksTo honest words now (Try number hop) changes old last result
     handed_over (Ok pushed.Ended) last result h same told = whatever_noted now last.records.noted (Try number hop) changes old new last result (tried h) same
@@ -267,26 +267,26 @@ module _ {D : Type 0} (honest : Type 0) (words : DiskWords D) where
         let begun : Told = begun_with number hop started.places.items begins.message in
         whatever_noted now {X = X} {Y = Y} last.records.noted (Try number hop) changes old new last (Ok done) (dropped (keeps_but mid.config.host changes begun new.records fault h told)) same
     handed_over (Err fault) last (Err ended) h same told =
-        inr (ap (λ (node : Standing D). node.records.spool.live) same
+        inr (ap (λ (node : NodeState D). node.records.spool.live) same
         ∙ subst (λ (f : LinkFault). HandsOn honest words mid.config.host changes (begun_with number hop started.places.items begins.message) new.records (Err f)) told h)
 
   module _ (now : ℕ) where
     -- behind each of these works one more was done
-    pub does_more : (works : List Work) (work : Work) (changes between later : List Change) (old middle new : Standing D) → DoesEach honest words now works changes old between middle → DoesOne honest words now work between later middle new
+    pub does_more : (works : List Work) (work : Work) (changes between later : List Change) (old middle new : NodeState D) → DoesEach honest words now works changes old between middle → DoesOne honest words now work between later middle new
         → DoesEach honest words now (works ++ work ∷ []) changes old later new
     does_more [] work changes between later old middle new done one =
-        (later, new, subst (λ (list : List Change). DoesOne honest words now work list later old new) done.0 (subst (λ (node : Standing D). DoesOne honest words now work between later node new) done.1 one), (refl, refl))
+        (later, new, subst (λ (list : List Change). DoesOne honest words now work list later old new) done.0 (subst (λ (node : NodeState D). DoesOne honest words now work between later node new) done.1 one), (refl, refl))
     does_more (first ∷ works) work changes between later old middle new done one =
         (done.0, done.1, done.2, does_more works work done.0 between later done.1 middle new done.3 one)
 
     -- the node keeps what the works left
-    pub each_keeps : (works : List Work) (changes later : List Change) (old new : Standing D) → Keeps honest words old.records changes → DoesEach honest words now works changes old later new → Keeps honest words new.records later
+    pub each_keeps : (works : List Work) (changes later : List Change) (old new : NodeState D) → Keeps honest words old.records changes → DoesEach honest words now works changes old later new → Keeps honest words new.records later
     each_keeps [] changes later old new keeps done =
-        subst (λ (list : List Change). Keeps honest words new.records list) (sym done.0) (subst (λ (node : Standing D). Keeps honest words node.records changes) (sym done.1) keeps)
+        subst (λ (list : List Change). Keeps honest words new.records list) (sym done.0) (subst (λ (node : NodeState D). Keeps honest words node.records changes) (sym done.1) keeps)
     each_keeps (work ∷ works) changes later old new keeps done = each_keeps works done.0 later done.1 new done.2.keeps done.3
 
     -- the works before the first were done
-    pub begins_with_none : (works : List Work) (changes : List Change) (node : Standing D) → (later : List Change) × DoesEach honest words now (take 0 works) changes node later node
+    pub begins_with_none : (works : List Work) (changes : List Change) (node : NodeState D) → (later : List Change) × DoesEach honest words now (take 0 works) changes node later node
     begins_with_none works changes node = (changes, (refl, refl))
 
     -- one work more is the next
@@ -294,7 +294,7 @@ module _ {D : Type 0} (honest : Type 0) (words : DiskWords D) where
     next_work works at work below is = rw add-one (take-suc works at work below ∙ ap (λ next. take at works ++ next ∷ []) (sym is))
 
     -- the next work was done too
-    pub goes_further : (works : List Work) (at : ℕ) (work : Work) (changes : List Change) (old node new : Standing D) → at < length works → work ≡ get_or works at work → Keeps honest words old.records changes
+    pub goes_further : (works : List Work) (at : ℕ) (work : Work) (changes : List Change) (old node new : NodeState D) → at < length works → work ≡ get_or works at work → Keeps honest words old.records changes
         → (later : List Change) × DoesEach honest words now (take at works) changes old later node → ((later : List Change) → Keeps honest words node.records later → IsDone honest words now work later node new)
         → (later : List Change) × DoesEach honest words now (take (at + 1) works) changes old later new
     goes_further works at work changes old node new below is keeps so_far one =
@@ -302,7 +302,7 @@ module _ {D : Type 0} (honest : Type 0) (words : DiskWords D) where
         (done.0, subst (λ (list : List Work). DoesEach honest words now list changes old done.0 new) (sym (next_work works at work below is)) (does_more (take at works) work changes so_far.0 done.0 old node new so_far.1 done.1))
 
     -- the next work has ended them, where it was done or not
-    pub stops_here : (works : List Work) (at : ℕ) (work : Work) (changes : List Change) (old node new : Standing D) → at < length works → work ≡ get_or works at work → Keeps honest words old.records changes
+    pub stops_here : (works : List Work) (at : ℕ) (work : Work) (changes : List Change) (old node new : NodeState D) → at < length works → work ≡ get_or works at work → Keeps honest words old.records changes
         → (later : List Change) × DoesEach honest words now (take at works) changes old later node
         → ((later : List Change) → Keeps honest words node.records later → IsDone honest words now work later node new ⊎ (new.records.spool.live ≡ false))
         → DoesSome honest words now works changes old new
@@ -331,19 +331,19 @@ module _ {D : Type 0} (honest : Type 0) (words : DiskWords D) where
         ]
 
     -- all works were done
-    pub all_done : (works : List Work) (at : ℕ) (changes : List Change) (old new : Standing D) → length works ≤ at → (later : List Change) × DoesEach honest words now (take at works) changes old later new → (later : List Change) × DoesEach honest words now works changes old later new
+    pub all_done : (works : List Work) (at : ℕ) (changes : List Change) (old new : NodeState D) → length works ≤ at → (later : List Change) × DoesEach honest words now (take at works) changes old later new → (later : List Change) × DoesEach honest words now works changes old later new
     all_done works at changes old new end so_far = (so_far.0, subst (λ (list : List Work). DoesEach honest words now list changes old so_far.0 new) (take_all at works end) so_far.1)
 
     -- no work was done
-    pub none_done : (works : List Work) (changes : List Change) (node : Standing D) → DoesSome honest words now works changes node node
+    pub none_done : (works : List Work) (changes : List Change) (node : NodeState D) → DoesSome honest words now works changes node node
     none_done works changes node = record { front = []; rest = works; works_are = refl; later = changes; middle = node; each = (refl, refl); ends = inl refl }
 
     -- what is told by an error, where some of the works were done
-    pub refused_by : {X Y : Type 0} (works : List Work) (changes : List Change) (old new : Standing D) (result : Result X Y) → IsErr result → DoesSome honest words now works changes old new → WorksOff honest words now works changes old new result
+    pub refused_by : {X Y : Type 0} (works : List Work) (changes : List Change) (old new : NodeState D) (result : Result X Y) → IsErr result → DoesSome honest words now works changes old new → WorksOff honest words now works changes old new result
     refused_by works changes old new (Ok x) is_err some = absurd (true≢false (sym is_err))
     refused_by works changes old new (Err e) is_err some = some
 
     -- the same of one work, where the device failed
-    pub stopped_by : {X Y : Type 0} (work : Work) (changes : List Change) (old new : Standing D) (result : Result X Y) → IsErr result → new.records.spool.live ≡ false → WorksTo honest words now work changes old new result
+    pub stopped_by : {X Y : Type 0} (work : Work) (changes : List Change) (old new : NodeState D) (result : Result X Y) → IsErr result → new.records.spool.live ≡ false → WorksTo honest words now work changes old new result
     stopped_by work changes old new (Ok x) is_err stopped = absurd (true≢false (sym is_err))
     stopped_by work changes old new (Err e) is_err stopped = inr stopped

@@ -22,10 +22,10 @@ use Rattle.relay_links.specs.declared.fault.LinkFault.{LinkFault}
 use Rattle.relay_links.specs.declared.fault.LinkFault.TheVariants.{Input, Output, NoMemory, Full, Device}
 use Rattle.relay_links.specs.declared.push.Pushed.{Pushed}
 use Rattle.relay_node.specs.Attempts.{Begins, begun_with}
-use Rattle.relay_node.specs.Node.{Standing}
+use Rattle.relay_node.specs.Node.{NodeState}
 
 -- the configuration, the sessions and the running attempts are the same
-pub record StaysBeside {D : Type 0} (old new : Standing D) : Type 0 where
+pub record StaysBeside {D : Type 0} (old new : NodeState D) : Type 0 where
   pub config : new.config ≡ old.config
   pub seats : new.seats ≡ old.seats
   pub attempts : (number : ℕ) → slot_at new.attempts number ≡ slot_at old.attempts number
@@ -37,7 +37,7 @@ pub record Concludes (host : List ℕ) (changes later : List Change) (outcome : 
   pub later_is : later ≡ changes ++ reported_as outcome report ∷ []
 
 -- the node is the same but for its note
-abbrev pub IsSameButNote : {D : Type 0} → Standing D → Standing D → Type 0
+abbrev pub IsSameButNote : {D : Type 0} → NodeState D → NodeState D → Type 0
 IsSameButNote old new = new ≡ record old { records = record old.records { noted = new.records.noted } }
 
 -- of a link's fault a run is told exactly where it is the device's
@@ -76,14 +76,14 @@ module _ {D : Type 0} (honest : Type 0) (words : DiskWords D) (host : List ℕ) 
 -- The words below are of works at a moment, of a node that keeps changes before and later ones behind.
 module _ {D : Type 0} (honest : Type 0) (words : DiskWords D) (now : ℕ) where
   -- exactly the held places of the message that have no hop have ended
-  pub record GivesUp (number : ℕ) (changes later : List Change) (old : Standing D) : Type 0 where
+  pub record GivesUp (number : ℕ) (changes later : List Change) (old : NodeState D) : Type 0 where
     pub message : Message
     pub found : message_of old.records.queue.messages number ≡ Some message
     pub concludes : Concludes old.config.host changes later (unroutable old.config.routes number now message)
 
   -- an attempt has begun for those places of the message that are due and go to the hop, and it has ended, or is gone
   -- without an outcome
-  pub record Tries (number : ℕ) (hop : List ℕ) (changes later : List Change) (old : Standing D) : Type 0 where
+  pub record Tries (number : ℕ) (hop : List ℕ) (changes later : List Change) (old : NodeState D) : Type 0 where
     pub begun : List (Option Run)
     pub started : Started
     pub begins : Begins old.config changes number hop now old.attempts begun started
@@ -92,43 +92,43 @@ module _ {D : Type 0} (honest : Type 0) (words : DiskWords D) (now : ℕ) where
         ⊎ (later ≡ changes)
 
   -- the work was done once, or it was left: for want of memory or of room, or since it isn't due any more
-  abbrev pub Does : Work → List Change → List Change → Standing D → Type 0
+  abbrev pub Does : Work → List Change → List Change → NodeState D → Type 0
   Does (NoRoute number) changes later old = GivesUp number changes later old ⊎ (later ≡ changes)
   Does (Try number hop) changes later old = Tries number hop changes later old ⊎ (later ≡ changes)
 
   -- so much was done, and no more: the node keeps the later changes, and has no attempt more
-  pub record DoesOne (work : Work) (changes later : List Change) (old new : Standing D) : Type 0 where
+  pub record DoesOne (work : Work) (changes later : List Change) (old new : NodeState D) : Type 0 where
     pub does : Does work changes later old
     pub keeps : Keeps honest words new.records later
     pub beside : StaysBeside old new
 
-  abbrev pub IsDone : Work → List Change → Standing D → Standing D → Type 0
+  abbrev pub IsDone : Work → List Change → NodeState D → NodeState D → Type 0
   IsDone work changes old new = (later : List Change) × DoesOne work changes later old new
 
   -- one work was done so; where a fault is told, it was, or the device failed
-  abbrev pub WorksTo : {X Y : Type 0} → Work → List Change → Standing D → Standing D → Result X Y → Type 0
+  abbrev pub WorksTo : {X Y : Type 0} → Work → List Change → NodeState D → NodeState D → Result X Y → Type 0
   WorksTo work changes old new result =
       MatchResult result (λ _. IsDone work changes old new)
       (λ _. IsDone work changes old new ⊎ (new.records.spool.live ≡ false))
 
   -- each work of the list was done so, in order, each over what the one before has left
-  abbrev pub DoesEach : List Work → List Change → Standing D → List Change → Standing D → Type 0
+  abbrev pub DoesEach : List Work → List Change → NodeState D → List Change → NodeState D → Type 0
   DoesEach [] changes old later new = (later ≡ changes) × (new ≡ old)
   DoesEach (work ∷ works) changes old later new =
-      (between : List Change) × (middle : Standing D) × DoesOne work changes between old middle
+      (between : List Change) × (middle : NodeState D) × DoesOne work changes between old middle
       × DoesEach works between middle later new
 
   -- some of the works were done so, from the first on; then a line couldn't be written, or the device failed
-  pub record DoesSome (works : List Work) (changes : List Change) (old new : Standing D) : Type 0 where
+  pub record DoesSome (works : List Work) (changes : List Change) (old new : NodeState D) : Type 0 where
     pub front : List Work
     pub rest : List Work
     pub works_are : works ≡ front ++ rest
     pub later : List Change
-    pub middle : Standing D
+    pub middle : NodeState D
     pub each : DoesEach front changes old later middle
     pub ends : (new ≡ middle) ⊎ (new.records.spool.live ≡ false)
 
-  abbrev pub WorksOff : {X Y : Type 0} → List Work → List Change → Standing D → Standing D → Result X Y → Type 0
+  abbrev pub WorksOff : {X Y : Type 0} → List Work → List Change → NodeState D → NodeState D → Result X Y → Type 0
   WorksOff works changes old new result =
       MatchResult result (λ _. (later : List Change) × DoesEach works changes old later new)
       (λ _. DoesSome works changes old new)

@@ -1,7 +1,7 @@
 //! A relay that serves its clients one after another, and hands on what they brought.
 ghost use Rattle.std.specs.Prelude.{◌≡◌, List};
 ghost use Rattle.relay_book.specs.declared.change.Change.{Change};
-ghost use Rattle.relay_links.specs.Link.{HasEnded, start_at};
+ghost use Rattle.relay_links.specs.Link.{LinkHasEnded, start_at};
 ghost use Rattle.relay_records.specs.Records.{Keeps};
 
 use crate::fault::Fault;
@@ -122,7 +122,7 @@ fn serve_client<D: Disk, R: Read, W: Write>(
     now: Moment,
 ) -> Result<(), LinkFault>
     ensures served { (changes : List Change) → Keeps D.honest D.words node.old.records changes
-        → HasEnded D.honest D.words
+        → LinkHasEnded D.honest D.words
         (start_at (R.remaining reader.old) (W.contents writer.old) peer node.old changes) now
         (R.remaining reader.new) (W.contents writer.new) node.new.records result }
     ensures config { node.new.config ≡ node.old.config }

@@ -29,7 +29,7 @@ use Rattle.relay_attempts.specs.Hops.{hop_of_place, is_stranded, stranded_places
 use Rattle.relay_attempts.specs.Outcomes.{AddsUnroutable, rulings_of, unroutable, unrouted}
 use Rattle.relay_attempts.specs.Reply.{IsLost, Told, outcome_at}
 use Rattle.relay_node.specs.Attempts.{RepliesBy, Tells}
-use Rattle.relay_node.specs.Node.{Standing}
+use Rattle.relay_node.specs.Node.{NodeState}
 use Rattle.relay_world.specs.declared.attempt.Fate.TheVariants.{Lost, Replied}
 use Rattle.relay_world.specs.declared.line.Line.TheVariants.{Accepted}
 use Rattle.relay_world.specs.Bound.{HostKeeps, IsBound, IsListOf, NodeKeeps, told_by}
@@ -112,17 +112,17 @@ module _ {D : Type 0} (honest : Type 0) (words : DiskWords D) (old new : World D
   Takers node before one = HasTakers honest words old new lists later bound once now node before one
 
   -- a node's list has an outcome more, which was noted
-  outcome_added : (node : ℕ) (host : Host D) (after : Standing D) (noted : Noted) (name : List ℕ) (outcome : Outcome)
+  outcome_added : (node : ℕ) (host : Host D) (after : NodeState D) (noted : Noted) (name : List ℕ) (outcome : Outcome)
       (used number : ℕ) (changes : List Change) → slice_get lists node ≡ Some changes → slice_get old.hosts node ≡ Some host
       → after.records.noted ≡ Some noted
       → IsPut old.hosts new.hosts node
-      (record host { holder = Up (without_note after); records = host.records ++ noted.octets ∷ [] })
+      (record host { state = Up (without_note after); records = host.records ++ noted.octets ∷ [] })
       → (adds : AddsOutcome honest words name changes outcome used after.records number)
       → Takers node changes (reported_as outcome adds.report) → Adds
   outcome_added node host after noted name outcome used number changes list at note_is put adds takers =
       let one : Change = reported_as outcome adds.report in
       lists_put honest words old new lists later bound once now node host
-      (record host { holder = Up (without_note after); records = host.records ++ noted.octets ∷ [] }) at put
+      (record host { state = Up (without_note after); records = host.records ++ noted.octets ∷ [] }) at put
       (λ before more first second is more_is.
       let same : changes ≡ before = same_Some changes before (sym list ∙ first) in
       subst (λ l. AddsTo honest words old new lists later bound once now node l more) same
@@ -138,11 +138,11 @@ module _ {D : Type 0} (honest : Type 0) (words : DiskWords D) (old new : World D
       → RecordsHeard old new hears.of.end.node number hears.of.host hears.after change_now → Adds
   heard_adds number count hears None records =
       lists_stay honest words old new lists later bound once now hears.of.end.node hears.of.host
-      (record hears.of.host { holder = Up hears.after }) hears.of.host_at records.0 refl
+      (record hears.of.host { state = Up hears.after }) hears.of.host_at records.0 refl
   heard_adds number count hears (Some change_now) records =
       lists_put honest words old new lists later bound once now hears.of.end.node hears.of.host
       (record hears.of.host {
-        holder = Up (without_note hears.after);
+        state = Up (without_note hears.after);
         records = hears.of.host.records ++ records.0.octets ∷ [];
       }) hears.of.host_at records.2
       (λ before more first second is more_is.
@@ -185,7 +185,7 @@ module _ {D : Type 0} (honest : Type 0) (words : DiskWords D) (old new : World D
           → RecordsRead old new number reads.of reads.after made → Adds
       by None on records =
           lists_stay honest words old new lists later bound once now reads.of.attempt.node reads.of.host
-          (record reads.of.host { holder = Up reads.after }) reads.of.host_at records.0 refl
+          (record reads.of.host { state = Up reads.after }) reads.of.host_at records.0 refl
       by (Some change_now) ended records =
           outcome_added reads.of.attempt.node reads.of.host reads.after records.noted reads.of.before.config.host
           (outcome_at old.clock told ended.verdicts) reads.replied.used change_now knows.changes knows.list_at reads.of.host_at

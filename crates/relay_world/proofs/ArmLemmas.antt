@@ -7,7 +7,7 @@ use Rattle.relay_disk.specs.Device.{DiskWords}
 use Rattle.relay_server.specs.Dialogue.{Said}
 use Rattle.relay_book.specs.declared.change.Change.{Change}
 use Rattle.relay_node.specs.Attempts.{Tells}
-use Rattle.relay_node.specs.Node.{SaysAt, Standing}
+use Rattle.relay_node.specs.Node.{SeatHasSaid, NodeState}
 use Rattle.relay_world.specs.declared.link.Link.{Link}
 use Rattle.relay_world.specs.Bound.{HasLink, HostKeeps, IsBound, NodeKeeps, SaysThere, link_of}
 use Rattle.relay_world.specs.Ledger.{accepts_on, steps_in}
@@ -18,7 +18,7 @@ use Rattle.relay_world.proofs.ClaimLemmas.{given_up_at}
 use Rattle.relay_world.proofs.FrameLemmas.{TellsOn}
 use Rattle.relay_world.proofs.MoveLemmas.{Joins, Moves, moved_keeps, same_attempts, same_slots}
 use Rattle.relay_world.proofs.OpenLemmas.{list_there, node_kept, same_Up}
-use Rattle.relay_world.proofs.StopOnceLemmas.{holder_alone}
+use Rattle.relay_world.proofs.StopOnceLemmas.{state_alone}
 use Rattle.relay_world.proofs.UndecidedLemmas.{up_not_down}
 
 -- no link at all
@@ -34,7 +34,7 @@ arming_keeps {D} honest words old new lists node bound arms =
     host = arms.host
 
     moved : Host D
-    moved = record host { holder = Up arms.after }
+    moved = record host { state = Up arms.after }
 
     listed : (list : List Change) × (slice_get lists node ≡ Some list)
     listed = list_there old.hosts lists node host bound.even arms.host_at
@@ -54,8 +54,8 @@ arming_keeps {D} honest words old new lists node bound arms =
     says (Some session) peer said there = (
       arms.after,
       refl,
-      subst (λ l. SaysAt host.config l session peer said) (sym arms.seats)
-          (subst (λ (n : Standing D). SaysAt host.config n.seats session peer said)
+      subst (λ l. SeatHasSaid host.config l session peer said) (sym arms.seats)
+          (subst (λ (n : NodeState D). SeatHasSaid host.config n.seats session peer said)
           (same_Up there.0 arms.before (sym there.1 ∙ arms.up)) there.2),
     )
 
@@ -64,7 +64,7 @@ arming_keeps {D} honest words old new lists node bound arms =
       arms.after,
       refl,
       subst (λ l. Tells host.config.host changes l slot told) (sym arms.attempts)
-          (subst (λ (n : Standing D). Tells host.config.host changes n.attempts slot told)
+          (subst (λ (n : NodeState D). Tells host.config.host changes n.attempts slot told)
           (same_Up is.0 arms.before (sym is.1 ∙ arms.up)) is.2),
     )
 
@@ -124,6 +124,6 @@ module _ {D : Type 0} (honest : Type 0) (words : DiskWords D) (old new : World D
     (bound : IsBound honest words old lists) (once : IsTriedOnce old lists) (now : IsBound honest words new later) where
   pub armed : (node : ℕ) → HasArmed honest words old new node → IsTriedOnce new later
   armed node arms =
-      holder_alone honest words old new lists later bound once now node arms.host (Up arms.after) arms.host_at arms.hosts
+      state_alone honest words old new lists later bound once now node arms.host (Up arms.after) arms.host_at arms.hosts
       arms.rest.0 arms.rest.1 arms.rest.2
       (given_up_at honest words old new lists later bound once now node arms.host arms.after arms.host.records arms.hosts)

@@ -8,7 +8,7 @@ use Rattle.relay_book.specs.declared.change.Change.{Change}
 use Rattle.relay_attempts.specs.declared.runs.Run.{Run}
 use Rattle.relay_attempts.specs.Reply.{Told}
 use Rattle.relay_node.specs.Attempts.{Tells}
-use Rattle.relay_node.specs.Node.{Standing}
+use Rattle.relay_node.specs.Node.{NodeState}
 use Rattle.relay_world.specs.declared.attempt.Attempt.{Attempt}
 use Rattle.relay_world.specs.declared.attempt.Fate.TheVariants.{Running}
 use Rattle.relay_world.specs.Bound.{HasFate, HasSlot, HostKeeps, IsBound, IsTried, NodeKeeps, PassesOn, StandsAt, told_by}
@@ -88,7 +88,7 @@ module _ {D : Type 0} (honest : Type 0) (words : DiskWords D) (old : World D) (l
   told_was = told_by of.attempt was.accept (take of.link.down_read of.link.down) was.output
 
   tells_before : Tells of.host.config.host listed.0 of.before.attempts of.slot told_was
-  tells_before = subst (λ (n : Standing D). Tells of.host.config.host listed.0 n.attempts of.slot told_was)
+  tells_before = subst (λ (n : NodeState D). Tells of.host.config.host listed.0 n.attempts of.slot told_was)
       (same_Up fate_was.2.0 of.before (sym fate_was.2.1 ∙ of.up)) fate_was.2.2
 
   pub known : KnowsAttempt honest words old lists number of

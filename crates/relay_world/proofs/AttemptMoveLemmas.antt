@@ -9,7 +9,7 @@ use Rattle.relay_server.specs.Dialogue.{Said}
 use Rattle.relay_book.specs.declared.change.Change.{Change}
 use Rattle.relay_attempts.specs.Reply.{Told}
 use Rattle.relay_node.specs.Attempts.{Tells}
-use Rattle.relay_node.specs.Node.{SaysAt, Standing}
+use Rattle.relay_node.specs.Node.{SeatHasSaid, NodeState}
 use Rattle.relay_world.specs.declared.attempt.Attempt.{Attempt}
 use Rattle.relay_world.specs.declared.attempt.Fate.{Fate}
 use Rattle.relay_world.specs.declared.attempt.Fate.TheVariants.{Running}
@@ -29,9 +29,9 @@ use Rattle.relay_world.proofs.OpenLemmas.{same_Up}
 
 module _ {D : Type 0} (honest : Type 0) (words : DiskWords D) (old new : World D) (lists later : List (List Change)) (number : ℕ)
     (bound : IsBound honest words old lists) (of : AttemptOf old number) (knows : KnowsAttempt honest words old lists number of)
-    (link : Link) (more : List ℕ) (after : Standing D) (records : List (List ℕ)) (grown : List Change) (fate : Fate) where
+    (link : Link) (more : List ℕ) (after : NodeState D) (records : List (List ℕ)) (grown : List Change) (fate : Fate) where
   abbrev moved : Host D
-  moved = record of.host { holder = Up after; records = records }
+  moved = record of.host { state = Up after; records = records }
 
   abbrev attempt_now : Attempt
   attempt_now = record of.attempt { fate = fate }
@@ -73,8 +73,8 @@ module _ {D : Type 0} (honest : Type 0) (words : DiskWords D) (old new : World D
     still_says (Some session) peer said says = (
       after,
       refl,
-      subst (λ l. SaysAt of.host.config l session peer said) (sym moves.seats)
-          (subst (λ (n : Standing D). SaysAt of.host.config n.seats session peer said)
+      subst (λ l. SeatHasSaid of.host.config l session peer said) (sym moves.seats)
+          (subst (λ (n : NodeState D). SeatHasSaid of.host.config n.seats session peer said)
           (same_Up says.0 of.before (sym says.1 ∙ of.up)) says.2),
     )
 
@@ -85,7 +85,7 @@ module _ {D : Type 0} (honest : Type 0) (words : DiskWords D) (old new : World D
           after,
           refl,
           moves.tells slot told (other_slot honest words old lists number bound of place attempt slot elsewhere at has)
-              (subst (λ (n : Standing D). Tells of.host.config.host knows.changes n.attempts slot told)
+              (subst (λ (n : NodeState D). Tells of.host.config.host knows.changes n.attempts slot told)
               (same_Up is.0 of.before (sym is.1 ∙ of.up)) is.2),
         )
 

@@ -10,7 +10,7 @@ use Rattle.relay_book.specs.declared.change.Change.{Change}
 use Rattle.relay_book.specs.declared.change.Change.TheVariants as change
 use Rattle.relay_book.specs.declared.change.Outcome.{Outcome}
 use Rattle.relay_book.specs.Marks.{change_at, message_at}
-use Rattle.relay_node.specs.Node.{Standing}
+use Rattle.relay_node.specs.Node.{NodeState}
 use Rattle.relay_routes.specs.declared.config.Config.{Config}
 use Rattle.relay_attempts.specs.Hops.{goes_to}
 use Rattle.relay_world.specs.declared.attempt.Attempt.{Attempt}
@@ -145,7 +145,7 @@ module _ {D : Type 0} (honest : Type 0) (words : DiskWords D) where
     abbrev pub GivenUpKept : Type 0
     GivenUpKept =
         (node message : ℕ) (host : Host D) (changes : List Change) (disk : D) (undecided : Undecided)
-        → StandsAt new later node host changes → host.holder ≡ Down disk (Some undecided)
+        → StandsAt new later node host changes → host.state ≡ Down disk (Some undecided)
         → undecided.origin ≡ FromNoHop message → GivesUpNoHops host.config.routes changes undecided.note.octets
 
     -- a node whose records are the same has the list that it had
@@ -320,7 +320,7 @@ module _ {D : Type 0} (honest : Type 0) (words : DiskWords D) where
     -- the undecided changes, where one node has moved on, or none
     pub given_put : (node : ℕ) (moved : Host D) → IsPut old.hosts new.hosts node moved
         → ((message : ℕ) (changes : List Change) (disk : D) (undecided : Undecided) → StandsAt new later node moved changes
-        → moved.holder ≡ Down disk (Some undecided) → undecided.origin ≡ FromNoHop message
+        → moved.state ≡ Down disk (Some undecided) → undecided.origin ≡ FromNoHop message
         → GivesUpNoHops moved.config.routes changes undecided.note.octets) → GivenUpKept
     given_put node moved put here n message host changes disk undecided stands down origin =
         elim (put_cases old.hosts new.hosts node moved put n host stands.host_at) [
@@ -329,17 +329,17 @@ module _ {D : Type 0} (honest : Type 0) (words : DiskWords D) where
               (here message changes disk undecided (record {
                 host_at = put.at;
                 list_at = ap (λ k. slice_get later k) (sym same.0) ∙ stands.list_at;
-              }) (ap (λ (h : Host D). h.holder) same.1 ∙ down) origin)
+              }) (ap (λ (h : Host D). h.state) same.1 ∙ down) origin)
           | inr other ↦ once.given_up n message host changes disk undecided (record {
             host_at = other.1;
             list_at = list_still n host host changes other.1 refl stands;
           }) down origin
         ]
 
-    pub given_up_at : (node : ℕ) (host : Host D) (after : Standing D) (records : List (List ℕ))
-        → IsPut old.hosts new.hosts node (record host { holder = Up after; records = records }) → GivenUpKept
+    pub given_up_at : (node : ℕ) (host : Host D) (after : NodeState D) (records : List (List ℕ))
+        → IsPut old.hosts new.hosts node (record host { state = Up after; records = records }) → GivenUpKept
     given_up_at node host after records put =
-        given_put node (record host { holder = Up after; records = records }) put
+        given_put node (record host { state = Up after; records = records }) put
         (λ message changes disk undecided stands down origin. absurd (up_not_down after disk (Some undecided) down))
 
     pub given_same : new.hosts ≡ old.hosts → GivenUpKept

@@ -7,9 +7,9 @@ use Rattle.relay_book.specs.declared.change.Change.{Change}
 use Rattle.relay_book.specs.Marks.{Held}
 use Rattle.relay_book.specs.Queue.{Queue, held_of}
 use Rattle.relay_book.proofs.Theorems.{exactly_one, fold_holds}
-use Rattle.relay_node.specs.Node.{Standing}
+use Rattle.relay_node.specs.Node.{NodeState}
 use Rattle.relay_records.specs.Records.{Keeps}
-use Rattle.relay_world.specs.Bound.{HolderKeeps, HostKeeps}
+use Rattle.relay_world.specs.Bound.{StateKeeps, HostKeeps}
 use Rattle.relay_world.specs.Custody.{CustodyIsKept}
 use Rattle.relay_world.specs.World.{Host, Up}
 use Rattle.relay_world.proofs.AcknowledgedLemmas.{acknowledged_added}
@@ -17,13 +17,13 @@ use Rattle.relay_world.proofs.CauseLemmas.{left_for}
 
 module _ {D : Type 0} (honest : Type 0) (words : DiskWords D) where
   -- a node that is up keeps its list
-  up_keeps : (host : Host D) (changes : List Change) → HostKeeps honest words host changes → (standing : Standing D)
-      → host.holder ≡ Up standing → Keeps honest words standing.records changes
+  up_keeps : (host : Host D) (changes : List Change) → HostKeeps honest words host changes → (standing : NodeState D)
+      → host.state ≡ Up standing → Keeps honest words standing.records changes
   up_keeps host changes keeps standing up =
-      (subst (λ holder. HolderKeeps honest words host.config holder changes) up keeps.holds).keeps
+      (subst (λ state. StateKeeps honest words host.config state changes) up keeps.holds).keeps
 
-  held_as : (host : Host D) (changes : List Change) → HostKeeps honest words host changes → (standing : Standing D)
-      → host.holder ≡ Up standing → (number place : ℕ)
+  held_as : (host : Host D) (changes : List Change) → HostKeeps honest words host changes → (standing : NodeState D)
+      → host.state ≡ Up standing → (number place : ℕ)
       → Contains {X = ℕ × ℕ} (held_of standing.records.queue) (number, place) ↔ Held changes number place
   held_as host changes keeps standing up number place =
       let kept : Keeps honest words standing.records changes = up_keeps host changes keeps standing up in
@@ -39,6 +39,6 @@ module _ {D : Type 0} (honest : Type 0) (words : DiskWords D) where
         held = held_as host changes keeps;
         images = λ is standing up. (up_keeps host changes keeps standing up).images is;
         images_down = λ is disk undecided down.
-            subst (λ holder. HolderKeeps honest words host.config holder changes) down keeps.holds is;
+            subst (λ state. StateKeeps honest words host.config state changes) down keeps.holds is;
         left = λ at number place way leaves. left_for host.config.host changes at number place way keeps.reports leaves;
       }

@@ -139,7 +139,7 @@ module _ {D : Type 0} (honest : Type 0) (words : DiskWords D) (old new : World D
       pub tried : (place : ℕ) → now.client ≡ Some place → IsTried new later number now place
       pub reads : ReadsWithin now
       pub settled : link.broken ≡ true → Settled honest words old new lists later node number host moved changes grown now link
-      pub may_be_in : (disk : D) (undecided : Undecided) → moved.holder ≡ Down disk (Some undecided)
+      pub may_be_in : (disk : D) (undecided : Undecided) → moved.state ≡ Down disk (Some undecided)
           → MayBeIn new node moved grown undecided
 
     pub link_moved : Ends → IsBound honest words new later

@@ -18,15 +18,15 @@ use Rattle.relay_records.specs.declared.noted.Noted.{Noted}
 use Rattle.relay_records.specs.Note.{IsNoted, accepted_by, is_text, queues_report}
 use Rattle.relay_records.specs.Records.{Halted, Keeps, Kept}
 use Rattle.relay_attempts.specs.AddedOutcome.{reported_as}
-use Rattle.relay_node.specs.Node.{Standing}
+use Rattle.relay_node.specs.Node.{NodeState}
 use Rattle.relay_world.specs.declared.attempt.Attempt.{Attempt}
 use Rattle.relay_world.specs.declared.attempt.Fate.TheVariants.{Running}
 use Rattle.relay_world.specs.declared.link.Link.{Link}
-use Rattle.relay_world.specs.Bound.{HasFate, HasLink, HolderKeeps, HostKeeps, IsBound, IsServed, IsTried, MayBeIn, SaysThere, StandsAt, link_of}
+use Rattle.relay_world.specs.Bound.{HasFate, HasLink, StateKeeps, HostKeeps, IsBound, IsServed, IsTried, MayBeIn, SaysThere, StandsAt, link_of}
 use Rattle.relay_world.specs.Ledger.{Accepts, Leaves, accepts_on, left_lines, lines_by, report_told, steps_by, steps_in, steps_of}
 use Rattle.relay_world.specs.Steps.{IsPut}
 use Rattle.relay_world.specs.Stops.{IsLeftBy, NoAttempt, NoSession}
-use Rattle.relay_world.specs.World.{Down, FromClient, Holder, Host, Origin, Undecided, Up, World, link_at}
+use Rattle.relay_world.specs.World.{Down, FromClient, HostState, Host, Origin, Undecided, Up, World, link_at}
 use Rattle.relay_world.proofs.FrameLemmas.{ChangesStay, MessagesStay}
 use Rattle.relay_world.proofs.PieceLemmas.{same_number}
 use Rattle.relay_world.proofs.MoveLemmas.{Joins, Moves, moved_keeps, same_attempts, same_slots}
@@ -37,8 +37,8 @@ use Rattle.relay_world.proofs.UndecidedLemmas.{Remains, up_not_down}
 pub nowhere : Link
 nowhere = record { client = None; server = None; up = []; up_read = 0; down = []; down_read = 0; broken = false }
 
--- what a holder that is down leaves undecided
-abbrev undecided_or : {D : Type 0} → Option Undecided → Holder D → Option Undecided
+-- what a state that is down leaves undecided
+abbrev undecided_or : {D : Type 0} → Option Undecided → HostState D → Option Undecided
 undecided_or other (Up node) = other
 undecided_or other (Down disk undecided) = undecided
 
@@ -100,7 +100,7 @@ module _ {D : Type 0} (honest : Type 0) (words : DiskWords D) where
   -- what a stop of live records leaves
   pub down_kept : (changes : List Change) (records : Kept D) (disk : D) (undecided : Option Undecided) (host : Host D)
       → Keeps honest words records changes → IsLeftBy honest words records disk
-      → HolderKeeps honest words host.config (Down disk undecided) changes
+      → StateKeeps honest words host.config (Down disk undecided) changes
   down_kept changes records disk undecided host keeps left is image may =
       let found = keeps.images is image (left is image may) in
       (found.0, found.1, inl found.2)
@@ -109,7 +109,7 @@ module _ {D : Type 0} (honest : Type 0) (words : DiskWords D) where
   pub down_halted : (changes : List Change) (change : Change) (records : Kept D) (disk : D) (noted : Noted) (origin : Origin)
       (host : Host D) → Halted honest words records changes (Some change) → noted.octets ≡ encode change
       → IsLeftBy honest words records disk
-      → HolderKeeps honest words host.config (Down disk (Some (record { note = noted; origin = origin }))) changes
+      → StateKeeps honest words host.config (Down disk (Some (record { note = noted; origin = origin }))) changes
   down_halted changes change records disk noted origin host halted octets left is image may =
       let found = halted.images is image (left is image may) in (
         found.0,
@@ -123,12 +123,12 @@ module _ {D : Type 0} (honest : Type 0) (words : DiskWords D) where
   -- a node that is down has no session and no attempt
   module _ (world : World D) (lists : List (List Change)) (bound : IsBound honest words world lists) (node : ℕ) (host : Host D)
       (disk : D) (undecided : Option Undecided) (at : slice_get world.hosts node ≡ Some host)
-      (down : host.holder ≡ Down disk undecided) where
-    is_down : (n : ℕ) (h : Host D) (standing : Standing D) → n ≡ node → slice_get world.hosts n ≡ Some h
-        → h.holder ≡ Up standing → ⊥
+      (down : host.state ≡ Down disk undecided) where
+    is_down : (n : ℕ) (h : Host D) (standing : NodeState D) → n ≡ node → slice_get world.hosts n ≡ Some h
+        → h.state ≡ Up standing → ⊥
     is_down n h standing same there up =
         let same_host : h ≡ host = same_Some h host (sym there ∙ ap (λ k. slice_get world.hosts k) same ∙ at) in
-        up_not_down standing disk undecided (sym up ∙ ap (λ (x : Host D). x.holder) same_host ∙ down)
+        up_not_down standing disk undecided (sym up ∙ ap (λ (x : Host D). x.state) same_host ∙ down)
 
     pub no_session_down : NoSession world node
     no_session_down number link session is has =
@@ -189,7 +189,7 @@ module _ {D : Type 0} (honest : Type 0) (words : DiskWords D) (old new : World D
     pub no_session : NoSession old node
     pub no_attempt : NoAttempt old node
     pub keeps : HostKeeps honest words moved grown
-    pub may_be_in : (disk : D) (undecided : Undecided) → moved.holder ≡ Down disk (Some undecided)
+    pub may_be_in : (disk : D) (undecided : Undecided) → moved.state ≡ Down disk (Some undecided)
         → MayBeIn new node moved grown undecided
 
   module _ (bound : IsBound honest words old lists) (host_moves : HostMoves) where

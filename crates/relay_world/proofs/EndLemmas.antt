@@ -8,7 +8,7 @@ use Rattle.relay_server.specs.Dialogue.{Said}
 use Rattle.relay_book.specs.declared.change.Change.{Change}
 use Rattle.relay_records.specs.Records.{Keeps}
 use Rattle.relay_node.specs.Attempts.{Tells}
-use Rattle.relay_node.specs.Node.{SaysAt, Standing}
+use Rattle.relay_node.specs.Node.{SeatHasSaid, NodeState}
 use Rattle.relay_world.specs.declared.link.Link.{Link}
 use Rattle.relay_world.specs.declared.link.ServerEnd.{ServerEnd}
 use Rattle.relay_world.specs.Bound.{HasSession, HostKeeps, IsServed, IsTried, NodeKeeps, SaysThere, ServesLink, StandsAt, link_of}
@@ -32,7 +32,7 @@ ending_keeps {D} honest words old new lists number bound ends =
     host = ends.of.host
 
     moved : Host D
-    moved = record host { holder = Up ends.after }
+    moved = record host { state = Up ends.after }
 
     link : Link
     link = record ends.of.link { server = Some (record ends.of.end { session = None }) }
@@ -89,7 +89,7 @@ ending_keeps {D} honest words old new lists number bound ends =
       refl,
       still_says host.config ends.of.before ends.after ends.of.session session peer said ends.others
           (λ same. other_session other its off is (subst (λ s. HasSession its node s) same has))
-          (subst (λ (n : Standing D). SaysAt host.config n.seats session peer said)
+          (subst (λ (n : NodeState D). SeatHasSaid host.config n.seats session peer said)
           (same_Up there.0 ends.of.before (sym there.1 ∙ ends.of.up)) there.2),
     )
 
@@ -98,7 +98,7 @@ ending_keeps {D} honest words old new lists number bound ends =
       ends.after,
       refl,
       subst (λ l. Tells host.config.host changes l slot told) (sym ends.attempts)
-          (subst (λ (n : Standing D). Tells host.config.host changes n.attempts slot told)
+          (subst (λ (n : NodeState D). Tells host.config.host changes n.attempts slot told)
           (same_Up is.0 ends.of.before (sym is.1 ∙ ends.of.up)) is.2),
     )
 

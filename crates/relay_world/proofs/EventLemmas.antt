@@ -7,7 +7,7 @@ use Rattle.relay_octets.specs.Beginning.{Begins}
 use Rattle.relay_disk.specs.Device.{DiskWords}
 use Rattle.relay_book.specs.declared.change.Change.{Change}
 use Rattle.relay_book.specs.declared.fate.Way.{Way}
-use Rattle.relay_node.specs.Node.{Standing}
+use Rattle.relay_node.specs.Node.{NodeState}
 use Rattle.relay_world.specs.declared.attempt.Attempt.{Attempt}
 use Rattle.relay_world.specs.declared.attempt.Fate.{Fate}
 use Rattle.relay_world.specs.declared.attempt.Fate.TheVariants.{Lost, Dropped, Replied}
@@ -71,8 +71,8 @@ module _ {D : Type 0} (honest : Type 0) (words : DiskWords D) (old new : World D
       (takers_kept honest words old new lists later bound once now grow adds stay) given outside
 
   -- a node that is up has nothing undecided
-  given_at : (node : ℕ) (host : Host D) (after : Standing D) (records : List (List ℕ))
-      → IsPut old.hosts new.hosts node (record host { holder = Up after; records = records }) → Given
+  given_at : (node : ℕ) (host : Host D) (after : NodeState D) (records : List (List ℕ))
+      → IsPut old.hosts new.hosts node (record host { state = Up after; records = records }) → Given
   given_at node host after records put = given_up_at honest words old new lists later bound once now node host after records put
 
   pub same_ends : new.attempts ≡ old.attempts → Stay
@@ -88,21 +88,21 @@ module _ {D : Type 0} (honest : Type 0) (words : DiskWords D) (old new : World D
       hosts_put honest words old new lists later bound once now node host moved at put config records
 
   -- or it has the same records
-  stayed : (node : ℕ) (host : Host D) (after : Standing D) → slice_get old.hosts node ≡ Some host
-      → IsPut old.hosts new.hosts node (record host { holder = Up after }) → Grow
+  stayed : (node : ℕ) (host : Host D) (after : NodeState D) → slice_get old.hosts node ≡ Some host
+      → IsPut old.hosts new.hosts node (record host { state = Up after }) → Grow
   stayed node host after at put =
-      moved_on node host (record host { holder = Up after }) at put refl ([], sym (append-nil host.records))
+      moved_on node host (record host { state = Up after }) at put refl ([], sym (append-nil host.records))
 
-  list_stayed : (node : ℕ) (host : Host D) (after : Standing D) → slice_get old.hosts node ≡ Some host
-      → IsPut old.hosts new.hosts node (record host { holder = Up after }) → Adds
+  list_stayed : (node : ℕ) (host : Host D) (after : NodeState D) → slice_get old.hosts node ≡ Some host
+      → IsPut old.hosts new.hosts node (record host { state = Up after }) → Adds
   list_stayed node host after at put =
-      lists_stay honest words old new lists later bound once now node host (record host { holder = Up after }) at put refl
+      lists_stay honest words old new lists later bound once now node host (record host { state = Up after }) at put refl
 
   -- it has recorded one change more
-  recorded_more : (node : ℕ) (host : Host D) (after : Standing D) (octets : List ℕ) → slice_get old.hosts node ≡ Some host
-      → IsPut old.hosts new.hosts node (record host { holder = Up after; records = host.records ++ octets ∷ [] }) → Grow
+  recorded_more : (node : ℕ) (host : Host D) (after : NodeState D) (octets : List ℕ) → slice_get old.hosts node ≡ Some host
+      → IsPut old.hosts new.hosts node (record host { state = Up after; records = host.records ++ octets ∷ [] }) → Grow
   recorded_more node host after octets at put =
-      moved_on node host (record host { holder = Up after; records = host.records ++ octets ∷ [] }) at put refl
+      moved_on node host (record host { state = Up after; records = host.records ++ octets ∷ [] }) at put refl
       (octets ∷ [], refl)
 
   -- a link that a node serves has changed
@@ -199,7 +199,7 @@ module _ {D : Type 0} (honest : Type 0) (words : DiskWords D) (old new : World D
       (λ other off. same_accepts ends.rest.1 other))
 
   -- an outcome of an attempt was recorded
-  recorded : (number change : ℕ) (of : AttemptOf old number) (after : Standing D) (fate : Fate) (link : Link)
+  recorded : (number change : ℕ) (of : AttemptOf old number) (after : NodeState D) (fate : Fate) (link : Link)
       → link.server ≡ of.link.server → IsPutAt old.links new.links number link
       → RecordsOutcome old new number of after fate change → Adds → IsTriedOnce new later
   recorded number change of after fate link server links records adds =

@@ -16,7 +16,7 @@ use Rattle.relay_records.specs.ListLaws.{IsNoFaultOfImage}
 use Rattle.relay_records.specs.Open.{Opens, RefusesImage}
 use Rattle.relay_records.specs.Records.{Keeps, Kept}
 use Rattle.relay_records.proofs.Theorems.{halted_is_not_refused, next_is_one_more}
-use Rattle.relay_world.specs.Bound.{HolderKeeps, HostKeeps, MayBeIn, link_of}
+use Rattle.relay_world.specs.Bound.{StateKeeps, HostKeeps, MayBeIn, link_of}
 use Rattle.relay_world.specs.Ledger.{Accepts, accepts_on, lines_by, report_told, steps_in}
 use Rattle.relay_world.specs.Stops.{DownIsNotRefused}
 use Rattle.relay_world.specs.World.{Down, FromClient, FromLoss, FromNoHop, FromReplies, Host, Origin, Undecided, World}
@@ -92,7 +92,7 @@ module _ {D : Type 0} (honest : Type 0) (words : DiskWords D) (sees_now : (disk 
 
   -- a node with nothing undecided is opened to its list
   pub opens_to_list : (host : Host D) (disk : D) (opened : Kept D) (changes : List Change)
-      → HolderKeeps honest words host.config (Down disk None) changes → Opens honest words disk opened
+      → StateKeeps honest words host.config (Down disk None) changes → Opens honest words disk opened
       → Keeps honest words opened changes
   opens_to_list host disk opened changes holds opens =
       let found = holds h (words.seen disk) (sees_now disk) in
@@ -103,7 +103,7 @@ module _ {D : Type 0} (honest : Type 0) (words : DiskWords D) (sees_now : (disk 
 
   module _ (world : World D) (node : ℕ) (host : Host D) (disk : D) (opened : Kept D) (changes : List Change)
       (undecided : Undecided)
-      (holds : HolderKeeps honest words host.config (Down disk (Some undecided)) changes) (opens : Opens honest words disk opened)
+      (holds : StateKeeps honest words host.config (Down disk (Some undecided)) changes) (opens : Opens honest words disk opened)
       (may : MayBeIn world node host changes undecided) where
     -- another is opened to its list, or to it with the undecided change
     opens_to_either : Keeps honest words opened changes ⊎ Keeps honest words opened (changes ++ may.change ∷ [])
@@ -149,7 +149,7 @@ module _ {D : Type 0} (honest : Type 0) (words : DiskWords D) (sees_now : (disk 
   -- what a node that is down leaves is what such records leave
   not_refused : (world : World D) (node : ℕ) (host : Host D) (changes : List Change) (disk : D) (undecided : Option Undecided)
       (cause : Cause)
-      → Fitting changes → HolderKeeps honest words host.config (Down disk undecided) changes
+      → Fitting changes → StateKeeps honest words host.config (Down disk undecided) changes
       → ((is : Undecided) → undecided ≡ Some is → MayBeIn world node host changes is)
       → RefusesImage honest (words.seen disk) cause → IsNoFaultOfImage cause
   unfolding halted_on
@@ -188,5 +188,5 @@ module _ {D : Type 0} (honest : Type 0) (words : DiskWords D) (sees_now : (disk 
   down_is_not_refused world lists node host changes disk undecided cause bound stands down refused =
       let kept : HostKeeps honest words host changes = bound.hosts node host changes stands in
       not_refused world node host changes disk undecided cause kept.list.fitting
-      (subst (λ holder. HolderKeeps honest words host.config holder changes) down kept.holds)
+      (subst (λ state. StateKeeps honest words host.config state changes) down kept.holds)
       (λ is same. bound.may_be_in node host changes disk is stands (down ∙ ap (λ u. Down disk u) same)) refused

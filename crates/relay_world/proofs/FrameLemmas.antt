@@ -17,7 +17,7 @@ use Rattle.relay_book.specs.Marks.{change_at, message_at}
 use Rattle.relay_attempts.specs.Reply.{Told}
 use Rattle.relay_course.specs.Course.{IsCourse}
 use Rattle.relay_node.specs.Attempts.{Tells}
-use Rattle.relay_node.specs.Node.{Standing}
+use Rattle.relay_node.specs.Node.{NodeState}
 use Rattle.relay_node.specs.Queued.{queued_in}
 use Rattle.relay_world.specs.declared.attempt.Attempt.{Attempt}
 use Rattle.relay_world.specs.declared.attempt.Fate.{Fate}
@@ -91,8 +91,8 @@ module _ {D : Type 0} where
   -- what an attempt that runs at a node is told of stays so at another value of the node
   abbrev pub TellsOn : Host D → Host D → List Change → List Change → ℕ → Type 0
   TellsOn host new changes later slot =
-      (told : Told) → (node : Standing D) × (host.holder ≡ Up node) × Tells host.config.host changes node.attempts slot told
-      → (node : Standing D) × (new.holder ≡ Up node) × Tells new.config.host later node.attempts slot told
+      (told : Told) → (node : NodeState D) × (host.state ≡ Up node) × Tells host.config.host changes node.attempts slot told
+      → (node : NodeState D) × (new.state ≡ Up node) × Tells new.config.host later node.attempts slot told
 
   fate_on : (host new : Host D) (changes later : List Change) (link : Link) (attempt : Attempt) (accept : Accept)
       (output : List ℕ) (told : Bool) (verdicts : Option (List Verdict)) (fate : Fate) → ChangesStay changes later

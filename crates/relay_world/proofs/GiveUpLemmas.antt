@@ -12,7 +12,7 @@ use Rattle.relay_routes.specs.declared.config.Config.{Config}
 use Rattle.relay_attempts.specs.Outcomes.{AddsUnroutable, unroutable}
 use Rattle.relay_attempts.specs.AddedOutcome.{AddsOutcome, reported_as}
 use Rattle.relay_node.specs.Attempts.{Tells}
-use Rattle.relay_node.specs.Node.{SaysAt, Standing}
+use Rattle.relay_node.specs.Node.{SeatHasSaid, NodeState}
 use Rattle.relay_node.proofs.Theorems.{told_stays}
 use Rattle.relay_world.specs.declared.link.Link.{Link}
 use Rattle.relay_world.specs.Bound.{HasLink, HostKeeps, NodeKeeps, SaysThere}
@@ -40,7 +40,7 @@ giving_up_keeps {D} honest words old new lists node message change_now bound giv
     host = gives.host
 
     moved : Host D
-    moved = record host { holder = Up (without_note gives.after); records = host.records ++ gives.noted.octets ∷ [] }
+    moved = record host { state = Up (without_note gives.after); records = host.records ++ gives.noted.octets ∷ [] }
 
     listed : (list : List Change) × (slice_get lists node ≡ Some list)
     listed = list_there old.hosts lists node host bound.even gives.host_at
@@ -91,8 +91,8 @@ giving_up_keeps {D} honest words old new lists node message change_now bound giv
     says (Some session) peer said there = (
       without_note gives.after,
       refl,
-      subst (λ l. SaysAt host.config l session peer said) (sym gives.seats)
-          (subst (λ (n : Standing D). SaysAt host.config n.seats session peer said)
+      subst (λ l. SeatHasSaid host.config l session peer said) (sym gives.seats)
+          (subst (λ (n : NodeState D). SeatHasSaid host.config n.seats session peer said)
           (same_Up there.0 gives.before (sym there.1 ∙ gives.up)) there.2),
     )
 
@@ -102,7 +102,7 @@ giving_up_keeps {D} honest words old new lists node message change_now bound giv
       refl,
       told_stays host.config.host changes added gives.before.attempts gives.after.attempts slot told
           adds.adds.keeps.fitting (ap (λ l. slot_at l slot) gives.attempts)
-          (subst (λ (n : Standing D). Tells host.config.host changes n.attempts slot told)
+          (subst (λ (n : NodeState D). Tells host.config.host changes n.attempts slot told)
           (same_Up is.0 gives.before (sym is.1 ∙ gives.up)) is.2),
     )
 

@@ -6,7 +6,7 @@ use Rattle.std.proofs.lemmas.List.{append_assoc, append-nil}
 use Rattle.std.proofs.lemmas.Option.{same_Some}
 use Rattle.relay_octets.specs.Beginning.{Begins}
 use Rattle.relay_disk.specs.Device.{DiskWords}
-use Rattle.relay_node.specs.Node.{Standing}
+use Rattle.relay_node.specs.Node.{NodeState}
 use Rattle.relay_records.specs.Records.{Kept}
 use Rattle.relay_world.specs.declared.attempt.Fate.{Fate}
 use Rattle.relay_world.specs.declared.attempt.Fate.TheVariants.{Lost, Replied}
@@ -130,30 +130,30 @@ module _ {D : Type 0} (old new : World D) where
       (octets_of number was link at
       (subst (λ l. IsPutAt old.links l number link) (sym (ap (λ (w : World D). w.links) same)) put) grows)
 
-  recorded : (number change : ℕ) (of : AttemptOf old number) (after : Standing D) (fate : Fate)
+  recorded : (number change : ℕ) (of : AttemptOf old number) (after : NodeState D) (fate : Fate)
       → RecordsOutcome old new number of after fate change → Octets → HasGrown old new
   recorded number change of after fate records octets =
       grown
       (records_put of.attempt.node of.host
-      (record of.host { holder = Up (without_note after); records = of.host.records ++ records.noted.octets ∷ [] }) of.host_at
+      (record of.host { state = Up (without_note after); records = of.host.records ++ records.noted.octets ∷ [] }) of.host_at
       records.hosts (records.noted.octets ∷ [], refl))
       (_, records.ledger) octets
 
-  heard : (node number : ℕ) (host : Host D) (after : Standing D) (change : Option ℕ) → slice_get old.hosts node ≡ Some host
+  heard : (node number : ℕ) (host : Host D) (after : NodeState D) (change : Option ℕ) → slice_get old.hosts node ≡ Some host
       → RecordsHeard old new node number host after change → Octets → HasGrown old new
   heard node number host after None at records octets =
-      grown (stays node host (record host { holder = Up after }) at records.0 refl) (same_ledger records.1) octets
+      grown (stays node host (record host { state = Up after }) at records.0 refl) (same_ledger records.1) octets
   heard node number host after (Some change) at records octets =
       grown
       (records_put node host
-      (record host { holder = Up (without_note after); records = host.records ++ records.0.octets ∷ [] }) at records.2
+      (record host { state = Up (without_note after); records = host.records ++ records.0.octets ∷ [] }) at records.2
       (records.0.octets ∷ [], refl))
       (_, records.3) octets
 
-  read_on : (number : ℕ) (of : AttemptOf old number) (after : Standing D) (change : Option ℕ)
+  read_on : (number : ℕ) (of : AttemptOf old number) (after : NodeState D) (change : Option ℕ)
       → RecordsRead old new number of after change → Octets → HasGrown old new
   read_on number of after None records octets =
-      grown (stays of.attempt.node of.host (record of.host { holder = Up after }) of.host_at records.0 refl)
+      grown (stays of.attempt.node of.host (record of.host { state = Up after }) of.host_at records.0 refl)
       (same_ledger records.1) octets
   read_on number of after (Some change) records octets = recorded number change of after (Replied change) records octets
 
@@ -162,7 +162,7 @@ module _ {D : Type 0} (old new : World D) where
   dropped_at number of stopped origin drops =
       grown
       (stays of.attempt.node of.host
-      (record of.host { holder = Down drops.disk (Some (record { note = drops.noted; origin = origin })) }) of.host_at drops.hosts
+      (record of.host { state = Down drops.disk (Some (record { note = drops.noted; origin = origin })) }) of.host_at drops.hosts
       refl)
       (same_ledger drops.rest.0)
       (octets_of number of.link (record of.link { broken = true }) of.link_is drops.links (record {
@@ -172,11 +172,11 @@ module _ {D : Type 0} (old new : World D) where
         down_read = omega arith;
       }))
 
-  found : (node : ℕ) (host : Host D) (after : Standing D) (undecided : Undecided) → slice_get old.hosts node ≡ Some host
+  found : (node : ℕ) (host : Host D) (after : NodeState D) (undecided : Undecided) → slice_get old.hosts node ≡ Some host
       → HasFound old new node host after undecided → HasGrown old new
   found node host after undecided at finds =
       grown
-      (records_put node host (record host { holder = Up after; records = host.records ++ undecided.note.octets ∷ [] }) at
+      (records_put node host (record host { state = Up after; records = host.records ++ undecided.note.octets ∷ [] }) at
       finds.hosts (undecided.note.octets ∷ [], refl))
       (_, finds.ledger) (by undecided.origin finds.finds)
     where
@@ -203,13 +203,13 @@ module _ {D : Type 0} (old new : World D) where
       by (FromLoss number place message) its = outcome number place undecided.note.used (Lost undecided.note.number) its
       by (FromNoHop message) its = octets_same its.0
 
-  decided : (node : ℕ) (host : Host D) (after : Standing D) (undecided : Option Undecided)
+  decided : (node : ℕ) (host : Host D) (after : NodeState D) (undecided : Option Undecided)
       → slice_get old.hosts node ≡ Some host → Decides old new node host after undecided → HasGrown old new
   decided node host after None at none =
-      grown (stays node host (record host { holder = Up after }) at none.hosts refl) (same_ledger none.ledger)
+      grown (stays node host (record host { state = Up after }) at none.hosts refl) (same_ledger none.ledger)
       (octets_same none.links)
   decided node host after (Some undecided) at (inl none) =
-      grown (stays node host (record host { holder = Up after }) at none.1.hosts refl) (same_ledger none.1.ledger)
+      grown (stays node host (record host { state = Up after }) at none.1.hosts refl) (same_ledger none.1.ledger)
       (octets_same none.1.links)
   decided node host after (Some undecided) at (inr its) = found node host after undecided at its.1
 
@@ -228,7 +228,7 @@ module _ {D : Type 0} (old new : World D) where
 event_grows : {D : Type 0} (honest : Type 0) (words : DiskWords D) (old new : World D) → Happens honest words old new
     → HasGrown old new
 event_grows honest words old new (Opens node peer is) =
-    grown old new (stays old new node is.host (record is.host { holder = Up is.after }) is.host_at is.hosts refl)
+    grown old new (stays old new node is.host (record is.host { state = Up is.after }) is.host_at is.hosts refl)
     (same_ledger old new is.rest.1)
     (octets_put old new (suc (length old.links)) (opened_link node peer is.connected) is.links
     (λ was at.
@@ -246,7 +246,7 @@ event_grows honest words old new (Hears number count is) =
       down_read = omega arith;
     }))
 event_grows honest words old new (Ends number is) =
-    grown old new (stays old new is.of.end.node is.of.host (record is.of.host { holder = Up is.after }) is.of.host_at is.hosts refl)
+    grown old new (stays old new is.of.end.node is.of.host (record is.of.host { state = Up is.after }) is.of.host_at is.hosts refl)
     (same_ledger old new is.rest.1)
     (octets_of old new number is.of.link (record is.of.link { server = Some (record is.of.end { session = None }) }) is.of.link_is
     is.links (record {
@@ -267,7 +267,7 @@ event_grows honest words old new (Loses number change is) =
     recorded old new number change is.of is.after (Lost change) is.records (octets_same old new is.links)
 event_grows honest words old new (Drops number is) =
     grown old new
-    (stays old new is.of.attempt.node is.of.host (record is.of.host { holder = Up is.after }) is.of.host_at is.hosts refl)
+    (stays old new is.of.attempt.node is.of.host (record is.of.host { state = Up is.after }) is.of.host_at is.hosts refl)
     (same_ledger old new is.ledger) (octets_same old new is.links)
 event_grows honest words old new (BreaksOff number is) =
     one_link old new is.links number is.link (record is.link { broken = true }) is.new_is is.link_is is.put (record {
@@ -278,7 +278,7 @@ event_grows honest words old new (BreaksOff number is) =
     })
 event_grows {D} honest words old new (Starts number message hop is) =
     grown old new
-    (stays old new is.attempt.node is.host (record is.host { holder = Up is.after }) is.host_at is.hosts refl)
+    (stays old new is.attempt.node is.host (record is.host { state = Up is.after }) is.host_at is.hosts refl)
     (same_ledger old new is.rest.0)
     (octets_put old new number (record is.blank { client = Some (length old.attempts) }) is.links (blank is.is_blank.there))
   where
@@ -301,16 +301,16 @@ event_grows {D} honest words old new (Starts number message hop is) =
 event_grows honest words old new (GivesUp node message change is) =
     grown old new
     (records_put old new node is.host
-    (record is.host { holder = Up (without_note is.after); records = is.host.records ++ is.noted.octets ∷ [] }) is.host_at
+    (record is.host { state = Up (without_note is.after); records = is.host.records ++ is.noted.octets ∷ [] }) is.host_at
     is.hosts (is.noted.octets ∷ [], refl))
     (_, is.ledger) (octets_same old new is.rest.0)
 event_grows honest words old new (Stops node is) =
-    grown old new (stays old new node is.host (record is.host { holder = Down is.disk None }) is.host_at is.hosts refl)
+    grown old new (stays old new node is.host (record is.host { state = Down is.disk None }) is.host_at is.hosts refl)
     (same_ledger old new is.rest.2) (octets_same old new is.rest.0)
 event_grows honest words old new (StopsInHearing number count is) =
     grown old new
     (stays old new is.of.end.node is.of.host
-    (record is.of.host { holder = Down is.disk (Some (record { note = is.noted; origin = FromClient number })) }) is.of.host_at
+    (record is.of.host { state = Down is.disk (Some (record { note = is.noted; origin = FromClient number })) }) is.of.host_at
     is.hosts refl)
     (same_ledger old new is.rest.1)
     (octets_of old new number is.of.link (cut_off_link is.of.link is.of.end) is.of.link_is is.links (record {
@@ -324,11 +324,11 @@ event_grows honest words old new (StopsInLosing number is) = dropped_at old new 
 event_grows honest words old new (StopsInGivingUp node message is) =
     grown old new
     (stays old new node is.host
-    (record is.host { holder = Down is.disk (Some (record { note = is.noted; origin = FromNoHop message })) }) is.host_at is.hosts
+    (record is.host { state = Down is.disk (Some (record { note = is.noted; origin = FromNoHop message })) }) is.host_at is.hosts
     refl)
     (same_ledger old new is.rest.2) (octets_same old new is.rest.0)
 event_grows honest words old new (IsNotOpened node is) =
-    grown old new (stays old new node is.host (record is.host { holder = Down is.again is.undecided }) is.host_at is.hosts refl)
+    grown old new (stays old new node is.host (record is.host { state = Down is.again is.undecided }) is.host_at is.hosts refl)
     (same_ledger old new is.rest.2) (octets_same old new is.rest.0)
 event_grows honest words old new (Reopens node is) =
     decided old new node is.host is.after is.undecided is.host_at is.decides
@@ -338,7 +338,7 @@ event_grows honest words old new (Ticks clock is) =
     (octets_same old new (ap (λ (w : World _). w.links) is.new_is))
 event_grows honest words old new (LetsGo node is) = let_go old new node is
 event_grows honest words old new (Arms node is) =
-    grown old new (stays old new node is.host (record is.host { holder = Up is.after }) is.host_at is.hosts refl)
+    grown old new (stays old new node is.host (record is.host { state = Up is.after }) is.host_at is.hosts refl)
     (same_ledger old new is.rest.2) (octets_same old new is.rest.0)
 
 link_on : (was then now : Link) → LinkGrows was then → LinkGrows then now → LinkGrows was now

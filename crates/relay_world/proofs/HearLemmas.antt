@@ -25,7 +25,7 @@ use Rattle.relay_records.specs.Note.{IsNoted}
 use Rattle.relay_records.specs.Records.{Keeps}
 use Rattle.relay_node.specs.Acceptance.{IsAcceptOf, acceptance_by}
 use Rattle.relay_node.specs.Attempts.{Tells}
-use Rattle.relay_node.specs.Node.{GoesOn, Makes, Queues, Receives, SaysAt, Standing}
+use Rattle.relay_node.specs.Node.{SessionGoesOn, Makes, Queues, Receives, SeatHasSaid, NodeState}
 use Rattle.relay_node.specs.Queued.{queued_in}
 use Rattle.relay_node.specs.Room.{AnswersMore}
 use Rattle.relay_node.proofs.Theorems.{queued_grows, told_stays}
@@ -73,11 +73,11 @@ module _ {D : Type 0} (honest : Type 0) (words : DiskWords D) (old new : World D
   live_before : SaysThere heard.of.host (Some heard.of.session) heard.of.end.peer was.said
   live_before = subst (λ s. SaysThere heard.of.host s heard.of.end.peer was.said) heard.of.goes_on was.live
 
-  says_before : SaysAt heard.of.before.config heard.of.before.seats heard.of.session heard.of.end.peer was.said
+  says_before : SeatHasSaid heard.of.before.config heard.of.before.seats heard.of.session heard.of.end.peer was.said
   says_before =
-      subst (λ (n : Standing D). SaysAt heard.of.before.config n.seats heard.of.session heard.of.end.peer was.said)
+      subst (λ (n : NodeState D). SeatHasSaid heard.of.before.config n.seats heard.of.session heard.of.end.peer was.said)
       (same_Up live_before.0 heard.of.before (sym live_before.1 ∙ heard.of.up))
-      (subst (λ c. SaysAt c live_before.0.seats heard.of.session heard.of.end.peer was.said) (sym its_node.config_is) live_before.2)
+      (subst (λ c. SeatHasSaid c live_before.0.seats heard.of.session heard.of.end.peer was.said) (sym its_node.config_is) live_before.2)
 
   talk : Receives honest words heard.of.before.config listed.0 heard.of.end.peer old.clock heard.of.session was.said
       (waiting_up count heard.of.link) heard.of.before heard.after heard.received
@@ -92,7 +92,7 @@ module _ {D : Type 0} (honest : Type 0) (words : DiskWords D) (old new : World D
   end_now : ServerEnd
   end_now = record heard.of.end { session = session_after heard.received.close heard.of.session }
 
-  dialogue_by : (close : Bool) → GoesOn heard.of.before.config heard.after.seats heard.of.session heard.of.end.peer talk.later close
+  dialogue_by : (close : Bool) → SessionGoesOn heard.of.before.config heard.after.seats heard.of.session heard.of.end.peer talk.later close
       → IsDialogue (setup_of_config heard.of.before.config) talk.later
   dialogue_by true goes = goes.1.dialogue
   dialogue_by false goes =
@@ -102,16 +102,16 @@ module _ {D : Type 0} (honest : Type 0) (words : DiskWords D) (old new : World D
   dialogue =
       subst (λ c. IsDialogue (setup_of_config c) talk.later) its_node.config_is (dialogue_by heard.received.close talk.goes_on)
 
-  live_by : (after : Standing D) → after.seats ≡ heard.after.seats → (records : List (List ℕ)) (close : Bool)
-      → GoesOn heard.of.before.config heard.after.seats heard.of.session heard.of.end.peer talk.later close
-      → SaysThere (record heard.of.host { holder = Up after; records = records }) (session_after close heard.of.session) heard.of.end.peer
+  live_by : (after : NodeState D) → after.seats ≡ heard.after.seats → (records : List (List ℕ)) (close : Bool)
+      → SessionGoesOn heard.of.before.config heard.after.seats heard.of.session heard.of.end.peer talk.later close
+      → SaysThere (record heard.of.host { state = Up after; records = records }) (session_after close heard.of.session) heard.of.end.peer
       talk.later
   live_by after seats records true goes = tt
   live_by after seats records false goes = (
     after,
     refl,
-    subst (λ l. SaysAt heard.of.host.config l heard.of.session heard.of.end.peer talk.later) (sym seats)
-        (subst (λ c. SaysAt c heard.after.seats heard.of.session heard.of.end.peer talk.later) its_node.config_is goes),
+    subst (λ l. SeatHasSaid heard.of.host.config l heard.of.session heard.of.end.peer talk.later) (sym seats)
+        (subst (λ c. SeatHasSaid c heard.after.seats heard.of.session heard.of.end.peer talk.later) its_node.config_is goes),
   )
 
   abbrev out_now : List ℕ
@@ -133,11 +133,11 @@ module _ {D : Type 0} (honest : Type 0) (words : DiskWords D) (old new : World D
       ∙ sym (read_more heard.of.link.up_read heard.received.used count heard.of.link.up heard.used)
 
   -- the end that has heard them
-  serves_now : (after : Standing D) → after.seats ≡ heard.after.seats → (records : List (List ℕ)) (grown : List Change)
+  serves_now : (after : NodeState D) → after.seats ≡ heard.after.seats → (records : List (List ℕ)) (grown : List Change)
       (ledger : List Line) → AreNumbered talk.later.answers → length talk.later.answers ≡ length talk.later.offers
       → accepts_on number ledger ≡ map (λ one. (one.0, length one.1.envelope.recipients)) (queued_in talk.later)
       → AllByRecursion (IsStored heard.of.host.config heard.of.end.peer grown) (queued_in talk.later)
-      → ServesLink (record heard.of.host { holder = Up after; records = records }) grown ledger number
+      → ServesLink (record heard.of.host { state = Up after; records = records }) grown ledger number
       (heard_link heard.of.link heard.of.end heard.of.session heard.received)
       (record heard.of.end { session = session_after heard.received.close heard.of.session })
   serves_now after seats records grown ledger numbered answered accepts stored = record {
@@ -160,17 +160,17 @@ module _ {D : Type 0} (honest : Type 0) (words : DiskWords D) (old new : World D
       off (bound.sessions other number its heard.of.link heard.of.end.node heard.of.session is heard.of.link_is has
       (record { end = heard.of.end; serves = heard.of.serves; its_node = refl; its_session = heard.of.goes_on }))
 
-  others_say : (after : Standing D) → after.seats ≡ heard.after.seats → (records : List (List ℕ)) (other : ℕ) (its : Link)
+  others_say : (after : NodeState D) → after.seats ≡ heard.after.seats → (records : List (List ℕ)) (other : ℕ) (its : Link)
       (session : ℕ) → other ≢ number → link_at old.links other ≡ Some its → HasSession its heard.of.end.node session
       → (peer : List ℕ) (said : Said) → SaysThere heard.of.host (Some session) peer said
-      → SaysThere (record heard.of.host { holder = Up after; records = records }) (Some session) peer said
+      → SaysThere (record heard.of.host { state = Up after; records = records }) (Some session) peer said
   others_say after seats records other its session off is has peer said says = (
     after,
     refl,
-    subst (λ l. SaysAt heard.of.host.config l session peer said) (sym seats)
+    subst (λ l. SeatHasSaid heard.of.host.config l session peer said) (sym seats)
         (still_says heard.of.host.config heard.of.before heard.after heard.of.session session peer said heard.others
         (λ same. other_session other its off is (subst (λ s. HasSession its heard.of.end.node s) same has))
-        (subst (λ (n : Standing D). SaysAt heard.of.host.config n.seats session peer said)
+        (subst (λ (n : NodeState D). SeatHasSaid heard.of.host.config n.seats session peer said)
         (same_Up says.0 heard.of.before (sym says.1 ∙ heard.of.up)) says.2)),
   )
 
@@ -183,26 +183,26 @@ module _ {D : Type 0} (honest : Type 0) (words : DiskWords D) (old new : World D
   }
 
   -- what the link that was heard is, as it was served
-  joins_now : (after : Standing D) (records : List (List ℕ)) (lists_now : List (List Change)) (grown : List Change)
-      → ((slot : ℕ) → TellsOn heard.of.host (record heard.of.host { holder = Up after; records = records }) listed.0 grown slot)
-      → StandsAt new lists_now heard.of.end.node (record heard.of.host { holder = Up after; records = records }) grown
-      → ServesLink (record heard.of.host { holder = Up after; records = records }) grown new.ledger number
+  joins_now : (after : NodeState D) (records : List (List ℕ)) (lists_now : List (List Change)) (grown : List Change)
+      → ((slot : ℕ) → TellsOn heard.of.host (record heard.of.host { state = Up after; records = records }) listed.0 grown slot)
+      → StandsAt new lists_now heard.of.end.node (record heard.of.host { state = Up after; records = records }) grown
+      → ServesLink (record heard.of.host { state = Up after; records = records }) grown new.ledger number
       (heard_link heard.of.link heard.of.end heard.of.session heard.received)
       (record heard.of.end { session = session_after heard.received.close heard.of.session })
       → Moves honest words old new lists lists_now heard.of.end.node number heard.of.host
-      (record heard.of.host { holder = Up after; records = records }) listed.0 grown
+      (record heard.of.host { state = Up after; records = records }) listed.0 grown
       (heard_link heard.of.link heard.of.end heard.of.session heard.received)
       → Joins honest words old new lists lists_now heard.of.end.node number heard.of.host
-      (record heard.of.host { holder = Up after; records = records }) listed.0 grown
+      (record heard.of.host { state = Up after; records = records }) listed.0 grown
       (heard_link heard.of.link heard.of.end heard.of.session heard.received)
   joins_now after records lists_now grown tells stands_now serves moves = record {
     served = λ end is. subst (λ e. IsServed new lists_now number (heard_link heard.of.link heard.of.end heard.of.session heard.received) e)
         (same_Some (record heard.of.end { session = session_after heard.received.close heard.of.session }) end is)
-        (record { host = record heard.of.host { holder = Up after; records = records }; changes = grown; stands = stands_now; serves = serves });
+        (record { host = record heard.of.host { state = Up after; records = records }; changes = grown; stands = stands_now; serves = serves });
     tried = λ place client.
         let tried : IsTried new lists_now number heard.of.link place =
         still_tried honest words old new lists lists_now heard.of.end.node number heard.of.host
-        (record heard.of.host { holder = Up after; records = records }) listed.0 grown
+        (record heard.of.host { state = Up after; records = records }) listed.0 grown
         (heard_link heard.of.link heard.of.end heard.of.session heard.received) bound moves number place heard.of.link heard.of.link_is client
         (λ attempt at its_link. same_attempts old.attempts new.attempts heard.rest.0 place attempt at)
         (λ attempt slot at its_link has. tells slot) in
@@ -227,7 +227,7 @@ module _ {D : Type 0} (honest : Type 0) (words : DiskWords D) (old new : World D
     settled = λ was there broken.
         let same : heard.of.link ≡ was = same_Some heard.of.link was (sym heard.of.link_is ∙ there) in
         subst (λ l. Settled honest words old new lists lists_now heard.of.end.node number heard.of.host
-        (record heard.of.host { holder = Up after; records = records }) listed.0 grown
+        (record heard.of.host { state = Up after; records = records }) listed.0 grown
         (heard_link heard.of.link heard.of.end heard.of.session heard.received) l) same
         (settled (ap (λ (l : Link). l.broken) same ∙ broken));
     may_be_in = λ disk undecided down. absurd (up_not_down after disk (Some undecided) down);
@@ -236,7 +236,7 @@ module _ {D : Type 0} (honest : Type 0) (words : DiskWords D) (old new : World D
       -- the session was going on, so nothing undecided rests on its end; and on a broken link nothing was written
       settled : heard.of.link.broken ≡ true
           → Settled honest words old new lists lists_now heard.of.end.node number heard.of.host
-          (record heard.of.host { holder = Up after; records = records }) listed.0 grown
+          (record heard.of.host { state = Up after; records = records }) listed.0 grown
           (heard_link heard.of.link heard.of.end heard.of.session heard.received) heard.of.link
       settled broken = record {
         serves = λ end serves off ended.
@@ -275,10 +275,10 @@ module _ {D : Type 0} (honest : Type 0) (words : DiskWords D) (old new : World D
 
   -- nothing was recorded
   heard_nothing : AnswersMore was.said talk.later talk.talks.refused [] [] × (heard.after.records ≡ heard.of.before.records)
-      → IsPut old.hosts new.hosts heard.of.end.node (record heard.of.host { holder = Up heard.after }) × (new.ledger ≡ old.ledger)
+      → IsPut old.hosts new.hosts heard.of.end.node (record heard.of.host { state = Up heard.after }) × (new.ledger ≡ old.ledger)
       → IsBound honest words new lists
   heard_nothing makes puts =
-      moved_keeps honest words old new lists lists heard.of.end.node number heard.of.host (record heard.of.host { holder = Up heard.after })
+      moved_keeps honest words old new lists lists heard.of.end.node number heard.of.host (record heard.of.host { state = Up heard.after })
       listed.0 listed.0 (heard_link heard.of.link heard.of.end heard.of.session heard.received) bound moves
       (joins_now heard.after heard.of.host.records lists listed.0 tells (record { host_at = puts.0.at; list_at = listed.1 }) serves moves)
     where
@@ -287,7 +287,7 @@ module _ {D : Type 0} (honest : Type 0) (words : DiskWords D) (old new : World D
           queued_grows was.said talk.later talk.talks.refused [] [] (sym was.answered) makes.0
           ∙ append-nil (queued_in was.said)
 
-      serves : ServesLink (record heard.of.host { holder = Up heard.after }) listed.0 new.ledger number
+      serves : ServesLink (record heard.of.host { state = Up heard.after }) listed.0 new.ledger number
           (heard_link heard.of.link heard.of.end heard.of.session heard.received)
           (record heard.of.end { session = session_after heard.received.close heard.of.session })
       serves = serves_now heard.after refl heard.of.host.records listed.0 new.ledger
@@ -297,16 +297,16 @@ module _ {D : Type 0} (honest : Type 0) (words : DiskWords D) (old new : World D
           ∙ ap (λ l. map (λ (one : ℕ × Offered). (one.0, length one.1.envelope.recipients)) l) (sym queued_same))
           (subst (λ l. AllByRecursion (IsStored heard.of.host.config heard.of.end.peer listed.0) l) (sym queued_same) was.stored)
 
-      tells : (slot : ℕ) → TellsOn heard.of.host (record heard.of.host { holder = Up heard.after }) listed.0 listed.0 slot
+      tells : (slot : ℕ) → TellsOn heard.of.host (record heard.of.host { state = Up heard.after }) listed.0 listed.0 slot
       tells slot told is = (
         heard.after,
         refl,
         subst (λ l. Tells heard.of.host.config.host listed.0 l slot told) (sym heard.attempts)
-            (subst (λ (n : Standing D). Tells heard.of.host.config.host listed.0 n.attempts slot told)
+            (subst (λ (n : NodeState D). Tells heard.of.host.config.host listed.0 n.attempts slot told)
             (same_Up is.0 heard.of.before (sym is.1 ∙ heard.of.up)) is.2),
       )
 
-      moves : Moves honest words old new lists lists heard.of.end.node number heard.of.host (record heard.of.host { holder = Up heard.after })
+      moves : Moves honest words old new lists lists heard.of.end.node number heard.of.host (record heard.of.host { state = Up heard.after })
           listed.0 listed.0 (heard_link heard.of.link heard.of.end heard.of.session heard.received)
       moves = record {
         stands = stands;
@@ -342,7 +342,7 @@ module _ {D : Type 0} (honest : Type 0) (words : DiskWords D) (old new : World D
       heard.received.used heard.of.before.records heard.after.records number_now)
       (noted : Noted) (note_is : heard.after.records.noted ≡ Some noted)
       (puts : IsPut old.hosts new.hosts heard.of.end.node
-      (record heard.of.host { holder = Up (without_note heard.after); records = heard.of.host.records ++ noted.octets ∷ [] }))
+      (record heard.of.host { state = Up (without_note heard.after); records = heard.of.host.records ++ noted.octets ∷ [] }))
       (line : new.ledger ≡ old.ledger ++ Accepted heard.of.end.node number_now noted.accepted number ∷ []) where
     abbrev grown : List Change
     grown = listed.0 ++ change.Accept queues.accept ∷ []
@@ -405,7 +405,7 @@ module _ {D : Type 0} (honest : Type 0) (words : DiskWords D) (old new : World D
         (omega (arith, few, is), tt)
 
     abbrev moved : Host D
-    moved = record heard.of.host { holder = Up (without_note heard.after); records = heard.of.host.records ++ noted.octets ∷ [] }
+    moved = record heard.of.host { state = Up (without_note heard.after); records = heard.of.host.records ++ noted.octets ∷ [] }
 
     serves : ServesLink moved grown new.ledger number (heard_link heard.of.link heard.of.end heard.of.session heard.received)
         (record heard.of.end { session = session_after heard.received.close heard.of.session })
@@ -422,7 +422,7 @@ module _ {D : Type 0} (honest : Type 0) (words : DiskWords D) (old new : World D
       refl,
       told_stays heard.of.host.config.host listed.0 (change.Accept queues.accept) heard.of.before.attempts heard.after.attempts slot told
           fitting_now (ap (λ l. slot_at l slot) heard.attempts)
-          (subst (λ (n : Standing D). Tells heard.of.host.config.host listed.0 n.attempts slot told)
+          (subst (λ (n : NodeState D). Tells heard.of.host.config.host listed.0 n.attempts slot told)
           (same_Up is.0 heard.of.before (sym is.1 ∙ heard.of.up)) is.2),
     )
 

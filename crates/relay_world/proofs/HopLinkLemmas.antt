@@ -4,7 +4,7 @@ use Rattle.std.specs.Prelude.{slice_get}
 use Rattle.std.proofs.lemmas.Bool.{cases_eq}
 use Rattle.std.proofs.lemmas.Option.{none-some, same_Some}
 use Rattle.relay_disk.specs.Device.{DiskWords}
-use Rattle.relay_node.specs.Node.{Standing}
+use Rattle.relay_node.specs.Node.{NodeState}
 use Rattle.relay_routes.specs.declared.config.Config.{Config}
 use Rattle.relay_world.specs.declared.attempt.Attempt.{Attempt}
 use Rattle.relay_world.specs.declared.attempt.Fate.{Fate}
@@ -210,27 +210,27 @@ module _ {D : Type 0} (old new : World D) where
         (hops_same (ap (λ (w : World D). w.attempts) same))
 
     -- the outcome of an attempt was recorded
-    recorded : (number change : ℕ) (of : AttemptOf old number) (after : Standing D) (fate : Fate)
+    recorded : (number change : ℕ) (of : AttemptOf old number) (after : NodeState D) (fate : Fate)
         → RecordsOutcome old new number of after fate change → length new.hosts ≡ length old.hosts → SameWays → AreLinkedToHops new
     recorded number change of after fate records even ways =
         all_linked even
         (names_put of.attempt.node of.host
-        (record of.host { holder = Up (without_note after); records = of.host.records ++ records.noted.octets ∷ [] })
+        (record of.host { state = Up (without_note after); records = of.host.records ++ records.noted.octets ∷ [] })
         of.host_at records.hosts refl)
         ways linked (hops_put of.place of.attempt fate of.attempt_at records.attempts)
 
-    heard_names : (node number : ℕ) (host : Host D) (after : Standing D) (change : Option ℕ) → slice_get old.hosts node ≡ Some host
+    heard_names : (node number : ℕ) (host : Host D) (after : NodeState D) (change : Option ℕ) → slice_get old.hosts node ≡ Some host
         → RecordsHeard old new node number host after change → SameNames
     heard_names node number host after None at records =
-        names_put node host (record host { holder = Up after }) at records.0 refl
+        names_put node host (record host { state = Up after }) at records.0 refl
     heard_names node number host after (Some change) at records =
         names_put node host
-        (record host { holder = Up (without_note after); records = host.records ++ records.0.octets ∷ [] }) at records.2 refl
+        (record host { state = Up (without_note after); records = host.records ++ records.0.octets ∷ [] }) at records.2 refl
 
-    read_on : (number : ℕ) (of : AttemptOf old number) (after : Standing D) (change : Option ℕ)
+    read_on : (number : ℕ) (of : AttemptOf old number) (after : NodeState D) (change : Option ℕ)
         → RecordsRead old new number of after change → length new.hosts ≡ length old.hosts → SameWays → AreLinkedToHops new
     read_on number of after None records even ways =
-        all_linked even (names_put of.attempt.node of.host (record of.host { holder = Up after }) of.host_at records.0 refl) ways
+        all_linked even (names_put of.attempt.node of.host (record of.host { state = Up after }) of.host_at records.0 refl) ways
         linked (hops_same records.2)
     read_on number of after (Some change) records even ways = recorded number change of after (Replied change) records even ways
 
@@ -241,7 +241,7 @@ module _ {D : Type 0} (old new : World D) where
         elim (put_cases old.attempts new.attempts (length old.attempts) starts.attempt starts.attempts at attempt is) [
           | inl here ↦ subst (λ a. IsLinkedToHop new a) here.1 starts.linked
           | inr there ↦ linked_by starts.rest.2
-              (names_put starts.attempt.node starts.host (record starts.host { holder = Up starts.after }) starts.host_at
+              (names_put starts.attempt.node starts.host (record starts.host { state = Up starts.after }) starts.host_at
               starts.hosts refl)
               (blank_ways starts.is_blank.there) attempt attempt (for_same attempt) (linked at attempt there.1)
         ]
@@ -263,19 +263,19 @@ module _ {D : Type 0} (old new : World D) where
     dropped_at number of stopped origin drops =
         all_linked drops.rest.2
         (names_put of.attempt.node of.host
-        (record of.host { holder = Down drops.disk (Some (record { note = drops.noted; origin = origin })) }) of.host_at
+        (record of.host { state = Down drops.disk (Some (record { note = drops.noted; origin = origin })) }) of.host_at
         drops.hosts refl)
         (ways_like number of.link (record of.link { broken = true }) of.link_is refl drops.links) linked
         (hops_put of.place of.attempt Dropped of.attempt_at drops.attempts)
 
     -- what a node finds that is opened
-    found : (node : ℕ) (host : Host D) (after : Standing D) (undecided : Undecided) → slice_get old.hosts node ≡ Some host
+    found : (node : ℕ) (host : Host D) (after : NodeState D) (undecided : Undecided) → slice_get old.hosts node ≡ Some host
         → length new.hosts ≡ length old.hosts → HasFound old new node host after undecided → AreLinkedToHops new
     found node host after undecided at even finds = by undecided.origin finds.finds
       where
         names : SameNames
         names = names_put node host
-            (record host { holder = Up after; records = host.records ++ undecided.note.octets ∷ [] }) at finds.hosts refl
+            (record host { state = Up after; records = host.records ++ undecided.note.octets ∷ [] }) at finds.hosts refl
 
         outcome : (number place used : ℕ) (fate : Fate) → FindsOutcome old new number place used fate → AreLinkedToHops new
         outcome number place used fate its =
@@ -293,13 +293,13 @@ module _ {D : Type 0} (old new : World D) where
         by (FromLoss number place message) its = outcome number place undecided.note.used (Lost undecided.note.number) its
         by (FromNoHop message) its = all_linked even names (ways_same its.0) linked (hops_same its.1)
 
-    decided : (node : ℕ) (host : Host D) (after : Standing D) (undecided : Option Undecided)
+    decided : (node : ℕ) (host : Host D) (after : NodeState D) (undecided : Option Undecided)
         → slice_get old.hosts node ≡ Some host → length new.hosts ≡ length old.hosts → Decides old new node host after undecided
         → AreLinkedToHops new
     decided node host after None at even none =
-        one_node node host (record host { holder = Up after }) at none.hosts refl even none.links none.attempts
+        one_node node host (record host { state = Up after }) at none.hosts refl even none.links none.attempts
     decided node host after (Some undecided) at even (inl none) =
-        one_node node host (record host { holder = Up after }) at none.1.hosts refl even none.1.links none.1.attempts
+        one_node node host (record host { state = Up after }) at none.1.hosts refl even none.1.links none.1.attempts
     decided node host after (Some undecided) at even (inr its) = found node host after undecided at even its.1
 
     let_go : (node : ℕ) → HangsUp old new node → AreLinkedToHops new
@@ -323,7 +323,7 @@ written_server link written octets (inr down) = ap (λ (l : Link). l.server) dow
 pub hop_links_are_kept : {D : Type 0} (honest : Type 0) (words : DiskWords D) → HopLinksAreKept honest words
 hop_links_are_kept honest words old new linked (Opens node peer opens) =
     all_linked old new opens.rest.3
-    (names_put old new node opens.host (record opens.host { holder = Up opens.after }) opens.host_at opens.hosts refl)
+    (names_put old new node opens.host (record opens.host { state = Up opens.after }) opens.host_at opens.hosts refl)
     (ways_put old new (suc (length old.links)) (opened_link node peer opens.connected) opens.links
     (λ was is.
     let within = number_within old.links (suc (length old.links)) was is in absurd (omega (arith, within)))) linked
@@ -340,7 +340,7 @@ hop_links_are_kept honest words old new linked (Hears number count hears) =
     (hops_same old new hears.rest.0)
 hop_links_are_kept honest words old new linked (Ends number ends) =
     all_linked old new ends.rest.3
-    (names_put old new ends.of.end.node ends.of.host (record ends.of.host { holder = Up ends.after }) ends.of.host_at ends.hosts
+    (names_put old new ends.of.end.node ends.of.host (record ends.of.host { state = Up ends.after }) ends.of.host_at ends.hosts
     refl)
     (ways_ended old new number ends.of.link
     (record ends.of.link { server = Some (record ends.of.end { session = None }) }) ends.of.end None ends.of.link_is
@@ -353,7 +353,7 @@ hop_links_are_kept honest words old new linked (Loses number change loses) =
     (ways_same old new loses.links)
 hop_links_are_kept honest words old new linked (Drops number drops) =
     all_linked old new drops.rest.1
-    (names_put old new drops.of.attempt.node drops.of.host (record drops.of.host { holder = Up drops.after }) drops.of.host_at
+    (names_put old new drops.of.attempt.node drops.of.host (record drops.of.host { state = Up drops.after }) drops.of.host_at
     drops.hosts refl)
     (ways_same old new drops.links) linked
     (hops_put old new drops.of.place drops.of.attempt Dropped drops.of.attempt_at drops.attempts)
@@ -364,16 +364,16 @@ hop_links_are_kept honest words old new linked (Starts number message hop starts
 hop_links_are_kept honest words old new linked (GivesUp node message change gives) =
     one_node old new linked node gives.host
     (record gives.host {
-      holder = Up (without_note gives.after);
+      state = Up (without_note gives.after);
       records = gives.host.records ++ gives.noted.octets ∷ [];
     }) gives.host_at gives.hosts refl gives.rest.3 gives.rest.0 gives.rest.1
 hop_links_are_kept honest words old new linked (Stops node stops) =
-    one_node old new linked node stops.host (record stops.host { holder = Down stops.disk None }) stops.host_at stops.hosts refl
+    one_node old new linked node stops.host (record stops.host { state = Down stops.disk None }) stops.host_at stops.hosts refl
     stops.rest.4 stops.rest.0 stops.rest.1
 hop_links_are_kept honest words old new linked (StopsInHearing number count stops) =
     all_linked old new stops.rest.3
     (names_put old new stops.of.end.node stops.of.host
-    (record stops.of.host { holder = Down stops.disk (Some (record { note = stops.noted; origin = FromClient number })) })
+    (record stops.of.host { state = Down stops.disk (Some (record { note = stops.noted; origin = FromClient number })) })
     stops.of.host_at stops.hosts refl)
     (ways_ended old new number stops.of.link (cut_off_link stops.of.link stops.of.end) stops.of.end None stops.of.link_is
     stops.of.serves refl stops.links) linked (hops_same old new stops.rest.0)
@@ -383,10 +383,10 @@ hop_links_are_kept honest words old new linked (StopsInLosing number stops) =
     dropped_at old new linked number stops.of stops.stopped _ stops.drops
 hop_links_are_kept honest words old new linked (StopsInGivingUp node message stops) =
     one_node old new linked node stops.host
-    (record stops.host { holder = Down stops.disk (Some (record { note = stops.noted; origin = FromNoHop message })) })
+    (record stops.host { state = Down stops.disk (Some (record { note = stops.noted; origin = FromNoHop message })) })
     stops.host_at stops.hosts refl stops.rest.4 stops.rest.0 stops.rest.1
 hop_links_are_kept honest words old new linked (IsNotOpened node stays) =
-    one_node old new linked node stays.host (record stays.host { holder = Down stays.again stays.undecided }) stays.host_at
+    one_node old new linked node stays.host (record stays.host { state = Down stays.again stays.undecided }) stays.host_at
     stays.hosts refl stays.rest.4 stays.rest.0 stays.rest.1
 hop_links_are_kept honest words old new linked (Reopens node reopens) =
     decided old new linked node reopens.host reopens.after reopens.undecided reopens.host_at reopens.rest.1 reopens.decides
@@ -397,7 +397,7 @@ hop_links_are_kept honest words old new linked (Ticks clock ticks) =
     (hops_same old new (ap (λ (w : World _). w.attempts) ticks.new_is))
 hop_links_are_kept honest words old new linked (LetsGo node hangs) = let_go old new linked node hangs
 hop_links_are_kept honest words old new linked (Arms node arms) =
-    one_node old new linked node arms.host (record arms.host { holder = Up arms.after }) arms.host_at arms.hosts refl arms.rest.4
+    one_node old new linked node arms.host (record arms.host { state = Up arms.after }) arms.host_at arms.hosts refl arms.rest.4
     arms.rest.0 arms.rest.1
 
 pub hop_links_at_first : (D : Type 0) → HopLinksAtFirst D

@@ -42,7 +42,7 @@ module _ {D : Type 0} (honest : Type 0) (words : DiskWords D) (old new : World D
 
   abbrev moved : Host D
   moved = record invents.host {
-    holder = Up (without_note invents.after);
+    state = Up (without_note invents.after);
     records = invents.host.records ++ invents.noted.octets ∷ [];
   }
 

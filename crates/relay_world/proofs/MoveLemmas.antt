@@ -129,7 +129,7 @@ module _ {D : Type 0} (honest : Type 0) (words : DiskWords D) (old new : World D
         → HasLink new.links place attempt
     -- what is undecided elsewhere rests on the link only where that was broken, and then its end stays
     pub settled : (was : Link) → link_at old.links number ≡ Some was → was.broken ≡ true → Settled was
-    pub may_be_in : (disk : D) (undecided : Undecided) → moved.holder ≡ Down disk (Some undecided)
+    pub may_be_in : (disk : D) (undecided : Undecided) → moved.state ≡ Down disk (Some undecided)
         → MayBeIn new node moved grown undecided
 
   module _ (bound : IsBound honest words old lists) (moves : Moves) where
@@ -296,7 +296,7 @@ module _ {D : Type 0} (honest : Type 0) (words : DiskWords D) (old new : World D
       }
 
       all_decided : (n : ℕ) (h : Host D) (cs : List Change) (disk : D) (undecided : Undecided) → StandsAt new later n h cs
-          → h.holder ≡ Down disk (Some undecided) → MayBeIn new n h cs undecided
+          → h.state ≡ Down disk (Some undecided) → MayBeIn new n h cs undecided
       all_decided n h cs disk undecided stands down =
           elim (put_cases old.hosts new.hosts node moved moves.hosts n h stands.host_at) [
             | inl here ↦
@@ -305,7 +305,7 @@ module _ {D : Type 0} (honest : Type 0) (words : DiskWords D) (old new : World D
                 subst (λ k. MayBeIn new k h cs undecided) (sym here.0)
                 (subst (λ l. MayBeIn new node h l undecided) same
                 (subst (λ x. MayBeIn new node x grown undecided) here.1
-                (joins.may_be_in disk undecided (ap (λ (x : Host D). x.holder) here.1 ∙ down))))
+                (joins.may_be_in disk undecided (ap (λ (x : Host D). x.state) here.1 ∙ down))))
             | inr there ↦
                 still_may_be_in old new n h h cs refl (remains n there.0) undecided
                 (bound.may_be_in n h cs disk undecided

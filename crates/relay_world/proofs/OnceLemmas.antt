@@ -22,7 +22,7 @@ use Rattle.relay_attempts.specs.declared.runs.Run.{Run}
 use Rattle.relay_attempts.specs.Hops.{due_places_in, goes_to, hop_of_place, is_due_for}
 use Rattle.relay_attempts.specs.Runs.{is_run_for, is_running}
 use Rattle.relay_node.specs.Attempts.{Begins}
-use Rattle.relay_node.specs.Node.{Standing}
+use Rattle.relay_node.specs.Node.{NodeState}
 use Rattle.relay_world.specs.declared.attempt.Attempt.{Attempt}
 use Rattle.relay_world.specs.declared.attempt.Fate.{Fate}
 use Rattle.relay_world.specs.declared.attempt.Fate.TheVariants.{Running, Replied, Lost, Dropped}
@@ -158,9 +158,9 @@ module _ {D : Type 0} (honest : Type 0) (words : DiskWords D) (old new : World D
     not_running slot is =
         let fate = fate_is (Running slot) is in
         let same_node : fate.2.0 ≡ starts.before =
-        same_Up fate.2.0 starts.before (sym fate.2.1 ∙ ap (λ (h : Host D). h.holder) same_host ∙ starts.up) in
+        same_Up fate.2.0 starts.before (sym fate.2.1 ∙ ap (λ (h : Host D). h.state) same_host ∙ starts.up) in
         false≢true (sym begins.free ∙ run_there starts.before.attempts slot message hop fate.2.2.run
-        (ap (λ (n : Standing D). slot_at n.attempts slot) (sym same_node) ∙ fate.2.2.at)
+        (ap (λ (n : NodeState D). slot_at n.attempts slot) (sym same_node) ∙ fate.2.2.at)
         (fate.2.2.its_message ∙ claim.its_message) (fate.2.2.its_hop ∙ same_hop))
 
     -- or it would have passed a place on that is held
@@ -189,7 +189,7 @@ module _ {D : Type 0} (honest : Type 0) (words : DiskWords D) (old new : World D
 
   grow : HostsGrow honest words old new lists later bound once now
   grow = hosts_put honest words old new lists later bound once now starts.attempt.node starts.host
-      (record starts.host { holder = Up starts.after }) starts.host_at starts.hosts refl
+      (record starts.host { state = Up starts.after }) starts.host_at starts.hosts refl
       ([], sym (append-nil starts.host.records))
 
   claim_cases : (at its letter place : ℕ) (claim : ClaimsAt new later at its letter place)
@@ -214,7 +214,7 @@ module _ {D : Type 0} (honest : Type 0) (words : DiskWords D) (old new : World D
   goes_now : GoesToHop new later starts.attempt
   goes_now =
       let known = known_attempt honest words new later now (length old.attempts) starts.attempt starts.attempts.at in
-      let same_host = same_Some known.0 (record starts.host { holder = Up starts.after })
+      let same_host = same_Some known.0 (record starts.host { state = Up starts.after })
       (sym known.3.stands.host_at ∙ starts.hosts.at) in
       let before = list_before honest words old new lists later bound once now grow starts.attempt.node known.1
       known.3.stands.list_at in
@@ -273,7 +273,7 @@ module _ {D : Type 0} (honest : Type 0) (words : DiskWords D) (old new : World D
         ];
     outcomes = takers_kept honest words old new lists later bound once now grow
         (lists_stay honest words old new lists later bound once now starts.attempt.node starts.host
-        (record starts.host { holder = Up starts.after }) starts.host_at starts.hosts refl)
+        (record starts.host { state = Up starts.after }) starts.host_at starts.hosts refl)
         (ended_before honest words old new lists later bound once now starts.attempt starts.attempts);
     given_up = given_up_at honest words old new lists later bound once now starts.attempt.node starts.host starts.after
         starts.host.records starts.hosts;

@@ -16,15 +16,15 @@ use Rattle.relay_routes.specs.declared.config.Config.{Config}
 use Rattle.relay_book.specs.declared.change.Change.{Change}
 use Rattle.relay_records.specs.Records.{Keeps}
 use Rattle.relay_node.specs.Attempts.{Tells}
-use Rattle.relay_node.specs.Node.{SaysAt, Standing, greeted_by}
+use Rattle.relay_node.specs.Node.{SeatHasSaid, NodeState, greeted_by}
 use Rattle.relay_world.specs.declared.line.Line.{Line}
 use Rattle.relay_world.specs.declared.line.Line.TheVariants.{Accepted, Left}
 use Rattle.relay_world.specs.declared.link.Link.{Link}
 use Rattle.relay_world.specs.declared.link.ServerEnd.{ServerEnd}
-use Rattle.relay_world.specs.Bound.{HasSession, HolderKeeps, HostKeeps, IsBound, IsServed, NodeKeeps, SaysThere, ServesLink, StandsAt, link_of}
+use Rattle.relay_world.specs.Bound.{HasSession, StateKeeps, HostKeeps, IsBound, IsServed, NodeKeeps, SaysThere, ServesLink, StandsAt, link_of}
 use Rattle.relay_world.specs.Ledger.{accepts_on, steps_in}
 use Rattle.relay_world.specs.Steps.{OpeningKeeps, opened_link}
-use Rattle.relay_world.specs.World.{Down, Holder, Host, Up, World, link_at}
+use Rattle.relay_world.specs.World.{Down, HostState, Host, Up, World, link_at}
 use Rattle.relay_world.proofs.FrameLemmas.{TellsOn}
 use Rattle.relay_world.proofs.MoveLemmas.{link_cases, links_kept, Joins, Moves, moved_keeps, same_attempts, same_slots}
 use Rattle.relay_world.proofs.UndecidedLemmas.{up_not_down}
@@ -53,23 +53,23 @@ lines_within count more [] few lines = lines
 lines_within count more (line ∷ ledger) few lines =
     let first = lines.0 in (omega (arith, few, first), lines_within count more ledger few lines.1)
 
--- the node that a holder is, if it is up
-abbrev node_or : {D : Type 0} → Standing D → Holder D → Standing D
+-- the node that a state is, if it is up
+abbrev node_or : {D : Type 0} → NodeState D → HostState D → NodeState D
 node_or other (Up node) = node
 node_or other (Down disk undecided) = other
 
-pub same_Up : {D : Type 0} (one other : Standing D) → Up one ≡ Up other → one ≡ other
+pub same_Up : {D : Type 0} (one other : NodeState D) → Up one ≡ Up other → one ≡ other
 same_Up one other same = ap (λ h. node_or one h) same
 
 -- a number with a session isn't free
-pub not_free : {D : Type 0} (config : Config) (node : Standing D) (session : ℕ) (peer : List ℕ) (said : Said)
-    → SaysAt config node.seats session peer said → slot_at node.seats session ≡ None → ⊥
+pub not_free : {D : Type 0} (config : Config) (node : NodeState D) (session : ℕ) (peer : List ℕ) (said : Said)
+    → SeatHasSaid config node.seats session peer said → slot_at node.seats session ≡ None → ⊥
 not_free config node session peer said says free = false≢true (ap is_some (sym free ∙ says.at))
 
 -- what a session says where another number's value has changed
-pub still_says : {D : Type 0} (config : Config) (before after : Standing D) (number session : ℕ) (peer : List ℕ) (said : Said)
-    → OthersStay before.seats after.seats number → session ≢ number → SaysAt config before.seats session peer said
-    → SaysAt config after.seats session peer said
+pub still_says : {D : Type 0} (config : Config) (before after : NodeState D) (number session : ℕ) (peer : List ℕ) (said : Said)
+    → OthersStay before.seats after.seats number → session ≢ number → SeatHasSaid config before.seats session peer said
+    → SeatHasSaid config after.seats session peer said
 still_says config before after number session peer said others off says = record {
   seat = says.seat;
   at = others session off ∙ says.at;
@@ -85,13 +85,13 @@ list_there hosts lists n host even at =
     (get_or lists n [], slice_get-get_or lists n [] (omega (arith, even, within)))
 
 module _ {D : Type 0} (honest : Type 0) (words : DiskWords D) where
-  pub node_kept : (host : Host D) (changes : List Change) (before : Standing D) → HostKeeps honest words host changes
-      → host.holder ≡ Up before → NodeKeeps honest words host.config before changes
-  node_kept host changes before keeps up = subst (λ h. HolderKeeps honest words host.config h changes) up keeps.holds
+  pub node_kept : (host : Host D) (changes : List Change) (before : NodeState D) → HostKeeps honest words host changes
+      → host.state ≡ Up before → NodeKeeps honest words host.config before changes
+  node_kept host changes before keeps up = subst (λ h. StateKeeps honest words host.config h changes) up keeps.holds
 
   -- the session of a link is taken at its node
   pub session_taken : (world : World D) (lists : List (List Change)) → IsBound honest words world lists → (node : ℕ) (host : Host D)
-      (before : Standing D) → slice_get world.hosts node ≡ Some host → host.holder ≡ Up before
+      (before : NodeState D) → slice_get world.hosts node ≡ Some host → host.state ≡ Up before
       → (other : ℕ) (its : Link) (session : ℕ) → link_at world.links other ≡ Some its → HasSession its node session
       → slot_at before.seats session ≡ None → ⊥
   session_taken world lists bound node host before at up other its session is has free =
@@ -100,9 +100,9 @@ module _ {D : Type 0} (honest : Type 0) (words : DiskWords D) where
       same_Some served.host host (sym served.stands.host_at ∙ ap (λ n. slice_get world.hosts n) has.its_node ∙ at) in
       let live : SaysThere served.host (Some session) has.end.peer served.serves.said =
       subst (λ s. SaysThere served.host s has.end.peer served.serves.said) has.its_session served.serves.live in
-      let same_node : live.0 ≡ before = same_Up live.0 before (sym live.1 ∙ ap (λ (h : Host D). h.holder) same ∙ up) in
+      let same_node : live.0 ≡ before = same_Up live.0 before (sym live.1 ∙ ap (λ (h : Host D). h.state) same ∙ up) in
       not_free served.host.config live.0 session has.end.peer served.serves.said live.2
-      (ap (λ (n : Standing D). slot_at n.seats session) same_node ∙ free)
+      (ap (λ (n : NodeState D). slot_at n.seats session) same_node ∙ free)
 
   pub opening_keeps : OpeningKeeps honest words
   opening_keeps old new lists node peer bound opens = moved_keeps honest words old new lists lists node number host moved changes
@@ -115,7 +115,7 @@ module _ {D : Type 0} (honest : Type 0) (words : DiskWords D) where
       host = opens.host
 
       moved : Host D
-      moved = record host { holder = Up opens.after }
+      moved = record host { state = Up opens.after }
 
       link : Link
       link = opened_link node peer opens.connected
@@ -135,8 +135,8 @@ module _ {D : Type 0} (honest : Type 0) (words : DiskWords D) where
       its_node : NodeKeeps honest words host.config opens.before changes
       its_node = node_kept host changes opens.before kept opens.up
 
-      says_now : SaysAt host.config opens.after.seats opens.connected.session peer (greeted_by opens.connected.out.items)
-      says_now = subst (λ c. SaysAt c opens.after.seats opens.connected.session peer (greeted_by opens.connected.out.items))
+      says_now : SeatHasSaid host.config opens.after.seats opens.connected.session peer (greeted_by opens.connected.out.items)
+      says_now = subst (λ c. SeatHasSaid c opens.after.seats opens.connected.session peer (greeted_by opens.connected.out.items))
           its_node.config_is opens.connects.says
 
       dialogue : IsDialogue (setup_of_config host.config) (greeted_by opens.connected.out.items)
@@ -182,7 +182,7 @@ module _ {D : Type 0} (honest : Type 0) (words : DiskWords D) where
         refl,
         still_says host.config opens.before opens.after opens.connected.session session peers said opens.connects.others
             (λ same. taken other its is (subst (λ s. HasSession its node s) same has))
-            (subst (λ (n : Standing D). SaysAt host.config n.seats session peers said)
+            (subst (λ (n : NodeState D). SeatHasSaid host.config n.seats session peers said)
             (same_Up says.0 opens.before (sym says.1 ∙ opens.up)) says.2),
       )
 
@@ -191,7 +191,7 @@ module _ {D : Type 0} (honest : Type 0) (words : DiskWords D) where
         opens.after,
         refl,
         subst (λ l. Tells host.config.host changes l slot told) (sym opens.attempts)
-            (subst (λ (n : Standing D). Tells host.config.host changes n.attempts slot told)
+            (subst (λ (n : NodeState D). Tells host.config.host changes n.attempts slot told)
             (same_Up is.0 opens.before (sym is.1 ∙ opens.up)) is.2),
       )
 

@@ -8,7 +8,7 @@ use Rattle.relay_book.specs.declared.change.Outcome.{Outcome}
 use Rattle.relay_book.specs.Marks.{change_at, message_at}
 use Rattle.relay_book.proofs.Theorems.{message_stays}
 use Rattle.relay_attempts.specs.AddedOutcome.{AddsOutcome, reported_as}
-use Rattle.relay_node.specs.Node.{Standing}
+use Rattle.relay_node.specs.Node.{NodeState}
 use Rattle.relay_node.proofs.Theorems.{told_stays}
 use Rattle.relay_world.specs.declared.attempt.Fate.{Fate}
 use Rattle.relay_world.specs.declared.attempt.Fate.TheVariants.{Running}
@@ -37,7 +37,7 @@ pub record GoesOnAs (link now : Link) (more : List ℕ) : Type 0 where
 
 module _ {D : Type 0} (honest : Type 0) (words : DiskWords D) (old new : World D) (lists : List (List Change)) (number : ℕ)
     (bound : IsBound honest words old lists) (of : AttemptOf old number) (knows : KnowsAttempt honest words old lists number of)
-    (link : Link) (more : List ℕ) (after : Standing D) (outcome : Outcome) (used change_now : ℕ) (fate : Fate)
+    (link : Link) (more : List ℕ) (after : NodeState D) (outcome : Outcome) (used change_now : ℕ) (fate : Fate)
     (goes_on : GoesOnAs of.link link more) (links : IsPutAt old.links new.links number link)
     (others : OthersStay of.before.attempts after.attempts of.slot) (config : after.config ≡ of.before.config)
     (seats : after.seats ≡ of.before.seats) (count : length new.hosts ≡ length old.hosts)
@@ -77,7 +77,7 @@ module _ {D : Type 0} (honest : Type 0) (words : DiskWords D) (old new : World D
   message_now accept was =
       message_stays knows.changes (reported_as outcome adds.report) adds.adds.keeps.fitting of.attempt.message accept was
 
-  pub recorded : PassesOn (record of.host { holder = Up (without_note after); records = of.host.records ++ records.noted.octets ∷ [] })
+  pub recorded : PassesOn (record of.host { state = Up (without_note after); records = of.host.records ++ records.noted.octets ∷ [] })
       grown link (record of.attempt { fate = fate })
       → IsBound honest words new lists_now
   unfolding recording

@@ -10,7 +10,7 @@ use Rattle.relay_records.specs.Records.{Keeps}
 use Rattle.relay_routes.specs.declared.config.Config.{Config}
 use Rattle.relay_course.specs.Course.{IsCourse}
 use Rattle.relay_client.proofs.Theorems.{followed_is_course}
-use Rattle.relay_attempts.specs.Reply.{HasEnded, Told, outcome_at, told_more}
+use Rattle.relay_attempts.specs.Reply.{AttemptHasEnded, Told, outcome_at, told_more}
 use Rattle.relay_attempts.specs.AddedOutcome.{AddsOutcome}
 use Rattle.relay_node.specs.Attempts.{ReadsOn, Replies, RepliesBy, Tells}
 use Rattle.relay_world.specs.declared.attempt.Fate.TheVariants.{Replied as RepliedBy}
@@ -92,7 +92,7 @@ module _ {D : Type 0} (honest : Type 0) (words : DiskWords D) (old new : World D
   -- nothing was recorded
   read_nothing : ReadsOn honest words read.of.before.config.host old.clock knows.changes read.of.slot told_was
       (waiting_down count read.of.link) read.of.before read.after read.replied
-      → IsPut old.hosts new.hosts read.of.attempt.node (record read.of.host { holder = Up read.after })
+      → IsPut old.hosts new.hosts read.of.attempt.node (record read.of.host { state = Up read.after })
       × (new.ledger ≡ old.ledger) × (new.attempts ≡ old.attempts)
       → IsBound honest words new lists
   read_nothing on puts =
@@ -142,7 +142,7 @@ module _ {D : Type 0} (honest : Type 0) (words : DiskWords D) (old new : World D
       tells_now = subst (λ h. Tells h knows.changes read.after.attempts read.of.slot
           (told_more told_was piece_used read.replied.out.items)) its_host on.tells
 
-      passes : PassesOn (record read.of.host { holder = Up read.after }) knows.changes (read_link read.of.link read.replied)
+      passes : PassesOn (record read.of.host { state = Up read.after }) knows.changes (read_link read.of.link read.replied)
           read.of.attempt
       passes = record {
         accept = knows.was.accept;
@@ -160,7 +160,7 @@ module _ {D : Type 0} (honest : Type 0) (words : DiskWords D) (old new : World D
             (knows.was.output ++ read.replied.out.items) knows.was.accept.envelope tells_now.follows);
         wrote = wrote;
         whole = written;
-        fate = subst (λ f. HasFate (record read.of.host { holder = Up read.after }) knows.changes
+        fate = subst (λ f. HasFate (record read.of.host { state = Up read.after }) knows.changes
             (read_link read.of.link read.replied) read.of.attempt knows.was.accept
             (knows.was.output ++ read.replied.out.items) false None f) (sym read.of.runs) (
               refl,
@@ -176,7 +176,7 @@ module _ {D : Type 0} (honest : Type 0) (words : DiskWords D) (old new : World D
 
   -- the attempt has ended
   read_outcome : (change_now : ℕ)
-      → HasEnded honest words read.of.before.config.host old.clock knows.changes read.of.slot told_was
+      → AttemptHasEnded honest words read.of.before.config.host old.clock knows.changes read.of.slot told_was
       (waiting_down count read.of.link) read.after.records read.after.attempts read.replied change_now
       → RecordsOutcome old new number read.of read.after (RepliedBy change_now) change_now
       → (later : List (List Change)) × IsBound honest words new later

@@ -15,7 +15,7 @@ use Rattle.relay_book.specs.Record.{encode}
 use Rattle.relay_records.specs.declared.noted.Noted.{Noted}
 use Rattle.relay_records.specs.Note.{IsNoted, is_text}
 use Rattle.relay_attempts.specs.AddedOutcome.{AddsOutcome, reported_as}
-use Rattle.relay_node.specs.Node.{Standing}
+use Rattle.relay_node.specs.Node.{NodeState}
 use Rattle.relay_world.specs.declared.line.Line.{Line}
 use Rattle.relay_world.specs.Bound.{HostKeeps, IsBound, NodeKeeps, link_of}
 use Rattle.relay_world.specs.Ledger.{Leaves, accepts_on, left_lines, report_number, report_told, steps_in, steps_of}
@@ -57,7 +57,7 @@ report_is number [] = refl
 report_is number (octet ∷ report) = refl
 
 module _ {D : Type 0} (honest : Type 0) (words : DiskWords D) (old new : World D) (lists : List (List Change)) (node number : ℕ)
-    (host : Host D) (changes : List Change) (before after : Standing D) (outcome : Outcome) (used change_now : ℕ) where
+    (host : Host D) (changes : List Change) (before after : NodeState D) (outcome : Outcome) (used change_now : ℕ) where
   -- what was there, and what was recorded
   pub record Recording : Type 0 where
     pub bound : IsBound honest words old lists
@@ -138,7 +138,7 @@ module _ {D : Type 0} (honest : Type 0) (words : DiskWords D) (old new : World D
         r.few))
 
     pub keeps_now : HostKeeps honest words
-        (record host { holder = Up (without_note after); records = host.records ++ r.noted.octets ∷ [] }) grown
+        (record host { state = Up (without_note after); records = host.records ++ r.noted.octets ∷ [] }) grown
     keeps_now = record {
       list = record {
         fitting = fitting_now;

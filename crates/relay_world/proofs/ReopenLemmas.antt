@@ -16,7 +16,7 @@ use Rattle.relay_world.specs.declared.attempt.Fate.{Fate}
 use Rattle.relay_world.specs.declared.attempt.Fate.TheVariants.{Lost, Replied, Running}
 use Rattle.relay_world.specs.declared.link.Link.{Link}
 use Rattle.relay_world.specs.declared.link.ServerEnd.{ServerEnd}
-use Rattle.relay_world.specs.Bound.{HolderKeeps, HostKeeps, IsBound, IsServed, IsTried, MayBeHeard, MayBeIn, MayHaveEnded, SaysThere, StandsAt, link_of}
+use Rattle.relay_world.specs.Bound.{StateKeeps, HostKeeps, IsBound, IsServed, IsTried, MayBeHeard, MayBeIn, MayHaveEnded, SaysThere, StandsAt, link_of}
 use Rattle.relay_world.specs.Ledger.{accepts_on, lines_by, report_told, steps_in, steps_of}
 use Rattle.relay_world.specs.Steps.{IsPut, IsPutAt}
 use Rattle.relay_world.specs.Stops.{Decides, FindsOutcome, HasFound, HasNotFound, HasReopened, FindsAccept, ReopeningKeeps}
@@ -43,8 +43,8 @@ module _ {D : Type 0} (honest : Type 0) (words : DiskWords D) (old new : World D
   kept : HostKeeps honest words opens.host listed.0
   kept = bound.hosts node opens.host listed.0 stands
 
-  holds : HolderKeeps honest words opens.host.config (Down opens.disk opens.undecided) listed.0
-  holds = subst (λ holder. HolderKeeps honest words opens.host.config holder listed.0) opens.down kept.holds
+  holds : StateKeeps honest words opens.host.config (Down opens.disk opens.undecided) listed.0
+  holds = subst (λ state. StateKeeps honest words opens.host.config state listed.0) opens.down kept.holds
 
   may_be_there : (undecided : Undecided) → opens.undecided ≡ Some undecided → MayBeIn old node opens.host listed.0 undecided
   may_be_there undecided same =
@@ -54,7 +54,7 @@ module _ {D : Type 0} (honest : Type 0) (words : DiskWords D) (old new : World D
   opened_before : Keeps honest words opens.after.records listed.0 → HasNotFound old new node opens.host opens.after
       → IsBound honest words new lists
   opened_before keeps found =
-      host_moved honest words old new lists lists node opens.host (record opens.host { holder = Up opens.after }) listed.0
+      host_moved honest words old new lists lists node opens.host (record opens.host { state = Up opens.after }) listed.0
       listed.0 bound
       (record {
         stands = stands;
@@ -87,7 +87,7 @@ module _ {D : Type 0} (honest : Type 0) (words : DiskWords D) (old new : World D
   module _ (undecided : Undecided) (may : MayBeIn old node opens.host listed.0 undecided)
       (keeps : Keeps honest words opens.after.records (listed.0 ++ may.change ∷ []))
       (hosts : IsPut old.hosts new.hosts node
-      (record opens.host { holder = Up opens.after; records = opens.host.records ++ undecided.note.octets ∷ [] }))
+      (record opens.host { state = Up opens.after; records = opens.host.records ++ undecided.note.octets ∷ [] }))
       (ledger : new.ledger ≡ old.ledger ++ lines_by node undecided.note undecided.origin) where
     abbrev grown : List Change
     grown = listed.0 ++ may.change ∷ []
@@ -96,7 +96,7 @@ module _ {D : Type 0} (honest : Type 0) (words : DiskWords D) (old new : World D
     lists_now = with_at lists node grown
 
     abbrev moved : Host D
-    moved = record opens.host { holder = Up opens.after; records = opens.host.records ++ undecided.note.octets ∷ [] }
+    moved = record opens.host { state = Up opens.after; records = opens.host.records ++ undecided.note.octets ∷ [] }
 
     keeps_now : HostKeeps honest words moved grown
     keeps_now = record {
@@ -424,14 +424,14 @@ module _ {D : Type 0} (honest : Type 0) (words : DiskWords D) (old new : World D
     decided None same found = (
       lists,
       opened_before (opens_to_list honest words sees_now h opens.host opens.disk opens.after.records listed.0
-          (subst (λ u. HolderKeeps honest words opens.host.config (Down opens.disk u) listed.0) same holds) opens.opens) found,
+          (subst (λ u. StateKeeps honest words opens.host.config (Down opens.disk u) listed.0) same holds) opens.opens) found,
     )
     decided (Some undecided) same (inl before) =
         let may : MayBeIn old node opens.host listed.0 undecided = may_be_there undecided same in (
           lists,
           opened_before (opens_before honest words sees_now h old node opens.host opens.disk opens.after.records listed.0
               undecided
-              (subst (λ u. HolderKeeps honest words opens.host.config (Down opens.disk u) listed.0) same holds) opens.opens
+              (subst (λ u. StateKeeps honest words opens.host.config (Down opens.disk u) listed.0) same holds) opens.opens
               may before.0)
               before.1,
         )
@@ -440,7 +440,7 @@ module _ {D : Type 0} (honest : Type 0) (words : DiskWords D) (old new : World D
           _,
           found_by undecided.note undecided.origin may
               (opens_with honest words sees_now h old node opens.host opens.disk opens.after.records listed.0 undecided
-              (subst (λ u. HolderKeeps honest words opens.host.config (Down opens.disk u) listed.0) same holds) opens.opens
+              (subst (λ u. StateKeeps honest words opens.host.config (Down opens.disk u) listed.0) same holds) opens.opens
               may more.0)
               more.1,
         )

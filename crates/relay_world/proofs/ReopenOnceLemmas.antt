@@ -38,7 +38,7 @@ use Rattle.relay_world.proofs.HeldLemmas.{held_before, last_fits, transferred_by
 use Rattle.relay_world.proofs.MoveLemmas.{put_cases}
 use Rattle.relay_world.proofs.OpenLemmas.{list_there}
 use Rattle.relay_world.proofs.PieceLemmas.{same_number}
-use Rattle.relay_world.proofs.StopOnceLemmas.{holder_alone}
+use Rattle.relay_world.proofs.StopOnceLemmas.{state_alone}
 use Rattle.relay_world.proofs.TakerLemmas.{AddsTo, EndedStay, HasTakers, ListsAdd, ended_put, lists_put, takers_kept}
 use Rattle.relay_world.proofs.UndecidedLemmas.{up_not_down}
 
@@ -71,14 +71,14 @@ module _ {D : Type 0} (honest : Type 0) (words : DiskWords D) (old new : World D
 
   not_found : HasNotFound old new node reopens.host reopens.after → IsTriedOnce new later
   not_found none =
-      holder_alone honest words old new lists later bound once now node reopens.host (Up reopens.after) reopens.host_at none.hosts
+      state_alone honest words old new lists later bound once now node reopens.host (Up reopens.after) reopens.host_at none.hosts
       none.links none.attempts none.ledger
       (given_up_at honest words old new lists later bound once now node reopens.host reopens.after reopens.host.records
       none.hosts)
 
   module _ (undecided : Undecided) (is : reopens.undecided ≡ Some undecided)
       (found : HasFound old new node reopens.host reopens.after undecided) where
-    down : reopens.host.holder ≡ Down reopens.disk (Some undecided)
+    down : reopens.host.state ≡ Down reopens.disk (Some undecided)
     down = reopens.down ∙ ap (λ u. Down reopens.disk u) is
 
     may : MayBeIn old node reopens.host listed.0 undecided
@@ -89,7 +89,7 @@ module _ {D : Type 0} (honest : Type 0) (words : DiskWords D) (old new : World D
 
     abbrev moved : Host D
     moved = record reopens.host {
-      holder = Up reopens.after;
+      state = Up reopens.after;
       records = reopens.host.records ++ undecided.note.octets ∷ [];
     }
 
@@ -286,7 +286,7 @@ module _ {D : Type 0} (honest : Type 0) (words : DiskWords D) (old new : World D
                 (λ f. HasFate known.0 known.1 known.2 yours.attempt passes.accept passes.output passes.told passes.verdicts f)
                 is_fate passes.fate in
                 up_not_down fate.2.0 reopens.disk (Some undecided)
-                (sym fate.2.1 ∙ ap (λ (h : Host D). h.holder) same_host ∙ down)
+                (sym fate.2.1 ∙ ap (λ (h : Host D). h.state) same_host ∙ down)
             by (Replied k) is_fate claims =
                 let transferred : Transferred known.1 yours.attempt.message p =
                 transferred_by known.0 known.1 known.2 yours.attempt passes k p claims.0 is_fate

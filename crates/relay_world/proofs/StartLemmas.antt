@@ -25,7 +25,7 @@ use Rattle.relay_course.specs.Course.{IsCourse}
 use Rattle.relay_course.specs.Laws.{AreWithin}
 use Rattle.relay_client.proofs.Theorems.{followed_is_course}
 use Rattle.relay_node.specs.Attempts.{Begins, Tells}
-use Rattle.relay_node.specs.Node.{SaysAt, Standing}
+use Rattle.relay_node.specs.Node.{SeatHasSaid, NodeState}
 use Rattle.relay_world.specs.declared.attempt.Attempt.{Attempt}
 use Rattle.relay_world.specs.declared.attempt.Fate.{Fate}
 use Rattle.relay_world.specs.declared.attempt.Fate.TheVariants.{Running}
@@ -74,7 +74,7 @@ some_place (place ∷ places) some = omega arith
 module _ {D : Type 0} (honest : Type 0) (words : DiskWords D) where
   -- the number of an attempt that runs is taken at its node
   slot_taken : (world : World D) (lists : List (List Change)) → IsBound honest words world lists → (node : ℕ) (host : Host D)
-      (before : Standing D) → slice_get world.hosts node ≡ Some host → host.holder ≡ Up before
+      (before : NodeState D) → slice_get world.hosts node ≡ Some host → host.state ≡ Up before
       → (number place : ℕ) (link : Link) (attempt : Attempt) (slot : ℕ) → link_at world.links number ≡ Some link
       → link.client ≡ Some place → slice_get world.attempts place ≡ Some attempt
       → HasSlot attempt node slot → slot_at before.attempts slot ≡ None → ⊥
@@ -88,8 +88,8 @@ module _ {D : Type 0} (honest : Type 0) (words : DiskWords D) where
       tried.passes.verdicts (Running slot) =
       subst (λ f. HasFate tried.host tried.changes link tried.attempt tried.passes.accept tried.passes.output tried.passes.told
       tried.passes.verdicts f) (ap (λ (a : Attempt). a.fate) same_attempt ∙ has.runs) tried.passes.fate in
-      let same_node : fate.2.0 ≡ before = same_Up fate.2.0 before (sym fate.2.1 ∙ ap (λ (h : Host D). h.holder) same_host ∙ up) in
-      false≢true (ap is_some (sym (ap (λ (n : Standing D). slot_at n.attempts slot) same_node ∙ free) ∙ fate.2.2.at))
+      let same_node : fate.2.0 ≡ before = same_Up fate.2.0 before (sym fate.2.1 ∙ ap (λ (h : Host D). h.state) same_host ∙ up) in
+      false≢true (ap is_some (sym (ap (λ (n : NodeState D). slot_at n.attempts slot) same_node ∙ free) ∙ fate.2.2.at))
 
   pub starting_keeps : StartingKeeps honest words
   starting_keeps old new lists number message hop bound starts =
@@ -102,7 +102,7 @@ module _ {D : Type 0} (honest : Type 0) (words : DiskWords D) where
       host = starts.host
 
       moved : Host D
-      moved = record host { holder = Up starts.after }
+      moved = record host { state = Up starts.after }
 
       blank : Link
       blank = starts.blank
@@ -145,8 +145,8 @@ module _ {D : Type 0} (honest : Type 0) (words : DiskWords D) where
       says (Some session) peer said there = (
         starts.after,
         refl,
-        subst (λ l. SaysAt host.config l session peer said) (sym starts.seats)
-            (subst (λ (n : Standing D). SaysAt host.config n.seats session peer said)
+        subst (λ l. SeatHasSaid host.config l session peer said) (sym starts.seats)
+            (subst (λ (n : NodeState D). SeatHasSaid host.config n.seats session peer said)
             (same_Up there.0 starts.before (sym there.1 ∙ starts.up)) there.2),
       )
 
@@ -165,7 +165,7 @@ module _ {D : Type 0} (honest : Type 0) (words : DiskWords D) where
         refl,
         still_tells host.config.host changes starts.before.attempts starts.after.attempts slot told
             (begins.others slot (other_slot place attempt slot at has))
-            (subst (λ (n : Standing D). Tells host.config.host changes n.attempts slot told)
+            (subst (λ (n : NodeState D). Tells host.config.host changes n.attempts slot told)
             (same_Up is.0 starts.before (sym is.1 ∙ starts.up)) is.2),
       )
 

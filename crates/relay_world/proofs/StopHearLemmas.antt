@@ -17,7 +17,7 @@ use Rattle.relay_book.specs.declared.change.Change.{Change}
 use Rattle.relay_book.specs.declared.change.Change.TheVariants as change
 use Rattle.relay_book.specs.Marks.{change_at}
 use Rattle.relay_node.specs.Acceptance.{IsAcceptOf, acceptance_by}
-use Rattle.relay_node.specs.Node.{CutsTalk, SaysAt, Standing}
+use Rattle.relay_node.specs.Node.{CutsTalk, SeatHasSaid, NodeState}
 use Rattle.relay_node.specs.Queued.{queued_in}
 use Rattle.relay_node.proofs.Theorems.{queued_grows}
 use Rattle.relay_world.specs.declared.line.Line.{Line}
@@ -66,11 +66,11 @@ module _ {D : Type 0} (honest : Type 0) (words : DiskWords D) (old new : World D
   live_before : SaysThere stops.of.host (Some stops.of.session) stops.of.end.peer was.said
   live_before = subst (λ s. SaysThere stops.of.host s stops.of.end.peer was.said) stops.of.goes_on was.live
 
-  says_before : SaysAt stops.of.before.config stops.of.before.seats stops.of.session stops.of.end.peer was.said
+  says_before : SeatHasSaid stops.of.before.config stops.of.before.seats stops.of.session stops.of.end.peer was.said
   says_before =
-      subst (λ (n : Standing D). SaysAt stops.of.before.config n.seats stops.of.session stops.of.end.peer was.said)
+      subst (λ (n : NodeState D). SeatHasSaid stops.of.before.config n.seats stops.of.session stops.of.end.peer was.said)
       (same_Up live_before.0 stops.of.before (sym live_before.1 ∙ stops.of.up))
-      (subst (λ c. SaysAt c live_before.0.seats stops.of.session stops.of.end.peer was.said) (sym its_node.config_is)
+      (subst (λ c. SeatHasSaid c live_before.0.seats stops.of.session stops.of.end.peer was.said) (sym its_node.config_is)
       live_before.2)
 
   talk : CutsTalk honest words stops.of.before.config listed.0 stops.of.end.peer old.clock was.said
@@ -99,7 +99,7 @@ module _ {D : Type 0} (honest : Type 0) (words : DiskWords D) (old new : World D
   its_undecided = record { note = stops.noted; origin = FromClient number }
 
   abbrev moved : Host D
-  moved = record stops.of.host { holder = Down stops.disk (Some its_undecided) }
+  moved = record stops.of.host { state = Down stops.disk (Some its_undecided) }
 
   -- the end as it was, without its session
   quiet : ServesLink stops.of.host listed.0 old.ledger number stops.of.link end_now

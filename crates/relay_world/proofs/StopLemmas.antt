@@ -9,7 +9,7 @@ use Rattle.relay_book.specs.declared.change.Outcome.{Outcome}
 use Rattle.relay_routes.specs.declared.config.Config.{Config}
 use Rattle.relay_attempts.specs.Outcomes.{CutsUnroutable, unroutable}
 use Rattle.relay_attempts.specs.AddedOutcome.{CutsOutcome, reported_as}
-use Rattle.relay_world.specs.Bound.{HolderKeeps, HostKeeps, MayBeIn, NodeKeeps, StandsAt, link_of}
+use Rattle.relay_world.specs.Bound.{StateKeeps, HostKeeps, MayBeIn, NodeKeeps, StandsAt, link_of}
 use Rattle.relay_world.specs.Ledger.{accepts_on, steps_in}
 use Rattle.relay_world.specs.Stops.{StayingDownKeeps, StoppingGivingUpKeeps, StoppingKeeps}
 use Rattle.relay_world.specs.World.{Down, FromNoHop, Host, Undecided}
@@ -48,7 +48,7 @@ stopping_keeps {D} honest words old new lists node bound stops =
     host = stops.host
 
     moved : Host D
-    moved = record host { holder = Down stops.disk None }
+    moved = record host { state = Down stops.disk None }
 
     listed : (list : List Change) × (slice_get lists node ≡ Some list)
     listed = list_there old.hosts lists node host bound.even stops.host_at
@@ -90,7 +90,7 @@ staying_down_keeps {D} honest words old new lists node bound stays =
     host = stays.host
 
     moved : Host D
-    moved = record host { holder = Down stays.again stays.undecided }
+    moved = record host { state = Down stays.again stays.undecided }
 
     listed : (list : List Change) × (slice_get lists node ≡ Some list)
     listed = list_there old.hosts lists node host bound.even stays.host_at
@@ -104,9 +104,9 @@ staying_down_keeps {D} honest words old new lists node bound stays =
     kept : HostKeeps honest words host changes
     kept = bound.hosts node host changes stands
 
-    holds : HolderKeeps honest words host.config (Down stays.again stays.undecided) changes
+    holds : StateKeeps honest words host.config (Down stays.again stays.undecided) changes
     holds is image may =
-        subst (λ holder. HolderKeeps honest words host.config holder changes) stays.down kept.holds is image
+        subst (λ state. StateKeeps honest words host.config state changes) stays.down kept.holds is image
         (stays.left is image may)
 
     accepts : (other : ℕ) → accepts_on other new.ledger ≡ accepts_on other old.ledger
@@ -156,7 +156,7 @@ stopping_giving_up_keeps {D} honest words old new lists node message bound stops
     its_undecided = record { note = stops.noted; origin = FromNoHop message }
 
     moved : Host D
-    moved = record host { holder = Down stops.disk (Some its_undecided) }
+    moved = record host { state = Down stops.disk (Some its_undecided) }
 
     listed : (list : List Change) × (slice_get lists node ≡ Some list)
     listed = list_there old.hosts lists node host bound.even stops.host_at

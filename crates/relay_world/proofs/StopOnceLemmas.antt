@@ -17,7 +17,7 @@ use Rattle.relay_world.specs.Bound.{HostKeeps, IsBound, NodeKeeps}
 use Rattle.relay_world.specs.Once.{GivesUpNoHops, HasNoHops, IsTriedOnce}
 use Rattle.relay_world.specs.Steps.{AttemptOf, IsPut}
 use Rattle.relay_world.specs.Stops.{DropsAtStop, HasStopped, StaysDown, StopsGivingUp, StopsHearing, StopsLosing, StopsReading, cut_off_link}
-use Rattle.relay_world.specs.World.{Down, FromClient, FromLoss, FromNoHop, FromReplies, Holder, Host, Origin, Undecided, World}
+use Rattle.relay_world.specs.World.{Down, FromClient, FromLoss, FromNoHop, FromReplies, HostState, Host, Origin, Undecided, World}
 use Rattle.relay_world.proofs.AddedLemmas.{noted_octets, stranded_no_hops}
 use Rattle.relay_world.proofs.ClaimLemmas.{GivenUpKept, given_put, list_still, one_ended, outside_same}
 use Rattle.relay_world.proofs.DownLemmas.{same_undecided}
@@ -47,46 +47,46 @@ module _ {D : Type 0} (honest : Type 0) (words : DiskWords D) (old new : World D
   Given = GivenUpKept honest words old new lists later bound once now
 
   -- nothing but what one node holds has changed
-  pub holder_alone : (node : ℕ) (host : Host D) (holder : Holder D) → slice_get old.hosts node ≡ Some host
-      → IsPut old.hosts new.hosts node (record host { holder = holder }) → new.links ≡ old.links → new.attempts ≡ old.attempts
+  pub state_alone : (node : ℕ) (host : Host D) (state : HostState D) → slice_get old.hosts node ≡ Some host
+      → IsPut old.hosts new.hosts node (record host { state = state }) → new.links ≡ old.links → new.attempts ≡ old.attempts
       → new.ledger ≡ old.ledger → Given → IsTriedOnce new later
-  holder_alone node host holder at put links attempts ledger given =
+  state_alone node host state at put links attempts ledger given =
       kept honest words old new lists later bound once now
-      (moved_on honest words old new lists later bound once now node host (record host { holder = holder }) at put refl
+      (moved_on honest words old new lists later bound once now node host (record host { state = state }) at put refl
       ([], sym (append-nil host.records)))
       (there_same honest words old new lists later bound once now attempts)
-      (lists_stay honest words old new lists later bound once now node host (record host { holder = holder }) at put refl)
+      (lists_stay honest words old new lists later bound once now node host (record host { state = state }) at put refl)
       (same_ends honest words old new lists later bound once now attempts) given
       (outside_same honest words old new lists later bound once now links
       (same_accepts honest words old new lists later bound once now ledger))
 
   -- what came from a client or an attempt was not given up
   given_by : (node : ℕ) (host : Host D) (disk : D) (undecided : Undecided)
-      → IsPut old.hosts new.hosts node (record host { holder = Down disk (Some undecided) })
+      → IsPut old.hosts new.hosts node (record host { state = Down disk (Some undecided) })
       → slice_get old.hosts node ≡ Some host
       → ((message : ℕ) (changes : List Change) → slice_get lists node ≡ Some changes → undecided.origin ≡ FromNoHop message
       → GivesUpNoHops host.config.routes changes undecided.note.octets) → Given
   given_by node host disk undecided put at here =
-      given_put honest words old new lists later bound once now node (record host { holder = Down disk (Some undecided) }) put
+      given_put honest words old new lists later bound once now node (record host { state = Down disk (Some undecided) }) put
       (λ message changes other its there down origin.
       let same : undecided ≡ its = same_note disk other undecided its down in
       subst (λ (u : Undecided). GivesUpNoHops host.config.routes changes u.note.octets) same
       (here message changes
       (list_still honest words old new lists later bound once now node host
-      (record host { holder = Down disk (Some undecided) }) changes at refl there)
+      (record host { state = Down disk (Some undecided) }) changes at refl there)
       (ap (λ (u : Undecided). u.origin) same ∙ origin)))
 
   pub stopped : (node : ℕ) → HasStopped honest words old new node → IsTriedOnce new later
   stopped node stops =
-      holder_alone node stops.host (Down stops.disk None) stops.host_at stops.hosts stops.rest.0 stops.rest.1 stops.rest.2
-      (given_put honest words old new lists later bound once now node (record stops.host { holder = Down stops.disk None })
+      state_alone node stops.host (Down stops.disk None) stops.host_at stops.hosts stops.rest.0 stops.rest.1 stops.rest.2
+      (given_put honest words old new lists later bound once now node (record stops.host { state = Down stops.disk None })
       stops.hosts (λ message changes other its there down origin.
       absurd (none-some its (same_undecided stops.disk other None (Some its) down))))
 
   pub stopped_hearing : (number count : ℕ) → StopsHearing honest words old new number count → IsTriedOnce new later
   stopped_hearing number count stops =
       let undecided : Undecided = record { note = stops.noted; origin = FromClient number } in
-      let moved : Host D = record stops.of.host { holder = Down stops.disk (Some undecided) } in
+      let moved : Host D = record stops.of.host { state = Down stops.disk (Some undecided) } in
       kept honest words old new lists later bound once now
       (moved_on honest words old new lists later bound once now stops.of.end.node stops.of.host moved stops.of.host_at stops.hosts
       refl ([], sym (append-nil stops.of.host.records)))
@@ -106,7 +106,7 @@ module _ {D : Type 0} (honest : Type 0) (words : DiskWords D) (old new : World D
       → IsTriedOnce new later
   dropped_at number of stopped_at origin drops off =
       let undecided : Undecided = record { note = drops.noted; origin = origin } in
-      let moved : Host D = record of.host { holder = Down drops.disk (Some undecided) } in
+      let moved : Host D = record of.host { state = Down drops.disk (Some undecided) } in
       kept honest words old new lists later bound once now
       (moved_on honest words old new lists later bound once now of.attempt.node of.host moved of.host_at drops.hosts refl
       ([], sym (append-nil of.host.records)))
@@ -132,7 +132,7 @@ module _ {D : Type 0} (honest : Type 0) (words : DiskWords D) (old new : World D
 
   pub stopped_giving_up : (node message : ℕ) → StopsGivingUp honest words old new node message → IsTriedOnce new later
   stopped_giving_up node message stops =
-      holder_alone node stops.host (Down stops.disk (Some undecided)) stops.host_at stops.hosts stops.rest.0 stops.rest.1
+      state_alone node stops.host (Down stops.disk (Some undecided)) stops.host_at stops.hosts stops.rest.0 stops.rest.1
       stops.rest.2
       (given_by node stops.host stops.disk undecided stops.hosts stops.host_at (λ other changes is origin.
       subst (λ l. GivesUpNoHops stops.host.config.routes l stops.noted.octets)
@@ -172,14 +172,14 @@ module _ {D : Type 0} (honest : Type 0) (words : DiskWords D) (old new : World D
 
   pub stayed_down : (node : ℕ) → StaysDown honest words old new node → IsTriedOnce new later
   stayed_down node stays =
-      holder_alone node stays.host (Down stays.again stays.undecided) stays.host_at stays.hosts stays.rest.0 stays.rest.1
+      state_alone node stays.host (Down stays.again stays.undecided) stays.host_at stays.hosts stays.rest.0 stays.rest.1
       stays.rest.2
       (given_put honest words old new lists later bound once now node
-      (record stays.host { holder = Down stays.again stays.undecided }) stays.hosts
+      (record stays.host { state = Down stays.again stays.undecided }) stays.hosts
       (λ message changes other its there down origin.
       let same : stays.undecided ≡ Some its = same_undecided stays.again other stays.undecided (Some its) down in
       once.given_up node message stays.host changes stays.disk its (record {
         host_at = stays.host_at;
         list_at = list_still honest words old new lists later bound once now node stays.host
-            (record stays.host { holder = Down stays.again stays.undecided }) changes stays.host_at refl there;
+            (record stays.host { state = Down stays.again stays.undecided }) changes stays.host_at refl there;
       }) (stays.down ∙ ap (λ u. Down stays.disk u) same) origin))

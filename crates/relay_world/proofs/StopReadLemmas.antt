@@ -55,7 +55,7 @@ module _ {D : Type 0} (honest : Type 0) (words : DiskWords D) (old new : World D
   its_undecided = record { note = drops.noted; origin = origin }
 
   abbrev moved : Host D
-  moved = record of.host { holder = Down drops.disk (Some its_undecided) }
+  moved = record of.host { state = Down drops.disk (Some its_undecided) }
 
   passes_now : PassesOn moved knows.changes link_now attempt_now
   passes_now = record {
@@ -305,7 +305,7 @@ module _ {D : Type 0} (honest : Type 0) (words : DiskWords D) (old new : World D
       record { note = stops.drops.noted; origin = FromReplies number stops.of.place stops.of.attempt.message }
 
   abbrev moved_read : Host D
-  moved_read = record stops.of.host { holder = Down stops.drops.disk (Some undecided_read) }
+  moved_read = record stops.of.host { state = Down stops.drops.disk (Some undecided_read) }
 
   may_be_in_read : MayBeIn new stops.of.attempt.node moved_read knows.changes undecided_read
   may_be_in_read = record {
@@ -389,7 +389,7 @@ module _ {D : Type 0} (honest : Type 0) (words : DiskWords D) (old new : World D
   undecided_lost = record { note = stops.drops.noted; origin = FromLoss number stops.of.place stops.of.attempt.message }
 
   abbrev moved_lost : Host D
-  moved_lost = record stops.of.host { holder = Down stops.drops.disk (Some undecided_lost) }
+  moved_lost = record stops.of.host { state = Down stops.drops.disk (Some undecided_lost) }
 
   may_be_in_lost : MayBeIn new stops.of.attempt.node moved_lost knows.changes undecided_lost
   may_be_in_lost = record {

@@ -8,7 +8,7 @@ use Rattle.relay_routes.specs.declared.config.Config.{Config}
 use Rattle.relay_book.specs.declared.change.Change.{Change}
 use Rattle.relay_records.specs.declared.noted.Noted.{Noted}
 use Rattle.relay_report.specs.Report.{Reported}
-use Rattle.relay_node.specs.Node.{Standing}
+use Rattle.relay_node.specs.Node.{NodeState}
 use Rattle.relay_world.specs.declared.attempt.Attempt.{Attempt}
 use Rattle.relay_world.specs.declared.attempt.Fate.{Fate}
 use Rattle.relay_world.specs.declared.attempt.Fate.TheVariants.{Running, Replied, Lost, Dropped}
@@ -17,17 +17,17 @@ use Rattle.relay_world.specs.declared.link.Link.{Link}
 use Rattle.relay_world.specs.declared.link.ServerEnd.{ServerEnd}
 use Rattle.relay_world.specs.Bound.{MayBeHeard, MayBeIn, MayHaveCome, MayHaveEnded, SaysThere, ServesLink}
 use Rattle.relay_world.specs.Ledger.{accepts_on, lines_by}
-use Rattle.relay_world.specs.World.{Down, FromClient, FromLoss, FromNoHop, FromReplies, Holder, Host, Origin, Undecided, Up, World, link_at}
+use Rattle.relay_world.specs.World.{Down, FromClient, FromLoss, FromNoHop, FromReplies, HostState, Host, Origin, Undecided, Up, World, link_at}
 use Rattle.relay_world.proofs.FrameLemmas.{accepts_on_more, passes_on, serves_on}
 use Rattle.relay_world.proofs.PieceLemmas.{passes_as}
 use Rattle.relay_world.proofs.FateLemmas.{lost_ends, replied_ends}
 
 -- a node that is up isn't down
-abbrev is_up : {D : Type 0} → Holder D → Bool
+abbrev is_up : {D : Type 0} → HostState D → Bool
 is_up (Up node) = true
 is_up (Down disk undecided) = false
 
-pub up_not_down : {D : Type 0} (node : Standing D) (disk : D) (undecided : Option Undecided) → Up node ≡ Down disk undecided → ⊥
+pub up_not_down : {D : Type 0} (node : NodeState D) (disk : D) (undecided : Option Undecided) → Up node ≡ Down disk undecided → ⊥
 up_not_down node disk undecided same = false≢true (sym (ap is_up same))
 
 -- a whole link isn't broken

@@ -27,7 +27,7 @@ use Rattle.relay_attempts.specs.Reply.{Told}
 use Rattle.relay_attempts.specs.AddedOutcome.{reported_as}
 use Rattle.relay_node.specs.Acceptance.{IsAcceptOf, acceptance_by}
 use Rattle.relay_node.specs.Attempts.{Tells}
-use Rattle.relay_node.specs.Node.{SaysAt, Standing}
+use Rattle.relay_node.specs.Node.{SeatHasSaid, NodeState}
 use Rattle.relay_node.specs.Queued.{queued_in}
 use Rattle.relay_world.specs.declared.attempt.Attempt.{Attempt}
 use Rattle.relay_world.specs.declared.attempt.Fate.{Fate}
@@ -37,7 +37,7 @@ use Rattle.relay_world.specs.declared.line.Line.TheVariants.{Accepted, Left}
 use Rattle.relay_world.specs.declared.link.Link.{Link}
 use Rattle.relay_world.specs.declared.link.ServerEnd.{ServerEnd}
 use Rattle.relay_world.specs.Ledger.{accepts_on, lines_by, lines_of, steps_by, steps_in, steps_of}
-use Rattle.relay_world.specs.World.{Down, FromClient, FromLoss, FromNoHop, FromReplies, Holder, Host, Origin, Undecided, Up, World, link_at}
+use Rattle.relay_world.specs.World.{Down, FromClient, FromLoss, FromNoHop, FromReplies, HostState, Host, Origin, Undecided, Up, World, link_at}
 
 -- the records are those of this list of changes
 pub record IsListOf (records : List (List ℕ)) (changes : List Change) : Type 0 where
@@ -63,27 +63,27 @@ StandsForUnlessDecided changes undecided bodies =
 
 module _ {D : Type 0} (honest : Type 0) (words : DiskWords D) where
   -- a node that is up runs by this configuration, and keeps these changes
-  pub record NodeKeeps (config : Config) (node : Standing D) (changes : List Change) : Type 0 where
+  pub record NodeKeeps (config : Config) (node : NodeState D) (changes : List Change) : Type 0 where
     pub config_is : node.config ≡ config
     pub keeps : Keeps honest words node.records changes
 
   -- so it does; or it is down, and a stop leaves the changes, or them and the undecided one
-  abbrev pub HolderKeeps : Config → Holder D → List Change → Type 0
-  HolderKeeps config (Up node) changes = NodeKeeps config node changes
-  HolderKeeps config (Down disk undecided) changes =
+  abbrev pub StateKeeps : Config → HostState D → List Change → Type 0
+  StateKeeps config (Up node) changes = NodeKeeps config node changes
+  StateKeeps config (Down disk undecided) changes =
       honest → EveryImageHas words disk (StandsForUnlessDecided changes undecided)
 
   -- the node keeps these changes, which are those of its records
   pub record HostKeeps (host : Host D) (changes : List Change) : Type 0 where
     pub list : IsListOf host.records changes
-    pub holds : HolderKeeps host.config host.holder changes
+    pub holds : StateKeeps host.config host.state changes
     pub reports : ReportsBehind host.config.host [] changes
 
 -- a node that is up has this session, which stands behind what was said
 abbrev pub SaysThere : {D : Type 0} → Host D → Option ℕ → List ℕ → Said → Type 0
 SaysThere {D} host None peer said = Unit {0}
 SaysThere {D} host (Some session) peer said =
-    (node : Standing D) × (host.holder ≡ Up node) × SaysAt host.config node.seats session peer said
+    (node : NodeState D) × (host.state ≡ Up node) × SeatHasSaid host.config node.seats session peer said
 
 -- the change of this number accepts the offer, from this address
 pub record IsStoredAs (config : Config) (peer : List ℕ) (changes : List Change) (number : ℕ) (offer : Offered)
@@ -140,7 +140,7 @@ abbrev pub HasFate
     → Type 0
 HasFate {D} host changes link attempt accept output told verdicts (Running slot) =
     (told ≡ false) × (verdicts ≡ None)
-    × ((node : Standing D) × (host.holder ≡ Up node)
+    × ((node : NodeState D) × (host.state ≡ Up node)
     × Tells host.config.host changes node.attempts slot (told_by attempt accept (take link.down_read link.down) output))
 HasFate host changes link attempt accept output told verdicts (Replied number) =
     (told ≡ false) × ((all : List Verdict) × (verdicts ≡ Some all) × IsItsOutcome attempt all changes number)
@@ -282,7 +282,7 @@ pub record IsBound {D : Type 0} (honest : Type 0) (words : DiskWords D) (world :
       → HostKeeps honest words host changes
   -- whether the next opening of a node that is down finds an undecided change or not, all is bound
   pub may_be_in : (node : ℕ) (host : Host D) (changes : List Change) (disk : D) (undecided : Undecided)
-      → StandsAt world lists node host changes → host.holder ≡ Down disk (Some undecided)
+      → StandsAt world lists node host changes → host.state ≡ Down disk (Some undecided)
       → MayBeIn world node host changes undecided
   pub servers : (number : ℕ) (link : Link) (end : ServerEnd) → link_at world.links number ≡ Some link
       → link.server ≡ Some end → IsServed world lists number link end

@@ -9,7 +9,7 @@ use Rattle.relay_records.specs.Records.{Keeps, Kept}
 use Rattle.relay_attempts.specs.Outcomes.{CutsUnroutable}
 use Rattle.relay_attempts.specs.Reply.{CutsLoss, CutsReply, Told}
 use Rattle.relay_node.specs.Attempts.{Tells}
-use Rattle.relay_node.specs.Node.{CutsTalk, SaysAt, Standing}
+use Rattle.relay_node.specs.Node.{CutsTalk, SeatHasSaid, NodeState}
 use Rattle.relay_world.specs.declared.attempt.Attempt.{Attempt}
 use Rattle.relay_world.specs.declared.link.Link.{Link}
 use Rattle.relay_world.specs.declared.link.ServerEnd.{ServerEnd}
@@ -53,7 +53,7 @@ pub record GoesDown {D : Type 0} (old new : World D) (node : ℕ) (host : Host D
     (undecided : Option Undecided) : Type 0
   where
     pub hosts : List (Host D)
-    pub put : IsPut old.hosts hosts node (record host { holder = Down disk undecided })
+    pub put : IsPut old.hosts hosts node (record host { state = Down disk undecided })
     pub as_many : length hosts ≡ length old.hosts
     pub new_is : new ≡ record (let_go node old) { hosts = hosts }
 
@@ -62,8 +62,8 @@ pub record CrashesAtRest {D : Type 0} (honest : Type 0) (words : DiskWords D) (o
     : Type 0 where
   pub host : Host D
   pub host_at : slice_get old.hosts node ≡ Some host
-  pub before : Standing D
-  pub up : host.holder ≡ Up before
+  pub before : NodeState D
+  pub up : host.state ≡ Up before
   pub disk : D
   pub left : IsLeftBy honest words before.records disk
   pub down : GoesDown old new node host disk None
@@ -74,8 +74,8 @@ pub record CrashesGivingUp {D : Type 0} (honest : Type 0) (words : DiskWords D) 
   where
     pub host : Host D
     pub host_at : slice_get old.hosts node ≡ Some host
-    pub before : Standing D
-    pub up : host.holder ≡ Up before
+    pub before : NodeState D
+    pub up : host.state ≡ Up before
     pub stopped : Kept D
     pub cuts : (changes : List Change) → Keeps honest words before.records changes
         → CutsUnroutable honest words before.config.host before.config.routes message old.clock changes
@@ -92,7 +92,7 @@ pub record CrashesHearing {D : Type 0} (honest : Type 0) (words : DiskWords D) (
   pub of : SessionOf old number
   pub stopped : Kept D
   pub cuts : (changes : List Change) (said : Said) → Keeps honest words of.before.records changes
-      → SaysAt of.before.config of.before.seats of.session of.end.peer said
+      → SeatHasSaid of.before.config of.before.seats of.session of.end.peer said
       → CutsTalk honest words of.before.config changes of.end.peer old.clock said (waiting_up count of.link)
       of.before.records stopped
   pub noted : Noted

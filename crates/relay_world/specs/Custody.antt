@@ -19,7 +19,7 @@ use Rattle.relay_book.specs.DueReport.{patience}
 use Rattle.relay_book.specs.Marks.{Added, Ended, Held, IsOneOf, LeavesAt, Transferred}
 use Rattle.relay_book.specs.Queue.{held_of}
 use Rattle.relay_book.specs.StandsFor.{StandsFor}
-use Rattle.relay_node.specs.Node.{Standing}
+use Rattle.relay_node.specs.Node.{NodeState}
 use Rattle.relay_report.specs.Report.{Reported}
 use Rattle.relay_world.specs.declared.link.Link.{Link}
 use Rattle.relay_world.specs.declared.link.ServerEnd.{ServerEnd}
@@ -82,12 +82,12 @@ pub record KeepsCustody {D : Type 0} (honest : Type 0) (words : DiskWords D) (wo
   pub one_of : (number place : ℕ) → Added changes number place
       → IsOneOf (Held changes number place) (Transferred changes number place) (Ended changes number place)
   -- a node that is up has just those in its queue that are held, and so has every image that a stop may leave
-  pub held : (standing : Standing D) → host.holder ≡ Up standing → (number place : ℕ)
+  pub held : (standing : NodeState D) → host.state ≡ Up standing → (number place : ℕ)
       → Contains {X = ℕ × ℕ} (held_of standing.records.queue) (number, place) ↔ Held changes number place
-  pub images : honest → (standing : Standing D) → host.holder ≡ Up standing
+  pub images : honest → (standing : NodeState D) → host.state ≡ Up standing
       → EveryImageHas words standing.records.spool.disk (λ bodies. StandsFor bodies changes)
   -- of a node that is down every image stands for its changes, or for these and the one that its next opening decides
-  pub images_down : honest → (disk : D) (undecided : Option Undecided) → host.holder ≡ Down disk undecided
+  pub images_down : honest → (disk : D) (undecided : Option Undecided) → host.state ≡ Down disk undecided
       → EveryImageHas words disk (StandsForUnlessDecided changes undecided)
   -- each that has left has left for a cause, with the report that is due
   pub left : (at number place : ℕ) (way : Way) → LeavesAt changes at number place way

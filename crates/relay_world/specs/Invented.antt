@@ -9,7 +9,7 @@ use Rattle.relay_book.specs.declared.change.Verdict.TheVariants.{NoRoute}
 use Rattle.relay_records.specs.declared.noted.Noted.{Noted}
 use Rattle.relay_records.specs.Records.{Keeps}
 use Rattle.relay_attempts.specs.AddedOutcome.{AddsOutcome}
-use Rattle.relay_node.specs.Node.{Standing}
+use Rattle.relay_node.specs.Node.{NodeState}
 use Rattle.relay_world.specs.Bound.{IsBound}
 use Rattle.relay_world.specs.Once.{IsTriedOnce}
 use Rattle.relay_world.specs.Steps.{IsPut, without_note}
@@ -20,9 +20,9 @@ pub record Invents {D : Type 0} (honest : Type 0) (words : DiskWords D) (old new
     : Type 0 where
   pub host : Host D
   pub host_at : slice_get old.hosts node ≡ Some host
-  pub before : Standing D
-  pub up : host.holder ≡ Up before
-  pub after : Standing D
+  pub before : NodeState D
+  pub up : host.state ≡ Up before
+  pub after : NodeState D
   pub outcome : Outcome
   pub place : ℕ
   pub verdict : Verdict
@@ -33,7 +33,7 @@ pub record Invents {D : Type 0} (honest : Type 0) (words : DiskWords D) (old new
   pub noted : Noted
   pub note_is : after.records.noted ≡ Some noted
   pub hosts : IsPut old.hosts new.hosts node
-      (record host { holder = Up (without_note after); records = host.records ++ noted.octets ∷ [] })
+      (record host { state = Up (without_note after); records = host.records ++ noted.octets ∷ [] })
   pub attempts : new.attempts ≡ old.attempts
 
 -- Behind that it isn't so that each outcome is that of an attempt.

@@ -12,7 +12,7 @@ use Rattle.relay_book.specs.declared.change.Verdict.{Verdict}
 use Rattle.relay_book.specs.declared.change.Verdict.TheVariants.{NoRoute, Taken}
 use Rattle.relay_book.specs.Marks.{change_at, message_at}
 use Rattle.relay_book.specs.Record.{IsChange, encode}
-use Rattle.relay_node.specs.Node.{Standing}
+use Rattle.relay_node.specs.Node.{NodeState}
 use Rattle.relay_routes.specs.Routes.{RouteTable}
 use Rattle.relay_world.specs.declared.attempt.Attempt.{Attempt}
 use Rattle.relay_world.specs.declared.attempt.Fate.{Fate}
@@ -91,7 +91,7 @@ pub record IsTriedOnce {D : Type 0} (world : World D) (lists : List (List Change
       → IsOutcomeOf world node number ⊎ HasNoHops host.config.routes changes outcome
   -- and so does an undecided change that came from no attempt
   pub given_up : (node message : ℕ) (host : Host D) (changes : List Change) (disk : D) (undecided : Undecided)
-      → StandsAt world lists node host changes → host.holder ≡ Down disk (Some undecided)
+      → StandsAt world lists node host changes → host.state ≡ Down disk (Some undecided)
       → undecided.origin ≡ FromNoHop message → GivesUpNoHops host.config.routes changes undecided.note.octets
   -- on a link that no node serves no node has accepted anything
   pub outside : (number : ℕ) (link : Link) → link_at world.links number ≡ Some link → link.server ≡ None
@@ -128,7 +128,7 @@ OnceAtFirst {D} words =
     (world : World D) (lists : List (List Change))
     → ((node : ℕ) (changes : List Change) → slice_get lists node ≡ Some changes → changes ≡ [])
     → ((node : ℕ) (host : Host D) → slice_get world.hosts node ≡ Some host
-    → (standing : Standing D) × (host.holder ≡ Up standing))
+    → (standing : NodeState D) × (host.state ≡ Up standing))
     → world.attempts ≡ [] → world.ledger ≡ [] → IsTriedOnce world lists
 
 -- Each event keeps it so, by whatever lists both worlds are bound.

@@ -9,7 +9,7 @@ use Rattle.relay_attempts.specs.Outcomes.{AddsUnroutable}
 use Rattle.relay_node.specs.Attempts.{Begins, Replies, Tells}
 use Rattle.relay_node.specs.declared.node.Connected.{Connected}
 use Rattle.relay_node.specs.declared.receive.Received.{Received}
-use Rattle.relay_node.specs.Node.{Connects, Receives, SaysAt, Standing}
+use Rattle.relay_node.specs.Node.{Connects, Receives, SeatHasSaid, NodeState}
 use Rattle.relay_records.specs.declared.noted.Noted.{Noted}
 use Rattle.relay_records.specs.Records.{Keeps}
 use Rattle.relay_server.specs.Dialogue.{Said}
@@ -46,8 +46,8 @@ pub record SessionOf {D : Type 0} (world : World D) (number : ℕ) : Type 0 wher
   pub goes_on : end.session ≡ Some session
   pub host : Host D
   pub host_at : slice_get world.hosts end.node ≡ Some host
-  pub before : Standing D
-  pub up : host.holder ≡ Up before
+  pub before : NodeState D
+  pub up : host.state ≡ Up before
 
 -- an attempt that runs at the client end of a link, at a node that is up
 pub record AttemptOf {D : Type 0} (world : World D) (number : ℕ) : Type 0 where
@@ -61,8 +61,8 @@ pub record AttemptOf {D : Type 0} (world : World D) (number : ℕ) : Type 0 wher
   pub runs : attempt.fate ≡ Running slot
   pub host : Host D
   pub host_at : slice_get world.hosts attempt.node ≡ Some host
-  pub before : Standing D
-  pub up : host.holder ≡ Up before
+  pub before : NodeState D
+  pub up : host.state ≡ Up before
 
 -- the link that a client outside has opened to a node, and that node's greeting
 abbrev pub opened_link : ℕ → List ℕ → Connected → Link
@@ -80,15 +80,15 @@ opened_link node peer connected = record {
 pub record HasOpened {D : Type 0} (old new : World D) (node : ℕ) (peer : List ℕ) : Type 0 where
   pub host : Host D
   pub host_at : slice_get old.hosts node ≡ Some host
-  pub before : Standing D
-  pub up : host.holder ≡ Up before
-  pub after : Standing D
+  pub before : NodeState D
+  pub up : host.state ≡ Up before
+  pub after : NodeState D
   pub connected : Connected
   pub connects : Connects peer before after connected
   pub records : after.records ≡ before.records
   pub config : after.config ≡ before.config
   pub attempts : after.attempts ≡ before.attempts
-  pub hosts : IsPut old.hosts new.hosts node (record host { holder = Up after })
+  pub hosts : IsPut old.hosts new.hosts node (record host { state = Up after })
   pub links : IsPutAt old.links new.links (suc (length old.links)) (opened_link node peer connected)
   pub rest : (new.attempts ≡ old.attempts) × (new.ledger ≡ old.ledger) × (new.clock ≡ old.clock)
       × (length new.hosts ≡ length old.hosts)
@@ -138,17 +138,17 @@ heard_link link end session received = record link {
 }
 
 -- the node with no note
-abbrev pub without_note : {D : Type 0} → Standing D → Standing D
+abbrev pub without_note : {D : Type 0} → NodeState D → NodeState D
 without_note node = record node { records = record node.records { noted = None } }
 
 -- what a node that heard octets has recorded: nothing; or the accept of this number, whose note was taken
-abbrev pub RecordsHeard : {D : Type 0} → World D → World D → ℕ → ℕ → Host D → Standing D → Option ℕ → Type 0
+abbrev pub RecordsHeard : {D : Type 0} → World D → World D → ℕ → ℕ → Host D → NodeState D → Option ℕ → Type 0
 RecordsHeard old new node number host after None =
-    IsPut old.hosts new.hosts node (record host { holder = Up after }) × (new.ledger ≡ old.ledger)
+    IsPut old.hosts new.hosts node (record host { state = Up after }) × (new.ledger ≡ old.ledger)
 RecordsHeard old new node number host after (Some change) =
     (noted : Noted) × (after.records.noted ≡ Some noted)
     × IsPut old.hosts new.hosts node
-    (record host { holder = Up (without_note after); records = host.records ++ noted.octets ∷ [] })
+    (record host { state = Up (without_note after); records = host.records ++ noted.octets ∷ [] })
     × (new.ledger ≡ old.ledger ++ Accepted node change noted.accepted number ∷ [])
 
 -- A node has heard octets of a link, of those that wait as many as were carried, by one call, without a fault. What it
@@ -156,10 +156,10 @@ RecordsHeard old new node number host after (Some change) =
 pub record HasHeard {D : Type 0} (honest : Type 0) (words : DiskWords D) (old new : World D) (number count : ℕ)
     : Type 0 where
   pub of : SessionOf old number
-  pub after : Standing D
+  pub after : NodeState D
   pub received : Received
   pub receives : (changes : List Change) (said : Said) → Keeps honest words of.before.records changes
-      → SaysAt of.before.config of.before.seats of.session of.end.peer said
+      → SeatHasSaid of.before.config of.before.seats of.session of.end.peer said
       → Receives honest words of.before.config changes of.end.peer old.clock of.session said
       (waiting_up count of.link) of.before after received
   pub used : received.used ≤ length (waiting_up count of.link)
@@ -174,12 +174,12 @@ pub record HasHeard {D : Type 0} (honest : Type 0) (words : DiskWords D) (old ne
 -- for it.
 pub record EndsSession {D : Type 0} (old new : World D) (number : ℕ) : Type 0 where
   pub of : SessionOf old number
-  pub after : Standing D
+  pub after : NodeState D
   pub records : after.records ≡ of.before.records
   pub others : OthersStay of.before.seats after.seats of.session
   pub config : after.config ≡ of.before.config
   pub attempts : after.attempts ≡ of.before.attempts
-  pub hosts : IsPut old.hosts new.hosts of.end.node (record of.host { holder = Up after })
+  pub hosts : IsPut old.hosts new.hosts of.end.node (record of.host { state = Up after })
   pub links : IsPutAt old.links new.links number (record of.link { server = Some (record of.end { session = None }) })
   pub rest : (new.attempts ≡ old.attempts) × (new.ledger ≡ old.ledger) × (new.clock ≡ old.clock)
       × (length new.hosts ≡ length old.hosts)
@@ -196,22 +196,22 @@ read_link link replied = record link {
 }
 
 -- what a node has recorded of an attempt that ended: its outcome, under this number, whose note was taken
-pub record RecordsOutcome {D : Type 0} (old new : World D) (number : ℕ) (of : AttemptOf old number) (after : Standing D)
-    (fate : Fate) (change : ℕ) : Type 0 where
+pub record RecordsOutcome {D : Type 0} (old new : World D) (number : ℕ) (of : AttemptOf old number)
+    (after : NodeState D) (fate : Fate) (change : ℕ) : Type 0 where
   pub noted : Noted
   pub note_is : after.records.noted ≡ Some noted
   pub hosts : IsPut old.hosts new.hosts of.attempt.node
-      (record of.host { holder = Up (without_note after); records = of.host.records ++ noted.octets ∷ [] })
+      (record of.host { state = Up (without_note after); records = of.host.records ++ noted.octets ∷ [] })
   pub ledger : new.ledger
       ≡ old.ledger
       ++ left_lines of.attempt.node of.attempt.message number (report_told change noted.report) noted.left.items
   pub attempts : IsPut old.attempts new.attempts of.place (record of.attempt { fate = fate })
 
 -- what a node that read replies has recorded: nothing; or the outcome with which they ended the attempt
-abbrev pub RecordsRead : {D : Type 0} → (old new : World D) → (number : ℕ) → AttemptOf old number → Standing D
+abbrev pub RecordsRead : {D : Type 0} → (old new : World D) → (number : ℕ) → AttemptOf old number → NodeState D
     → Option ℕ → Type 0
 RecordsRead old new number of after None =
-    IsPut old.hosts new.hosts of.attempt.node (record of.host { holder = Up after }) × (new.ledger ≡ old.ledger)
+    IsPut old.hosts new.hosts of.attempt.node (record of.host { state = Up after }) × (new.ledger ≡ old.ledger)
     × (new.attempts ≡ old.attempts)
 RecordsRead old new number of after (Some change) =
     RecordsOutcome old new number of after (RepliedBy change) change
@@ -221,7 +221,7 @@ RecordsRead old new number of after (Some change) =
 pub record HasRead {D : Type 0} (honest : Type 0) (words : DiskWords D) (old new : World D) (number count : ℕ)
     : Type 0 where
   pub of : AttemptOf old number
-  pub after : Standing D
+  pub after : NodeState D
   pub replied : Replied
   pub replies : (changes : List Change) (told : Told) → Keeps honest words of.before.records changes
       → Tells of.before.config.host changes of.before.attempts of.slot told
@@ -239,7 +239,7 @@ pub record HasRead {D : Type 0} (honest : Type 0) (words : DiskWords D) (old new
 pub record HasLost {D : Type 0} (honest : Type 0) (words : DiskWords D) (old new : World D) (number change : ℕ)
     : Type 0 where
   pub of : AttemptOf old number
-  pub after : Standing D
+  pub after : NodeState D
   pub loses : (changes : List Change) (told : Told) → Keeps honest words of.before.records changes
       → Tells of.before.config.host changes of.before.attempts of.slot told
       → IsLost honest words of.before.config.host old.clock changes of.slot told after.records after.attempts change
@@ -253,12 +253,12 @@ pub record HasLost {D : Type 0} (honest : Type 0) (words : DiskWords D) (old new
 -- An attempt is gone without an outcome: its node had no memory or room for it.
 pub record DropsAttempt {D : Type 0} (old new : World D) (number : ℕ) : Type 0 where
   pub of : AttemptOf old number
-  pub after : Standing D
+  pub after : NodeState D
   pub records : after.records ≡ of.before.records
   pub others : OthersStay of.before.attempts after.attempts of.slot
   pub config : after.config ≡ of.before.config
   pub seats : after.seats ≡ of.before.seats
-  pub hosts : IsPut old.hosts new.hosts of.attempt.node (record of.host { holder = Up after })
+  pub hosts : IsPut old.hosts new.hosts of.attempt.node (record of.host { state = Up after })
   pub attempts : IsPut old.attempts new.attempts of.place (record of.attempt { fate = Dropped })
   pub links : new.links ≡ old.links
   pub ledger : new.ledger ≡ old.ledger
@@ -295,9 +295,9 @@ pub record HasStarted {D : Type 0} (honest : Type 0) (words : DiskWords D) (old 
   pub attempt : Attempt
   pub host : Host D
   pub host_at : slice_get old.hosts attempt.node ≡ Some host
-  pub before : Standing D
-  pub up : host.holder ≡ Up before
-  pub after : Standing D
+  pub before : NodeState D
+  pub up : host.state ≡ Up before
+  pub after : NodeState D
   pub started : Started
   pub begins : (changes : List Change) → Keeps honest words before.records changes
       → Begins before.config changes message hop old.clock before.attempts after.attempts started
@@ -307,7 +307,7 @@ pub record HasStarted {D : Type 0} (honest : Type 0) (words : DiskWords D) (old 
   pub is_attempt : started_attempt attempt.node message hop started number attempt
   pub blank : Link
   pub is_blank : IsBlank old number blank
-  pub hosts : IsPut old.hosts new.hosts attempt.node (record host { holder = Up after })
+  pub hosts : IsPut old.hosts new.hosts attempt.node (record host { state = Up after })
   pub links : IsPutAt old.links new.links number (record blank { client = Some (length old.attempts) })
   pub attempts : IsPut old.attempts new.attempts (length old.attempts) attempt
   pub linked : IsLinkedToHop new attempt
@@ -319,9 +319,9 @@ pub record HasGivenUp {D : Type 0} (honest : Type 0) (words : DiskWords D) (old 
   where
     pub host : Host D
     pub host_at : slice_get old.hosts node ≡ Some host
-    pub before : Standing D
-    pub up : host.holder ≡ Up before
-    pub after : Standing D
+    pub before : NodeState D
+    pub up : host.state ≡ Up before
+    pub after : NodeState D
     pub gives_up : (changes : List Change) → Keeps honest words before.records changes
         → AddsUnroutable honest words before.config.host before.config.routes message old.clock changes before.records
         after.records change
@@ -331,7 +331,7 @@ pub record HasGivenUp {D : Type 0} (honest : Type 0) (words : DiskWords D) (old 
     pub noted : Noted
     pub note_is : after.records.noted ≡ Some noted
     pub hosts : IsPut old.hosts new.hosts node
-        (record host { holder = Up (without_note after); records = host.records ++ noted.octets ∷ [] })
+        (record host { state = Up (without_note after); records = host.records ++ noted.octets ∷ [] })
     pub ledger : new.ledger
         ≡ old.ledger ++ left_lines node message 0 (report_told change noted.report) noted.left.items
     pub rest : (new.links ≡ old.links) × (new.attempts ≡ old.attempts) × (new.clock ≡ old.clock)

@@ -12,7 +12,7 @@ use Rattle.relay_records.specs.Records.{Keeps, Kept}
 use Rattle.relay_attempts.specs.Outcomes.{CutsUnroutable}
 use Rattle.relay_attempts.specs.Reply.{CutsLoss, CutsReply, Told}
 use Rattle.relay_node.specs.Attempts.{Tells}
-use Rattle.relay_node.specs.Node.{CutsTalk, IsFused, IsIdle, SaysAt, Standing}
+use Rattle.relay_node.specs.Node.{CutsTalk, IsFused, IsIdle, SeatHasSaid, NodeState}
 use Rattle.relay_world.specs.declared.attempt.Attempt.{Attempt}
 use Rattle.relay_world.specs.declared.attempt.Fate.{Fate}
 use Rattle.relay_world.specs.declared.attempt.Fate.TheVariants.{Dropped, Lost, Replied}
@@ -63,13 +63,13 @@ OnlyHostsChange old new =
 pub record HasStopped {D : Type 0} (honest : Type 0) (words : DiskWords D) (old new : World D) (node : ℕ) : Type 0 where
   pub host : Host D
   pub host_at : slice_get old.hosts node ≡ Some host
-  pub before : Standing D
-  pub up : host.holder ≡ Up before
+  pub before : NodeState D
+  pub up : host.state ≡ Up before
   pub no_session : NoSession old node
   pub no_attempt : NoAttempt old node
   pub disk : D
   pub left : IsLeftBy honest words before.records disk
-  pub hosts : IsPut old.hosts new.hosts node (record host { holder = Down disk None })
+  pub hosts : IsPut old.hosts new.hosts node (record host { state = Down disk None })
   pub rest : OnlyHostsChange old new
 
 -- A stop waits for a node: its disk will fail at a later call. The node keeps the changes that it kept, and all else is
@@ -77,16 +77,16 @@ pub record HasStopped {D : Type 0} (honest : Type 0) (words : DiskWords D) (old 
 pub record HasArmed {D : Type 0} (honest : Type 0) (words : DiskWords D) (old new : World D) (node : ℕ) : Type 0 where
   pub host : Host D
   pub host_at : slice_get old.hosts node ≡ Some host
-  pub before : Standing D
-  pub up : host.holder ≡ Up before
-  pub after : Standing D
+  pub before : NodeState D
+  pub up : host.state ≡ Up before
+  pub after : NodeState D
   pub fused : IsFused before.records after.records
   pub keeps : (changes : List Change) → Keeps honest words before.records changes
       → Keeps honest words after.records changes
   pub config : after.config ≡ before.config
   pub seats : after.seats ≡ before.seats
   pub attempts : after.attempts ≡ before.attempts
-  pub hosts : IsPut old.hosts new.hosts node (record host { holder = Up after })
+  pub hosts : IsPut old.hosts new.hosts node (record host { state = Up after })
   pub rest : OnlyHostsChange old new
 
 -- the link without a session, broken
@@ -102,7 +102,7 @@ pub record StopsHearing {D : Type 0} (honest : Type 0) (words : DiskWords D) (ol
   pub no_attempt : NoAttempt old of.end.node
   pub stopped : Kept D
   pub cuts : (changes : List Change) (said : Said) → Keeps honest words of.before.records changes
-      → SaysAt of.before.config of.before.seats of.session of.end.peer said
+      → SeatHasSaid of.before.config of.before.seats of.session of.end.peer said
       → CutsTalk honest words of.before.config changes of.end.peer old.clock said (waiting_up count of.link)
       of.before.records stopped
   pub noted : Noted
@@ -110,7 +110,7 @@ pub record StopsHearing {D : Type 0} (honest : Type 0) (words : DiskWords D) (ol
   pub disk : D
   pub left : IsLeftBy honest words stopped disk
   pub hosts : IsPut old.hosts new.hosts of.end.node
-      (record of.host { holder = Down disk (Some (record { note = noted; origin = FromClient number })) })
+      (record of.host { state = Down disk (Some (record { note = noted; origin = FromClient number })) })
   pub links : IsPutAt old.links new.links number (cut_off_link of.link of.end)
   pub rest : (new.attempts ≡ old.attempts) × (new.ledger ≡ old.ledger) × (new.clock ≡ old.clock)
       × (length new.hosts ≡ length old.hosts)
@@ -126,7 +126,7 @@ pub record DropsAtStop {D : Type 0} (honest : Type 0) (words : DiskWords D) (old
   pub disk : D
   pub left : IsLeftBy honest words stopped disk
   pub hosts : IsPut old.hosts new.hosts of.attempt.node
-      (record of.host { holder = Down disk (Some (record { note = noted; origin = origin })) })
+      (record of.host { state = Down disk (Some (record { note = noted; origin = origin })) })
   pub links : IsPutAt old.links new.links number (record of.link { broken = true })
   pub attempts : IsPut old.attempts new.attempts of.place (record of.attempt { fate = Dropped })
   pub rest : (new.ledger ≡ old.ledger) × (new.clock ≡ old.clock) × (length new.hosts ≡ length old.hosts)
@@ -158,8 +158,8 @@ pub record StopsGivingUp {D : Type 0} (honest : Type 0) (words : DiskWords D) (o
   where
     pub host : Host D
     pub host_at : slice_get old.hosts node ≡ Some host
-    pub before : Standing D
-    pub up : host.holder ≡ Up before
+    pub before : NodeState D
+    pub up : host.state ≡ Up before
     pub no_session : NoSession old node
     pub no_attempt : NoAttempt old node
     pub stopped : Kept D
@@ -171,7 +171,7 @@ pub record StopsGivingUp {D : Type 0} (honest : Type 0) (words : DiskWords D) (o
     pub disk : D
     pub left : IsLeftBy honest words stopped disk
     pub hosts : IsPut old.hosts new.hosts node
-        (record host { holder = Down disk (Some (record { note = noted; origin = FromNoHop message })) })
+        (record host { state = Down disk (Some (record { note = noted; origin = FromNoHop message })) })
     pub rest : OnlyHostsChange old new
 
 -- A node that is down stays so: its disk was refused, or stopped again, and leaves no image that it didn't leave
@@ -181,10 +181,10 @@ pub record StaysDown {D : Type 0} (honest : Type 0) (words : DiskWords D) (old n
   pub host_at : slice_get old.hosts node ≡ Some host
   pub disk : D
   pub undecided : Option Undecided
-  pub down : host.holder ≡ Down disk undecided
+  pub down : host.state ≡ Down disk undecided
   pub again : D
   pub left : honest → ImagesWithin words disk again
-  pub hosts : IsPut old.hosts new.hosts node (record host { holder = Down again undecided })
+  pub hosts : IsPut old.hosts new.hosts node (record host { state = Down again undecided })
   pub rest : OnlyHostsChange old new
 
 -- an outcome is found: so many octets more were read on the link, and the attempt at this place has this fate
@@ -213,23 +213,23 @@ Finds old new note (FromLoss number place message) = FindsOutcome old new number
 Finds old new note (FromNoHop message) = (new.links ≡ old.links) × (new.attempts ≡ old.attempts)
 
 -- the node has the undecided change
-pub record HasFound {D : Type 0} (old new : World D) (node : ℕ) (host : Host D) (after : Standing D)
+pub record HasFound {D : Type 0} (old new : World D) (node : ℕ) (host : Host D) (after : NodeState D)
     (undecided : Undecided)
     : Type 0 where
   pub hosts : IsPut old.hosts new.hosts node
-      (record host { holder = Up after; records = host.records ++ undecided.note.octets ∷ [] })
+      (record host { state = Up after; records = host.records ++ undecided.note.octets ∷ [] })
   pub ledger : new.ledger ≡ old.ledger ++ lines_of node undecided
   pub finds : Finds old new undecided.note undecided.origin
 
 -- the node has the changes from before
-pub record HasNotFound {D : Type 0} (old new : World D) (node : ℕ) (host : Host D) (after : Standing D) : Type 0 where
-  pub hosts : IsPut old.hosts new.hosts node (record host { holder = Up after })
+pub record HasNotFound {D : Type 0} (old new : World D) (node : ℕ) (host : Host D) (after : NodeState D) : Type 0 where
+  pub hosts : IsPut old.hosts new.hosts node (record host { state = Up after })
   pub links : new.links ≡ old.links
   pub attempts : new.attempts ≡ old.attempts
   pub ledger : new.ledger ≡ old.ledger
 
 -- The change is there exactly where the next number is above its own.
-abbrev pub Decides : {D : Type 0} → World D → World D → ℕ → Host D → Standing D → Option Undecided → Type 0
+abbrev pub Decides : {D : Type 0} → World D → World D → ℕ → Host D → NodeState D → Option Undecided → Type 0
 Decides old new node host after None = HasNotFound old new node host after
 Decides old new node host after (Some undecided) =
     ((after.records.queue.next ≤ undecided.note.number) × HasNotFound old new node host after)
@@ -242,8 +242,8 @@ pub record HasReopened {D : Type 0} (honest : Type 0) (words : DiskWords D) (old
   pub host_at : slice_get old.hosts node ≡ Some host
   pub disk : D
   pub undecided : Option Undecided
-  pub down : host.holder ≡ Down disk undecided
-  pub after : Standing D
+  pub down : host.state ≡ Down disk undecided
+  pub after : NodeState D
   pub opens : Opens honest words disk after.records
   pub idle : IsIdle host.config after
   pub decides : Decides old new node host after undecided
@@ -298,4 +298,4 @@ DownIsNotRefused {D} honest words =
     (world : World D) (lists : List (List Change)) (node : ℕ) (host : Host D) (changes : List Change) (disk : D)
     (undecided : Option Undecided) (cause : Cause) → IsBound honest words world lists
     → StandsAt world lists node host changes
-    → host.holder ≡ Down disk undecided → RefusesImage honest (words.seen disk) cause → IsNoFaultOfImage cause
+    → host.state ≡ Down disk undecided → RefusesImage honest (words.seen disk) cause → IsNoFaultOfImage cause

@@ -3,7 +3,7 @@
 use Rattle.std.specs.Prelude.{ℕ, suc, zero, List, Option, None, slice_get}
 use Rattle.relay_routes.specs.declared.config.Config.{Config}
 use Rattle.relay_records.specs.declared.noted.Noted.{Noted}
-use Rattle.relay_node.specs.Node.{Standing}
+use Rattle.relay_node.specs.Node.{NodeState}
 use Rattle.relay_world.specs.declared.attempt.Attempt.{Attempt}
 use Rattle.relay_world.specs.declared.line.Line.{Line}
 use Rattle.relay_world.specs.declared.link.Link.{Link}
@@ -22,14 +22,14 @@ pub record Undecided : Type 0 where
   pub origin : Origin
 
 -- a node is up, or it is down: then it is its disk, and perhaps a change that its next opening decides
-pub data Holder (D : Type 0) : Type 0 where
-  Up : Standing D → Holder D
-  Down : D → Option Undecided → Holder D
+pub data HostState (D : Type 0) : Type 0 where
+  Up : NodeState D → HostState D
+  Down : D → Option Undecided → HostState D
 
 -- a node: its configuration, itself, and the records of its changes, of which the notes told, in order
 pub record Host (D : Type 0) : Type 0 where
   pub config : Config
-  pub holder : Holder D
+  pub state : HostState D
   pub records : List (List ℕ)
 
 -- all of it, at a moment of its clock

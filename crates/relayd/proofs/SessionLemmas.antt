@@ -10,7 +10,7 @@ use Rattle.relay_server.specs.State.{Closed, start}
 use Rattle.relay_server.proofs.Theorems.{no_unit_is_empty}
 use Rattle.relay_book.specs.declared.change.Change.{Change}
 use Rattle.relay_records.specs.Records.{Kept}
-use Rattle.relay_node.specs.Node.{Standing}
+use Rattle.relay_node.specs.Node.{NodeState}
 use Rattle.relay_links.specs.declared.fault.LinkFault.{LinkFault}
 use Rattle.relay_links.specs.declared.fault.LinkFault.TheVariants.{Input, Output, NoMemory, Full, Device}
 use Rattle.relay_links.specs.Accepted.{Accepts, Rule}
@@ -24,7 +24,7 @@ on_err (Ok value) P holds = tt
 on_err (Err error) P holds = holds
 
 -- where the link of a session begins
-abbrev session_start : Option (List ℕ) → Option (List ℕ) → Standing MemoryDisk → Start
+abbrev session_start : Option (List ℕ) → Option (List ℕ) → NodeState MemoryDisk → Start
 session_start left held node = start_at left held session_peer node []
 
 rule_by : List ℕ → ℕ → Rule
@@ -33,7 +33,7 @@ rule_by host limit = record {
   limit = limit;
 }
 
-module _ (left held : Option (List ℕ)) (node : Standing MemoryDisk) (profile : IsProfile node.config) (size : node.records.spool.size ≡ 18) where
+module _ (left held : Option (List ℕ)) (node : NodeState MemoryDisk) (profile : IsProfile node.config) (size : node.records.spool.size ≡ 18) where
   rule_is : rule {D = MemoryDisk} (Unit {0}) memory_words (session_start left held node) session_moment ≡ session_rule
   unfolding rule_by
   rule_is = ap₂ rule_by (ap (λ (setup : Setup). setup.host) profile.setup) profile.limit

@@ -8,7 +8,7 @@ use Rattle.relay_server.specs.State.{Closed}
 use Rattle.relay_book.specs.declared.change.Change.{Change}
 use Rattle.relay_records.specs.Records.{Keeps}
 use Rattle.relay_node.specs.declared.node.Connected.{Connected}
-use Rattle.relay_node.specs.Node.{SaysAt, Standing, greeted_by}
+use Rattle.relay_node.specs.Node.{SeatHasSaid, NodeState, greeted_by}
 use Rattle.relay_links.specs.Accepted.{Accepts, Rule}
 use Rattle.relayd.specs.Setup.{IsProfile, session_limit, session_moment, session_peer, session_setup}
 
@@ -58,8 +58,8 @@ pub record EndsAs (status : ℕ) (left new_left held new_held : Option (List ℕ
   pub fault : status ≢ 0 → (status ≡ 1) × IsBegun left new_left held new_held
 
 -- a new node over memory has a session, whose client was greeted
-pub record IsOpened (node : Standing MemoryDisk) (connected : Connected) : Type 0 where
+pub record IsOpened (node : NodeState MemoryDisk) (connected : Connected) : Type 0 where
   pub keeps : Keeps (Unit {0}) memory_words node.records []
   pub size : node.records.spool.size ≡ 18
   pub profile : IsProfile node.config
-  pub says : SaysAt node.config node.seats connected.session session_peer (greeted_by connected.out.items)
+  pub says : SeatHasSaid node.config node.seats connected.session session_peer (greeted_by connected.out.items)

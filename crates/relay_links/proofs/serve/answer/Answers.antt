@@ -4,7 +4,7 @@ use Rattle.std.proofs.lemmas.List.{drop-drop}
 use Rattle.std.proofs.lemmas.Slice.{between_to_end}
 use Rattle.std.specs.Io.KnownBytes.{Appends}
 use Rattle.relay_node.specs.Node.{CutsTalk, Receives}
-use Rattle.relay_links.specs.Link.{GoesOn, HasBegun}
+use Rattle.relay_links.specs.Link.{LinkGoesOn, HasBegun}
 use Rattle.relay_links.proofs.LinkLemmas.{received_on, received_part, refuses, says_here}
 use Rattle.relay_links.proofs.serve.answer.Goals as goal
 
@@ -27,7 +27,7 @@ returns-in-Ok-send-clause-goes_on g c = λ start left h.
     (c.in-Ok.ensures.receives (start.changes ++ h.added) start.peer h.said h.taken.keeps says) in
     let text : c.as_slice.result.now ≡ c.in-Ok.received.out.items = search rules in
     let wrote = subst (Appends (g.W.Write.contents c.args.writer.now) (g.W.Write.contents c.send.new.writer)) text c.in-Ok-send.ensures.ok in
-    subst (λ (l : List ℕ). GoesOn g.D.Disk.honest g.D.Disk.words start c.args.now c.args.session left (g.W.Write.contents c.send.new.writer) l c.receive.new.self c.in-Ok.received.close) (drop-drop c.in-Ok.received.used c.args.used.now c.args.octets.now)
+    subst (λ (l : List ℕ). LinkGoesOn g.D.Disk.honest g.D.Disk.words start c.args.now c.args.session left (g.W.Write.contents c.send.new.writer) l c.receive.new.self c.in-Ok.received.close) (drop-drop c.in-Ok.received.used c.args.used.now c.args.octets.now)
     (received_on g.D.Disk.honest g.D.Disk.words start c.args.now c.args.session left _ _ waiting c.args.node.now c.receive.new.self c.in-Ok.received h r c.in-Ok.ensures.rest.1 wrote)
 
 pub returns-clause-goes_on : goal.returns-clause-goes_on

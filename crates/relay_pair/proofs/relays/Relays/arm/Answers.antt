@@ -24,7 +24,7 @@ arm-requires g c =
     let its = up_there g.D.Disk.honest g.D.Disk.words old c.args.node c.args.pick none in
     let was = c.index_mut.result.now in
     let at : was ≡ slice_index_or old.hosts c.args.node was = search rules in
-    ap (λ (h : Host _). holds_up h.holder) (value_same old.hosts c.args.node its.0 was its.1 at) ∙ its.2
+    ap (λ (h : Host _). holds_up h.state) (value_same old.hosts c.args.node its.0 was its.1 at) ∙ its.2
 
 pub returns-in-Some-clause-steps : goal.returns-in-Some-clause-steps
 returns-in-Some-clause-steps g c =

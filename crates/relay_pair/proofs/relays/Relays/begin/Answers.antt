@@ -71,7 +71,7 @@ returns-in-Refused-clause-begun g c =
     let at : was ≡ slice_index_or old.hosts c.args.node was = search rules in
     let same = value_same old.hosts c.args.node first.host was first.host_at at in
     let was_at = subst (λ h. slice_get old.hosts c.args.node ≡ Some h) (sym same) first.host_at in
-    let its = subst (λ h. slice_get (works_in old.clock h.holder) 0 ≡ Some (Try c.args.message c.args.hop.now)) (sym same) first.first in (
+    let its = subst (λ h. slice_get (works_in old.clock h.state) 0 ≡ Some (Try c.args.message c.args.hop.now)) (sym same) first.first in (
       same_hosts old c.args.node was c.start.new.self was_at at c.in-Refused.ensures.begun.new_is,
       (was, was_at, why_not_begun was c.in-Refused.fault (c.in-Refused.ensures.first its)),
     )

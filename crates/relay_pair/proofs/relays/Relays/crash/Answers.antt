@@ -20,7 +20,7 @@ pub crash-host-requires : goal.crash-host-requires
 crash-host-requires g c =
     let was = c.remove-host.result in
     let at : was ≡ slice_index_or c.args.self.now.hosts.items c.args.node was = search rules in
-    subst (λ (h : Host _). IsCutShort h.holder)
+    subst (λ (h : Host _). IsCutShort h.state)
     (sym (value_same c.args.self.now.hosts.items c.args.node c.requires.host was c.requires.host_at at)) c.requires.cut
 
 pub returns-clause-world : goal.returns-clause-world

@@ -26,7 +26,7 @@ first_work-requires g c =
     let at : was ≡ slice_index_or old.hosts c.args.node was = search rules in
     let same = value_same old.hosts c.args.node its.0 was its.1 at in
     keeps_changes g.D.Disk.honest g.D.Disk.words old c.args.node was c.requires.order.bound
-    (subst (λ h. slice_get old.hosts c.args.node ≡ Some h) (sym same) its.1) (ap (λ (h : _). holds_up h.holder) same ∙ its.2)
+    (subst (λ h. slice_get old.hosts c.args.node ≡ Some h) (sym same) its.1) (ap (λ (h : _). holds_up h.state) same ∙ its.2)
 
 pub returns-in-Err-clause-steps : goal.returns-in-Err-clause-steps
 returns-in-Err-clause-steps g c = inr (inl (inr tt, refl, refl))
@@ -38,10 +38,10 @@ returns-in_default-clause-steps g c =
     let was = c.index.result.now in
     let at : was ≡ slice_index_or old.hosts c.args.node was = search rules in
     let same = value_same old.hosts c.args.node its.0 was its.1 at in
-    let none : slice_get (works_in old.clock was.holder) 0 ≡ None = sym c.in-Ok.ensures.first ∙ c.in_default.is in
+    let none : slice_get (works_in old.clock was.state) 0 ≡ None = sym c.in-Ok.ensures.first ∙ c.in_default.is in
     inl (
       no_work old c.args.node was (subst (λ h. slice_get old.hosts c.args.node ≡ Some h) (sym same) its.1)
-          (ap (λ (h : _). holds_up h.holder) same ∙ its.2) none,
+          (ap (λ (h : _). holds_up h.state) same ∙ its.2) none,
       refl,
     )
 

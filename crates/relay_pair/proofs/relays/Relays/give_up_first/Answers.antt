@@ -130,7 +130,7 @@ returns-in-Refused-clause-steps g c =
     let same = value_same old.hosts c.args.node first.host was first.host_at at in
     let was_at = subst (λ h. slice_get old.hosts c.args.node ≡ Some h) (sym same) first.host_at in
     let now = c.give_up.new.self in
-    let its = subst (λ h. slice_get (works_in old.clock h.holder) 0 ≡ Some (NoRoute c.args.message)) (sym same) first.first in
+    let its = subst (λ h. slice_get (works_in old.clock h.state) 0 ≡ Some (NoRoute c.args.message)) (sym same) first.first in
     let new : World _ = record old { hosts = slice_set old.hosts c.args.node now } in
     subst (λ f. Steps g.D.Disk.honest g.D.Disk.words old (Give c.args.node) new (Err f)) (sym c.fault_of.ensures)
     (ungiven_steps g.D.Disk.honest g.D.Disk.words old new c.args.node c.args.message c.in-Refused.fault first was same

@@ -219,7 +219,7 @@ returns-in-Ended-clause-room g c =
     let capacity : vec_capacity was_ledger ≤ vec_capacity ledger = search rules in
     over_room g.D.Disk.honest g.D.Disk.words old c.args.number at slot attempt on was now was_is ended (Lost change) ledger.items _ (length recorded.left.items)
     (free_lines c.args.self.now) (vec_capacity ledger - vec_len ledger) ended_is refl
-    (ap (λ (h : Host _). h.holder) c.in-Ended.ensures.notes.new_is) few (omega (arith, len, capacity)) c.requires.room
+    (ap (λ (h : Host _). h.state) c.in-Ended.ensures.notes.new_is) few (omega (arith, len, capacity)) c.requires.room
 
 pub returns-in-Ended-clause-fewer : goal.returns-in-Ended-clause-fewer
 returns-in-Ended-clause-fewer g c =
@@ -321,7 +321,7 @@ returns-in-Gone-clause-room g c =
     let ended : Attempt = record read { fate = Dropped } in
     let ended_is : ended ≡ record attempt { fate = Dropped } = ap (λ (a : Attempt). record a { fate = Dropped }) same in
     over_room g.D.Disk.honest g.D.Disk.words old c.args.number at slot attempt on was now was_is ended Dropped old.ledger _ 0 (free_lines c.args.self.now)
-    (free_lines c.args.self.now) ended_is refl (ap (λ (h : Host _). h.holder) c.in-Gone.ensures.0.runs.new_is) (omega arith)
+    (free_lines c.args.self.now) ended_is refl (ap (λ (h : Host _). h.state) c.in-Gone.ensures.0.runs.new_is) (omega arith)
     (omega arith) c.requires.room
 
 pub returns-in-Gone-clause-fewer : goal.returns-in-Gone-clause-fewer

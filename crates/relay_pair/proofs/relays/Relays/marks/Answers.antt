@@ -21,7 +21,7 @@ loop-node-preserved g c =
     let host = c.host-item.result in
     let within : c.loop-node.node < length c.args.self.now.hosts.items = search rules in
     let there : host ≡ slice_index_or c.args.self.now.hosts.items c.loop-node.node host = search rules in
-    let its : c.in-Ok.held.items ≡ marks_in host.holder = search rules in
+    let its : c.in-Ok.held.items ≡ marks_in host.state = search rules in
     let added : c.push_marks.new.marks.items ≡ c.loop-node.marks.items ++ map (mark_of c.loop-node.node) c.in-Ok.held.items
     = search rules in
     one_more c.args.self.now.hosts.items c.loop-node.node host c.loop-node.marks.items c.push_marks.new.marks.items

@@ -20,7 +20,7 @@ pub open-host-requires : goal.open-host-requires
 open-host-requires g c =
     let was = c.remove-host.result in
     let at : was ≡ slice_index_or c.args.self.now.hosts.items c.args.node was = search rules in
-    ap (λ (h : Host _). holds_up h.holder)
+    ap (λ (h : Host _). holds_up h.state)
     (value_same c.args.self.now.hosts.items c.args.node c.requires.host was c.requires.host_at at)
     ∙ c.requires.down
 

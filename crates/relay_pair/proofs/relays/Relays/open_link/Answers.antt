@@ -27,7 +27,7 @@ connect-requires g c =
     let at : was ≡ slice_index_or old.hosts c.args.node was = search rules in
     let same = value_same old.hosts c.args.node its.0 was its.1 at in
     keeps_changes g.D.Disk.honest g.D.Disk.words old c.args.node was c.requires.bound
-    (subst (λ h. slice_get old.hosts c.args.node ≡ Some h) (sym same) its.1) (ap (λ (h : _). holds_up h.holder) same ∙ its.2)
+    (subst (λ h. slice_get old.hosts c.args.node ≡ Some h) (sym same) its.1) (ap (λ (h : _). holds_up h.state) same ∙ its.2)
 
 pub unwrap-requires : goal.unwrap-requires
 unwrap-requires g c = c.push.ensures.succeeds c.requires.room

@@ -461,7 +461,7 @@ returns-in-Gone-clause-room g c =
     let moved : Link = record again { broken = true } in
     let moved_is : moved ≡ record on.link { broken = true } = ap (λ (l : Link). let off : Link = record l { broken = true } in off) again_is in
     over_room g.D.Disk.honest g.D.Disk.words old number at slot its on was now was_is ended Dropped old.ledger _ 0 (free_lines c.args.self.now)
-    (free_lines c.args.self.now) ended_is refl (ap (λ (h : Host _). h.holder) c.in-Gone.ensures.0.runs.new_is) (omega arith)
+    (free_lines c.args.self.now) ended_is refl (ap (λ (h : Host _). h.state) c.in-Gone.ensures.0.runs.new_is) (omega arith)
     (omega arith) c.requires.room
 
 pub restart-requires-clause-cut : goal.restart-requires-clause-cut

@@ -26,10 +26,10 @@ returns-then-not-is_up-clause-steps g c =
     let was = c.index.result.now in
     let at : was ≡ slice_index_or old.hosts c.in-Some.to was = search rules in
     let same = value_same old.hosts c.in-Some.to named.host was named.host_at at in
-    let down : holds_up was.holder ≡ false = search rules in
+    let down : holds_up was.state ≡ false = search rules in
     let is : names_down old c.args.hop.now old.hosts ≡ true =
     first_is_down old old.hosts c.args.hop.now c.in-Some.to named.host named.host_at named.named named.first
-    ∙ ap (λ (h : _). not (holds_up h.holder)) (sym same) ∙ ap not down in
+    ∙ ap (λ (h : _). not (holds_up h.state)) (sym same) ∙ ap not down in
     inl (first_down old c.args.node c.args.message c.args.hop.now c.requires.first is, refl)
 
 pub start_at_node-requires-clause-up : goal.start_at_node-requires-clause-up
@@ -39,9 +39,9 @@ start_at_node-requires-clause-up g c =
     let was = c.index.result.now in
     let at : was ≡ slice_index_or old.hosts c.in-Some.to was = search rules in
     let same = value_same old.hosts c.in-Some.to named.host was named.host_at at in
-    let up : holds_up was.holder ≡ true = search rules in
+    let up : holds_up was.state ≡ true = search rules in
     ap (λ b. if b then None else Some fault.Down)
-    (ap is_up named.host_at ∙ ap (λ (h : _). holds_up h.holder) (sym same) ∙ up)
+    (ap is_up named.host_at ∙ ap (λ (h : _). holds_up h.state) (sym same) ∙ up)
 
 pub start_at_node-requires-clause-name : goal.start_at_node-requires-clause-name
 start_at_node-requires-clause-name g c = c.in-Ok.ensures ∙ c.as_slice-2.ensures.value
@@ -53,10 +53,10 @@ returns-in_default-from_slice-clause-steps g c =
     let was = c.index.result.now in
     let at : was ≡ slice_index_or old.hosts c.in-Some.to was = search rules in
     let same = value_same old.hosts c.in-Some.to named.host was named.host_at at in
-    let up : holds_up was.holder ≡ true = search rules in
+    let up : holds_up was.state ≡ true = search rules in
     let is_up_there : unless_up old c.in-Some.to None ≡ None =
     ap (λ b. if b then None else Some fault.Down)
-    (ap is_up named.host_at ∙ ap (λ (h : _). holds_up h.holder) (sym same) ∙ up) in
+    (ap is_up named.host_at ∙ ap (λ (h : _). holds_up h.state) (sym same) ∙ up) in
     inr (inl (
       inl (first_not_down old c.args.node c.args.message c.args.hop.now c.requires.first
           (up_named old c.args.hop.now c.in-Some.to named is_up_there)),

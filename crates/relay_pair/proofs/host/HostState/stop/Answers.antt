@@ -1,10 +1,10 @@
 use Rattle.std.proofs.Common.{refl, subst}
 use Rattle.relay_disk.specs.Device.{ImagesWithin}
-use Rattle.relay_pair.proofs.StopLemmas.{holder_stops}
-use Rattle.relay_pair.proofs.host.Holder.stop.Goals as goal
+use Rattle.relay_pair.proofs.StopLemmas.{state_stops}
+use Rattle.relay_pair.proofs.host.HostState.stop.Goals as goal
 
 pub returns : goal.returns
-returns g c = holder_stops g.D.Disk.honest g.D.Disk.words c.args.self c.in-Up.node _ c.in-Up.is (record {
+returns g c = state_stops g.D.Disk.honest g.D.Disk.words c.args.self c.in-Up.node _ c.in-Up.is (record {
   config = c.into_parts-config.ensures.config;
   left = λ honest. subst (λ disk. ImagesWithin g.D.Disk.words disk c.stopped-disk.result) c.into_parts-config.ensures.disk
       (c.stopped-disk.ensures honest);
