@@ -1,3 +1,1 @@
-mod RoundsLemmas
 mod SessionLemmas
-mod ShapeLemmas

@@ -1,12 +1,12 @@
 ghost use Rattle.std.specs.Prelude.{◌≡◌, ◌≢◌, ◌⊎◌, [], ◌∷◌, map, MatchResult};
 ghost use Rattle.clap.specs.Words.{kind_of};
-ghost use Rattle.relayd.specs.Arguments.{AreWrong, AskForPlay, AskForSession, faults_in};
+ghost use Rattle.relay_arguments.specs.Arguments.{AreWrong, AskForPlay, AskForSession, faults_in};
 ghost use Rattle.relayd.specs.Session.{EndsAs};
 
 use crate::streams::session;
-use crate::words::{Subcommand, arguments};
 use clap::Error;
 use clap::error::ErrorKind;
+use relay_arguments::{Subcommand, arguments};
 use relay_play::play;
 use relay_service::{init, list, push, serve};
 use std::alloc::Global;

@@ -5,7 +5,6 @@ mod descriptors;
 mod dispatch;
 mod setup;
 mod streams;
-mod words;
 
 use descriptors::hold_standard_streams;
 use dispatch::{command, refuse_streams, refuse_words};

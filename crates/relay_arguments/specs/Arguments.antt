@@ -1,0 +1,164 @@
+-- The words that the program is started with, its own name first, and the status that it ends with.
+use Rattle.std.specs.Prelude.{◌≡◌, ◌≢◌, ℕ, Bool, List, [], ◌∷◌, true, false, codes, Option, Some, None, unwrap_or, if◌then◌else◌}
+use Rattle.std.specs.Option.{option_map_or}
+use Rattle.std.specs.Str.{bytes_eq}
+use Rattle.std.specs.Str.Parse.{digits_value, without_leading_plus}
+use Rattle.clap.specs.Words.{App, IsAmong, Kinds, Row, Rule, Text, fault_of, first_of, new_app, new_rule}
+use Rattle.clap.specs.Words.{subcommand_of, with_rule, with_subcommand}
+use Rattle.clap.specs.ValueTests.{is_unsigned_in}
+use Rattle.clap.specs.declared.builder.action.ArgAction.TheVariants.{Set, SetTrue}
+use Rattle.clap.specs.declared.builder.value_parser.ValueParser.TheVariants.{Unsigned}
+use Rattle.clap.specs.declared.error.kind.ErrorKind.TheVariants.{DisplayHelp, MissingRequiredArgument}
+use Rattle.clap.specs.declared.error.kind.ErrorKind.TheVariants.{MissingSubcommand, UnknownArgument, ValueValidation}
+use Rattle.relay_arguments.specs.declared.words.Subcommand.{Subcommand}
+use Rattle.relay_arguments.specs.declared.words.Subcommand.TheVariants.{Session, Play, Init, List as ListHeld, Serve, Push}
+
+-- a program that wants a subcommand, and has none for help
+abbrev pub without_subcommands : App
+without_subcommands = record {
+  top = record (new_app (codes "relayd")).top { disable_help_subcommand = true; subcommand_required = true };
+  subs = [];
+}
+
+-- `--config FILE`, which has to be given
+abbrev pub config_rule : Rule
+config_rule = record (new_rule (codes "config")) { long = Some (codes "config"); action = Some Set; required = true }
+
+-- a subcommand with a configuration file
+abbrev pub configured : Text → App
+configured name = with_rule (new_app name) config_rule
+
+-- profile: `--rounds N`, from 1 to 1,000,000
+abbrev pub rounds_rule : Rule
+rounds_rule =
+    record (new_rule (codes "rounds"))
+    { long = Some (codes "rounds"); action = Some Set; parser = Some (Unsigned 1 1000000) }
+
+-- profile: `--log`
+abbrev pub log_rule : Rule
+log_rule = record (new_rule (codes "log")) { long = Some (codes "log"); action = Some SetTrue }
+
+abbrev pub serving : App
+serving = with_rule (with_rule (configured (codes "serve")) rounds_rule) log_rule
+
+abbrev pub pushing : App
+pushing = with_rule (configured (codes "push")) log_rule
+
+-- the program with its subcommands that need no file
+abbrev pub without_files : App
+without_files =
+    with_subcommand (with_subcommand without_subcommands (new_app (codes "session")).top) (new_app (codes "play")).top
+
+-- and with those that need no socket
+abbrev pub over_files : App
+over_files =
+    with_subcommand (with_subcommand without_files (configured (codes "init")).top) (configured (codes "list")).top
+
+-- the program and its subcommands
+abbrev pub relayd : App
+relayd = with_subcommand (with_subcommand over_files serving.top) pushing.top
+
+-- the kinds of error that the words may have; none where they name a subcommand as it is to be named
+abbrev pub faults_in : List Text → Kinds
+faults_in words = fault_of relayd words
+
+-- what a program is asked to do
+pub data Asked : Type 0 where
+  AskedSession : Asked
+  AskedPlay : Asked
+  AskedInit : Text → Asked
+  AskedList : Text → Asked
+  AskedServe : Text → ℕ → Bool → Asked
+  AskedPush : Text → Bool → Asked
+
+-- the file behind `--config`; the argument reader refuses words without one
+abbrev pub config_in : List Row → Text
+config_in rows = unwrap_or (first_of (codes "config") rows) []
+
+-- the number that a text says, where it is one from 1 to 1,000,000; the argument reader refuses other texts
+abbrev pub rounds_of : Text → ℕ
+rounds_of text = if is_unsigned_in 1 1000000 text then digits_value 10 (without_leading_plus text) else 1
+
+-- how many connections are asked for: 1 where none is said
+abbrev pub rounds_in : List Row → ℕ
+rounds_in rows = option_map_or rounds_of (first_of (codes "rounds") rows) 1
+
+-- a log is asked for
+abbrev pub is_logged_in : List Row → Bool
+is_logged_in rows = option_map_or (λ text. bytes_eq text (codes "true")) (first_of (codes "log") rows) false
+
+abbrev pub asked_by : Text → List Row → Asked
+asked_by name rows =
+    if bytes_eq name (codes "init") then AskedInit (config_in rows)
+    else if bytes_eq name (codes "list") then AskedList (config_in rows)
+    else if bytes_eq name (codes "serve") then AskedServe (config_in rows) (rounds_in rows) (is_logged_in rows)
+    else if bytes_eq name (codes "push") then AskedPush (config_in rows) (is_logged_in rows)
+    else if bytes_eq name (codes "play") then AskedPlay
+    else AskedSession
+
+-- a subcommand's name, and what it was given; without one the argument reader refuses the words
+abbrev pub asked_of : Option (Text × List Row) → Asked
+asked_of None = AskedSession
+asked_of (Some (name, rows)) = asked_by name rows
+
+-- the subcommand that the words name, and its file
+abbrev pub asked_in : List Text → Asked
+asked_in words = asked_of (subcommand_of relayd words)
+
+-- what a subcommand asks for
+abbrev pub asked : Subcommand → Asked
+asked Session = AskedSession
+asked Play = AskedPlay
+asked (Init file) = AskedInit file.now
+asked (ListHeld file) = AskedList file.now
+asked (Serve file rounds log) = AskedServe file.now rounds log
+asked (Push file log) = AskedPush file.now log
+
+-- the words of a subcommand with the file `c`, and more
+abbrev pub words_of : Text → Text → List Text → List Text
+words_of name subcommand more = name ∷ subcommand ∷ codes "--config" ∷ codes "c" ∷ more
+
+-- `serve` and `push` are taken with a file. A number of rounds is one from 1 to 1,000,000, and 1 where none is said;
+-- `push` has none.
+abbrev pub ServesAndPushes : Text → Type 0
+ServesAndPushes name =
+    (faults_in (words_of name (codes "serve") (codes "--rounds" ∷ codes "1000000" ∷ [])) ≡ [])
+    × (faults_in (words_of name (codes "serve") (codes "--rounds" ∷ codes "1000001" ∷ [])) ≡ ValueValidation ∷ [])
+    × (faults_in (words_of name (codes "serve") (codes "--rounds" ∷ codes "0" ∷ [])) ≡ ValueValidation ∷ [])
+    × (faults_in (name ∷ codes "serve" ∷ []) ≡ MissingRequiredArgument ∷ [])
+    × (faults_in (words_of name (codes "push") (codes "--rounds" ∷ codes "1" ∷ [])) ≡ UnknownArgument ∷ [])
+    × (asked_in (words_of name (codes "serve") []) ≡ AskedServe (codes "c") 1 false)
+    × (asked_in (words_of name (codes "serve") (codes "--log" ∷ codes "--rounds" ∷ codes "25" ∷ []))
+    ≡ AskedServe (codes "c") 25 true)
+    × (asked_in (words_of name (codes "push") []) ≡ AskedPush (codes "c") false)
+
+-- `session` and `play` alone are taken, and so are `init` and `list` with a file; without a subcommand, without the
+-- file and with a further word they aren't; `--help` asks for help
+abbrev pub WordsAreTaken : Type 0
+WordsAreTaken =
+    (name : Text) → (faults_in (name ∷ codes "session" ∷ []) ≡ [])
+    × (faults_in (name ∷ codes "init" ∷ codes "--config" ∷ codes "relayd.toml" ∷ []) ≡ [])
+    × (faults_in (name ∷ codes "list" ∷ codes "--config=relayd.toml" ∷ []) ≡ [])
+    × (faults_in (name ∷ []) ≡ MissingSubcommand ∷ [])
+    × (faults_in (name ∷ codes "list" ∷ []) ≡ MissingRequiredArgument ∷ [])
+    × (faults_in (name ∷ codes "session" ∷ codes "more" ∷ []) ≡ UnknownArgument ∷ [])
+    × (faults_in (name ∷ codes "--help" ∷ []) ≡ DisplayHelp ∷ [])
+    × (asked_in (name ∷ codes "init" ∷ codes "--config" ∷ codes "relayd.toml" ∷ []) ≡ AskedInit (codes "relayd.toml"))
+    × (asked_in (name ∷ codes "list" ∷ codes "--config=relayd.toml" ∷ []) ≡ AskedList (codes "relayd.toml"))
+    × (asked_in (name ∷ codes "session" ∷ []) ≡ AskedSession)
+    × (faults_in (name ∷ codes "play" ∷ []) ≡ [])
+    × (faults_in (name ∷ codes "play" ∷ codes "more" ∷ []) ≡ UnknownArgument ∷ [])
+    × (asked_in (name ∷ codes "play" ∷ []) ≡ AskedPlay)
+    × ServesAndPushes name
+
+-- the argument reader finds no fault in the words, and they ask for a session
+abbrev pub AskForSession : List Text → Type 0
+AskForSession words = (faults_in words ≡ []) × (asked_in words ≡ AskedSession)
+
+-- so it does, and they ask for a play
+abbrev pub AskForPlay : List Text → Type 0
+AskForPlay words = (faults_in words ≡ []) × (asked_in words ≡ AskedPlay)
+
+-- the words are wrong, and don't ask for help
+abbrev pub AreWrong : Kinds → Type 0
+AreWrong kinds = (kinds ≢ []) × (¬ IsAmong DisplayHelp kinds)

@@ -1,0 +1,6 @@
+//! The words that `relayd` is started with: the subcommand that they ask for, or what is wrong with them.
+#![tactic(auto)]
+
+mod words;
+
+pub use words::{Subcommand, arguments, words_are_taken};

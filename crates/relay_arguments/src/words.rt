@@ -1,0 +1,278 @@
+ghost use Rattle.std.specs.Prelude.{◌≡◌, codes, false, map, IfOk};
+ghost use Rattle.clap.specs.Words.{FailsBy, app_of, found_of, new_app, rows_of, rule_of, subcommand_rows_of};
+ghost use Rattle.relay_arguments.specs.Arguments.{WordsAreTaken, asked, asked_by, asked_in, asked_of, config_in};
+ghost use Rattle.relay_arguments.specs.Arguments.{config_rule, configured, faults_in, is_logged_in, log_rule};
+ghost use Rattle.relay_arguments.specs.Arguments.{over_files, pushing, relayd, rounds_in, rounds_of, rounds_rule};
+ghost use Rattle.relay_arguments.specs.Arguments.{serving, without_files, without_subcommands};
+
+use clap::builder::ValueParser;
+use clap::{Arg, ArgAction, ArgMatches, Command, Error};
+use std::alloc::{AllocError, Global};
+use std::convert::AsStr;
+
+/// What the program is asked to do.
+#[derive(Clone, Copy, Debug, Drop)]
+pub enum Subcommand<'a> {
+    /// One session from standard input to standard output.
+    Session,
+    /// A play of two relays, by a script from standard input.
+    Play,
+    /// A spool is made, by the configuration in this file.
+    Init(&'a str),
+    /// What is held in the spool is listed, by the configuration in this file.
+    List(&'a str),
+    /// Clients are served, and their mail is handed on.
+    Serve {
+        /// The file of the configuration.
+        file: &'a str,
+        /// How many connections are served, 1 to 1,000,000.
+        rounds: u32,
+        /// Whether standard error says what was done.
+        log: bool,
+    },
+    /// What is due is handed on.
+    Push {
+        /// The file of the configuration.
+        file: &'a str,
+        /// Whether standard error says what was done.
+        log: bool,
+    },
+}
+
+/// The most connections of one run.
+const MOST_ROUNDS: u64 = 1_000_000;
+
+/// The subcommand that the words name, the program's own name first, and the file behind its
+/// `--config`. An error has a text for the user: of what is wrong with the words, or the help that
+/// they ask for.
+pub fn arguments<'a, S: AsStr>(alloc: Global, words: &'a [S]) -> Result<Subcommand<'a>, Error>
+    ensures faults { FailsBy (faults_in (map S.text words.now)) result }
+    ensures asked { IfOk result (λ subcommand. asked subcommand ≡ asked_in (map S.text words.now)) }
+{
+    let matches = program(alloc)?.try_get_matches_from(words)?;
+    Ok(asked_for(&matches))
+}
+
+/// The subcommand that was entered.
+fn asked_for<'a>(matches: &ArgMatches<'a>) -> Subcommand<'a>
+    ensures { asked result ≡ asked_of (subcommand_rows_of matches.now) }
+{
+    match matches.subcommand() {
+        Some((name, matches)) => named(name, matches),
+        None => Subcommand::Session,
+    }
+}
+
+/// The subcommand of this name.
+fn named<'a>(name: &str, matches: &ArgMatches<'a>) -> Subcommand<'a>
+    ensures { asked result ≡ asked_by name.now (rows_of (found_of matches.now)) }
+{
+    if name == "init" {
+        Subcommand::Init(config(matches))
+    } else if name == "list" {
+        Subcommand::List(config(matches))
+    } else if name == "serve" {
+        Subcommand::Serve {
+            file: config(matches),
+            rounds: rounds(matches),
+            log: is_logged(matches),
+        }
+    } else if name == "push" {
+        Subcommand::Push {
+            file: config(matches),
+            log: is_logged(matches),
+        }
+    } else if name == "play" {
+        Subcommand::Play
+    } else {
+        Subcommand::Session
+    }
+}
+
+/// The file behind `--config`, which the argument reader asks for.
+fn config<'a>(matches: &ArgMatches<'a>) -> &'a str
+    ensures { result.now ≡ config_in (rows_of (found_of matches.now)) }
+{
+    matches.get_str("config").unwrap_or("")
+}
+
+/// How many connections `--rounds` asks for: 1 where it isn't given.
+fn rounds(matches: &ArgMatches<'_>) -> u32
+    ensures { result ≡ rounds_in (rows_of (found_of matches.now)) }
+{
+    match matches.get_str("rounds") {
+        Some(text) => rounds_of(text),
+        None => 1,
+    }
+}
+
+/// The number that a text says, where it is one from 1 to the most; the argument reader refuses other texts.
+fn rounds_of(text: &str) -> u32
+    ensures { result ≡ rounds_of text.now }
+{
+    match text.parse::<u64>() {
+        Ok(rounds) => {
+            if rounds < 1 {
+                1
+            } else if MOST_ROUNDS < rounds {
+                1
+            } else {
+                rounds as u32
+            }
+        }
+        Err(_) => 1,
+    }
+}
+
+/// Whether `--log` was given.
+fn is_logged(matches: &ArgMatches<'_>) -> bool
+    ensures { result ≡ is_logged_in (rows_of (found_of matches.now)) }
+{
+    match matches.get_str("log") {
+        Some(text) => text == "true",
+        None => false,
+    }
+}
+
+/// What the argument reader is told of the program. It fails where memory runs out.
+fn program<'a>(alloc: Global) -> Result<Command<'a>, AllocError>
+    ensures { IfOk result (λ command. app_of command ≡ relayd) }
+{
+    // Each subcommand is made when it is added, so that few are at hand where memory runs out.
+    let with_files = over_files(alloc)?;
+    let serve = serve(alloc)?;
+    let with_serve = with_files.subcommand(serve)?;
+    let push = push(alloc)?;
+    with_serve.subcommand(push)
+}
+
+/// The program with its subcommands that need no socket. It fails where memory runs out.
+fn over_files<'a>(alloc: Global) -> Result<Command<'a>, AllocError>
+    ensures { IfOk result (λ command. app_of command ≡ over_files) }
+{
+    let without_files = without_files(alloc)?;
+    let init = with_file(
+        alloc,
+        "init",
+        "Makes the spool that the configuration names",
+    )?;
+    let with_init = without_files.subcommand(init)?;
+    let list = with_file(
+        alloc,
+        "list",
+        "Lists each recipient that the spool holds: message, place, path, due moment",
+    )?;
+    with_init.subcommand(list)
+}
+
+/// The program with its subcommands that need no file. It fails where memory runs out.
+fn without_files<'a>(alloc: Global) -> Result<Command<'a>, AllocError>
+    ensures { IfOk result (λ command. app_of command ≡ without_files) }
+{
+    let session = session(alloc);
+    let with_session = without_subcommands(alloc).subcommand(session)?;
+    let play = play(alloc);
+    with_session.subcommand(play)
+}
+
+/// The program without its subcommands, of which one has to be entered.
+fn without_subcommands<'a>(alloc: Global) -> Command<'a>
+    ensures { app_of result ≡ without_subcommands }
+{
+    Command::new(alloc, "relayd")
+        .about("A store-and-forward SMTP relay")
+        .disable_help_subcommand(true)
+        .subcommand_required(true)
+}
+
+/// `session`
+fn session<'a>(alloc: Global) -> Command<'a>
+    ensures { app_of result ≡ new_app (codes "session") }
+{
+    Command::new(alloc, "session").about(
+        "Holds one SMTP session from standard input to standard output",
+    )
+}
+
+/// `play`
+fn play<'a>(alloc: Global) -> Command<'a>
+    ensures { app_of result ≡ new_app (codes "play") }
+{
+    Command::new(alloc, "play").about(
+        "Plays a script of two relays from standard input, and tells what is seen of each line",
+    )
+}
+
+/// A subcommand of this name with a configuration file. It fails where memory runs out.
+fn with_file<'a>(alloc: Global, name: &'a str, about: &'a str) -> Result<Command<'a>, AllocError>
+    ensures { IfOk result (λ command. app_of command ≡ configured name.now) }
+{
+    Command::new(alloc, name)
+        .about(about)
+        .arg(file_argument(alloc))
+}
+
+/// `serve --config FILE [--rounds N] [--log]`. It fails where memory runs out.
+fn serve<'a>(alloc: Global) -> Result<Command<'a>, AllocError>
+    ensures { IfOk result (λ command. app_of command ≡ serving) }
+{
+    with_file(
+        alloc,
+        "serve",
+        "Serves clients one after another, and hands on their mail",
+    )?
+    .arg(rounds_argument(alloc))?
+    .arg(log_argument(alloc))
+}
+
+/// `push --config FILE [--log]`. It fails where memory runs out.
+fn push<'a>(alloc: Global) -> Result<Command<'a>, AllocError>
+    ensures { IfOk result (λ command. app_of command ≡ pushing) }
+{
+    with_file(
+        alloc,
+        "push",
+        "Hands on what is due: message, hop, and whether the attempt ended or was lost",
+    )?
+    .arg(log_argument(alloc))
+}
+
+/// `--config FILE`
+fn file_argument<'a>(alloc: Global) -> Arg<'a>
+    ensures rule { rule_of result ≡ config_rule }
+    ensures local { result.global ≡ false }
+{
+    Arg::new(alloc, "config")
+        .long("config")
+        .action(ArgAction::Set)
+        .required(true)
+        .help("The configuration file")
+}
+
+/// `--rounds N`
+fn rounds_argument<'a>(alloc: Global) -> Arg<'a>
+    ensures rule { rule_of result ≡ rounds_rule }
+    ensures local { result.global ≡ false }
+{
+    Arg::new(alloc, "rounds")
+        .long("rounds")
+        .action(ArgAction::Set)
+        .value_parser(ValueParser::unsigned(1, MOST_ROUNDS))
+        .help("How many connections are served, 1 to 1,000,000; 1 where it isn't given")
+}
+
+/// `--log`
+fn log_argument<'a>(alloc: Global) -> Arg<'a>
+    ensures rule { rule_of result ≡ log_rule }
+    ensures local { result.global ≡ false }
+{
+    Arg::new(alloc, "log")
+        .long("log")
+        .action(ArgAction::SetTrue)
+        .help("Says on standard error what was done")
+}
+
+/// The law that says of some words, written out, what is wrong with them and what they ask for.
+pub fn words_are_taken()
+    ensures { WordsAreTaken }
+{}
