@@ -18,6 +18,7 @@ mod host;
 mod ledger;
 mod let_go;
 mod links;
+mod lost;
 mod marks;
 mod named;
 mod pair;

@@ -6,10 +6,12 @@ ghost use Rattle.relay_pair.specs.Marks.{marks_from};
 ghost use Rattle.relay_pair.specs.Promise.{HasHappened, KeepsItsPromise};
 ghost use Rattle.relay_pair.specs.Relays.{AreBound};
 ghost use Rattle.relay_pair.specs.Step.{Steps, StepsEach};
+ghost use Rattle.relay_world.specs.Copies.{lost_replies_of};
 
 use crate::event::Event;
 use crate::fault::PairFault;
 use crate::host::Host;
+use crate::lost::lost_replies;
 use crate::profile::{first_profile, second_profile};
 use crate::relays::Relays;
 use crate::seen::Seen;
@@ -115,6 +117,15 @@ impl<D: Disk> Pair<D> {
         ensures { IfOk result (CountsCopies D.honest D.words self.now node message place) }
     {
         self.relays.copies(alloc, node, message, place)
+    }
+
+    /// How many replies to attempts at a place of a node's message were lost: the attempts for it that have ended by no
+    /// reply, since their link was lost, or their node had to drop them. So many copies of it may there be besides one. It
+    /// takes no memory.
+    pub fn lost_replies(&self, node: usize, message: u64, place: u64) -> usize
+        ensures { result ≡ lost_replies_of node message place self.now.attempts }
+    {
+        lost_replies(self.relays.attempts.as_slice(), node, message, place)
     }
 
     /// The relays of a pair are bound between two events.

@@ -1,7 +1,7 @@
 //! A script, from its first line to its last.
 use crate::fault::PlayFault;
 use crate::happen::happen;
-use crate::show::{show_copies, show_ledger, show_marks};
+use crate::show::{show_copies, show_ledger, show_lost, show_marks};
 use bstr::ByteSlice;
 use relay_disk::MemoryDisk;
 use relay_pair::Pair;
@@ -110,6 +110,11 @@ impl Player {
                 number,
                 place,
             } => show_copies(self.alloc, &self.pair, node, number, place, seen),
+            ScriptLine::Lost {
+                node,
+                number,
+                place,
+            } => show_lost(&self.pair, node, number, place, seen),
         };
         // Octets in memory fail to be written by want of memory alone.
         shown.map_err(|_| PlayFault::NoMemory)

@@ -1,4 +1,4 @@
-//! The lines that a script asks for: the ledger, what is held, and how many copies there are.
+//! The lines that a script asks for: the ledger, what is held, how many copies there are, and how many replies were lost.
 use crate::print::letter;
 use relay_book::Way;
 use relay_disk::Disk;
@@ -74,4 +74,15 @@ pub(crate) fn show_copies<D: Disk>(
     out: &mut Vec<u8>,
 ) -> io::Result<()> {
     writeln!(out, "{}", pair.copies(alloc, node.index(), number, place)?)
+}
+
+/// Adds the line with the number of lost replies to attempts at a place of a message. It fails where memory runs out.
+pub(crate) fn show_lost<D: Disk>(
+    pair: &Pair<D>,
+    node: NodeIndex,
+    number: u64,
+    place: u64,
+    out: &mut Vec<u8>,
+) -> io::Result<()> {
+    writeln!(out, "{}", pair.lost_replies(node.index(), number, place))
 }

@@ -58,6 +58,14 @@ fn outcome_of(alloc: Global, said: ScriptLine) -> Result<String, AllocError> {
             "copies of node {}, number {number}, place {place}",
             node.index()
         ),
+        ScriptLine::Lost {
+            node,
+            number,
+            place,
+        } => format!(in alloc;
+            "lost replies of node {}, number {number}, place {place}",
+            node.index()
+        ),
     }
 }
 

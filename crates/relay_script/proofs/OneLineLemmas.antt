@@ -8,7 +8,7 @@ use Rattle.relay_script.specs.Line.Operand.{Node, Number, Time, Text}
 use Rattle.relay_script.specs.Reading.{kind_of, SpellsOperands}
 use Rattle.relay_script.specs.declared.event.Event.TheVariants.{Connect, Send, Carry, Break, Tick, Give, Stop}
 use Rattle.relay_script.specs.declared.event.ScriptLine.{ScriptLine}
-use Rattle.relay_script.specs.declared.event.ScriptLine.TheVariants.{Skipped, Event as Happens, Ledger, Marks, Copies}
+use Rattle.relay_script.specs.declared.event.ScriptLine.TheVariants.{Skipped, Event as Happens, Ledger, Marks, Copies, Lost}
 use Rattle.relay_script.proofs.TextLemmas.{text_tells_octets}
 use Rattle.relay_script.proofs.WordLemmas.{one_cut}
 use Rattle.relay_script.proofs.OperandLemmas.{is_word_kind, cut_of, first_and_more, word_of_one}
@@ -27,6 +27,7 @@ keyword_of (Happens (Stop node calls pick)) = codes "stop"
 keyword_of Ledger = codes "ledger"
 keyword_of Marks = codes "marks"
 keyword_of (Copies node number place) = codes "copies"
+keyword_of (Lost node number place) = codes "lost"
 
 -- a line's operands
 abbrev operands_of : ScriptLine → List Operand
@@ -41,6 +42,7 @@ operands_of (Happens (Stop node calls pick)) = Node node ∷ Number calls ∷ Nu
 operands_of Ledger = []
 operands_of Marks = []
 operands_of (Copies node number place) = Node node ∷ Number number ∷ Number place ∷ []
+operands_of (Lost node number place) = Node node ∷ Number number ∷ Number place ∷ []
 
 -- a line has words, or is skipped
 pub data Form (text : List ℕ) (line : ScriptLine) : Type 0 where
@@ -59,6 +61,7 @@ form_of text (Happens (Stop node calls pick)) is = Worded (omega arith) is
 form_of text Ledger is = Worded (omega arith) is
 form_of text Marks is = Worded (omega arith) is
 form_of text (Copies node number place) is = Worded (omega arith) is
+form_of text (Lost node number place) is = Worded (omega arith) is
 
 -- the first three octets of a text, which tell the keyword
 abbrev front_of : List ℕ → ℕ
@@ -98,6 +101,7 @@ line_of front operands =
     else if front == front_of (codes "ledger") then Ledger
     else if front == front_of (codes "marks") then Marks
     else if front == front_of (codes "copies") then Copies (number_in operands) (number_in next) (number_in last)
+    else if front == front_of (codes "lost") then Lost (number_in operands) (number_in next) (number_in last)
     else Skipped
 
 line_is : (line : ScriptLine) → line_of (front_of (keyword_of line)) (operands_of line) ≡ line
@@ -113,6 +117,7 @@ line_is (Happens (Stop node calls pick)) = refl
 line_is Ledger = refl
 line_is Marks = refl
 line_is (Copies node number place) = refl
+line_is (Lost node number place) = refl
 
 -- the first octets tell the keyword and the kinds of the operands
 keyword_is : (line : ScriptLine) → keyword_of (line_of (front_of (keyword_of line)) []) ≡ keyword_of line
@@ -128,6 +133,7 @@ keyword_is (Happens (Stop node calls pick)) = refl
 keyword_is Ledger = refl
 keyword_is Marks = refl
 keyword_is (Copies node number place) = refl
+keyword_is (Lost node number place) = refl
 
 kinds_are : (line : ScriptLine)
     → map kind_of (operands_of (line_of (front_of (keyword_of line)) [])) ≡ map kind_of (operands_of line)
@@ -143,6 +149,7 @@ kinds_are (Happens (Stop node calls pick)) = refl
 kinds_are Ledger = refl
 kinds_are Marks = refl
 kinds_are (Copies node number place) = refl
+kinds_are (Lost node number place) = refl
 
 -- what stands behind a keyword says nothing of its first octets
 front_append : (line : ScriptLine) → 98 ≤ get_or (keyword_of line) 0 0 → (tail : List ℕ)
@@ -158,6 +165,7 @@ front_append (Happens (Stop node calls pick)) some tail = refl
 front_append Ledger some tail = refl
 front_append Marks some tail = refl
 front_append (Copies node number place) some tail = refl
+front_append (Lost node number place) some tail = refl
 
 -- all operands but the last are words without a space
 abbrev are_words_but_last : List Operand → Bool
@@ -177,6 +185,7 @@ line_has_words (Happens (Stop node calls pick)) = refl
 line_has_words Ledger = refl
 line_has_words Marks = refl
 line_has_words (Copies node number place) = refl
+line_has_words (Lost node number place) = refl
 
 -- a word tells the operand of a kind
 same_operand : (word : List ℕ) (operand other : Operand) → kind_of operand ≡ kind_of other → IsOperand word operand

@@ -6,7 +6,7 @@ use Rattle.relay_script.specs.Word.{IsMoment, IsNode, IsNumber}
 use Rattle.relay_script.specs.declared.event.Event.{Event}
 use Rattle.relay_script.specs.declared.event.Event.TheVariants.{Connect, Send, Carry, Break, Tick, Give, Stop}
 use Rattle.relay_script.specs.declared.event.ScriptLine.{ScriptLine}
-use Rattle.relay_script.specs.declared.event.ScriptLine.TheVariants.{Skipped, Event as Happens, Ledger, Marks, Copies}
+use Rattle.relay_script.specs.declared.event.ScriptLine.TheVariants.{Skipped, Event as Happens, Ledger, Marks, Copies, Lost}
 
 -- what stands behind a keyword
 pub data Operand : Type 0 where
@@ -60,6 +60,8 @@ Spells text Ledger = SpellsWords text (codes "ledger") []
 Spells text Marks = SpellsWords text (codes "marks") []
 Spells text (Copies node number place) =
     SpellsWords text (codes "copies") (Node node ∷ Number number ∷ Number place ∷ [])
+Spells text (Lost node number place) =
+    SpellsWords text (codes "lost") (Node node ∷ Number number ∷ Number place ∷ [])
 
 -- the text spells no line
 pub record SpellsNoLine (text : List ℕ) : Type 0 where

@@ -100,3 +100,4 @@ pub record SpellsNoQuestion (text : List ℕ) : Type 0 where
   pub ledger : LacksWords (codes "ledger") [] text
   pub marks : LacksWords (codes "marks") [] text
   pub copies : LacksWords (codes "copies") (NodeKind ∷ NumberKind ∷ NumberKind ∷ []) text
+  pub lost : LacksWords (codes "lost") (NodeKind ∷ NumberKind ∷ NumberKind ∷ []) text

@@ -58,4 +58,10 @@ pub enum ScriptLine {
         number: u64,
         place: u64,
     },
+    /// Asks how many replies to attempts at such a place were lost.
+    Lost {
+        node: NodeIndex,
+        number: u64,
+        place: u64,
+    },
 }

@@ -54,8 +54,15 @@ fn read_question(line: &[u8]) -> Option<ScriptLine>
     if is_keyword(line, b"marks") {
         return Some(ScriptLine::Marks);
     }
-    let (node, number, place) = node_and_numbers_behind(b"copies", line)?;
-    Some(ScriptLine::Copies {
+    if let Some((node, number, place)) = node_and_numbers_behind(b"copies", line) {
+        return Some(ScriptLine::Copies {
+            node,
+            number,
+            place,
+        });
+    }
+    let (node, number, place) = node_and_numbers_behind(b"lost", line)?;
+    Some(ScriptLine::Lost {
         node,
         number,
         place,
