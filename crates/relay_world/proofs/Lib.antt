@@ -50,6 +50,7 @@ mod HopLinkLemmas
 mod RunLemmas
 mod LeavingLemmas
 mod InventedLemmas
+mod ForbiddenLemmas
 mod TransferLemmas
 mod CopiesLemmas
 mod GrowthLemmas

@@ -13,6 +13,7 @@ pub mod Once
 pub mod Transfers
 pub mod Causes
 pub mod Invented
+pub mod Forbidden
 pub mod Copies
 pub mod Growth
 pub mod Promise

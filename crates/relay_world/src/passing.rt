@@ -3,6 +3,7 @@ ghost use Rattle.relay_world.specs.Causes.{LeavingIsCaused};
 ghost use Rattle.relay_world.specs.Copies.{CopiesAreFew};
 ghost use Rattle.relay_world.specs.CrashRuns.{CrashingHappens, CrashingKeepsOnce, RestingCrashHappens};
 ghost use Rattle.relay_world.specs.Growth.{GrownListsBegin, RunsGrow};
+ghost use Rattle.relay_world.specs.Forbidden.{DroppingBreaks, ForgettingBreaks, LeadingElsewhereBreaks};
 ghost use Rattle.relay_world.specs.Invented.{InventingBreaks};
 ghost use Rattle.relay_world.specs.HopLinks.{HopLinksAtFirst};
 ghost use Rattle.relay_world.specs.Once.{HopLinksAreKept, OnceAtFirst, OnceIsKept, RunsKeepAll};
@@ -69,6 +70,21 @@ pub fn leaving_is_caused<D: Disk>()
 /// events keep.
 pub fn inventing_breaks<D: Disk>()
     ensures { InventingBreaks D.honest D.words }
+{}
+
+/// A node whose queue lacks a place that its records hold breaks what events keep.
+pub fn dropping_breaks<D: Disk>()
+    ensures { DroppingBreaks D.honest D.words }
+{}
+
+/// A ledger that forgets a line breaks what events keep.
+pub fn forgetting_breaks<D: Disk>()
+    ensures { ForgettingBreaks D.honest D.words }
+{}
+
+/// An attempt for a node's name whose link leads to another node breaks what events keep.
+pub fn leading_elsewhere_breaks<D: Disk>()
+    ensures { LeadingElsewhereBreaks D }
 {}
 
 /// Of a message's place as many copies are made as one, and one for each reply that was lost, or fewer.

@@ -1,0 +1,69 @@
+-- What the invariant doesn't let through besides: mail that is dropped, a line that the ledger forgets, and an attempt
+-- whose link leads elsewhere than to its hop. Each is said of the worlds alone, whatever call has made the one of the
+-- other.
+use Rattle.std.specs.Prelude.{◌≡◌, ◌≢◌, ℕ, List, [], ◌∷◌, ◌++◌, Some, slice_get}
+use Rattle.std.specs.List.{Contains}
+use Rattle.relay_disk.specs.Device.{DiskWords}
+use Rattle.relay_book.specs.declared.change.Change.{Change}
+use Rattle.relay_book.specs.Marks.{Held}
+use Rattle.relay_book.specs.Queue.{held_of}
+use Rattle.relay_node.specs.Node.{NodeState}
+use Rattle.relay_world.specs.declared.attempt.Attempt.{Attempt}
+use Rattle.relay_world.specs.declared.line.Line.{Line}
+use Rattle.relay_world.specs.declared.link.Link.{Link}
+use Rattle.relay_world.specs.declared.link.ServerEnd.{ServerEnd}
+use Rattle.relay_world.specs.Bound.{HostKeeps, IsBound}
+use Rattle.relay_world.specs.HopLinks.{AreLinkedToHops}
+use Rattle.relay_world.specs.Ledger.{if_of_node}
+use Rattle.relay_world.specs.Steps.{IsPut}
+use Rattle.relay_world.specs.World.{Host, Up, World, link_at}
+
+-- A node has the records that it had, by which this place of a message is held, and its queue lacks the place.
+pub record DropsMail {D : Type 0} (honest : Type 0) (words : DiskWords D) (old new : World D) (node number place : ℕ)
+    : Type 0 where
+  pub host : Host D
+  pub host_at : slice_get old.hosts node ≡ Some host
+  pub held : (changes : List Change) → HostKeeps honest words host changes → Held changes number place
+  pub after : NodeState D
+  pub gone : Contains {X = ℕ × ℕ} (held_of after.records.queue) (number, place) → ⊥
+  pub hosts : IsPut old.hosts new.hosts node (record host { state = Up after })
+
+-- Behind that the world isn't bound.
+abbrev pub DroppingBreaks : {D : Type 0} → Type 0 → DiskWords D → Type 0
+DroppingBreaks {D} honest words =
+    (old new : World D) (lists later : List (List Change)) (node number place : ℕ) → IsBound honest words old lists
+    → DropsMail honest words old new node number place → IsBound honest words new later → ⊥
+
+-- The ledger has lost a line of a node, and all nodes are as they were.
+pub record ForgetsLine {D : Type 0} (old new : World D) (node : ℕ) : Type 0 where
+  pub host : Host D
+  pub host_at : slice_get old.hosts node ≡ Some host
+  pub front : List Line
+  pub line : Line
+  pub rest : List Line
+  pub was : old.ledger ≡ front ++ line ∷ rest
+  pub is : new.ledger ≡ front ++ rest
+  pub of_node : if_of_node node line ≢ []
+  pub hosts : new.hosts ≡ old.hosts
+
+-- Nor is it behind that.
+abbrev pub ForgettingBreaks : {D : Type 0} → Type 0 → DiskWords D → Type 0
+ForgettingBreaks {D} honest words =
+    (old new : World D) (lists later : List (List Change)) (node : ℕ) → IsBound honest words old lists
+    → ForgetsLine old new node → IsBound honest words new later → ⊥
+
+-- An attempt has the name of a node as its hop, and the server end of its link, if it has one, is at another.
+pub record LeadsElsewhere {D : Type 0} (world : World D) : Type 0 where
+  pub at : ℕ
+  pub attempt : Attempt
+  pub is_there : slice_get world.attempts at ≡ Some attempt
+  pub node : ℕ
+  pub host : Host D
+  pub host_at : slice_get world.hosts node ≡ Some host
+  pub named : host.config.host ≡ attempt.hop
+  pub elsewhere : (link : Link) (end : ServerEnd) → link_at world.links attempt.link ≡ Some link
+      → link.server ≡ Some end → end.node ≢ node
+
+-- Then attempts don't have the links that they are meant to have.
+abbrev pub LeadingElsewhereBreaks : Type 0 → Type 0
+LeadingElsewhereBreaks D = (world : World D) → LeadsElsewhere world → AreLinkedToHops world → ⊥
