@@ -2,7 +2,7 @@
 SHELL := bash
 .SHELLFLAGS := -eo pipefail -c
 
-.PHONY: test demo interop bench load instructions relayd relay_bench
+.PHONY: test demo interop hostile bench load instructions relayd relay_bench
 
 # The whole gate: the sample configuration beside its tested copy; then every proof from nothing, the edits that must
 # fail and the tests, so many side by side as tools/lanes.sh says (RT_JOBS, where it is given); then the programs that
@@ -22,6 +22,9 @@ test:
 	tests/two_relays.py build/relayd
 	tests/plays.py build/relayd
 	tests/plays_without_memory.py build/relayd
+	tests/random_plays.py build/relayd
+	tests/stops_in_plays.py build/relayd
+	tests/hostile_octets.py build/relayd
 	tests/each_allocation_refused.sh build/relayd
 	tests/book_without_memory.sh crates/relay_book_tests/out/relay_book_tests
 	tests/node_without_memory.sh crates/relay_node_tests/out/relay_node_tests
@@ -38,6 +41,11 @@ demo:
 # Hands mail in from other mail programs, and on to them: those of Debian that can be had, each skipped by its name else.
 interop: relayd
 	tests/interop.sh build/relayd
+
+# Plays a thousand random scripts, and puts stops of every kind before each event of the scripts of docs/plays/.
+hostile: relayd
+	tests/random_plays.py build/relayd 1000
+	tests/stops_in_plays.py build/relayd all
 
 # Measures the program and library calls beside `wc` on the same octets (docs/PERFORMANCE.md).
 bench: relayd relay_bench

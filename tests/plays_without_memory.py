@@ -1,7 +1,8 @@
 #!/usr/bin/env python3
 """Plays the scripts of docs/plays/ once for each allocation of the program, which is refused. The play goes on behind it or
 says that there was no memory; and each recipient that a node acknowledged is held in the end, or was handed on, or has ended,
-once both nodes were stopped and opened again. It ends at the first difference.
+once both nodes were stopped and opened again. Then a node that can't be opened, for want of memory: each event that it
+refuses, in its order, and what it says once it is opened. It ends at the first difference.
 
     tests/plays_without_memory.py build/relayd
 """
@@ -14,13 +15,47 @@ import tempfile
 
 sys.dont_write_bytecode = True
 
+from plays import GREETED, MAIL, QUEUED
 from relay_program import Difference, PATIENCE, same
 
 HERE = pathlib.Path(__file__).resolve().parent
 PLAYS = HERE.parent / "docs" / "plays"
 # Twice: a node that can't be opened for want of memory is down until its next stop, and `marks` leaves it out.
 ENDING = b"stop a 0 0\nstop b 0 0\nmarks\nledger\n" * 2
-QUEUED = re.compile(r"^node ([ab]) link \d+ used \d+ out .*250 queued as (\d+)\\r\\n", re.MULTILINE)
+ACCEPTED = re.compile(r"^node ([ab]) link \d+ used \d+ out .*250 queued as (\d+)\\r\\n", re.MULTILINE)
+# What stands before node a stops, while it is down, and behind its next stop: each line with what is to be seen of it.
+BEFORE = [
+    ("connect b", GREETED.format(1, "b")),
+    ("send 1 " + MAIL.format("a.example"), "ok"),
+    ("carry 1 b 1000", "node b link 1 used 71 out " + QUEUED.format("b", 1) + " change 1"),
+    ("connect a", GREETED.format(2, "a")),
+    ("send 2 " + MAIL.format("b.example"), "ok"),
+    ("carry 2 a 1000", "node a link 2 used 71 out " + QUEUED.format("a", 1) + " change 1"),
+]
+STOP = [("stop a 0 0", "stopped a")]
+DOWN = [
+    ("connect a", "refused Down"),
+    ("carry 3 a 1", "refused NoLink"),
+    ("carry 2 a 1", "refused NoLink"),
+    ("carry 1 a 0", "refused NotYours"),
+    ("give a", "refused Down"),
+    ("give b", "refused Down"),
+    ("stop a 3 0", "refused Down"),
+    ("marks", "b 1 0"),
+    ("ledger", "accept b 1 1 link 1\naccept a 1 1 link 2"),
+    ("copies a 1 0", "0"),
+    ("tick 60", "now 60"),
+    ("stop b 0 0", "stopped b"),
+    ("carry 1 b 1", "refused NoLink"),
+    ("connect b", GREETED.format(3, "b")),
+]
+AGAIN = [
+    ("stop a 0 1", "stopped a"),
+    ("marks", "a 1 0\nb 1 0"),
+    ("connect a", GREETED.format(4, "a")),
+    ("give b", "start b 1 a.example link 5"),
+    ("give a", "start a 1 b.example link 6"),
+]
 
 
 def play(program, script, number, shim, mark):
@@ -37,10 +72,30 @@ def look(what, status, out, errors):
     same(what, errors, "")
     # What both endings show, and not what the script asked for before.
     end = "".join(out.rsplit("stopped a\n", 2)[1:])
-    for node, number in QUEUED.findall(out):
+    for node, number in ACCEPTED.findall(out):
         gone = re.search(rf"^(transfer|end) {node} {number} 0 ", end, re.MULTILINE)
         if not gone and f"\n{node} {number} 0\n" not in end:
             raise Difference(f"{what}: message {number} of {node} is neither held nor gone:\n{out}")
+
+
+def seen(rows):
+    return "".join(f"{line}\n" for _, line in rows)
+
+
+def a_node_that_is_down(program, shim, mark):
+    """Refuses each allocation in turn, and holds those plays to the rows in which node a stays down behind its stop."""
+    script = "".join(f"{line}\n" for line, _ in BEFORE + STOP + DOWN + AGAIN).encode()
+    down, found = seen(BEFORE + STOP + DOWN[:1]), 0
+    for number in range(1, 100_000):
+        mark.unlink(missing_ok=True)
+        status, out, errors = play(program, script, number, shim, mark)
+        if not mark.exists():
+            break
+        if out.startswith(down):
+            same(f"a node that is down, by allocation {number}", (status, out, errors), (0, seen(BEFORE + STOP + DOWN + AGAIN), ""))
+            found += 1
+    same("whether a node was down", found > 0, True)
+    print(f"ok: a node that is down, by {found} allocations of {number - 1}")
 
 
 def main(program):
@@ -58,6 +113,7 @@ def main(program):
                     break
             same(f"{script.name}: whether allocations were refused", number > 100, True)
             print(f"ok: {script.name} without memory: {number - 1} allocations refused in turn")
+        a_node_that_is_down(program, shim, mark)
 
 
 if __name__ == "__main__":

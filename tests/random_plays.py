@@ -1,0 +1,328 @@
+#!/usr/bin/env python3
+"""Makes random plays of two relays, and judges each by what is printed alone: whether mail that a node acknowledged is held,
+was handed on or has ended; whether what was handed on was accepted; whether there are no more copies than lost replies allow;
+and whether the ledger only grows. A play that fails is printed, with each line left out that it doesn't take.
+
+    tests/random_plays.py build/relayd [COUNT [FIRST]]
+
+COUNT plays (50) of 60 events are made from the seeds FIRST (1) and on.
+"""
+import pathlib
+import random
+import re
+import subprocess
+import sys
+
+sys.dont_write_bytecode = True
+
+from relay_program import Difference, PATIENCE
+
+EVENTS = 60
+# Says 0 and nothing else, whatever was played: it ends the lines of the event before it.
+END_OF_LINES = "copies a 999999999 0"
+OTHER = {"a": "b", "b": "a"}
+HOSTS = {"a.example": "a", "b.example": "b"}
+DOMAINS = ["a.example", "b.example", "c.example", "loop.example", "out.example", "nowhere.example"]
+PEOPLE = ["r", "s", '"q r"', "postmaster"]
+MARKS = re.compile(r"([ab]) (\d+) (\d+)")
+ACCEPT = re.compile(r"accept ([ab]) (\d+) (\d+) link (\d+)")
+LEFT = re.compile(r"(transfer|end) ([ab]) (\d+) (\d+) (?:failed )?link (\d+) report (\d+)")
+# What an event may print.
+PRINTED = re.compile(
+    r"link \d+ out .*|ok|node [ab] link \d+ used \d+ out .*?( change \d+)?( end)?|start [ab] \d+ \S+ link \d+"
+    r"|noroute [ab] \d+ change \d+|broken \d+|now \d+|stopped [ab]|armed [ab]|refused [A-Z][A-Za-z]+")
+
+
+def escaped(octets):
+    return "".join({13: r"\r", 10: r"\n", 92: r"\x5C"}.get(octet, chr(octet) if 32 <= octet < 127 else f"\\x{octet:02X}")
+                   for octet in octets)
+
+
+class Play:
+    """A play that goes on: each event is answered before the next is chosen."""
+
+    def __init__(self, program):
+        self.process = subprocess.Popen([program, "play"], stdin=subprocess.PIPE, stdout=subprocess.PIPE, text=True, bufsize=1)
+
+    def __enter__(self):
+        return self
+
+    def __exit__(self, *_):
+        self.process.stdin.close()
+        self.process.wait(PATIENCE)
+        self.process.stdout.close()
+
+    def say(self, line):
+        """The lines that an event or a question prints."""
+        self.process.stdin.write(f"{line}\n{END_OF_LINES}\n")
+        self.process.stdin.flush()
+        lines = []
+        while True:
+            found = self.process.stdout.readline()
+            if not found:
+                raise Difference("the play has ended")
+            if found == "0\n" and (lines or not line.startswith(("copies ", "lost "))):
+                return lines
+            lines.append(found.rstrip("\n"))
+
+
+class Link:
+    """A link as its lines showed it: its ends (outside is None), the work that it was opened for, and what is still to be
+    written at its outer end."""
+
+    def __init__(self, client, server, work=None):
+        self.client, self.server, self.work = client, server, work
+        self.whole, self.ended, self.pending, self.codes = True, "", b"", []
+
+    def has_end(self, node):
+        return self.whole and node in (self.client, self.server)
+
+
+class Judge:
+    """What the printed lines say of links, attempts and mail, and whether it holds together."""
+
+    def __init__(self):
+        self.links, self.acknowledged, self.ledger = {}, {}, []
+
+    def event(self, line, printed):
+        for one in printed:
+            self.require(PRINTED.fullmatch(one), f"`{line}` printed `{one}`")
+            words = one.split(" ")
+            if words[0] == "link":
+                self.links[int(words[1])] = Link(None, line.split()[1])
+            elif words[0] == "start":
+                self.links[int(words[5])] = Link(words[1], HOSTS.get(words[3]), (words[1], int(words[2])))
+            elif words[0] == "broken":
+                self.links[int(words[1])].whole = False
+            elif words[0] == "stopped":
+                for link in self.links.values():
+                    link.whole = link.whole and words[1] not in (link.client, link.server)
+            elif words[0] == "node":
+                self.carried(words[1], int(words[3]), one)
+            elif one in ("refused NoMemory", "refused Full") and line.startswith("carry"):
+                self.links[int(line.split()[1])].whole = False
+
+    def carried(self, node, number, printed):
+        link = self.links[number]
+        if link.server == node:
+            for queued in re.findall(r"250 queued as (\d+)", printed):
+                self.acknowledged[node, int(queued)] = number
+        elif re.search(r" change \d+( end)?$", printed):
+            link.ended = "without a reply" if f"link {number} used 0 " in printed else "by a reply"
+
+    def require(self, holds, what):
+        if not holds:
+            raise Difference(what)
+
+    def settle(self, ask):
+        """Asks for the ledger, the marks and the copies, and holds them beside each other."""
+        ledger = ask("ledger")
+        self.require(ledger[:len(self.ledger)] == self.ledger, "the ledger has forgotten a line")
+        self.ledger = ledger
+        taken, left = self.read(ledger)
+        held = [(one[1], int(one[2]), int(one[3])) for one in map(MARKS.fullmatch, ask("marks"))]
+        self.require(len(set(held)) == len(held), f"a place is held twice: {held}")
+        for key, link in self.acknowledged.items():
+            self.require(key in taken and taken[key][1] == link, f"{key} was acknowledged on link {link}, and isn't in the ledger")
+        for (node, number), (places, _) in taken.items():
+            for place in range(places):
+                one = (node, number, place)
+                self.require((one in held) + (one in left) == 1, f"{one} isn't held, handed on or ended, one of them")
+        for one in [*held, *left]:
+            self.require(one[:2] in taken and one[2] < taken[one[:2]][0], f"{one} is of no message")
+        for one, (way, link) in left.items():
+            if way == "transfer":
+                self.handed_on(one, link, taken)
+        for (node, number), (places, _) in taken.items():
+            for place in range(places):
+                copies, lost = (int(ask(f"{word} {node} {number} {place}")[0]) for word in ("copies", "lost"))
+                self.few_copies(node, number, place, copies, lost)
+
+    def read(self, ledger):
+        """The messages of a ledger, reports among them, each with its places and its link; and the places that left."""
+        taken, left = {}, {}
+        for line in ledger:
+            accept, gone = ACCEPT.fullmatch(line), LEFT.fullmatch(line)
+            self.require(accept or gone, f"the ledger says `{line}`")
+            if accept:
+                node, number, places, link = accept[1], *map(int, accept.groups()[1:])
+                self.require((node, number) not in taken, f"{line}: for the second time")
+                self.require(self.links[link].server == node, f"{line}: that link isn't this node's")
+                taken[node, number] = places, link
+            else:
+                way, node, number, place, link, report = gone[1], gone[2], *map(int, gone.groups()[2:])
+                self.require((node, number, place) not in left, f"{line}: for the second time")
+                left[node, number, place] = way, link
+                if report:
+                    taken[node, report] = 1, 0
+        return taken, left
+
+    def handed_on(self, one, number, taken):
+        link = self.links.get(number)
+        self.require(link and link.work == one[:2], f"{one} was handed on, on link {number}, which isn't its own")
+        if link.server:
+            children = [key for key, (_, on) in taken.items() if on == number and key[0] == link.server]
+            self.require(len(children) == 1, f"{one} was handed on, on link {number}, which has {len(children)} messages")
+        else:
+            self.require("250" in link.codes, f"{one} was handed on, on link {number}, and outside said {link.codes}")
+
+    def few_copies(self, node, number, place, copies, lost):
+        """There is one copy, and one more for each reply that was lost, at most; and only a link that has ended loses one."""
+        tried = [link for link in self.links.values() if link.work == (node, number)]
+        broken = sum(link.ended != "by a reply" and not (link.whole and not link.ended) for link in tried)
+        self.require(copies <= min(1 + lost, len(tried)) and lost <= broken,
+                     f"{copies} copies of {(node, number, place)}, of {len(tried)} attempts; {lost} replies lost, {broken} broken")
+
+
+class Driver:
+    """Chooses events by chance, most of them such as can be."""
+
+    def __init__(self, seed):
+        self.chance, self.clock = random.Random(seed), 0
+
+    def choose(self, links):
+        kind = self.chance.choices(
+            ["connect", "write", "carry", "reply", "give", "break", "tick", "stop", "arm"], [5, 16, 42, 10, 14, 2, 5, 2, 4])[0]
+        return getattr(self, kind.replace("break", "break_off"))(links)
+
+    def one(self, links, fits):
+        """A link that fits, mostly one of the last, or some number."""
+        found = [number for number, link in links.items() if fits(link)]
+        if not found or self.chance.random() < 0.02:
+            return self.chance.randint(0, len(links) + 1)
+        return self.chance.choice(found[-3:])
+
+    def node(self):
+        return self.chance.choice("ab")
+
+    def connect(self, links):
+        return f"connect {self.node()}"
+
+    def write(self, links):
+        """A client outside writes some of a message."""
+        number = self.one(links, lambda link: link.whole and link.client is None)
+        return self.send(links, number, self.message)
+
+    def reply(self, links):
+        """A next hop outside writes a reply."""
+        number = self.one(links, lambda link: link.whole and link.server is None)
+        return self.send(links, number, lambda: self.chance.choices(
+            [b"220 x\r\n", b"250 x\r\n", b"250-x\r\n250-PIPELINING\r\n250-CHUNKING\r\n250 DSN\r\n", b"354 x\r\n", b"451 x\r\n",
+             b"550 x\r\n", b"2x0 a\r\n"], [3, 8, 3, 4, 1, 2, 0.2])[0])
+
+    def send(self, links, number, text):
+        link = links.get(number)
+        if link is None:
+            return f"send {number} x"
+        link.pending = link.pending or text()
+        count = len(link.pending) if self.chance.random() < 0.8 else self.chance.randint(1, len(link.pending))
+        now, link.pending = link.pending[:count], link.pending[count:]
+        link.codes += re.findall(r"(?m)^(\d\d\d) ", now.decode("latin-1"))
+        return f"send {number} {escaped(now)}"
+
+    def message(self):
+        path = self.chance.choice(["<s@out.example>", "<s@a.example>", "<>", "<s@nowhere.example>"])
+        keywords = self.chance.choice(["", " RET=FULL", " RET=HDRS ENVID=q+2B1"])
+        lines = ["EHLO x", f"MAIL FROM:{path}{keywords}"]
+        for _ in range(self.chance.choice([1, 1, 1, 2, 3])):
+            notify = self.chance.choice(["", "", " NOTIFY=NEVER", " NOTIFY=SUCCESS,FAILURE"])
+            lines.append(f"RCPT TO:<{self.chance.choice(PEOPLE)}@{self.chance.choice(DOMAINS)}>{notify}")
+        content = "Subject: t\r\n\r\n" + "\r\n".join(self.chance.choice(["hi", ".", "..x", ""]) for _ in range(3)) + "\r\n"
+        if self.chance.random() < 0.3:
+            lines += [f"BDAT {len(content)} LAST", content[:-2]]
+        else:
+            lines += ["DATA", content[:-2].replace("\r\n.", "\r\n.."), "."]
+        return ("\r\n".join(lines) + "\r\n").encode()
+
+    def carry(self, links):
+        number = self.one(links, lambda link: link.whole)
+        link = links.get(number)
+        ends = [end for end in (link.client, link.server) if end] if link else []
+        node = self.chance.choice(ends) if ends and self.chance.random() < 0.98 else self.node()
+        count = self.chance.choices([1000, 100000, 50, 7, 3, 1, 0], [12, 6, 3, 1, 1, 1, 0.3])[0]
+        return f"carry {number} {node} {count}"
+
+    def give(self, links):
+        return f"give {self.node()}"
+
+    def break_off(self, links):
+        return f"break {self.one(links, lambda link: link.whole)}"
+
+    def tick(self, links):
+        self.clock = max(0, self.clock + self.chance.choice([1, 60, 1800, 3600, 7200, 14400, 432000, -1, -1800, -100000]))
+        return f"tick {self.clock}"
+
+    def pick(self):
+        return self.chance.choice([0, 0, 1, 1, 2, 3, self.chance.randint(4, 400)])
+
+    def stop(self, links):
+        return f"stop {self.node()} 0 {self.pick()}"
+
+    def arm(self, links):
+        return f"stop {self.node()} {self.chance.randint(1, 6)} {self.pick()}"
+
+
+def made(program, seed):
+    """The events of a play that was made from this seed, and what didn't hold of it, if anything."""
+    driver, judge, events = Driver(seed), Judge(), []
+    with Play(program) as play:
+        try:
+            for number in range(EVENTS):
+                events.append(driver.choose(judge.links))
+                judge.event(events[-1], play.say(events[-1]))
+                if number % 20 == 19:
+                    judge.settle(play.say)
+            for node in "ab":
+                events.append(f"stop {node} 0 0")
+                judge.event(events[-1], play.say(events[-1]))
+            judge.settle(play.say)
+        except Difference as difference:
+            return events, str(difference), judge
+    return events, None, judge
+
+
+def failure(program, events):
+    """What doesn't hold of these events, if anything."""
+    judge = Judge()
+    with Play(program) as play:
+        try:
+            for event in events:
+                words = event.split(" ", 2)
+                link = judge.links.get(int(words[1])) if words[0] == "send" else None
+                if link:
+                    link.codes += re.findall(r"(?:^|\\n)(\d\d\d) ", words[2])
+                judge.event(event, play.say(event))
+            judge.settle(play.say)
+        except Difference as difference:
+            return str(difference)
+    return None
+
+
+def shortened(program, events):
+    """The events without those that the failure doesn't take."""
+    at = len(events)
+    while at > 0:
+        at -= 1
+        fewer = events[:at] + events[at + 1:]
+        if failure(program, fewer):
+            events = fewer
+    return events
+
+
+def main(program, count="50", first="1"):
+    program = str(pathlib.Path(program).resolve())
+    messages = left = stops = 0
+    for seed in range(int(first), int(first) + int(count)):
+        events, difference, judge = made(program, seed)
+        if difference:
+            raise Difference(f"seed {seed}: {difference}\n" + "\n".join(shortened(program, events)))
+        messages += sum(line.startswith("accept") for line in judge.ledger)
+        left += sum(not line.startswith("accept") for line in judge.ledger)
+    print(f"ok: {count} random plays: {messages} messages were taken, {left} recipients were handed on or ended")
+
+
+if __name__ == "__main__":
+    try:
+        main(*sys.argv[1:])
+    except Difference as difference:
+        sys.exit(f"random_plays: {difference}")

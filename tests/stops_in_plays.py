@@ -1,0 +1,70 @@
+#!/usr/bin/env python3
+"""Plays the scripts of docs/plays/ with a stop put in before each of their events in turn: of either node, at its first device
+call behind it, its second, and so on until no stop is met any more. Each such play is judged by what it prints, as
+tests/random_plays.py judges: no acknowledged mail is lost, and there are no more copies than lost replies allow.
+
+    tests/stops_in_plays.py build/relayd [all]
+
+What the device has kept of unsynced octets is none or all of them; with `all` also other octets in their place, and parts.
+"""
+import pathlib
+import sys
+
+sys.dont_write_bytecode = True
+
+from random_plays import Judge, Play
+from relay_program import Difference, same
+
+PLAYS = pathlib.Path(__file__).resolve().parent.parent / "docs" / "plays"
+PICKS = [0, 1]
+ALL_PICKS = [0, 1, 2, 3, 4, *range(20, 261, 16)]
+
+
+def events_of(script):
+    lines = script.read_text().splitlines()
+    return [line for line in lines if line and not line.startswith(("#", "marks", "ledger", "copies", "lost", "stop"))]
+
+
+def is_met(program, events):
+    """Plays the events, and says whether a node has stopped; the nodes are opened anew at the end."""
+    judge, stopped = Judge(), False
+    with Play(program) as play:
+        for event in events:
+            printed = play.say(event)
+            stopped = stopped or any(line.startswith("stopped") for line in printed)
+            judge.event(event, printed)
+        for event in ("stop a 0 0", "stop b 0 0"):
+            judge.event(event, play.say(event))
+        judge.settle(play.say)
+    return stopped
+
+
+def stops_before(program, events, at, node, pick):
+    """How many plays have a stop of this node before this event."""
+    for call in range(1, 100):
+        changed = [*events[:at], f"stop {node} {call} {pick}", *events[at:]]
+        try:
+            if not is_met(program, changed):
+                return call - 1
+        except Difference as difference:
+            raise Difference(f"{difference}\n" + "\n".join(changed)) from None
+    raise Difference(f"a node stops at each of 99 device calls behind event {at}")
+
+
+def main(program, picks=""):
+    program = str(pathlib.Path(program).resolve())
+    for script in sorted(PLAYS.glob("*.play")):
+        events, count = events_of(script), 0
+        for at in range(len(events)):
+            for node in "ab":
+                for pick in ALL_PICKS if picks == "all" else PICKS:
+                    count += stops_before(program, events, at, node, pick)
+        same(f"{script.name}: whether a node stopped", count > 0, True)
+        print(f"ok: {script.name} with a stop before each event: {count} plays in which a node stopped")
+
+
+if __name__ == "__main__":
+    try:
+        main(*sys.argv[1:])
+    except Difference as difference:
+        sys.exit(f"stops_in_plays: {difference}")
