@@ -66,6 +66,26 @@ class Play:
             lines.append(found.rstrip("\n"))
 
 
+def told_at_once(program, events, messages, places):
+    """What each event prints, and what answers a question behind them, of a play whose lines are all told at once, in which a
+    node has so many messages at most, of so many places."""
+    questions = ["ledger", "marks"]
+    questions += [f"{word} {node} {number} {place}" for word in ("copies", "lost") for node in "ab"
+                  for number in range(1, messages + 1) for place in range(places)]
+    script = "".join(f"{line}\n{END_OF_LINES}\n" for line in [*events, *questions])
+    done = subprocess.run([program, "play"], input=script, capture_output=True, text=True, timeout=PATIENCE)
+    if done.returncode != 0:
+        raise Difference(f"the play has ended: {done.stderr}")
+    lines, found = iter(done.stdout.split("\n")), []
+    for line in [*events, *questions]:
+        printed = [next(lines)] if line.startswith(("copies ", "lost ")) else []
+        while (one := next(lines)) != "0":
+            printed.append(one)
+        found.append(printed)
+    answers = dict(zip(questions, found[len(events):]))
+    return found[:len(events)], answers.__getitem__
+
+
 class Link:
     """A link as its lines showed it: its ends (outside is None), the work that it was opened for, and what is still to be
     written at its outer end."""
@@ -175,15 +195,29 @@ class Judge:
 
 
 class Driver:
-    """Chooses events by chance, most of them such as can be."""
+    """Chooses events by chance: most of them go on on the last link, so that mail gets on, and the others are any."""
 
     def __init__(self, seed):
-        self.chance, self.clock = random.Random(seed), 0
+        self.chance, self.clock, self.turn = random.Random(seed), 0, 0
 
     def choose(self, links):
-        kind = self.chance.choices(
-            ["connect", "write", "carry", "reply", "give", "break", "tick", "stop", "arm"], [5, 16, 42, 10, 14, 2, 5, 2, 4])[0]
-        return getattr(self, kind.replace("break", "break_off"))(links)
+        if links and self.chance.random() < 0.85:
+            return self.go_on(links, max(links))
+        kinds = {"connect": 1, "write": 2, "carry": 4, "reply": 2, "give": 2, "break_off": 1, "tick": 3, "stop": 0.5, "arm": 2}
+        return getattr(self, self.chance.choices([*kinds], [*kinds.values()])[0])(links)
+
+    def go_on(self, links, number):
+        """The one end writes, and then the other reads."""
+        link, self.turn = links[number], self.turn + 1
+        if not link.whole or link.ended or self.turn > (14 if link.client else 2):
+            self.turn = 0
+            return self.chance.choice([self.give, self.give, self.give, self.connect])(links)
+        if link.client is None:
+            return self.send(links, number, self.message) if self.turn % 2 else f"carry {number} {link.server} 100000"
+        if link.server is None:
+            return self.send(links, number, lambda: self.next_reply(link)) if self.turn % 2 else f"carry {number} {link.client} 100000"
+        count = self.chance.choices([100000, 20], [12, 1])[0]
+        return f"carry {number} {link.server if self.turn % 2 == 0 else link.client} {count}"
 
     def one(self, links, fits):
         """A link that fits, mostly one of the last, or some number."""
@@ -209,6 +243,11 @@ class Driver:
         return self.send(links, number, lambda: self.chance.choices(
             [b"220 x\r\n", b"250 x\r\n", b"250-x\r\n250-PIPELINING\r\n250-CHUNKING\r\n250 DSN\r\n", b"354 x\r\n", b"451 x\r\n",
              b"550 x\r\n", b"2x0 a\r\n"], [3, 8, 3, 4, 1, 2, 0.2])[0])
+
+    def next_reply(self, link):
+        """What a next hop says to one command behind another where it takes all that it is given."""
+        taken = [b"220 x\r\n", b"250 x\r\n", b"250 x\r\n", b"250 x\r\n", b"354 x\r\n", b"250 x\r\n"]
+        return taken[min(len(link.codes), 5)] if self.chance.random() < 0.95 else b"550 x\r\n"
 
     def send(self, links, number, text):
         link = links.get(number)
@@ -281,20 +320,26 @@ def made(program, seed):
     return events, None, judge
 
 
+def judged(program, events, messages, places):
+    """What these events print, which has to hold together."""
+    judge = Judge()
+    printed, ask = told_at_once(program, events, messages, places)
+    for event, lines in zip(events, printed):
+        words = event.split(" ", 2)
+        link = judge.links.get(int(words[1])) if words[0] == "send" else None
+        if link:
+            link.codes += re.findall(r"(?:^|\\n)(\d\d\d) ", words[2])
+        judge.event(event, lines)
+    judge.settle(ask)
+    return printed
+
+
 def failure(program, events):
     """What doesn't hold of these events, if anything."""
-    judge = Judge()
-    with Play(program) as play:
-        try:
-            for event in events:
-                words = event.split(" ", 2)
-                link = judge.links.get(int(words[1])) if words[0] == "send" else None
-                if link:
-                    link.codes += re.findall(r"(?:^|\\n)(\d\d\d) ", words[2])
-                judge.event(event, play.say(event))
-            judge.settle(play.say)
-        except Difference as difference:
-            return str(difference)
+    try:
+        judged(program, events, EVENTS, 3)
+    except Difference as difference:
+        return str(difference)
     return None
 
 

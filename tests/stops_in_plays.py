@@ -1,18 +1,19 @@
 #!/usr/bin/env python3
-"""Plays the scripts of docs/plays/ with a stop put in before each of their events in turn: of either node, at its first device
+"""Plays a script of docs/plays/ with a stop put in before each of its events in turn: of either node, at its first device
 call behind it, its second, and so on until no stop is met any more. Each such play is judged by what it prints, as
 tests/random_plays.py judges: no acknowledged mail is lost, and there are no more copies than lost replies allow.
 
     tests/stops_in_plays.py build/relayd [all]
 
-What the device has kept of unsynced octets is none or all of them; with `all` also other octets in their place, and parts.
+The script is lost_reply.play, and what the device has kept of unsynced octets none or all of them; with `all` each script,
+and also other octets in their place, and parts.
 """
 import pathlib
 import sys
 
 sys.dont_write_bytecode = True
 
-from random_plays import Judge, Play
+from random_plays import judged
 from relay_program import Difference, same
 
 PLAYS = pathlib.Path(__file__).resolve().parent.parent / "docs" / "plays"
@@ -27,16 +28,8 @@ def events_of(script):
 
 def is_met(program, events):
     """Plays the events, and says whether a node has stopped; the nodes are opened anew at the end."""
-    judge, stopped = Judge(), False
-    with Play(program) as play:
-        for event in events:
-            printed = play.say(event)
-            stopped = stopped or any(line.startswith("stopped") for line in printed)
-            judge.event(event, printed)
-        for event in ("stop a 0 0", "stop b 0 0"):
-            judge.event(event, play.say(event))
-        judge.settle(play.say)
-    return stopped
+    printed = judged(program, [*events, "stop a 0 0", "stop b 0 0"], 4, 1)
+    return any(line.startswith("stopped") for lines in printed[:-2] for line in lines)
 
 
 def stops_before(program, events, at, node, pick):
@@ -53,7 +46,7 @@ def stops_before(program, events, at, node, pick):
 
 def main(program, picks=""):
     program = str(pathlib.Path(program).resolve())
-    for script in sorted(PLAYS.glob("*.play")):
+    for script in sorted(PLAYS.glob("*.play" if picks == "all" else "lost_reply.play")):
         events, count = events_of(script), 0
         for at in range(len(events)):
             for node in "ab":
