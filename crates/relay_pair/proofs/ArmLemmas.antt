@@ -1,5 +1,5 @@
 -- A node for which a stop is set.
-use Rattle.std.proofs.Common.{◌≡◌, ℕ, List, refl, sym, subst, ap}
+use Rattle.std.proofs.Common.{◌≡◌, ℕ, List, Some, refl, sym, subst, ap}
 use Rattle.relay_disk.specs.Device.{DiskWords}
 use Rattle.relay_book.specs.declared.change.Change.{Change}
 use Rattle.relay_records.specs.Records.{Keeps}
@@ -14,9 +14,9 @@ pub is_armed : {D : Type 0} (honest : Type 0) (words : DiskWords D) (before afte
     → (after.config ≡ before.config) × (after.seats ≡ before.seats) × (after.attempts ≡ before.attempts)
     → IsFused before.records after.records
     → ((changes : List Change) → Keeps honest words before.records changes → Keeps honest words after.records changes)
-    → IsArmed honest words old (host_of after records)
-is_armed honest words before after records old is rest fused keeps =
-    subst (λ h. IsArmed honest words h (host_of after records)) (sym is) (record {
+    → (calls : ℕ) → words.calls_left after.records.spool.disk ≡ Some calls → IsArmed honest words old (host_of after records) calls
+is_armed honest words before after records old is rest fused keeps calls left =
+    subst (λ h. IsArmed honest words h (host_of after records) calls) (sym is) (record {
       before = before;
       up = refl;
       after = after;
@@ -25,5 +25,6 @@ is_armed honest words before after records old is rest fused keeps =
       config = rest.0;
       seats = rest.1;
       attempts = rest.2;
+      calls_left = left;
       new_is = ap (λ (c : Config). record { config = c; state = Up after; records = records }) rest.0;
     })

@@ -13,7 +13,7 @@ use Rattle.relay_world.specs.declared.link.Link.{Link}
 use Rattle.relay_world.specs.HopLinks.{IsLinkedToHop}
 use Rattle.relay_world.specs.Once.{RunsKeepAll}
 use Rattle.relay_world.specs.Steps.{Breaks, IsBlank, IsPutAt, opened_link}
-use Rattle.relay_world.specs.World.{Host, World}
+use Rattle.relay_world.specs.World.{Host, World, link_at}
 use Rattle.relay_pair.specs.declared.event.Event.TheVariants.{Give}
 use Rattle.relay_pair.specs.declared.fault.PairFault.{PairFault}
 use Rattle.relay_pair.specs.declared.fault.PairFault.TheVariants as fault
@@ -21,7 +21,7 @@ use Rattle.relay_pair.specs.declared.seen.Seen.{Seen}
 use Rattle.relay_pair.specs.declared.seen.Seen.TheVariants as seen
 use Rattle.relay_pair.specs.BreakOff.{BreaksBehind}
 use Rattle.relay_pair.specs.FirstFault.{first_fault, holds_up, is_up, names_down, unless_up}
-use Rattle.relay_pair.specs.Give.{HasBegun, IsFirstWork, IsWhyNotBegun, LeadsOn, tries_of}
+use Rattle.relay_pair.specs.Give.{HasBegun, HasBegunOn, IsFirstWork, IsWhyNotBegun, LeadsOn, tries_of}
 use Rattle.relay_pair.specs.Named.{IsFirstNamed}
 use Rattle.relay_pair.specs.Open.{LinksTo, RefusesClient}
 use Rattle.relay_pair.specs.Promise.{HasHappened}
@@ -35,10 +35,10 @@ use Rattle.relay_pair.proofs.DueLemmas.{same_work}
 use Rattle.relay_pair.proofs.GiveLemmas.{first_not_down}
 use Rattle.relay_pair.proofs.NamedLemmas.{first_is_down}
 use Rattle.relay_pair.proofs.NamesLemmas.{SameNames, names_put}
-use Rattle.relay_pair.proofs.OutsideLemmas.{does_steps, why_of_first}
+use Rattle.relay_pair.proofs.OutsideLemmas.{why_of_first}
 use Rattle.relay_pair.proofs.RunLemmas.{both_happened}
 use Rattle.relay_pair.proofs.StartLemmas.{has_started, linked_there, started_bound, started_happened, started_room, started_told}
-use Rattle.relay_pair.proofs.StepLemmas.{told_already}
+use Rattle.relay_pair.proofs.StepLemmas.{done_steps, told_already}
 
 module _ {D : Type 0} (old : World D) (hop : List ℕ) (to : ℕ) (named : IsFirstNamed old.hosts hop to) where
   -- the node of the name is up, so that it isn't down
@@ -91,6 +91,12 @@ module _ {D : Type 0} (honest : Type 0) (words : DiskWords D) (old opened : Worl
       names_put old.hosts opened.hosts to links.was links.now links.was_at
       (linked_host honest words old opened to peer greeting links) (ap (λ (h : Host D). h.config) links.opens.runs.new_is)
 
+  -- the link that was opened is the last
+  pub link_opened : (number : ℕ) → number ≡ suc (length old.links)
+      → link_at opened.links number ≡ Some (opened_link to peer links.connected)
+  link_opened number is =
+      ap (λ n. link_at opened.links n) is ∙ (linked_put honest words old opened to peer greeting links).at
+
   pub next_number : length opened.links ≡ suc (length old.links)
   next_number =
       let long = length-append old.links (opened_link to peer links.connected ∷ []) in
@@ -123,16 +129,37 @@ module _ {D : Type 0} (honest : Type 0) (words : DiskWords D) (old opened : Worl
     none : first_fault old (Give node) ≡ None
     none = first_not_down old node message hop first (up_named old hop to named up)
 
-    module _ (mid new : World D) (place : ℕ)
-        (begun : HasBegun honest words opened mid node message hop (suc (length old.links)) place) (moved : List Link)
-        (put : IsPutAt opened.links moved (suc (length old.links))
-        (record (opened_link to peer links.connected) { client = Some (length opened.attempts) }))
-        (new_is : new ≡ record mid { links = moved }) (bound : AreBound honest words opened) where
+    module _ (new : World D) (place number : ℕ) (number_is : number ≡ suc (length old.links))
+        (begins : HasBegunOn honest words opened new node message hop number place)
+        (bound : AreBound honest words opened) where
       abbrev next : ℕ
       next = suc (length old.links)
 
       abbrev blank : Link
       blank = opened_link to peer links.connected
+
+      its : HasBegunOn honest words opened new node message hop next place
+      its = subst (λ n. HasBegunOn honest words opened new node message hop n place) number_is begins
+
+      blank_is : its.blank ≡ blank
+      blank_is = same_Some its.blank blank (sym its.blank_at ∙ link_opened next refl)
+
+      abbrev mid : World D
+      mid = its.middle
+
+      abbrev begun : HasBegun honest words opened mid node message hop next place
+      begun = its.begun
+
+      abbrev moved : List Link
+      moved = its.moved
+
+      put : IsPutAt opened.links moved next (record blank { client = Some (length opened.attempts) })
+      put =
+          subst (λ (l : Link). IsPutAt opened.links moved next (record l { client = Some (length opened.attempts) })) blank_is
+          its.put
+
+      new_is : new ≡ record mid { links = moved }
+      new_is = its.new_is
 
       full_is : new ≡ record opened {
         hosts = slice_set opened.hosts node begun.now;
@@ -208,15 +235,15 @@ module _ {D : Type 0} (honest : Type 0) (words : DiskWords D) (old opened : Worl
       )
 
     -- the node refused the attempt, and the link breaks
-    pub unstarted_steps : (mid new : World D) (number : ℕ) (why : NodeFault) (answer : Result Seen PairFault)
-        → (mid ≡ opened) × ((host : Host D) × (slice_get opened.hosts node ≡ Some host) × IsWhyNotBegun host why)
-        → number ≡ suc (length old.links) → BreaksBehind honest words mid new number why answer
+    pub unstarted_steps : (still new : World D) (number : ℕ) (why : NodeFault) (answer : Result Seen PairFault)
+        → (still ≡ opened) × ((host : Host D) × (slice_get opened.hosts node ≡ Some host) × IsWhyNotBegun host why)
+        → number ≡ suc (length old.links) → BreaksBehind honest words still new number why answer
         → Steps honest words old (Give node) new answer
-    unstarted_steps mid new number why answer refused is breaks =
+    unstarted_steps still new number why answer refused is breaks =
         let its : Breaks opened breaks.middle (suc (length old.links)) =
         subst (λ n. Breaks opened breaks.middle n) is
         (subst (λ (w : World D). Breaks w breaks.middle number) refused.0 breaks.breaks) in
-        does_steps honest words old new (Give node) answer (
+        done_steps honest words old (Give node) new answer (
           none,
           (
             breaks.middle,

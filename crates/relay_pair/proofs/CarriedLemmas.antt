@@ -1,7 +1,6 @@
 -- What is carried to the client end of a link: where there is something to carry, and what is seen of it.
-use Rattle.std.proofs.Common.{inl, inr, ◌≡◌, ◌<◌, ◌-◌, ℕ, zero, suc, Bool, true, false, not, List, [], ◌∷◌, ◌++◌, drop, length, Option, None, Some, Result, Ok, Err, refl, sym, subst, ap, ◌∙◌, arith}
-use Rattle.std.specs.Prelude.{if◌then◌else◌, slice_get, slice_index_or, slice_set}
-use Rattle.std.specs.Global.{Vec}
+use Rattle.std.proofs.Common.{inl, inr, ◌≡◌, ◌-◌, ℕ, zero, suc, Bool, true, false, not, List, [], ◌∷◌, ◌++◌, drop, length, Option, None, Some, refl, sym, subst, ap, ◌∙◌, arith}
+use Rattle.std.specs.Prelude.{if◌then◌else◌, slice_get, slice_index_or}
 use Rattle.std.proofs.lemmas.Bool.{false≢true, true≢false}
 use Rattle.std.proofs.lemmas.Bool.Decides.{eqb_tells}
 use Rattle.std.proofs.lemmas.List.{append-nil}
@@ -13,28 +12,22 @@ use Rattle.relay_world.specs.declared.attempt.Fate.TheVariants.{Replied}
 use Rattle.relay_world.specs.declared.link.Link.{Link}
 use Rattle.relay_world.specs.Crashes.{is_tried_for, serves_for, tries_for}
 use Rattle.relay_world.specs.Ledger.{left_lines, report_told}
-use Rattle.relay_world.specs.Once.{BreaksOff}
-use Rattle.relay_world.specs.Steps.{Breaks, DropsAttempt, HasLost, IsPutAt}
+use Rattle.relay_world.specs.Steps.{Breaks, DropsAttempt, HasLost}
 use Rattle.relay_world.specs.World.{World, link_at}
-use Rattle.relay_pair.specs.declared.event.Event.{Event}
 use Rattle.relay_pair.specs.declared.event.Event.TheVariants.{Carry}
 use Rattle.relay_pair.specs.declared.fault.PairFault.{PairFault}
 use Rattle.relay_pair.specs.declared.fault.PairFault.TheVariants as fault
-use Rattle.relay_pair.specs.declared.part.Part.{Part}
 use Rattle.relay_pair.specs.declared.recorded.Recorded.{Recorded}
-use Rattle.relay_pair.specs.declared.seen.Seen.{Seen}
 use Rattle.relay_pair.specs.declared.seen.Seen.TheVariants as seen
-use Rattle.relay_pair.specs.declared.seen.Seen.TheVariants.{Stopped}
 use Rattle.relay_pair.specs.declared.tell.Loss.{Loss}
 use Rattle.relay_pair.specs.declared.tell.Loss.TheVariants as loss
 use Rattle.relay_pair.specs.Call.{IsWant}
-use Rattle.relay_pair.specs.Carried.{RunsAndWaits, RunsAt, TakesPart, TellsLoss, did_of, replied_attempt, replied_lines, stops_of}
+use Rattle.relay_pair.specs.Carried.{RunsAndWaits, RunsAt, TellsLoss, TriesWhole, replied_attempt, replied_lines, stops_by}
 use Rattle.relay_pair.specs.FirstFault.{carry_fault, carry_idles, client_closed, client_idles, first_fault, is_nil, is_up, runs_there, waits_down, whole_link}
-use Rattle.relay_pair.specs.Promise.{HasHappened}
-use Rattle.relay_pair.specs.Step.{Carries, CrashesInLosing, Does, IsCarriedTo, IsSeen, Loses as LosesThere, Refuses, RefusesToRead, Shows, Steps, Stops, fault_of}
-use Rattle.relay_pair.specs.Told.{AreToldTo, Crashes, CrashesTold, Drops, Loses, TellsSome, TriesAt, tries_on}
-use Rattle.relay_pair.proofs.PlaceLemmas.{link_put, link_same}
-use Rattle.relay_pair.proofs.RunLemmas.{both_happened, one_happened}
+use Rattle.relay_pair.specs.Step.{Carries, CrashesInLosing, IsCarriedTo, Loses as LosesThere, Refuses, RefusesToRead, Shows, Stops, fault_of}
+use Rattle.relay_pair.specs.Told.{Crashes, CrashesTold, Drops, Loses, TellsSome, TriesAt, tries_on}
+use Rattle.relay_pair.proofs.CarryLemmas.{is_carried, is_tried}
+use Rattle.relay_pair.proofs.PlaceLemmas.{link_same}
 use Rattle.relay_pair.proofs.SendLemmas.{whole_there}
 
 -- where an event has no fault, no end idles
@@ -86,8 +79,24 @@ runs_at world number node count may unserved tried = by (whole_link world.links 
           unserved = unserved link is;
         }
 
-pub tries_at : {D : Type 0} (world : World D) (number node : ℕ) → RunsAt world number node → TriesAt world number
-tries_at world number node at = record { link = at.link; link_is = at.link_is; tries = at.tries }
+-- where the server end of its link isn't the node's
+pub runs_unserved : {D : Type 0} (world : World D) (number node count : ℕ)
+    → carry_fault world (whole_link world.links number) node count ≡ None → (read : Link)
+    → read ≡ slice_index_or world.links (number - 1) read → serves_for node read.server ≡ false → RunsAt world number node
+runs_unserved world number node count none read there off =
+    let its = is_carried world world.links number node count none in
+    let same = link_same world.links number its.link read its.link_is there in
+    let unserved = ap (λ (l : Link). serves_for node l.server) (sym same) ∙ off in
+    runs_at world number node count none
+    (λ link found. ap (λ (l : Link). serves_for node l.server) (same_Some link its.link (sym found ∙ its.found)) ∙ unserved)
+    (λ link found. ap (λ (l : Link). is_tried_for node world.attempts l.client) (same_Some link its.link (sym found ∙ its.found))
+    ∙ is_tried world world.links number node count none unserved)
+
+pub tries_whole : {D : Type 0} (world : World D) (number node : ℕ) → RunsAt world number node → TriesWhole world number
+tries_whole world number node at = record { link = at.link; link_is = at.link_is; whole = at.whole; tries = at.tries }
+
+pub tries_at : {D : Type 0} (world : World D) (number : ℕ) → TriesWhole world number → TriesAt world number
+tries_at world number at = record { link = at.link; link_is = at.link_is; tries = at.tries }
 
 -- an attempt of this node is this node's
 pub node_is : (node : ℕ) (attempt : Attempt) → tries_for node (Some attempt) ≡ true → attempt.node ≡ node
@@ -122,67 +131,13 @@ waits_on world number node at link idle there is = record {
       (sym (link_same world.links number at.link link at.link_is there)) ∙ is);
 }
 
--- a link that breaks
-pub breaks_there : {D : Type 0} (world : World D) (number : ℕ) (link moved : Link) → link_at world.links number ≡ Some link
-    → moved ≡ record link { broken = true }
-    → Breaks world (record world { links = slice_set world.links (number - 1) moved }) number
-breaks_there world number link moved is moved_is = record {
-  link = link;
-  link_is = is;
-  links = slice_set world.links (number - 1) moved;
-  put = subst (λ l. IsPutAt world.links (slice_set world.links (number - 1) moved) number l) moved_is
-      (link_put world.links number link moved is);
-  new_is = refl;
-}
-
--- what is seen of a refusal
-pub refused_alone : (why : PairFault) (nodes : List ℕ) → length nodes ≡ 0 → IsSeen (Refuses why) nodes (Err why)
-refused_alone why [] none = refl
-refused_alone why (node ∷ nodes) none = absurd (omega (arith, none))
-
-pub refused_stopped : (why : PairFault) (stopped : Vec ℕ) → 0 < length stopped.items
-    → IsSeen (Refuses why) stopped.items (Ok (Stopped stopped))
-refused_stopped why stopped some = by stopped.items some refl
-  where
-    by : (nodes : List ℕ) → 0 < length nodes → stopped.items ≡ nodes → IsSeen (Refuses why) nodes (Ok (Stopped stopped))
-    by [] some is = absurd (omega (arith, some))
-    by (node ∷ nodes) some is = (stopped, refl, is)
-
 module _ {D : Type 0} (honest : Type 0) (words : DiskWords D) where
   -- whatever became of the attempt, one end was told
-  pub some_told : (old new : World D) (number : ℕ) (were are : List ℕ) (lost : Loss)
-      → TellsLoss honest words old new number were are lost → TellsSome honest words old new number were are
-  some_told old new number were are (loss.Ended change) tells = ([], Loses change tells.0, tells.1 ∙ sym (append-nil were))
-  some_told old new number were are (loss.Gone why) tells = ([], Drops tells.0, tells.2 ∙ sym (append-nil were))
-  some_told old new number were are loss.Stopped tells = (tells.0 ∷ [], Crashes tells.0 tells.1, tells.2)
-
-  pub does_steps : (old new : World D) (event : Event) (answer : Result Seen PairFault) → Does honest words old event new answer
-      → Steps honest words old event new answer
-  does_steps old new event (Ok shown) does = does
-  does_steps old new event (Err why) does = inr (inr does)
-
-  -- a node's part was done, and nodes were told of what broke
-  pub carried_steps : (old middle new : World D) (number node count : ℕ) (part : Part) (answer : Result Seen PairFault)
-      (empty were are : List ℕ) → first_fault old (Carry number node count) ≡ None → empty ≡ []
-      → TakesPart honest words old middle number node count empty were part → (told : AreToldTo honest words middle new were are)
-      → ((its : ℕ) (others : List ℕ) → are ≡ stops_of its part ++ others → IsSeen (did_of its part) others answer)
-      → Steps honest words old (Carry number node count) new answer
-  carried_steps old middle new number node count part answer empty were are may none takes told shows =
-      does_steps old new (Carry number node count) answer (
-        may,
-        (
-          middle,
-          (
-            did_of node part,
-            takes.0,
-            (
-              told.0,
-              shows node told.0.stopped
-                  (told.1 ∙ ap (λ l. l ++ told.0.stopped) (takes.1 ∙ ap (λ l. l ++ stops_of node part) none)),
-            ),
-          ),
-        ),
-      )
+  pub some_told : (old new : World D) (number : ℕ) (were are : List ℕ) (lost : Loss) → TellsLoss honest words old new number lost
+      → are ≡ were ++ stops_by lost → TellsSome honest words old new number were are
+  some_told old new number were are (loss.Ended change) tells is = ([], Loses change tells, is)
+  some_told old new number were are (loss.Gone why) tells is = ([], Drops tells.0, is)
+  some_told old new number were are (loss.Stopped node) tells is = (node ∷ [], Crashes node tells, is)
 
   -- an attempt was told that its connection is over, by a node that is this one
   pub lost_carries : (old new : World D) (number node count change : ℕ) → RunsAndWaits old number node false
@@ -192,16 +147,15 @@ module _ {D : Type 0} (honest : Type 0) (words : DiskWords D) where
       LosesThere change lost
       (carried_to old number node lost.of.link lost.of.link_is lost.of.place lost.of.client lost.of.attempt lost.of.attempt_at false runs)
 
-  pub dropped_carries : (old dropped new : World D) (number node count : ℕ) (why : NodeFault) → IsWant why
-      → RunsAndWaits old number node false
-      → DropsAttempt old dropped number → Breaks dropped new number
+  pub dropped_carries : (old dropped new : World D) (number node count : ℕ) (waits : Bool) (why : NodeFault) → IsWant why
+      → RunsAndWaits old number node waits → DropsAttempt old dropped number → Breaks dropped new number
       → Carries honest words old number node count new (Refuses (fault_of why))
-  dropped_carries old dropped new number node count why want runs gone breaks =
-      RefusesToRead dropped gone false
-      (carried_to old number node gone.of.link gone.of.link_is gone.of.place gone.of.client gone.of.attempt gone.of.attempt_at false runs)
-      breaks why want
+  dropped_carries old dropped new number node count waits why want runs gone breaks =
+      RefusesToRead dropped gone waits
+      (carried_to old number node gone.of.link gone.of.link_is gone.of.place gone.of.client gone.of.attempt gone.of.attempt_at waits
+      runs) breaks why want
 
-  pub crash_node : (old new : World D) (number its node : ℕ) → RunsAndWaits old number node false
+  crash_node : (old new : World D) (number its node : ℕ) → RunsAndWaits old number node false
       → CrashesTold honest words old new number its → its ≡ node
   crash_node old new number its node runs told =
       let of = told.crash.of in
@@ -209,18 +163,14 @@ module _ {D : Type 0} (honest : Type 0) (words : DiskWords D) where
       ∙ attempt_node old number node of.link of.link_is of.place of.client of.attempt of.attempt_at runs.at
 
   pub told_carries : (old new : World D) (number its node count : ℕ) → RunsAndWaits old number node false
-      → CrashesTold honest words old new number its → Carries honest words old number node count new (Stops node)
+      → CrashesTold honest words old new number its → Carries honest words old number node count new (Stops its)
   told_carries old new number its node count runs told =
       let same = crash_node old new number its node runs told in
       let here : CrashesTold honest words old new number node = subst (λ n. CrashesTold honest words old new number n) same told in
       let of = here.crash.of in
-      CrashesInLosing here
-      (carried_to old number node of.link of.link_is of.place of.client of.attempt of.attempt_at false runs)
-
-  pub then_broken : (old dropped new : World D) (number : ℕ) → HasHappened honest words old dropped → Breaks dropped new number
-      → HasHappened honest words old new
-  then_broken old dropped new number happened breaks =
-      both_happened honest words old dropped new happened (one_happened honest words dropped new (BreaksOff number breaks))
+      subst (λ n. Carries honest words old number node count new (Stops n)) (sym same)
+      (CrashesInLosing here
+      (carried_to old number node of.link of.link_is of.place of.client of.attempt of.attempt_at false runs))
 
 -- what is counted and told of an attempt behind replies, by cases
 pub replied_none : (attempt : Attempt) (change : Option ℕ) → change ≡ None → attempt ≡ replied_attempt attempt change

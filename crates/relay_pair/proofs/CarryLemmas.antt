@@ -1,6 +1,6 @@
 -- What is carried on a link: what it means that no fault stands against it, and what it makes of the relays.
 use Rattle.std.proofs.Common.{inl, inr, ◌≡◌, ◌≤◌, ℕ, zero, suc, Bool, true, false, not, List, drop, Option, None, Some, Result, Ok, Err, refl, sym, subst, ap, ◌∙◌, arith}
-use Rattle.std.specs.Prelude.{if◌then◌else◌, slice_get}
+use Rattle.std.specs.Prelude.{if◌then◌else◌, slice_get, vec_capacity, vec_len}
 use Rattle.std.specs.Option.{is_none, is_some}
 use Rattle.std.proofs.lemmas.Bool.{false≢true, true≢false}
 use Rattle.std.proofs.lemmas.Option.{none-some, same_Some}
@@ -12,7 +12,6 @@ use Rattle.relay_world.specs.Crashes.{is_tried_for, serves_for}
 use Rattle.relay_world.specs.Once.{Ends as EndsEvent}
 use Rattle.relay_world.specs.Steps.{EndsSession}
 use Rattle.relay_world.specs.World.{World, link_at}
-use Rattle.relay_pair.specs.declared.event.Event.{Event}
 use Rattle.relay_pair.specs.declared.event.Event.TheVariants.{Carry}
 use Rattle.relay_pair.specs.declared.fault.PairFault.{PairFault}
 use Rattle.relay_pair.specs.declared.fault.PairFault.TheVariants as fault
@@ -25,12 +24,12 @@ use Rattle.relay_pair.specs.Promise.{HasHappened}
 use Rattle.relay_pair.specs.declared.relays.Relays.{Relays}
 use Rattle.relay_pair.specs.Relays.{AreBound, AreInOrder, free_lines, world_of}
 use Rattle.relay_pair.specs.Room.{HasRoom}
-use Rattle.relay_pair.specs.Step.{Carries, Did, Does, Ends as EndsCarried, Shows, Steps, waits_up}
+use Rattle.relay_pair.specs.Step.{Carries, Did, Ends as EndsCarried, Shows, Steps, waits_up}
 use Rattle.relay_pair.specs.Told.{HearsAt, IsToldOfBreaks, hears_on, is_untold, tries_on}
 use Rattle.relay_pair.proofs.EndLemmas.{served_by}
 use Rattle.relay_pair.proofs.RunLemmas.{one_happened}
 use Rattle.relay_pair.proofs.SendLemmas.{told_put, whole_there}
-use Rattle.relay_pair.proofs.StepLemmas.{told_already}
+use Rattle.relay_pair.proofs.StepLemmas.{done_steps, told_already}
 
 -- a link on which something is carried: it is whole
 pub record IsCarried (links : List Link) (number : ℕ) : Type 0 where
@@ -171,17 +170,11 @@ module _ {D : Type 0} (old : World D) (number node count : ℕ)
     )
 
 module _ {D : Type 0} (honest : Type 0) (words : DiskWords D) where
-  -- an event that was done is a step, whatever is answered
-  pub done_steps : (old : World D) (event : Event) (new : World D) (answer : Result Seen PairFault)
-      → Does honest words old event new answer → Steps honest words old event new answer
-  done_steps old event new (Ok shown) does = does
-  done_steps old event new (Err why) does = inr (inr does)
-
   pub carried_steps : (old middle new : World D) (number node count : ℕ) (did : Did) (answer : Result Seen PairFault)
       → first_fault old (Carry number node count) ≡ None → Carries honest words old number node count middle did
       → IsFinished honest words middle did new answer → Steps honest words old (Carry number node count) new answer
   carried_steps old middle new number node count did answer none carries finished =
-      done_steps old (Carry number node count) new answer (none, (middle, (did, carries, (finished.0, finished.1))))
+      done_steps honest words old (Carry number node count) new answer (none, (middle, (did, carries, (finished.0, finished.1))))
 
   pub end_happened : (old new : World D) (number : ℕ) → EndsSession old new number → HasHappened honest words old new
   end_happened old new number ended = one_happened honest words old new (EndsEvent number ended)
@@ -202,3 +195,13 @@ module _ {D : Type 0} (honest : Type 0) (words : DiskWords D) where
     where
       more_room : (world : World D) (free more : ℕ) → free ≤ more → HasRoom world free → HasRoom world more
       more_room world free more less room = omega (arith, less, room)
+
+  -- the same where nothing has changed, the ledger included
+  pub same_order : (old new : Relays D) → world_of new ≡ world_of old → new.ledger ≡ old.ledger → AreInOrder honest words old
+      → AreInOrder honest words new
+  same_order old new same ledger order =
+      kept_order old new same (less (ap vec_len ledger) (ap vec_capacity ledger)) order
+    where
+      less : vec_len new.ledger ≡ vec_len old.ledger → vec_capacity new.ledger ≡ vec_capacity old.ledger
+          → free_lines old ≤ free_lines new
+      less len capacity = omega (arith, len, capacity)

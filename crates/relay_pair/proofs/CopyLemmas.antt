@@ -125,12 +125,6 @@ module _ {D : Type 0} (honest : Type 0) (words : DiskWords D) (world : World D) 
         refl,
       )
 
-  pub not_of_node : (attempt : Attempt) → (attempt.node ≡ node → ⊥) → CopiesBy world lists node message place attempt 0
-  not_of_node attempt off = inr ((λ passing. off passing.its_node), refl)
-
-  pub not_of_message : (attempt : Attempt) → (attempt.message ≡ message → ⊥) → CopiesBy world lists node message place attempt 0
-  not_of_message attempt off = inr ((λ passing. off passing.its_message), refl)
-
 -- an attempt makes one number of copies
 one_number : {D : Type 0} (world : World D) (lists : List (List Change)) (node message place : ℕ) (attempt : Attempt)
     (one other : ℕ) → CopiesBy world lists node message place attempt one → CopiesBy world lists node message place attempt other

@@ -24,18 +24,6 @@ session_less (x ∷ xs) zero link moved is was now =
 session_less (x ∷ xs) (suc place) link moved is was now =
     let less = session_less xs place link moved is was now in omega (arith, less)
 
-pub attempt_less : (attempts : List Attempt) (place : ℕ) (attempt moved : Attempt) → slice_get attempts place ≡ Some attempt
-    → is_running attempt.fate ≡ true → is_running moved.fate ≡ false
-    → running_of (slice_set attempts place moved) + 1 ≡ running_of attempts
-attempt_less [] place attempt moved is was now = absurd (true≢false (ap is_none is))
-attempt_less (x ∷ xs) zero attempt moved is was now =
-    let one : count_of (is_running x.fate) ≡ count_of true =
-    ap (λ (a : Attempt). count_of (is_running a.fate)) (same_Some x attempt is) ∙ ap count_of was in
-    let none : count_of (is_running moved.fate) ≡ count_of false = ap count_of now in
-    omega (arith, one, none)
-attempt_less (x ∷ xs) (suc place) attempt moved is was now =
-    let less = attempt_less xs place attempt moved is was now in omega (arith, less)
-
 -- the lines that an attempt may come to need, and whether it counts as one that runs
 abbrev pub lines_one : Attempt → ℕ
 lines_one attempt = if is_running attempt.fate then length attempt.places.items else 0

@@ -14,8 +14,8 @@ use Rattle.relay_node.specs.Node.{SeatHasSaid, NodeState}
 use Rattle.relay_world.specs.declared.link.Link.{Link}
 use Rattle.relay_world.specs.declared.link.ServerEnd.{ServerEnd}
 use Rattle.relay_world.specs.Bound.{StateKeeps, IsBound, NodeKeeps, SaysThere}
-use Rattle.relay_world.specs.Crashes.{is_tried_for, serves_for, tries_for}
-use Rattle.relay_world.specs.Steps.{AttemptOf, EndsSession, IsPut, IsPutAt, SessionOf}
+use Rattle.relay_world.specs.Crashes.{serves_for}
+use Rattle.relay_world.specs.Steps.{EndsSession, IsPut, IsPutAt, SessionOf}
 use Rattle.relay_world.specs.World.{Host, Up, World, link_at}
 use Rattle.relay_pair.specs.Call.{HasSession, HoldsSession, LosesSession}
 use Rattle.relay_pair.specs.Room.{HasRoom, lines_held}
@@ -144,12 +144,3 @@ served_by world number node of link is serves =
     let same : link ≡ of.link = same_Some link of.link (sym is ∙ of.link_is) in
     same_node of.end.node node
     (sym (ap (λ s. serves_for node s) (ap (λ (l : Link). l.server) same ∙ of.serves)) ∙ serves)
-
--- and the node of an attempt the one that has the client end
-pub tried_by : {D : Type 0} (world : World D) (number node : ℕ) (of : AttemptOf world number) (link : Link)
-    → link_at world.links number ≡ Some link → is_tried_for node world.attempts link.client ≡ true → of.attempt.node ≡ node
-tried_by world number node of link is tries =
-    let same : link ≡ of.link = same_Some link of.link (sym is ∙ of.link_is) in
-    let client : is_tried_for node world.attempts (Some of.place) ≡ true =
-    sym (ap (λ cl. is_tried_for node world.attempts cl) (ap (λ (l : Link). l.client) same ∙ of.client)) ∙ tries in
-    same_node of.attempt.node node (sym (ap (λ a. tries_for node a) of.attempt_at) ∙ client)

@@ -1,7 +1,6 @@
 -- The first work of a node, and the faults that stand against it.
-use Rattle.std.proofs.Common.{inl, inr, ◌≡◌, ◌<◌, ℕ, true, false, List, [], ◌∷◌, length, Option, None, Some, Ok, Err, refl, sym, subst, ap, ◌∙◌, arith}
+use Rattle.std.proofs.Common.{inl, inr, ◌≡◌, ℕ, true, false, List, [], ◌∷◌, Option, None, Some, Err, refl, sym, subst, ap, ◌∙◌}
 use Rattle.std.specs.Prelude.{if◌then◌else◌, slice_get}
-use Rattle.std.specs.Global.{Vec}
 use Rattle.std.proofs.lemmas.Bool.{false≢true}
 use Rattle.std.proofs.lemmas.Option.{none-some, same_Some}
 use Rattle.relay_disk.specs.Device.{DiskWords}
@@ -17,8 +16,7 @@ use Rattle.relay_pair.specs.declared.fault.PairFault.TheVariants as fault
 use Rattle.relay_pair.specs.FirstFault.{due_fault, first_fault, give_fault, holds_up, is_up, names_down, unless_up, work_fault}
 use Rattle.relay_pair.specs.Give.{IsFirstWork, IsWhyNotBegun, IsWhyNotGivenUp}
 use Rattle.relay_pair.specs.Relays.{AreBound}
-use Rattle.relay_pair.specs.declared.seen.Seen.TheVariants.{Stopped}
-use Rattle.relay_pair.specs.Step.{IsSeen, Refuses, RefusesToGiveUp, Steps, fault_of}
+use Rattle.relay_pair.specs.Step.{Refuses, RefusesToGiveUp, Steps, fault_of}
 use Rattle.relay_pair.specs.Told.{IsToldOfBreaks}
 use Rattle.relay_records.specs.declared.fault.NodeFault.{NodeFault}
 use Rattle.relay_pair.specs.declared.work.Begun.TheVariants as begun
@@ -125,16 +123,3 @@ module _ {D : Type 0} (honest : Type 0) (words : DiskWords D) (old new : World D
           ),
         ),
       ))
-
--- what is seen of an event that a node refused
-pub refused_alone : (why : PairFault) (nodes : List ℕ) → length nodes ≡ 0 → IsSeen (Refuses why) nodes (Err why)
-refused_alone why [] none = refl
-refused_alone why (node ∷ nodes) none = absurd (omega (arith, none))
-
-pub refused_stopped : (why : PairFault) (stopped : Vec ℕ) → 0 < length stopped.items
-    → IsSeen (Refuses why) stopped.items (Ok (Stopped stopped))
-refused_stopped why stopped some = by stopped.items some refl
-  where
-    by : (nodes : List ℕ) → 0 < length nodes → stopped.items ≡ nodes → IsSeen (Refuses why) nodes (Ok (Stopped stopped))
-    by [] some is = absurd (omega (arith, some))
-    by (node ∷ nodes) some is = (stopped, refl, is)

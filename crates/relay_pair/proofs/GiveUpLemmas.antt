@@ -1,7 +1,7 @@
 -- Places without a hop that a node gives up, and a node that stopped in that call.
 use Rattle.std.proofs.Common.{◌≡◌, ◌≤◌, ◌+◌, ℕ, suc, List, [], ◌∷◌, ◌++◌, length, Option, None, Some, Ok, refl, sym, subst, ap, ◌∙◌, arith}
 use Rattle.std.specs.Prelude.{slice_get, slice_set}
-use Rattle.std.specs.Option.{is_some, option_map_or}
+use Rattle.std.specs.Option.{option_map_or}
 use Rattle.std.proofs.lemmas.List.{length-map, length-set}
 use Rattle.std.proofs.lemmas.Option.{same_Some}
 use Rattle.relay_disk.specs.Device.{DiskWords}
@@ -25,27 +25,27 @@ use Rattle.relay_world.specs.Crashes.{CrashesGivingUp, GoesDown}
 use Rattle.relay_world.specs.CrashRuns.{RestingCrashHappens}
 use Rattle.relay_world.specs.Ledger.{left_lines, report_told}
 use Rattle.relay_world.specs.Once.{GivesUp as GivesUpEvent, RunsKeepAll}
-use Rattle.relay_world.specs.Steps.{HasGivenUp, IsPut}
+use Rattle.relay_world.specs.Steps.{HasGivenUp}
 use Rattle.relay_world.specs.World as world
-use Rattle.relay_world.specs.World.{Down, Host, Undecided, Up, World}
+use Rattle.relay_world.specs.World.{Host, Up, World}
 use Rattle.relay_pair.specs.declared.event.Event.TheVariants.{Give}
 use Rattle.relay_pair.specs.declared.host.Origin.TheVariants.{FromNoHop}
 use Rattle.relay_pair.specs.declared.recorded.Recorded.{Recorded}
+use Rattle.relay_pair.specs.declared.work.GivenUp.TheVariants.{Done, Stopped}
 use Rattle.relay_pair.specs.declared.seen.Seen.TheVariants as seen
-use Rattle.relay_pair.specs.Crash.{IsCutShort}
-use Rattle.relay_pair.specs.Give.{IsFirstWork}
+use Rattle.relay_pair.specs.Give.{IsCalledToGiveUp, IsFirstWork}
 use Rattle.relay_pair.specs.Promise.{HasHappened}
 use Rattle.relay_pair.specs.Relays.{AreBound}
 use Rattle.relay_pair.specs.Restart.{CrashesAt, IsCutShortAt, IsReadyToCrash, Restarts}
 use Rattle.relay_pair.specs.Room.{HasRoom, lines_held, lines_left, lines_to_come}
 use Rattle.relay_pair.specs.Step.{GivesUpPlaces, Shows, Steps}
 use Rattle.relay_pair.specs.Told.{IsToldOfBreaks, running_of}
-use Rattle.relay_pair.specs.Work.{GivesUp, HasChanges, HoldsChanges, KnowsChanges, StopsGivingUp}
+use Rattle.relay_pair.specs.Work.{HasChanges, HoldsChanges, KnowsChanges}
+use Rattle.relay_pair.proofs.CutShortLemmas.{cut_short, goes_down, held_more, note_there, stopped_same}
 use Rattle.relay_pair.proofs.EventLemmas.{given_up}
 use Rattle.relay_pair.proofs.GiveLemmas.{first_is}
 use Rattle.relay_pair.proofs.HungLemmas.{hung_lines, hung_running}
-use Rattle.relay_pair.proofs.LossLemmas.{same_up}
-use Rattle.relay_pair.proofs.PlaceLemmas.{value_put}
+use Rattle.relay_pair.proofs.PlaceLemmas.{set_same, value_put}
 use Rattle.relay_pair.proofs.ReopenLemmas.{held_put}
 use Rattle.relay_pair.proofs.RunLemmas.{both_happened, one_happened, opened_happened, still_bound}
 use Rattle.relay_pair.proofs.StepLemmas.{told_already}
@@ -87,23 +87,22 @@ few_noted changes outcome noted note used stored its is =
     let within = stored.within in
     omega (arith, left, few, within)
 
-module _ {D : Type 0} (honest : Type 0) (words : DiskWords D) (old : World D) (node message : ℕ) (was now : Host D)
-    (was_at : slice_get old.hosts node ≡ Some was) where
-  -- the changes of a host that is up with this node
-  knows_of : (before : NodeState D) → was.state ≡ Up before → HasChanges honest words was → KnowsChanges honest words before
-  knows_of before up has = subst (λ h. HoldsChanges honest words h) up has
+-- the changes of a host that is up with this node
+knows_of : {D : Type 0} (honest : Type 0) (words : DiskWords D) (was : Host D) (before : NodeState D) → was.state ≡ Up before
+    → HasChanges honest words was → KnowsChanges honest words before
+knows_of honest words was before up has = subst (λ h. HoldsChanges honest words h) up has
 
-  put_of : (host : Host D) → now ≡ host → IsPut old.hosts (slice_set old.hosts node now) node host
-  put_of host is = subst (λ h. IsPut old.hosts (slice_set old.hosts node now) node h) is (value_put old.hosts node was now was_at)
+module _ {D : Type 0} (honest : Type 0) (words : DiskWords D) (old called : World D) (node message : ℕ) where
+  -- the places have ended
+  module _ (change : ℕ) (recorded : Recorded)
+      (calls : IsCalledToGiveUp honest words old called node message (Done change recorded)) where
+    abbrev lines : List Line
+    lines = left_lines node message 0 (report_told change recorded.report) recorded.left.items
 
-  module _ (change : ℕ) (recorded : Recorded) (gives : GivesUp honest words old.clock was now message change recorded) where
-    -- the world behind the call, with these lines in the ledger
-    abbrev pub given_world : List Line → World D
-    given_world ledger = record old { hosts = slice_set old.hosts node now; ledger = ledger }
-
-    pub few_given : HasChanges honest words was → length recorded.left.items ≤ 100
-    few_given has =
-        let knows = knows_of gives.before gives.up has in
+    pub few_given : length recorded.left.items ≤ 100
+    few_given =
+        let gives = calls.gives in
+        let knows = knows_of honest words calls.was gives.before gives.up calls.has in
         let adds = gives.gives_up knows.changes knows.keeps in
         let outcome : Outcome = record (unroutable gives.before.config.routes message old.clock adds.message) {
           report = adds.adds.report;
@@ -114,139 +113,136 @@ module _ {D : Type 0} (honest : Type 0) (words : DiskWords D) (old : World D) (n
         let left = ap (λ (l : List (ℕ × Way)). length l) gives.notes.tells.left in
         omega (arith, few, left)
 
-    module _ (ledger : List Line)
-        (lines : ledger ≡ old.ledger ++ left_lines node message 0 (report_told change recorded.report) recorded.left.items) where
-      has_given_up : HasGivenUp honest words old (given_world ledger) node message change
+    module _ (new : World D)
+        (new_is : new ≡ record called {
+          ledger = called.ledger ++ left_lines node message 0 (report_told change recorded.report) recorded.left.items;
+        }) where
+      abbrev given_world : World D
+      given_world = record old { hosts = slice_set old.hosts node calls.now; ledger = old.ledger ++ lines }
+
+      given_is : new ≡ given_world
+      given_is =
+          new_is
+          ∙ ap (λ (w : World D). let next : World D = record w { ledger = w.ledger ++ lines } in next) calls.new_is
+
+      has_given_up : HasGivenUp honest words old new node message change
       has_given_up =
-          given_up honest words old (given_world ledger) node message change was now recorded was_at gives
-          (value_put old.hosts node was now was_at) lines (refl, refl, refl, length-set old.hosts node now)
+          subst (λ (w : World D). HasGivenUp honest words old w node message change) (sym given_is)
+          (given_up honest words old given_world node message change calls.was calls.now recorded calls.was_at calls.gives
+          (value_put old.hosts node calls.was calls.now calls.was_at) refl
+          (refl, refl, refl, length-set old.hosts node calls.now))
 
-      pub given_happened : HasHappened honest words old (given_world ledger)
-      given_happened = one_happened honest words old (given_world ledger) (GivesUpEvent node message change has_given_up)
+      pub given_happened : HasHappened honest words old new
+      given_happened = one_happened honest words old new (GivesUpEvent node message change has_given_up)
 
-      pub given_bound : honest → RunsKeepAll honest words → AreBound honest words old → AreBound honest words (given_world ledger)
-      given_bound is_honest keeps bound = still_bound honest words is_honest keeps old (given_world ledger) bound given_happened
+      pub given_bound : honest → RunsKeepAll honest words → AreBound honest words old → AreBound honest words new
+      given_bound is_honest keeps bound = still_bound honest words is_honest keeps old new bound given_happened
+
+      pub given_told : IsToldOfBreaks old → IsToldOfBreaks new
+      given_told told = subst (λ (w : World D). IsToldOfBreaks w) (sym given_is) told
 
       pub given_steps : IsFirstWork old node (NoRoute message) → IsToldOfBreaks old
-          → Steps honest words old (Give node) (given_world ledger) (Ok (seen.NoRoute message change))
+          → Steps honest words old (Give node) new (Ok (seen.NoRoute message change))
       given_steps first told = (
         first_is old node (NoRoute message) first,
         (
-          given_world ledger,
+          new,
           (
             Shows (seen.NoRoute message change),
             GivesUpPlaces message change first has_given_up,
-            (told_already honest words (given_world ledger) told, refl),
+            (told_already honest words new (given_told told), refl),
           ),
         ),
       )
 
       pub given_room : (free free_now : ℕ) → lines_to_come old.attempts + lines_left 0 old.hosts + 100 ≤ free
-          → free ≤ free_now + 100 → HasRoom (given_world ledger) free_now
+          → free ≤ free_now + length recorded.left.items → HasRoom new free_now
       given_room free free_now room most =
-          let put = held_put old.hosts node 0 node was now (omega arith) was_at in
-          let none : lines_held node was.state ≡ 0 = ap (λ h. lines_held node h) gives.up in
-          let none_now : lines_held node now.state ≡ 0 = ap (λ (h : Host D). lines_held node h.state) gives.notes.new_is in
-          omega (arith, room, most, put, none, none_now)
+          let few = few_given in
+          let put = held_put old.hosts node 0 node calls.was calls.now (omega arith) calls.was_at in
+          let none : lines_held node calls.was.state ≡ 0 = ap (λ h. lines_held node h) calls.gives.up in
+          let none_now : lines_held node calls.now.state ≡ 0 =
+          ap (λ (h : Host D). lines_held node h.state) calls.gives.notes.new_is in
+          subst (λ (w : World D). HasRoom w free_now) (sym given_is) (omega (arith, room, most, few, put, none, none_now))
 
-  module _ (stops : StopsGivingUp honest words old.clock was now message) where
-    -- the world behind a call in which the node stopped
-    abbrev pub halted_world : World D
-    halted_world = record old { hosts = slice_set old.hosts node now }
+  -- the node stopped
+  module _ (calls : IsCalledToGiveUp honest words old called node message Stopped) where
+    pub halted_short : IsCutShortAt called node
+    halted_short =
+        cut_short honest words old called node calls.was calls.now calls.was_at calls.new_is calls.gives.before calls.gives.after
+        calls.gives.runs calls.gives.live calls.gives.noted calls.gives.note_is
 
-    now_at : slice_get (slice_set old.hosts node now) node ≡ Some now
-    now_at = (value_put old.hosts node was now was_at).at
+    module _ (down : World D) (crashes : CrashesAt honest words called down node (FromNoHop message)) where
+      after_same : calls.gives.after ≡ crashes.before
+      after_same =
+          stopped_same honest words old called node calls.was calls.now calls.was_at calls.new_is calls.gives.before
+          calls.gives.after calls.gives.runs (FromNoHop message) down crashes
 
-    pub halted_short : IsCutShortAt halted_world node
-    halted_short = record {
-      host = now;
-      host_at = now_at;
-      cut = subst (λ (h : Host D). IsCutShort h.state) (sym stops.runs.new_is) (stops.live, ap is_some stops.note_is);
-    }
+      fell : GoesDown old down node calls.was crashes.disk
+          (Some (record { note = crashes.noted; origin = world.FromNoHop message }))
+      fell =
+          goes_down honest words old called node calls.was calls.now calls.was_at calls.new_is calls.gives.before
+          calls.gives.after calls.gives.runs (FromNoHop message) down crashes
 
-    module _ (down : World D) (crashes : CrashesAt honest words halted_world down node (FromNoHop message)) where
-      host_same : crashes.host ≡ record was { state = Up stops.after }
-      host_same = same_Some crashes.host now (sym crashes.host_at ∙ now_at) ∙ stops.runs.new_is
-
-      stopped_same : stops.after ≡ crashes.before
-      stopped_same = same_up stops.after crashes.before (sym (ap (λ (h : Host D). h.state) host_same) ∙ crashes.up)
-
-      abbrev undecided_now : Undecided
-      undecided_now = record { note = crashes.noted; origin = world.FromNoHop message }
-
-      goes_down : GoesDown old down node was crashes.disk (Some undecided_now)
-      goes_down = record {
-        hosts = crashes.down.hosts;
-        put = record {
-          at =
-              crashes.down.put.at
-              ∙ ap (λ (h : Host D). Some (record h { state = Down crashes.disk (Some undecided_now) })) host_same;
-          others = λ other off. crashes.down.put.others other off ∙ (put_of now refl).others other off;
-        };
-        as_many = crashes.down.as_many ∙ length-set old.hosts node now;
-        new_is = crashes.down.new_is;
-      }
-
-      pub crashes_giving_up : CrashesGivingUp honest words old down node message
+      crashes_giving_up : CrashesGivingUp honest words old down node message
       crashes_giving_up = record {
-        host = was;
-        host_at = was_at;
-        before = stops.before;
-        up = stops.runs.up;
+        host = calls.was;
+        host_at = calls.was_at;
+        before = calls.gives.before;
+        up = calls.gives.runs.up;
         stopped = crashes.before.records;
         cuts = λ changes keeps. subst
-            (λ (n : NodeState D). CutsUnroutable honest words stops.before.config.host stops.before.config.routes message old.clock
-            changes stops.before.records n.records) stopped_same (stops.cuts changes keeps);
+            (λ (n : NodeState D). CutsUnroutable honest words calls.gives.before.config.host calls.gives.before.config.routes
+            message old.clock changes calls.gives.before.records n.records) after_same (calls.gives.cuts changes keeps);
         noted = crashes.noted;
         note_is = crashes.note_is;
         disk = crashes.disk;
         left = crashes.left;
-        down = goes_down;
+        down = fell;
       }
 
-      pub crash_happened : RestingCrashHappens honest words → HasHappened honest words old down
+      crash_happened : RestingCrashHappens honest words → HasHappened honest words old down
       crash_happened happens = (2, (happens old down node message).1 crashes_giving_up)
 
-      few_halted : HasChanges honest words was → length crashes.noted.left.items ≤ 100
-      few_halted has =
-          let knows = knows_of stops.before stops.runs.up has in
-          let cut = stops.cuts knows.changes knows.keeps in
-          let outcome : Outcome = record (unroutable stops.before.config.routes message old.clock cut.message) {
+      few_halted : length crashes.noted.left.items ≤ 100
+      few_halted =
+          let gives = calls.gives in
+          let knows = knows_of honest words calls.was gives.before gives.runs.up calls.has in
+          let cut = gives.cuts knows.changes knows.keeps in
+          let outcome : Outcome = record (unroutable gives.before.config.routes message old.clock cut.message) {
             report = cut.cuts.report;
           } in
-          few_noted knows.changes outcome stops.after.records.noted crashes.noted 0 cut.cuts.cuts.fits.2 cut.cuts.cuts.noted
-          (ap (λ (n : NodeState D). n.records.noted) stopped_same ∙ crashes.note_is)
+          few_noted knows.changes outcome gives.after.records.noted crashes.noted 0 cut.cuts.cuts.fits.2 cut.cuts.cuts.noted
+          (note_there honest words old called node calls.was calls.now calls.was_at calls.new_is gives.before gives.after
+          gives.runs (FromNoHop message) down crashes)
 
-      crash_room : (free : ℕ) → HasChanges honest words was → lines_to_come old.attempts + lines_left 0 old.hosts + 100 ≤ free
-          → HasRoom down free
-      crash_room free has room =
+      crash_room : (free : ℕ) → lines_to_come old.attempts + lines_left 0 old.hosts + 100 ≤ free → HasRoom down free
+      crash_room free room =
           let less = hung_lines node old.attempts in
-          let attempts = ap (λ (w : World D). lines_to_come w.attempts) crashes.down.new_is in
-          let hosts = ap (λ (hs : List (Host D)). lines_left 0 hs) crashes.hosts_are in
-          let called = held_put old.hosts node 0 node was now (omega arith) was_at in
-          let fell = held_put (slice_set old.hosts node now) node 0 node now
-          (record crashes.host { state = Down crashes.disk (Some undecided_now) }) (omega arith) now_at in
-          let none : lines_held node was.state ≡ 0 = ap (λ h. lines_held node h) stops.runs.up in
-          let none_now : lines_held node now.state ≡ 0 = ap (λ (h : Host D). lines_held node h.state) stops.runs.new_is in
-          let lines : length (left_lines node message 0 (report_told crashes.noted.number crashes.noted.report)
+          let attempts = ap (λ (w : World D). lines_to_come w.attempts) fell.new_is in
+          let held = held_more honest words old called node calls.was calls.now calls.was_at calls.new_is calls.gives.before
+          calls.gives.after calls.gives.runs (FromNoHop message) down crashes in
+          let lines_are : length (left_lines node message 0 (report_told crashes.noted.number crashes.noted.report)
           crashes.noted.left.items) ≡ length crashes.noted.left.items =
           length-map crashes.noted.left.items _ in
-          let few = few_halted has in
-          omega (arith, room, less, attempts, hosts, called, fell, none, none_now, lines, few)
+          let few = few_halted in
+          omega (arith, room, less, attempts, held, lines_are, few)
 
-      pub crash_running : running_of down.attempts ≤ running_of old.attempts
+      crash_running : running_of down.attempts ≤ running_of old.attempts
       crash_running =
           let less = hung_running node old.attempts in
-          let attempts = ap (λ (w : World D). running_of w.attempts) crashes.down.new_is in
+          let attempts = ap (λ (w : World D). running_of w.attempts) fell.new_is in
           omega (arith, less, attempts)
 
-    pub halted_ready : honest → RunsKeepAll honest words → RestingCrashHappens honest words → AreBound honest words old
-        → HasChanges honest words was → (free : ℕ) → lines_to_come old.attempts + lines_left 0 old.hosts + 100 ≤ free
-        → IsReadyToCrash honest words halted_world node (FromNoHop message) free
-    halted_ready is_honest keeps happens bound has free room down crashes =
-        (still_bound honest words is_honest keeps old down bound (crash_happened down crashes happens), crash_room down crashes free has room)
+    pub halted_ready : honest → RunsKeepAll honest words → RestingCrashHappens honest words → AreBound honest words old → (free : ℕ)
+        → lines_to_come old.attempts + lines_left 0 old.hosts + 100 ≤ free
+        → IsReadyToCrash honest words called node (FromNoHop message) free
+    halted_ready is_honest keeps happens bound free room down crashes = (
+      still_bound honest words is_honest keeps old down bound (crash_happened down crashes happens),
+      crash_room down crashes free room,
+    )
 
-    module _ (new : World D) (restarts : Restarts honest words halted_world new node (FromNoHop message)) where
+    module _ (new : World D) (restarts : Restarts honest words called new node (FromNoHop message)) where
       pub halted_crash : CrashesGivingUp honest words old restarts.down node message
       halted_crash = crashes_giving_up restarts.down restarts.crashes
 
@@ -260,3 +256,9 @@ module _ {D : Type 0} (honest : Type 0) (words : DiskWords D) (old : World D) (n
           let less = crash_running restarts.down restarts.crashes in
           let fewer = restarts.running in
           omega (arith, less, fewer)
+
+  -- a node that wasn't called, or refused, is as it was
+  pub called_same : (was now : Host D) → slice_get old.hosts node ≡ Some was → now ≡ was
+      → called ≡ record old { hosts = slice_set old.hosts node now } → called ≡ old
+  called_same was now at same is =
+      is ∙ ap (λ (hs : List (Host D)). let next : World D = record old { hosts = hs } in next) (set_same old.hosts node was now at same)

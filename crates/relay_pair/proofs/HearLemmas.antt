@@ -1,8 +1,7 @@
 -- A node that hears octets of a link: what its call, and what was put behind it, make of the relays.
-use Rattle.std.proofs.Common.{inl, inr, ◌≡◌, ◌<◌, ◌≤◌, ◌+◌, ◌-◌, ℕ, zero, suc, Bool, true, false, List, [], ◌∷◌, ◌++◌, length, take, drop, Option, None, Some, refl, sym, subst, ap, ◌∙◌, arith, length-drop}
-use Rattle.std.specs.Prelude.{slice_get, slice_set}
-use Rattle.std.specs.Option.{is_none, option_map}
-use Rattle.std.proofs.lemmas.Bool.{true≢false}
+use Rattle.std.proofs.Common.{inl, inr, ◌≡◌, ◌<◌, ◌≤◌, ◌+◌, ◌-◌, ℕ, Bool, true, false, List, ◌++◌, length, take, drop, Option, None, Some, refl, sym, subst, ap, ◌∙◌, arith, length-drop}
+use Rattle.std.specs.Prelude.{slice_set}
+use Rattle.std.specs.Option.{option_map}
 use Rattle.std.proofs.lemmas.List.{append-nil, length-set, length-take}
 use Rattle.std.proofs.lemmas.Option.{same_Some}
 use Rattle.relay_disk.specs.Device.{DiskWords}
@@ -29,7 +28,7 @@ use Rattle.relay_pair.specs.Step.{Carries, Did, Hears as HearsOctets, HearsUnans
 use Rattle.relay_pair.specs.Told.{running_of}
 use Rattle.relay_pair.proofs.EndLemmas.{served_by}
 use Rattle.relay_pair.proofs.EventLemmas.{LedgerHeard, heard, session_ended}
-use Rattle.relay_pair.proofs.PlaceLemmas.{link_put, value_put}
+use Rattle.relay_pair.proofs.PlaceLemmas.{link_put, set_same, value_put}
 use Rattle.relay_pair.proofs.ReopenLemmas.{held_put}
 use Rattle.relay_pair.proofs.RunLemmas.{both_happened, one_happened}
 
@@ -39,12 +38,6 @@ pub ledger_heard : {D : Type 0} (honest : Type 0) (words : DiskWords D) (old new
 ledger_heard honest words old new node number None recorded is = is ∙ append-nil old.ledger
 ledger_heard honest words old new node number (Some change) None is = is ∙ append-nil old.ledger
 ledger_heard honest words old new node number (Some change) (Some recorded) is = is
-
--- a value that is put where it stands changes nothing
-set_same : {A : Type 0} (xs : List A) (place : ℕ) (x : A) → slice_get xs place ≡ Some x → slice_set xs place x ≡ xs
-set_same [] place x is = absurd (true≢false (ap is_none is))
-set_same (y ∷ ys) zero x is = ap (λ v. v ∷ ys) (sym (same_Some y x is))
-set_same (y ∷ ys) (suc place) x is = ap (λ l. y ∷ l) (set_same ys place x is)
 
 end_is : (end : ServerEnd) (session : ℕ) → end.session ≡ Some session → (close : Bool)
     → end_after close end ≡ record end { session = session_after close session }
@@ -365,7 +358,7 @@ module _ {D : Type 0} (honest : Type 0) (words : DiskWords D) (old called : Worl
         calls.new_is
         ∙ ap (λ (hs : List (Host D)). let new : World D = record old { hosts = hs } in new)
         (ap (λ (h : Host D). slice_set old.hosts calls.of.end.node h) calls.hears
-        ∙ set_same old.hosts calls.of.end.node calls.of.host calls.of.host_at)
+        ∙ set_same old.hosts calls.of.end.node calls.of.host calls.of.host calls.of.host_at refl)
 
 -- What was put on the link and into the ledger, in a world of the same nodes.
 module _ {D : Type 0} (old : World D) (number node : ℕ) (received : Received) (recorded : Option Recorded) (link : Link)

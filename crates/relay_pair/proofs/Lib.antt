@@ -4,16 +4,17 @@ mod ArmLemmas
 mod AtNodeLemmas
 mod BeginLemmas
 mod BoundLemmas
+mod BreakLemmas
 mod CallLemmas
 mod CarriedLemmas
 mod CarryLemmas
+mod ClientEndLemmas
 mod ConnectLemmas
 mod CopyLemmas
 mod CountLemmas
 mod CrashHeardLemmas
 mod CrashLemmas
-mod CrashReadLemmas
-mod CrashToldLemmas
+mod CutShortLemmas
 mod DownLemmas
 mod DueLemmas
 mod EndLemmas
@@ -25,6 +26,7 @@ mod HearLemmas
 mod HeardLemmas
 mod HostLemmas
 mod HungLemmas
+mod LoseLemmas
 mod LossLemmas
 mod MarkLemmas
 mod NamedLemmas
@@ -32,6 +34,7 @@ mod NamesLemmas
 mod OutsideLemmas
 mod PlaceLemmas
 mod PutLemmas
+mod ReadDoneLemmas
 mod ReadLemmas
 mod ReopenLemmas
 mod RestartLemmas
@@ -45,4 +48,3 @@ mod StopLemmas
 mod StopNowLemmas
 mod TellLemmas
 mod WorkLemmas
-mod WorkRoomLemmas

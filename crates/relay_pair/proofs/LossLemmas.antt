@@ -31,6 +31,7 @@ use Rattle.relay_world.specs.Ledger.{left_lines, report_told}
 use Rattle.relay_world.specs.Steps.{AttemptOf, DropsAttempt, HasLost, IsPut}
 use Rattle.relay_world.specs.World.{HostState, Host, Up, Down, World, link_at}
 use Rattle.relay_pair.specs.declared.recorded.Recorded.{Recorded}
+use Rattle.relay_pair.specs.ClientEnd.{RunsOn}
 use Rattle.relay_pair.specs.Call.{HasAttempt, HoldsAttempt, Loses, LosesAttempt}
 use Rattle.relay_pair.specs.FirstFault.{is_running, runs_there}
 use Rattle.relay_pair.specs.Room.{HasRoom, lines_held}
@@ -92,24 +93,6 @@ pub same_up : {D : Type 0} (one other : NodeState D) → Up one ≡ Up other →
 same_up one other same = ap (node_or one) same
 
 module _ {D : Type 0} (honest : Type 0) (words : DiskWords D) where
-  -- an attempt that runs at the client end of a link, its node, and what that knows of it
-  pub record RunsOn (world : World D) (number place slot : ℕ) (attempt : Attempt) : Type 0 where
-    pub link : Link
-    pub link_is : link_at world.links number ≡ Some link
-    pub client : link.client ≡ Some place
-    pub attempt_at : slice_get world.attempts place ≡ Some attempt
-    pub runs : attempt.fate ≡ Running slot
-    pub host : Host D
-    pub host_at : slice_get world.hosts attempt.node ≡ Some host
-    pub before : NodeState D
-    pub up : host.state ≡ Up before
-    pub changes : List Change
-    pub keeps : Keeps honest words before.records changes
-    pub told : Told
-    pub places : told.places ≡ attempt.places.items
-    pub tells : Tells before.config.host changes before.attempts slot told
-    pub has : HasAttempt honest words host slot
-
   has_attempt : (host : Host D) (slot : ℕ) (before : NodeState D) (changes : List Change) (told : Told) → host.state ≡ Up before
       → Keeps honest words before.records changes → Tells before.config.host changes before.attempts slot told
       → HasAttempt honest words host slot
@@ -132,7 +115,8 @@ module _ {D : Type 0} (honest : Type 0) (words : DiskWords D) where
 
   pub runs_on : (world : World D) (lists : List (List Change)) (number place slot : ℕ) (link : Link) (attempt : Attempt)
       → IsBound honest words world lists → link_at world.links number ≡ Some link → link.client ≡ Some place
-      → slice_get world.attempts place ≡ Some attempt → attempt.fate ≡ Running slot → RunsOn world number place slot attempt
+      → slice_get world.attempts place ≡ Some attempt → attempt.fate ≡ Running slot
+      → RunsOn honest words world number place slot attempt
   runs_on world lists number place slot link attempt bound is client there runs =
       let tried = bound.clients number place link is client in
       let same : tried.attempt ≡ attempt = same_Some tried.attempt attempt (sym tried.attempt_at ∙ there) in
@@ -173,9 +157,6 @@ module _ {D : Type 0} (honest : Type 0) (words : DiskWords D) (old : World D) (n
     (was_is : was ≡ on.host) where
   pub was_at : slice_get old.hosts attempt.node ≡ Some was
   was_at = subst (λ h. slice_get old.hosts attempt.node ≡ Some h) (sym was_is) on.host_at
-
-  pub has_it : HasAttempt honest words was slot
-  has_it = subst (λ h. HasAttempt honest words h slot) (sym was_is) on.has
 
   -- its node is the one that runs there
   pub same_before : (before : NodeState D) → was.state ≡ Up before → on.before ≡ before
@@ -297,15 +278,10 @@ module _ {D : Type 0} (honest : Type 0) (words : DiskWords D) (old : World D) (n
       omega (arith, less, one)
 
   pub over_running : (ended : Attempt) (fate : Fate) (ledger : List Line) → ended ≡ record attempt { fate = fate }
-      → is_running fate ≡ false → running_of (over_world ended ledger).attempts ≤ running_of old.attempts
+      → is_running fate ≡ false → running_of (over_world ended ledger).attempts < running_of old.attempts
   over_running ended fate ledger is over =
       let less = running_less old.attempts place attempt ended on.attempt_at
       (ap (λ (a : Attempt). is_running a.fate) is ∙ over) in
-      omega (arith, less)
-
-  pub one_runs : 1 ≤ running_of old.attempts
-  one_runs =
-      let less = running_less old.attempts place attempt (record attempt { fate = Dropped }) on.attempt_at refl in
       let one = ap count_of (running_is attempt.fate slot on.runs) in
       omega (arith, less, one)
 

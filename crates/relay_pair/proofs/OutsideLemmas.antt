@@ -1,5 +1,5 @@
 -- An attempt that begins on a link to outside, and one that is refused.
-use Rattle.std.proofs.Common.{inr, ◌≡◌, ◌≤◌, ◌+◌, ℕ, suc, false, List, [], ◌∷◌, ◌++◌, length, None, Some, Result, Ok, Err, refl, sym, subst, ap, ◌∙◌}
+use Rattle.std.proofs.Common.{inr, ◌≡◌, ◌≤◌, ◌+◌, ℕ, suc, false, List, [], ◌∷◌, ◌++◌, length, None, Some, Ok, Err, refl, sym, subst, ap, ◌∙◌}
 use Rattle.std.specs.Prelude.{slice_get, slice_set}
 use Rattle.std.proofs.lemmas.Option.{same_Some}
 use Rattle.relay_disk.specs.Device.{DiskWords}
@@ -10,29 +10,20 @@ use Rattle.relay_world.specs.HopLinks.{IsLinkedToHop}
 use Rattle.relay_world.specs.Once.{RunsKeepAll}
 use Rattle.relay_world.specs.Steps.{IsBlank, IsPutAt}
 use Rattle.relay_world.specs.World.{Host, World}
-use Rattle.relay_pair.specs.declared.event.Event.{Event}
 use Rattle.relay_pair.specs.declared.event.Event.TheVariants.{Give}
-use Rattle.relay_pair.specs.declared.fault.PairFault.{PairFault}
-use Rattle.relay_pair.specs.declared.seen.Seen.{Seen}
 use Rattle.relay_pair.specs.declared.seen.Seen.TheVariants as seen
 use Rattle.relay_pair.specs.Give.{HasBegun, IsFirstWork, IsWhyNotBegun}
 use Rattle.relay_pair.specs.Named.{NoneIsNamed}
 use Rattle.relay_pair.specs.Promise.{HasHappened}
 use Rattle.relay_pair.specs.Relays.{AreBound}
 use Rattle.relay_pair.specs.Room.{HasRoom, lines_left, lines_to_come}
-use Rattle.relay_pair.specs.Step.{Does, Refuses, RefusesToStart, Shows, StartsOutside, Steps, fault_of}
+use Rattle.relay_pair.specs.Step.{Refuses, RefusesToStart, Shows, StartsOutside, Steps, fault_of}
 use Rattle.relay_pair.specs.Told.{IsToldOfBreaks}
 use Rattle.relay_pair.proofs.GiveLemmas.{first_not_down}
 use Rattle.relay_pair.proofs.NamedLemmas.{none_is_down}
 use Rattle.relay_pair.proofs.PutLemmas.{put_at_push}
 use Rattle.relay_pair.proofs.StartLemmas.{has_started, linked_outside, outside_link, started_bound, started_happened, started_room, started_told}
 use Rattle.relay_pair.proofs.StepLemmas.{told_already}
-
--- an event that happened is a step, whatever is answered
-pub does_steps : {D : Type 0} (honest : Type 0) (words : DiskWords D) (old new : World D) (event : Event) (answer : Result Seen PairFault)
-    → Does honest words old event new answer → Steps honest words old event new answer
-does_steps honest words old new event (Ok shown) does = does
-does_steps honest words old new event (Err why) does = inr (inr does)
 
 module _ {D : Type 0} (honest : Type 0) (words : DiskWords D) (old mid new : World D) (node message : ℕ) (hop : List ℕ) (place : ℕ)
     (begun : HasBegun honest words old mid node message hop (suc (length old.links)) place) (links : List Link)

@@ -26,6 +26,13 @@ module _ {A : Type 0} where
   some_at (x ∷ xs) zero within = (x, refl)
   some_at (x ∷ xs) (suc place) within = some_at xs place (omega (arith, within))
 
+-- a value that is put where it stands changes nothing
+pub set_same : {A : Type 0} (xs : List A) (place : ℕ) (x value : A) → slice_get xs place ≡ Some x → value ≡ x
+    → slice_set xs place value ≡ xs
+set_same [] place x value is same = refl
+set_same (y ∷ ys) zero x value is same = ap (λ v. v ∷ ys) (same ∙ sym (same_Some y x is))
+set_same (y ∷ ys) (suc place) x value is same = ap (λ l. y ∷ l) (set_same ys place x value is same)
+
 one_back : (n : ℕ) → n ≡ suc n - 1
 one_back n = omega arith
 

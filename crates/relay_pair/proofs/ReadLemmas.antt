@@ -1,48 +1,41 @@
--- An attempt that reads replies, or is gone in that.
-use Rattle.std.proofs.Common.{◌≡◌, ◌≤◌, ◌+◌, ◌-◌, ℕ, zero, suc, Bool, true, false, List, [], ◌∷◌, ◌++◌, length, take, drop, length-take, length-drop, Option, None, Some, refl, sym, subst, ap, ◌∙◌, arith}
-use Rattle.std.specs.Prelude.{if◌then◌else◌, slice_get, slice_index_or, slice_set}
+-- An attempt that has read replies.
+use Rattle.std.proofs.Common.{◌≡◌, ◌≤◌, ◌+◌, ◌-◌, ℕ, true, false, List, [], ◌++◌, length, take, drop, length-take, length-drop, Option, None, Some, refl, sym, subst, ap, ◌∙◌, arith}
+use Rattle.std.specs.Prelude.{if◌then◌else◌, slice_set}
 use Rattle.std.proofs.lemmas.List.{append-nil, length-map, length-set}
 use Rattle.std.proofs.lemmas.Option.{same_Some}
 use Rattle.relay_disk.specs.Device.{DiskWords}
-use Rattle.relay_book.specs.declared.change.Change.{Change}
 use Rattle.relay_book.specs.declared.fate.Way.{Way}
-use Rattle.relay_records.specs.declared.fault.NodeFault.{NodeFault}
 use Rattle.relay_records.specs.declared.noted.Noted.{Noted}
 use Rattle.relay_records.specs.Records.{Keeps}
 use Rattle.relay_attempts.specs.declared.reply.Replied.{Replied}
 use Rattle.relay_node.specs.Attempts.{RepliesBy, Tells}
 use Rattle.relay_node.specs.Node.{NodeState}
 use Rattle.relay_world.specs.declared.attempt.Attempt.{Attempt}
-use Rattle.relay_world.specs.declared.attempt.Fate.TheVariants.{Dropped, Replied as RepliedBy, Running}
+use Rattle.relay_world.specs.declared.attempt.Fate.TheVariants.{Replied as RepliedBy}
 use Rattle.relay_world.specs.declared.line.Line.{Line}
 use Rattle.relay_world.specs.declared.link.Link.{Link}
-use Rattle.relay_world.specs.Bound.{IsBound}
 use Rattle.relay_world.specs.Ledger.{left_lines, report_told}
-use Rattle.relay_world.specs.Once.{BreaksOff, Drops as DropsEvent, Reads as ReadsEvent}
-use Rattle.relay_world.specs.Steps.{Breaks, DropsAttempt, HasRead, IsPut, IsPutAt, read_link, waiting_down}
+use Rattle.relay_world.specs.Once.{BreaksOff, Reads as ReadsEvent}
+use Rattle.relay_world.specs.Steps.{Breaks, HasRead, IsPut, IsPutAt, read_link, waiting_down}
 use Rattle.relay_world.specs.World.{Host, Up, World, link_at}
-use Rattle.relay_pair.specs.declared.part.Part.{Part}
-use Rattle.relay_pair.specs.declared.part.Part.TheVariants.{Refused, Shown, Stopped}
+use Rattle.relay_pair.specs.declared.act.Act.{Act}
+use Rattle.relay_pair.specs.declared.act.Act.TheVariants as act
 use Rattle.relay_pair.specs.declared.recorded.Recorded.{Recorded}
-use Rattle.relay_pair.specs.Call.{IsWant, LosesAttempt, NotesChange, Reads, StopsReading}
-use Rattle.relay_pair.specs.Carried.{IsAnswered, RunsAndWaits, RunsAt, did_of, replied_attempt, replied_lines, stops_of}
+use Rattle.relay_pair.specs.Call.{NotesChange, Reads}
+use Rattle.relay_pair.specs.Act.{did_of}
+use Rattle.relay_pair.specs.Carried.{IsAnswered, RunsAndWaits, replied_attempt, replied_lines}
+use Rattle.relay_pair.specs.ClientEnd.{RunsOn}
 use Rattle.relay_pair.specs.Promise.{HasHappened}
 use Rattle.relay_pair.specs.Room.{HasRoom, lines_held, lines_to_come}
-use Rattle.relay_pair.specs.Step.{Carries, Reads as ReadsThere, ReadsUnwritten, Refuses, RefusesToRead, fault_of}
-use Rattle.relay_pair.specs.Told.{running_of, tries_on}
-use Rattle.relay_pair.proofs.CarriedLemmas.{attempt_node, breaks_there, carried_to}
+use Rattle.relay_pair.specs.Step.{Carries, Reads as ReadsThere, ReadsUnwritten, Refuses, Shows}
+use Rattle.relay_pair.specs.Told.{running_of}
+use Rattle.relay_pair.proofs.BreakLemmas.{breaks_there}
+use Rattle.relay_pair.proofs.CarriedLemmas.{carried_to}
 use Rattle.relay_pair.proofs.EventLemmas.{AttemptRead, replies_read}
-use Rattle.relay_pair.proofs.LossLemmas.{RunsOn, attempt_at, attempt_of, few_left, has_dropped, over_room, over_running, put_of, runs_on, same_before, was_at}
-use Rattle.relay_pair.proofs.PlaceLemmas.{link_put, link_same, value_put}
+use Rattle.relay_pair.proofs.LossLemmas.{attempt_of, few_left, over_room, over_running, put_of, same_before, was_at}
+use Rattle.relay_pair.proofs.PlaceLemmas.{link_put, set_same, value_put}
 use Rattle.relay_pair.proofs.ReopenLemmas.{held_put}
 use Rattle.relay_pair.proofs.RunLemmas.{both_happened, one_happened}
-
--- a value that is put where it stands
-pub set_same : {A : Type 0} (xs : List A) (place : ℕ) (x value : A) → slice_get xs place ≡ Some x → value ≡ x
-    → slice_set xs place value ≡ xs
-set_same [] place x value is same = refl
-set_same (y ∷ ys) zero x value is same = ap (λ v. v ∷ ys) (same ∙ sym (same_Some y x is))
-set_same (y ∷ ys) (suc place) x value is same = ap (λ l. y ∷ l) (set_same ys place x value is same)
 
 -- what was used of the octets that wait was there
 pub used_within : (octets : List ℕ) (count read used : ℕ) → read ≤ length octets → used ≤ length (take count (drop read octets))
@@ -65,69 +58,6 @@ put_twice links number link one two is =
       others = λ other off. second.others other off ∙ sym (first.others other off);
       grows = omega (arith, len, long);
     }
-
--- an attempt of this node, by its node
-pub named_node : (attempt : Attempt) (node : ℕ) → attempt.node ≡ node → attempt ≡ record attempt { node = node }
-named_node attempt node its = ap (λ (n : ℕ). let named : Attempt = record attempt { node = n } in named) its
-
-pub runs_within : {D : Type 0} (world : World D) (number node : ℕ) (at : RunsAt world number node) (link : Link)
-    → link ≡ slice_index_or world.links (number - 1) link → tries_on world.attempts link.client ≡ true
-runs_within world number node at link there =
-    ap (λ (l : Link). tries_on world.attempts l.client) (link_same world.links number at.link link at.link_is there) ∙ at.tries
-
-module _ {D : Type 0} (honest : Type 0) (words : DiskWords D) (old : World D) (number node : ℕ) (waits : Bool)
-    (runs : RunsAndWaits old number node waits) (lists : List (List Change)) (bound : IsBound honest words old lists) (link : Link)
-    (there : link ≡ slice_index_or old.links (number - 1) link) (place : ℕ) (client : link.client ≡ Some place)
-    (attempt : Attempt) (attempt_there : attempt ≡ slice_index_or old.attempts place attempt) where
-  link_is : link ≡ runs.at.link
-  link_is = link_same old.links number runs.at.link link runs.at.link_is there
-
-  its_client : runs.at.link.client ≡ Some place
-  its_client = ap (λ (l : Link). l.client) (sym link_is) ∙ client
-
-  stands : slice_get old.attempts place ≡ Some attempt
-  stands =
-      attempt_at honest words old number place link.client attempt client (runs_within old number node runs.at link there)
-      attempt_there
-
-  its_node : attempt.node ≡ node
-  its_node = attempt_node old number node runs.at.link runs.at.link_is place its_client attempt stands runs.at
-
-  -- the attempt that was read at its place is the one that runs on the link, by the node
-  pub named_is : attempt ≡ record attempt { node = node }
-  named_is = named_node attempt node its_node
-
-  pub on_at : (slot : ℕ) → attempt.fate ≡ Running slot
-      → RunsOn honest words old number place slot (record attempt { node = node })
-  on_at slot runs_is =
-      runs_on honest words old lists number place slot runs.at.link (record attempt { node = node }) bound runs.at.link_is its_client
-      (stands ∙ ap (λ a. Some a) named_is) runs_is
-
--- its link is whole
-pub whole_on : {D : Type 0} (honest : Type 0) (words : DiskWords D) (old : World D) (number place slot : ℕ) (attempt : Attempt)
-    (on : RunsOn honest words old number place slot attempt) (node : ℕ) (at : RunsAt old number node) → on.link.broken ≡ false
-whole_on honest words old number place slot attempt on node at =
-    ap (λ (l : Link). l.broken) (same_Some on.link at.link (sym on.link_is ∙ at.link_is)) ∙ at.whole
-
--- what a call read was what waits on the link
-module _ {D : Type 0} (honest : Type 0) (words : DiskWords D) (old : World D) (number place slot : ℕ) (attempt : Attempt)
-    (on : RunsOn honest words old number place slot attempt) (was now : Host D) (count : ℕ) (link : Link)
-    (there : link ≡ slice_index_or old.links (number - 1) link) (piece : List ℕ) (piece_is : piece ≡ waiting_down count link) where
-  pub link_on : link ≡ on.link
-  link_on = link_same old.links number on.link link on.link_is there
-
-  waited : piece ≡ waiting_down count on.link
-  waited = piece_is ∙ ap (λ l. waiting_down count l) link_on
-
-  pub reads_on : (replied : Replied) (recorded : Option Recorded)
-      → Reads honest words old.clock was now slot piece replied recorded
-      → Reads honest words old.clock was now slot (waiting_down count on.link) replied recorded
-  reads_on replied recorded reads =
-      subst (λ p. Reads honest words old.clock was now slot p replied recorded) waited reads
-
-  pub stops_on : StopsReading honest words old.clock was now slot piece
-      → StopsReading honest words old.clock was now slot (waiting_down count on.link)
-  stops_on stops = subst (λ p. StopsReading honest words old.clock was now slot p) waited stops
 
 module _ {D : Type 0} (honest : Type 0) (words : DiskWords D) (old : World D) (number place slot : ℕ) (attempt : Attempt)
     (on : RunsOn honest words old number place slot attempt) where
@@ -265,7 +195,9 @@ module _ {D : Type 0} (honest : Type 0) (words : DiskWords D) (old : World D) (n
   running_by None ended is =
       let same = ap running_of (set_same old.attempts place attempt ended on.attempt_at is) in omega (arith, same)
   running_by (Some change) ended is =
-      over_running honest words old number place slot attempt on was now was_is ended (RepliedBy change) old.ledger is refl
+      let less = over_running honest words old number place slot attempt on was now was_is ended (RepliedBy change) old.ledger is
+      refl in
+      omega (arith, less)
 
   pub read_running : (ended : Attempt) → ended ≡ replied_attempt attempt replied.change
       → running_of (slice_set old.attempts place ended) ≤ running_of old.attempts
@@ -328,71 +260,26 @@ module _ {D : Type 0} (honest : Type 0) (words : DiskWords D) (old : World D) (n
       (subst (λ l. IsPutAt in_broken.links (slice_set old.links (number - 1) moved) number l) is
       (put_twice old.links number on.link (record on.link { broken = true }) moved on.link_is))
 
-  pub answered_carries : (part : Part) → IsAnswered on.link moved replied part → on.link.broken ≡ false
-      → RunsAndWaits old number attempt.node true → Carries honest words old number attempt.node count carried_world (did_of attempt.node part)
-  answered_carries (Shown own) is whole runs =
-      let there = carried_to old number attempt.node on.link on.link_is place on.client attempt on.attempt_at true runs in
-      subst (λ o. Carries honest words old number attempt.node count carried_world (did_of attempt.node (Shown o))) (sym is.1)
-      (ReadsThere (read_whole (whole_written on.link moved replied whole is.0)) there)
-  answered_carries (Refused why) is whole runs =
-      let there = carried_to old number attempt.node on.link on.link_is place on.client attempt on.attempt_at true runs in
-      subst (λ w. Carries honest words old number attempt.node count carried_world (did_of attempt.node (Refused w))) (sym is.1)
+  pub answered_carries : (act : Act) → IsAnswered on.link moved replied act → on.link.broken ≡ false → (node : ℕ)
+      → RunsAndWaits old number node true → Carries honest words old number node count carried_world (did_of act)
+  answered_carries (act.Shows own) is whole node runs =
+      subst (λ o. Carries honest words old number node count carried_world (Shows o)) (sym is.1)
+      (ReadsThere (read_whole (whole_written on.link moved replied whole is.0))
+      (carried_to old number node on.link on.link_is place on.client attempt on.attempt_at true runs))
+  answered_carries (act.Refuses why) is whole node runs =
+      let there = carried_to old number node on.link on.link_is place on.client attempt on.attempt_at true runs in
+      subst (λ w. Carries honest words old number node count carried_world (Refuses w)) (sym is.1)
       (ReadsUnwritten in_broken breaks_first (read_broken (broken_unwritten on.link moved replied is.0))
       (record { its_node = there.its_node; unserved = there.unserved; waiting = there.waiting }) is.2)
-  answered_carries Stopped is whole runs = absurd is
+  answered_carries (act.Stops stopped) is whole node runs = absurd is
 
-  pub answered_happened : (part : Part) → IsAnswered on.link moved replied part → on.link.broken ≡ false
+  pub answered_happened : (act : Act) → IsAnswered on.link moved replied act → on.link.broken ≡ false
       → HasHappened honest words old carried_world
-  answered_happened (Shown own) is whole =
+  answered_happened (act.Shows own) is whole =
       one_happened honest words old carried_world
       (ReadsEvent number count (read_whole (whole_written on.link moved replied whole is.0)))
-  answered_happened (Refused why) is whole =
+  answered_happened (act.Refuses why) is whole =
       both_happened honest words old in_broken carried_world (one_happened honest words old in_broken (BreaksOff number breaks_first))
       (one_happened honest words in_broken carried_world
       (ReadsEvent number count (read_broken (broken_unwritten on.link moved replied is.0))))
-  answered_happened Stopped is whole = absurd is
-
--- no node stopped in it
-pub answered_stops : (node : ℕ) (link moved : Link) (replied : Replied) (part : Part) (stopped : List ℕ)
-    → IsAnswered link moved replied part → stopped ≡ stopped ++ stops_of node part
-answered_stops node link moved replied (Shown own) stopped is = sym (append-nil stopped)
-answered_stops node link moved replied (Refused why) stopped is = sym (append-nil stopped)
-answered_stops node link moved replied Stopped stopped is = absurd is
-
--- the attempt is gone, and its link breaks
-module _ {D : Type 0} (honest : Type 0) (words : DiskWords D) (old : World D) (number place slot : ℕ) (attempt : Attempt)
-    (on : RunsOn honest words old number place slot attempt) (was now : Host D) (was_is : was ≡ on.host) (count : ℕ)
-    (loses : LosesAttempt was now slot) (ended : Attempt) (ended_is : ended ≡ record attempt { fate = Dropped }) (moved : Link)
-    (moved_is : moved ≡ record on.link { broken = true }) where
-  abbrev pub gone_world : World D
-  gone_world = record old {
-    hosts = slice_set old.hosts attempt.node now;
-    links = slice_set old.links (number - 1) moved;
-    attempts = slice_set old.attempts place ended;
-  }
-
-  abbrev dropped_world : World D
-  dropped_world = record old {
-    hosts = slice_set old.hosts attempt.node now;
-    attempts = slice_set old.attempts place ended;
-  }
-
-  its_drop : DropsAttempt old dropped_world number
-  its_drop = has_dropped honest words old number place slot attempt on was now was_is ended ended_is loses
-
-  then_breaks : Breaks dropped_world gone_world number
-  then_breaks = breaks_there dropped_world number on.link moved on.link_is moved_is
-
-  pub gone_carries : (why : NodeFault) → IsWant why → RunsAndWaits old number attempt.node true
-      → Carries honest words old number attempt.node count gone_world (Refuses (fault_of why))
-  gone_carries why want runs =
-      let drop = has_dropped honest words old number place slot attempt on was now was_is ended ended_is loses in
-      RefusesToRead dropped_world drop true
-      (carried_to old number attempt.node drop.of.link drop.of.link_is drop.of.place drop.of.client drop.of.attempt drop.of.attempt_at
-      true runs) then_breaks why want
-
-  pub gone_happened : HasHappened honest words old gone_world
-  gone_happened =
-      both_happened honest words old dropped_world gone_world
-      (one_happened honest words old dropped_world (DropsEvent number its_drop))
-      (one_happened honest words dropped_world gone_world (BreaksOff number then_breaks))
+  answered_happened (act.Stops node) is whole = absurd is

@@ -1,5 +1,5 @@
 -- A node that stops between two calls, and one for which a stop is set.
-use Rattle.std.proofs.Common.{inl, inr, ◌≡◌, ◌⊎◌, ◌<◌, ◌≤◌, ℕ, zero, suc, Bool, true, false, List, [], ◌∷◌, length, Option, None, Some, Ok, Err, refl, sym, subst, ap, ◌∙◌, arith}
+use Rattle.std.proofs.Common.{inl, inr, ◌≡◌, ◌⊎◌, ◌<◌, ◌≤◌, ◌-◌, ℕ, zero, suc, Bool, true, false, List, [], ◌∷◌, length, Option, None, Some, Ok, Err, refl, sym, subst, ap, ◌∙◌, arith}
 use Rattle.std.specs.Prelude.{if◌then◌else◌, slice_get, slice_set}
 use Rattle.std.specs.Option.{is_some, option_map}
 use Rattle.std.proofs.lemmas.Bool.{false≢true}
@@ -211,11 +211,12 @@ module _ {D : Type 0} (honest : Type 0) (words : DiskWords D) (old : World D) (n
       by None is none = absurd (false≢true none)
       by (Some host) is its = (host, is, its)
 
-  module _ (was now : Host D) (was_at : slice_get old.hosts node ≡ Some was) (armed : IsArmed honest words was now) where
+  module _ (was now : Host D) (was_at : slice_get old.hosts node ≡ Some was) (passing : ℕ)
+      (armed : IsArmed honest words was now passing) where
     abbrev pub armed_world : World D
     armed_world = record old { hosts = slice_set old.hosts node now }
 
-    has_armed : HasArmed honest words old armed_world node
+    abbrev has_armed : HasArmed honest words old armed_world node
     has_armed = record {
       host = was;
       host_at = was_at;
@@ -232,11 +233,23 @@ module _ {D : Type 0} (honest : Type 0) (words : DiskWords D) (old : World D) (n
       rest = (refl, refl, refl, refl, length-set old.hosts node now);
     }
 
-    pub armed_steps : (calls : ℕ) → 0 < calls → unless_up old node None ≡ None → IsToldOfBreaks old
+    pub armed_steps : (calls : ℕ) → 0 < calls → passing ≡ calls - 1 → unless_up old node None ≡ None → IsToldOfBreaks old
         → Steps honest words old (Stop node calls pick) armed_world (Ok Armed)
-    armed_steps zero later none told = absurd (omega (arith, later))
-    armed_steps (suc calls) later none told =
-        (none, (armed_world, (Shows Armed, (has_armed, refl), (told_already honest words armed_world told, refl))))
+    armed_steps zero later is none told = absurd (omega (arith, later))
+    armed_steps (suc calls) later is none told = (
+      none,
+      (
+        armed_world,
+        (
+          Shows Armed,
+          (record { armed = has_armed; calls_left = armed.calls_left ∙ ap (λ n. Some n) (is ∙ one_less calls) }, refl),
+          (told_already honest words armed_world told, refl),
+        ),
+      ),
+    )
+      where
+        one_less : (n : ℕ) → suc n - 1 ≡ n
+        one_less n = omega arith
 
     pub armed_happened : HasHappened honest words old armed_world
     armed_happened = one_happened honest words old armed_world (Arms node has_armed)

@@ -1,13 +1,19 @@
--- A link that breaks since a node refused its part.
-use Rattle.std.specs.Prelude.{ℕ, Result}
+-- A link that breaks.
+use Rattle.std.specs.Prelude.{◌≡◌, ℕ, Result, Some}
 use Rattle.relay_disk.specs.Device.{DiskWords}
 use Rattle.relay_records.specs.declared.fault.NodeFault.{NodeFault}
 use Rattle.relay_world.specs.Steps.{Breaks}
-use Rattle.relay_world.specs.World.{World}
+use Rattle.relay_world.specs.declared.link.Link.{Link}
+use Rattle.relay_world.specs.World.{World, link_at}
 use Rattle.relay_pair.specs.declared.fault.PairFault.{PairFault}
 use Rattle.relay_pair.specs.declared.seen.Seen.{Seen}
 use Rattle.relay_pair.specs.Step.{IsSeen, Refuses, fault_of}
 use Rattle.relay_pair.specs.Told.{AreTold}
+
+-- there is a link of this number
+pub record IsLink {D : Type 0} (world : World D) (number : ℕ) : Type 0 where
+  pub link : Link
+  pub link_is : link_at world.links number ≡ Some link
 
 -- The link of this number breaks, nodes are told of it, and the answer is the fault of the node, unless some have
 -- stopped.

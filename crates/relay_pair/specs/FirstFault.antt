@@ -1,6 +1,6 @@
 -- Why an event is refused before a node is called: the first that holds, in this order: there is no such link; the end
 -- isn't theirs; the node is down; there is nothing to do.
-use Rattle.std.specs.Prelude.{ℕ, zero, suc, Bool, true, false, not, List, [], ◌∷◌, drop, bytes_eq, Option, None, Some, if◌then◌else◌, slice_get}
+use Rattle.std.specs.Prelude.{◌≡◌, ℕ, zero, suc, Bool, true, false, not, List, [], ◌∷◌, drop, bytes_eq, Option, None, Some, if◌then◌else◌, slice_get}
 use Rattle.std.specs.Option.{is_none, is_some}
 use Rattle.relay_attempts.specs.declared.work.Work.{Work}
 use Rattle.relay_attempts.specs.declared.work.Work.TheVariants.{NoRoute, Try}
@@ -57,6 +57,13 @@ client_closed attempts (Some place) = not (runs_there (slice_get attempts place)
 -- whether outside has an end of the link
 abbrev pub has_outside : Link → Bool
 has_outside link = if is_none link.client then true else is_none link.server
+
+-- a whole link on which outside may write
+pub record IsSendable (links : List Link) (number : ℕ) : Type 0 where
+  pub link : Link
+  pub link_is : link_at links number ≡ Some link
+  pub whole : link.broken ≡ false
+  pub outside : has_outside link ≡ true
 
 abbrev pub is_nil : List ℕ → Bool
 is_nil [] = true

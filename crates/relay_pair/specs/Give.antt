@@ -8,14 +8,16 @@ use Rattle.relay_attempts.specs.declared.work.Work.{Work}
 use Rattle.relay_records.specs.declared.fault.NodeFault.{NodeFault}
 use Rattle.relay_records.specs.declared.fault.NodeFault.TheVariants as node_fault
 use Rattle.relay_world.specs.declared.attempt.Attempt.{Attempt}
-use Rattle.relay_world.specs.Steps.{started_attempt}
-use Rattle.relay_world.specs.World.{Host, World}
+use Rattle.relay_world.specs.declared.link.Link.{Link}
+use Rattle.relay_world.specs.Steps.{IsPutAt, started_attempt}
+use Rattle.relay_world.specs.World.{Host, World, link_at}
 use Rattle.relay_pair.specs.declared.relays.Relays.{Relays}
+use Rattle.relay_pair.specs.declared.work.GivenUp.{GivenUp}
 use Rattle.relay_pair.specs.FirstFault.{is_running}
 use Rattle.relay_pair.specs.Relays.{free_lines}
 use Rattle.relay_pair.specs.Room.{lines_left, lines_to_come}
 use Rattle.relay_pair.specs.Told.{running_of}
-use Rattle.relay_pair.specs.Work.{BeginsAttempt, LacksRoom, attempts_in, works_in}
+use Rattle.relay_pair.specs.Work.{BeginsAttempt, GivesUpOrNot, GivesUpUnlessFull, HasChanges, LacksRoom, attempts_in, works_in}
 
 -- this is the first work of a node, at the moment of the clock
 pub record IsFirstWork {D : Type 0} (world : World D) (node : ℕ) (work : Work) : Type 0 where
@@ -70,6 +72,38 @@ HasBegunOrNot honest words old new node message hop number (Ok place) =
     HasBegun honest words old new node message hop number place
 HasBegunOrNot {D} honest words old new node message hop number (Err why) =
     (new ≡ old) × ((host : Host D) × (slice_get old.hosts node ≡ Some host) × IsWhyNotBegun host why)
+
+-- a node has begun an attempt on this link, and has its client end
+pub record HasBegunOn {D : Type 0} (honest : Type 0) (words : DiskWords D) (old new : World D) (node message : ℕ)
+    (hop : List ℕ) (number place : ℕ) : Type 0 where
+  pub blank : Link
+  pub blank_at : link_at old.links number ≡ Some blank
+  pub middle : World D
+  pub begun : HasBegun honest words old middle node message hop number place
+  pub moved : List Link
+  pub put : IsPutAt old.links moved number (record blank { client = Some (length old.attempts) })
+  pub new_is : new ≡ record middle { links = moved }
+
+-- it has, or it has refused to, and nothing has changed
+abbrev pub HasBegunThere : {D : Type 0} → Type 0 → DiskWords D → World D → World D → ℕ → ℕ → List ℕ → ℕ
+    → Result ℕ NodeFault → Type 0
+HasBegunThere honest words old new node message hop number (Ok place) =
+    HasBegunOn honest words old new node message hop number place
+HasBegunThere {D} honest words old new node message hop number (Err why) =
+    (new ≡ old) × ((host : Host D) × (slice_get old.hosts node ≡ Some host) × IsWhyNotBegun host why)
+
+-- A node was called to give up the places of a message that have no hop, as its first work. Nothing else has changed
+-- yet.
+pub record IsCalledToGiveUp {D : Type 0} (honest : Type 0) (words : DiskWords D) (old new : World D)
+    (node message : ℕ) (given : GivenUp) : Type 0
+  where
+    pub was : Host D
+    pub was_at : slice_get old.hosts node ≡ Some was
+    pub has : HasChanges honest words was
+    pub now : Host D
+    pub gives : GivesUpOrNot honest words old.clock was now message given
+    pub first : GivesUpUnlessFull honest words old.clock was message given
+    pub new_is : new ≡ record old { hosts = slice_set old.hosts node now }
 
 -- the most places that an attempt, or an outcome, is for
 abbrev pub most_places : ℕ

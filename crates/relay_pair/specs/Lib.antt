@@ -3,6 +3,7 @@ pub mod Begin
 pub mod BreakOff
 pub mod Call
 pub mod Carried
+pub mod ClientEnd
 pub mod Copied
 pub mod Crash
 pub mod FirstFault

@@ -76,6 +76,11 @@ module _ {D : Type 0} (honest : Type 0) (words : DiskWords D) where
     pub stops : CrashesAtRest honest words old down node ⊎ StaysDown honest words old down node
     pub opened : IsOpened honest words down new node
 
+  -- A stop is set for a node that is up: of its disk so many calls pass, and the next fails.
+  pub record SetsStop (old new : World D) (node calls : ℕ) : Type 0 where
+    pub armed : HasArmed honest words old new node
+    pub calls_left : words.calls_left armed.after.records.spool.disk ≡ Some calls
+
   -- what waits for a node on a link is carried to it: octets are heard or read, or, where none wait, the end of the
   -- other side; or octets are heard or read, and there is no memory for what the node answers, so that the link breaks;
   -- or the node has no memory or room for what it hears or reads, and the link breaks; or the node stops in that call
@@ -167,7 +172,7 @@ module _ {D : Type 0} (honest : Type 0) (words : DiskWords D) where
   Acts old (Tick now) middle did = HasTicked old middle now × (did ≡ Shows seen.Set)
   Acts old (Give node) middle did = Gives old node middle did
   Acts old (Stop node zero pick) middle did = StopsNow old middle node × (did ≡ Stops node)
-  Acts old (Stop node (suc calls) pick) middle did = HasArmed honest words old middle node × (did ≡ Shows seen.Armed)
+  Acts old (Stop node (suc calls) pick) middle did = SetsStop old middle node calls × (did ≡ Shows seen.Armed)
 
   -- to see whether there is work takes memory
   abbrev pub LooksForWork : Event → Type 0

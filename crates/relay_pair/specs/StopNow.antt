@@ -24,8 +24,8 @@ StateStopsAgain honest words (Down was) (Up after) = ⊥
 StateStopsAgain honest words (Down was) (Down now) = DownStops honest words was now
 
 module _ {D : Type 0} (honest : Type 0) (words : DiskWords D) where
-  -- a stop was set for a node that is up
-  pub record IsArmed (old new : Host D) : Type 0 where
+  -- a stop was set for a node that is up: of its disk so many calls pass, and the next fails
+  pub record IsArmed (old new : Host D) (calls : ℕ) : Type 0 where
     pub before : NodeState D
     pub up : old.state ≡ world.Up before
     pub after : NodeState D
@@ -35,6 +35,7 @@ module _ {D : Type 0} (honest : Type 0) (words : DiskWords D) where
     pub config : after.config ≡ before.config
     pub seats : after.seats ≡ before.seats
     pub attempts : after.attempts ≡ before.attempts
+    pub calls_left : words.calls_left after.records.spool.disk ≡ Some calls
     pub new_is : new ≡ record old { state = world.Up after }
 
   -- A node that was up has stopped between two calls, and has let go of its ends; or one that was down has stopped

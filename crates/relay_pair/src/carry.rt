@@ -32,6 +32,6 @@ impl<D: Reboot + Drop> Relays<D> {
         if serves_for(&self.links[number - 1].server, node) {
             return self.carry_to_server(number, node, count);
         }
-        self.carry_to_client(number, node, count)
+        self.carry_to_client(number, count)
     }
 }

@@ -4,9 +4,10 @@ ghost use Rattle.relay_pair.specs.FirstFault.{unless_up};
 ghost use Rattle.relay_pair.specs.Open.{LinksOrNot};
 ghost use Rattle.relay_pair.specs.Promise.{HasHappened};
 ghost use Rattle.relay_pair.specs.Relays.{AreBound, AreInOrder, world_of};
-ghost use Rattle.relay_pair.specs.Step.{Steps, fault_of};
+ghost use Rattle.relay_pair.specs.Step.{Steps};
 ghost use Rattle.relay_pair.specs.declared.event.Event.TheVariants.{Connect};
 
+use crate::act::fault_of;
 use crate::fault::PairFault;
 use crate::relays::Relays;
 use crate::seen::Seen;
@@ -68,21 +69,5 @@ impl<D: Disk> Relays<D> {
             })
             .unwrap();
         Ok(greeting)
-    }
-}
-
-/// The fault of a node that refused its part.
-pub(crate) fn fault_of(fault: NodeFault) -> PairFault
-    ensures { result ≡ fault_of fault }
-{
-    match fault {
-        NodeFault::NoMemory => PairFault::NoMemory,
-        NodeFault::Stopped => PairFault::Node(fault),
-        NodeFault::Unknown => PairFault::Node(fault),
-        NodeFault::TooMany => PairFault::Node(fault),
-        NodeFault::NotDue => PairFault::Node(fault),
-        NodeFault::Busy => PairFault::Node(fault),
-        NodeFault::Open(_) => PairFault::Node(fault),
-        NodeFault::Full => PairFault::Node(fault),
     }
 }

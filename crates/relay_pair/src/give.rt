@@ -1,21 +1,21 @@
 //! A node does the first of its works.
-ghost use Rattle.std.specs.Prelude.{◌≡◌, ◌<◌, ◌≤◌, if◌then◌else◌, None, vec_capacity, vec_len};
+ghost use Rattle.std.specs.Prelude.{◌≡◌, ◌<◌, ◌≤◌, if◌then◌else◌, None, Some, length, slice_get, vec_capacity, vec_len};
 ghost use Rattle.relay_attempts.specs.declared.work.Work.TheVariants.{NoRoute, Try};
-ghost use Rattle.relay_pair.specs.BreakOff.{BreaksBehind};
+ghost use Rattle.relay_world.specs.World.{Host as HostOf};
+ghost use Rattle.relay_pair.specs.BreakOff.{BreaksBehind, IsLink};
 ghost use Rattle.relay_pair.specs.FirstFault.{unless_up};
-ghost use Rattle.relay_pair.specs.Give.{HasBegunOrNot, HasRoomForWork, IsFirstWork, IsListOfStops};
+ghost use Rattle.relay_pair.specs.Give.{HasBegunOrNot, HasBegunThere, HasRoomForWork, IsCalledToGiveUp, IsFirstWork, IsListOfStops};
 ghost use Rattle.relay_pair.specs.Give.{is_tried_by, tries_of};
 ghost use Rattle.relay_pair.specs.Named.{IsFirstNamed, NoneIsNamed};
 ghost use Rattle.relay_pair.specs.Promise.{HasHappened};
 ghost use Rattle.relay_pair.specs.Relays.{AreBound, AreInOrder, free_lines, world_of};
 ghost use Rattle.relay_pair.specs.Room.{HasRoom};
-ghost use Rattle.relay_pair.specs.Step.{IsSeen, Refuses, Steps};
+ghost use Rattle.relay_pair.specs.Step.{Steps};
 ghost use Rattle.relay_pair.specs.declared.event.Event.TheVariants.{Give};
 
-use crate::connect::fault_of;
+use crate::act::{Act, fault_of};
 use crate::fault::PairFault;
 use crate::host::Origin;
-use crate::ledger::{push_left, report_told};
 use crate::links::is_running;
 use crate::named::node_named;
 use crate::relays::Relays;
@@ -90,21 +90,16 @@ impl<D: Reboot + Drop> Relays<D> {
     {
         runs_keep_all::<D>();
         resting_crash_happens::<D>();
-        let mut stopped = stopped;
-        match self.hosts[node].give_up(message, self.clock) {
+        match self.call_to_give_up(node, message) {
             GivenUp::Done(change, recorded) => {
-                let report = report_told(change, recorded.report);
-                let left = recorded.left.as_slice();
-                push_left(&mut self.ledger, node, message, 0, report, left);
+                self.note_left(node, message, 0, change, &recorded);
                 Ok(Seen::NoRoute(message, change))
             }
             GivenUp::Refused(fault) => Err(fault_of(fault)),
             GivenUp::NoRoom => Err(PairFault::NoMemory),
             GivenUp::Stopped => {
                 self.restart(node, Origin::FromNoHop(message));
-                stopped.push(node).unwrap();
-                self.tell(&mut stopped);
-                Ok(Seen::Stopped(stopped))
+                self.finish(Act::Stops(node), stopped)
             }
         }
     }
@@ -165,17 +160,14 @@ impl<D: Reboot + Drop> Relays<D> {
         if SLOT_COUNT <= tries_of(self.attempts.as_slice(), node) {
             return Err(PairFault::Node(NodeFault::TooMany));
         }
-        let peer = self.hosts[node].config().listen.ip().octets();
+        let peer = self.address_of(node);
         let _greeting = match self.open_link(to, peer) {
             Ok(greeting) => greeting,
             Err(fault) => return Err(fault_of(fault)),
         };
         let link = self.links.len();
-        match self.begin(node, message, hop, name, link) {
-            Ok(place) => {
-                self.links[link - 1].client = Some(place);
-                Ok(Seen::Started(place))
-            }
+        match self.begin_on(node, message, hop, name, link) {
+            Ok(place) => Ok(Seen::Started(place)),
             Err(fault) => self.break_unstarted(link, fault, stopped),
         }
     }
@@ -191,21 +183,40 @@ impl<D: Reboot + Drop> Relays<D> {
         requires bound { AreBound D.Disk.honest D.Disk.words (world_of self.old) }
         requires room { HasRoom (world_of self.old) (free_lines self.old) }
         requires list { IsListOfStops self.old stopped }
-        requires last { (number ≡ vec_len self.old.links) × (0 < number) }
+        requires there { IsLink (world_of self.old) number }
         ensures breaks { BreaksBehind D.Disk.honest D.Disk.words (world_of self.old) (world_of self.new) number why
             result }
         ensures happened { HasHappened D.Disk.honest D.Disk.words (world_of self.old) (world_of self.new) }
         ensures order { AreInOrder D.Disk.honest D.Disk.words self.new }
     {
         runs_keep_all::<D>();
-        let mut stopped = stopped;
-        self.links[number - 1].broken = true;
-        self.tell(&mut stopped);
-        refused_of(fault_of(why), stopped)
+        self.break_off(number);
+        self.finish(Act::Refuses(fault_of(why)), stopped)
     }
 }
 
 impl<D: Disk> Relays<D> {
+    /// A node is called to give up the places of a message that have no hop, as its first work. Nothing else is done
+    /// yet.
+    fn call_to_give_up(&mut self, node: usize, message: u64) -> GivenUp
+        requires bound { AreBound D.honest D.words (world_of self.old) }
+        requires first { IsFirstWork (world_of self.old) node (NoRoute message) }
+        ensures called { IsCalledToGiveUp D.honest D.words (world_of self.old) (world_of self.new) node message
+            result }
+        ensures ledger { self.new.ledger ≡ self.old.ledger }
+    {
+        self.hosts[node].give_up(message, self.clock)
+    }
+
+    /// The address of a node.
+    fn address_of(&self, node: usize) -> [u8; 4]
+        requires { node < length self.now.hosts.items }
+        ensures { (host : HostOf D) → slice_get self.now.hosts.items node ≡ Some host
+            → result ≡ host.config.listen.ip.octets }
+    {
+        self.hosts[node].config().listen.ip().octets()
+    }
+
     /// A node begins an attempt on a link to outside.
     fn start_outside(
         &mut self,
@@ -243,6 +254,32 @@ impl<D: Disk> Relays<D> {
             })
             .unwrap();
         Ok(Seen::Started(place))
+    }
+
+    /// A node begins an attempt on a link that it has opened for it, and has its client end.
+    fn begin_on(
+        &mut self,
+        node: usize,
+        message: u64,
+        hop: &HostName,
+        name: Octets,
+        number: usize,
+    ) -> Result<usize, NodeFault>
+        requires bound { AreBound D.honest D.words (world_of self.old) }
+        requires first { IsFirstWork (world_of self.old) node (Try message hop.now) }
+        requires name { name ≡ hop.now }
+        requires room { vec_len self.old.attempts < vec_capacity self.old.attempts }
+        requires there { IsLink (world_of self.old) number }
+        ensures begun { HasBegunThere D.honest D.words (world_of self.old) (world_of self.new) node message hop.now
+            number result }
+        ensures ledger { self.new.ledger ≡ self.old.ledger }
+    {
+        let place = match self.begin(node, message, hop, name, number) {
+            Ok(place) => place,
+            Err(fault) => return Err(fault),
+        };
+        self.links[number - 1].client = Some(place);
+        Ok(place)
     }
 
     /// A node begins an attempt for a message and a hop of this name, on the link of this number, with room for it.
@@ -306,14 +343,4 @@ fn tries_once(attempt: &Attempt, node: usize) -> usize
         return 1;
     }
     0
-}
-
-/// What is answered of an event that a node refused, when these nodes have stopped behind it.
-fn refused_of(why: PairFault, stopped: Vec<usize>) -> Result<Seen, PairFault>
-    ensures { IsSeen (Refuses why) stopped.items result }
-{
-    if stopped.is_empty() {
-        return Err(why);
-    }
-    Ok(Seen::Stopped(stopped))
 }

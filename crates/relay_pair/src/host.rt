@@ -385,7 +385,7 @@ impl<D: Reboot + Drop> Host<D> {
     /// A stop is set for a node that is up: so many calls of its disk pass, and the next fails.
     pub(crate) fn arm(&mut self, calls: u64, pick: u64)
         requires { holds_up self.old.state ≡ true }
-        ensures { IsArmed D.Disk.honest D.Disk.words self.old self.new }
+        ensures { IsArmed D.Disk.honest D.Disk.words self.old self.new calls }
     {
         let HostState::Up(node) = &mut self.state else {
             unreachable!()

@@ -3,10 +3,12 @@
 
 mod act;
 mod begin;
+mod breaks;
 mod calls;
 mod carry;
 mod carry_to_client;
 mod carry_to_server;
+mod client_end;
 mod connect;
 mod copies;
 mod event;
@@ -22,7 +24,6 @@ mod lost;
 mod marks;
 mod named;
 mod pair;
-mod part;
 mod profile;
 mod recorded;
 mod relays;
@@ -34,7 +35,6 @@ mod step;
 mod stop;
 mod tell;
 mod work;
-mod work_room;
 
 pub use event::Event;
 pub use fault::PairFault;

@@ -1,14 +1,13 @@
 //! Outside writes on a link.
 ghost use Rattle.std.specs.Prelude.{◌≡◌, true, OnErr, OnOk};
-ghost use Rattle.relay_world.specs.Steps.{WritesAs};
-ghost use Rattle.relay_pair.specs.FirstFault.{has_outside};
+ghost use Rattle.relay_world.specs.Steps.{HasWritten, WritesAs};
+ghost use Rattle.relay_pair.specs.FirstFault.{IsSendable, has_outside};
 ghost use Rattle.relay_pair.specs.Promise.{HasHappened};
 ghost use Rattle.relay_pair.specs.Relays.{AreInOrder, world_of};
 ghost use Rattle.relay_pair.specs.Step.{Steps};
 ghost use Rattle.relay_pair.specs.declared.event.Event.TheVariants.{Send};
 
 use crate::fault::PairFault;
-use crate::links::place_of;
 use crate::relays::Relays;
 use crate::seen::Seen;
 use relay_disk::Disk;
@@ -29,12 +28,22 @@ impl<D: Disk> Relays<D> {
         if let Some(fault) = self.send_fault(number) {
             return Err(fault);
         }
-        let Some(place) = place_of(self.links.as_slice(), number) else {
-            unreachable!()
-        };
-        match write_outside(&mut self.links[place], octets) {
+        match self.write_on(number, octets) {
             Ok(()) => Ok(Seen::Sent),
             Err(_) => Err(PairFault::NoMemory),
+        }
+    }
+
+    /// Outside writes octets at the end of a link that it has.
+    fn write_on(&mut self, number: usize, octets: &[u8]) -> Result<(), AllocError>
+        requires { IsSendable self.old.links.items number }
+        ensures ok { OnOk result (HasWritten (world_of self.old) (world_of self.new) number octets.now) }
+        ensures err { OnErr result (world_of self.new ≡ world_of self.old) }
+        ensures ledger { self.new.ledger ≡ self.old.ledger }
+    {
+        match write_outside(&mut self.links[number - 1], octets) {
+            Ok(()) => Ok(()),
+            Err(fault) => Err(fault),
         }
     }
 }

@@ -2,13 +2,12 @@
 ghost use Rattle.relay_pair.specs.Promise.{HasHappened};
 ghost use Rattle.relay_pair.specs.Relays.{AreInOrder, world_of};
 ghost use Rattle.relay_pair.specs.Step.{Steps};
-ghost use Rattle.relay_pair.specs.declared.event.Event.TheVariants.{Tick, Break};
+ghost use Rattle.relay_pair.specs.declared.event.Event.TheVariants.{Tick};
 
 use crate::event::Event;
 use crate::fault::PairFault;
-use crate::links::place_of;
 use crate::relays::Relays;
-use crate::seen::{Seen, seen_of};
+use crate::seen::Seen;
 use relay_disk::Reboot;
 use relay_trace::Moment;
 use relay_world::passing::runs_keep_all;
@@ -44,28 +43,5 @@ impl<D: Reboot + Drop> Relays<D> {
         runs_keep_all::<D>();
         self.clock = now;
         Ok(Seen::Set)
-    }
-
-    /// A link breaks, and the nodes at its ends are told.
-    fn break_link(&mut self, number: usize) -> Result<Seen, PairFault>
-        requires honest { D.Disk.honest }
-        requires order { AreInOrder D.Disk.honest D.Disk.words self.old }
-        ensures steps { Steps D.Disk.honest D.Disk.words (world_of self.old) (Break number) (world_of self.new) result }
-        ensures happened { HasHappened D.Disk.honest D.Disk.words (world_of self.old) (world_of self.new) }
-        ensures order { AreInOrder D.Disk.honest D.Disk.words self.new }
-    {
-        runs_keep_all::<D>();
-        if let Some(fault) = self.break_fault(number) {
-            return Err(fault);
-        }
-        let Some(place) = place_of(self.links.as_slice(), number) else {
-            unreachable!()
-        };
-        let Ok(mut stopped) = self.list_of_stops() else {
-            return Err(PairFault::NoMemory);
-        };
-        self.links[place].broken = true;
-        self.tell(&mut stopped);
-        Ok(seen_of(Seen::Broken(number), stopped))
     }
 }

@@ -6,6 +6,7 @@ ghost use Rattle.relay_pair.specs.Step.{Steps};
 ghost use Rattle.relay_pair.specs.StopNow.{IsTakenDown};
 ghost use Rattle.relay_pair.specs.declared.event.Event.TheVariants.{Stop};
 
+use crate::act::Act;
 use crate::fault::PairFault;
 use crate::relays::Relays;
 use crate::seen::Seen;
@@ -43,14 +44,12 @@ impl<D: Reboot + Drop> Relays<D> {
         if self.hosts.len() <= node {
             return Err(PairFault::Down);
         }
-        let Ok(mut stopped) = self.list_of_stops() else {
+        let Ok(stopped) = self.list_of_stops() else {
             return Err(PairFault::NoMemory);
         };
         self.take_down(node, pick);
         self.reopen(node);
-        stopped.push(node).unwrap();
-        self.tell(&mut stopped);
-        Ok(Seen::Stopped(stopped))
+        self.finish(Act::Stops(node), stopped)
     }
 
     /// A node stops between two calls, or, where it is down, stops again.

@@ -1,16 +1,20 @@
 //! Nodes are told of links that broke.
-ghost use Rattle.std.specs.Prelude.{◌≡◌, ◌+◌, ◌<◌, ◌≤◌, [], IfOk, MatchOption, vec_capacity, vec_len};
+ghost use Rattle.std.specs.Prelude.{◌≡◌, ◌+◌, ◌++◌, ◌<◌, ◌≤◌, [], IfOk, MatchOption, length, vec_capacity, vec_len};
+ghost use Rattle.relay_world.specs.Ledger.{left_lines, report_told};
 ghost use Rattle.relay_world.specs.Steps.{EndsSession};
-ghost use Rattle.relay_pair.specs.Carried.{TellsLoss};
+ghost use Rattle.relay_world.specs.declared.attempt.Fate.TheVariants.{Lost};
+ghost use Rattle.relay_pair.specs.Carried.{TellsLoss, stops_by};
+ghost use Rattle.relay_pair.specs.ClientEnd.{EndsBy, HasAttemptAt, IsCalledToLose};
 ghost use Rattle.relay_pair.specs.Promise.{HasHappened};
 ghost use Rattle.relay_pair.specs.Relays.{AreBound, free_lines, world_of};
 ghost use Rattle.relay_pair.specs.Room.{HasRoom};
 ghost use Rattle.relay_pair.specs.Told.{AreToldTo, HearsAt, IsFirstUntold, IsToldOfBreaks, TellsSome, TriesAt, ends_of, running_of};
 
 use crate::calls::ToldLoss;
+use crate::client_end::ClientEnd;
 use crate::host::Origin;
-use crate::ledger::{push_left, report_told};
 use crate::links::{hears_on, is_untold};
+use crate::recorded::Recorded;
 use crate::relays::Relays;
 use relay_disk::{Disk, Reboot};
 use relay_node::NodeFault;
@@ -26,7 +30,7 @@ pub(crate) enum Loss {
     /// It is gone without one, for want of memory or room.
     Gone(NodeFault),
     /// Its node has stopped.
-    Stopped,
+    Stopped(usize),
 }
 
 impl<D: Disk> Relays<D> {
@@ -94,9 +98,10 @@ impl<D: Reboot + Drop> Relays<D> {
         runs_keep_all::<D>();
         if hears_on(&self.links[number - 1].server) {
             self.end_session(number);
-        } else {
-            let _ = self.lose_attempt(number, stopped);
+            return;
         }
+        let loss = self.lose_attempt(number);
+        list_loss(loss, stopped);
     }
 
     /// The node at the server end of a link is told that its session has ended.
@@ -125,48 +130,70 @@ impl<D: Reboot + Drop> Relays<D> {
     }
 
     /// The node of the attempt at the client end of a link is told of its loss.
-    pub(crate) fn lose_attempt(&mut self, number: usize, stopped: &mut Vec<usize>) -> Loss
+    pub(crate) fn lose_attempt(&mut self, number: usize) -> Loss
         requires honest { D.Disk.honest }
         requires bound { AreBound D.Disk.honest D.Disk.words (world_of self.old) }
         requires room { HasRoom (world_of self.old) (free_lines self.old) }
         requires tries { TriesAt (world_of self.old) number }
-        requires list { vec_len stopped.old + running_of self.old.attempts.items ≤ vec_capacity stopped.old }
-        ensures told { TellsLoss D.Disk.honest D.Disk.words (world_of self.old) (world_of self.new) number
-            stopped.old.items
-            stopped.new.items result }
-        ensures list { vec_len stopped.new + running_of self.new.attempts.items ≤ vec_capacity stopped.new }
+        ensures told { TellsLoss D.Disk.honest D.Disk.words (world_of self.old) (world_of self.new) number result }
         ensures happened { HasHappened D.Disk.honest D.Disk.words (world_of self.old) (world_of self.new) }
         ensures room { HasRoom (world_of self.new) (free_lines self.new) }
         ensures fewer { ends_of (world_of self.new) < ends_of (world_of self.old) }
+        ensures running { running_of self.new.attempts.items < running_of self.old.attempts.items }
     {
         runs_keep_all::<D>();
         crashing_happens::<D>();
-        let Some(at) = self.links[number - 1].client else {
-            unreachable!()
-        };
-        let attempt = &self.attempts[at];
-        let Fate::Running(slot) = attempt.fate else {
-            unreachable!()
-        };
-        let node = attempt.node;
-        let message = attempt.message;
-        match self.hosts[node].lose(slot, self.clock) {
+        let end = self.client_end(number);
+        match self.call_to_lose(end.node, end.slot) {
             ToldLoss::Ended(change, recorded) => {
-                let report = report_told(change, recorded.report);
-                let left = recorded.left.as_slice();
-                push_left(&mut self.ledger, node, message, number, report, left);
-                self.attempts[at].fate = Fate::Lost(change);
+                self.end_by_loss(number, end, change, &recorded);
                 Loss::Ended(change)
             }
             ToldLoss::Gone(why) => {
-                self.attempts[at].fate = Fate::Dropped;
+                self.set_fate(end.place, Fate::Dropped);
                 Loss::Gone(why)
             }
             ToldLoss::Stopped => {
-                self.restart(node, Origin::FromLoss(number, at, message));
-                stopped.push(node).unwrap();
-                Loss::Stopped
+                self.restart(end.node, Origin::FromLoss(number, end.place, end.message));
+                Loss::Stopped(end.node)
             }
         }
+    }
+}
+
+impl<D: Disk> Relays<D> {
+    /// The node of an attempt that goes on is told that its connection is lost. Nothing else is done yet.
+    fn call_to_lose(&mut self, node: usize, slot: usize) -> ToldLoss
+        requires { HasAttemptAt D.honest D.words (world_of self.old) node slot }
+        ensures called { IsCalledToLose D.honest D.words (world_of self.old) (world_of self.new) node slot result }
+        ensures ledger { self.new.ledger ≡ self.old.ledger }
+    {
+        self.hosts[node].lose(slot, self.clock)
+    }
+
+    /// An attempt has ended by the loss of its link, by the change of this number: what left by that stands in the
+    /// ledger, for which there is room.
+    fn end_by_loss(&mut self, number: usize, end: ClientEnd, change: u64, recorded: &Recorded)
+        requires there { end.place < length self.old.attempts.items }
+        requires room { vec_len self.old.ledger + length recorded.now.left.items ≤ vec_capacity self.old.ledger }
+        ensures world { EndsBy (world_of self.old) (world_of self.new) end.place (Lost change)
+            (left_lines end.node end.message number (report_told change recorded.now.report) recorded.now.left.items) }
+        ensures len { vec_len self.new.ledger ≡ vec_len self.old.ledger + length recorded.now.left.items }
+        ensures capacity { vec_capacity self.old.ledger ≤ vec_capacity self.new.ledger }
+    {
+        self.note_left(end.node, end.message, number, change, recorded);
+        self.set_fate(end.place, Fate::Lost(change));
+    }
+}
+
+/// Adds the node that has stopped when it was told of a loss, if it has, to these, for which there is room.
+fn list_loss(loss: Loss, stopped: &mut Vec<usize>)
+    requires { vec_len stopped.old + 1 ≤ vec_capacity stopped.old }
+    ensures items { stopped.new.items ≡ stopped.old.items ++ stops_by loss }
+    ensures len { vec_len stopped.new ≤ vec_len stopped.old + 1 }
+    ensures capacity { vec_capacity stopped.old ≤ vec_capacity stopped.new }
+{
+    if let Loss::Stopped(node) = loss {
+        stopped.push(node).unwrap();
     }
 }

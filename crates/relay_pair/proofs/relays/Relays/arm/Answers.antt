@@ -1,4 +1,4 @@
-use Rattle.std.proofs.Common.{◌≡◌, length, subst, sym, ap, ◌∙◌, arith, rules}
+use Rattle.std.proofs.Common.{◌≡◌, length, refl, subst, sym, ap, ◌∙◌, arith, rules}
 use Rattle.std.specs.Prelude.{None, Some, slice_get, slice_index_or, vec_len}
 use Rattle.relay_world.specs.World.{Host}
 use Rattle.relay_pair.specs.FirstFault.{holds_up, unless_up}
@@ -40,8 +40,8 @@ returns-clause-steps g c =
     let was = c.index_mut.result.now in
     let at : was ≡ slice_index_or old.hosts c.args.node was = search rules in
     let was_at = subst (λ h. slice_get old.hosts c.args.node ≡ Some h) (sym (value_same old.hosts c.args.node its.0 was its.1 at)) its.1 in
-    armed_steps g.D.Disk.honest g.D.Disk.words old c.args.node c.args.pick was c.arm.new.self was_at c.arm.ensures c.args.calls
-    c.requires.later none c.requires.order.told
+    armed_steps g.D.Disk.honest g.D.Disk.words old c.args.node c.args.pick was c.arm.new.self was_at _ c.arm.ensures c.args.calls
+    c.requires.later refl none c.requires.order.told
 
 pub returns-clause-happened : goal.returns-clause-happened
 returns-clause-happened g c =
@@ -51,7 +51,7 @@ returns-clause-happened g c =
     let was = c.index_mut.result.now in
     let at : was ≡ slice_index_or old.hosts c.args.node was = search rules in
     let was_at = subst (λ h. slice_get old.hosts c.args.node ≡ Some h) (sym (value_same old.hosts c.args.node its.0 was its.1 at)) its.1 in
-    armed_happened g.D.Disk.honest g.D.Disk.words old c.args.node c.args.pick was c.arm.new.self was_at c.arm.ensures
+    armed_happened g.D.Disk.honest g.D.Disk.words old c.args.node c.args.pick was c.arm.new.self was_at _ c.arm.ensures
 
 pub returns-clause-order : goal.returns-clause-order
 returns-clause-order g c =
@@ -62,9 +62,9 @@ returns-clause-order g c =
     let at : was ≡ slice_index_or old.hosts c.args.node was = search rules in
     let was_at = subst (λ h. slice_get old.hosts c.args.node ≡ Some h) (sym (value_same old.hosts c.args.node its.0 was its.1 at)) its.1 in
     record {
-      bound = armed_bound g.D.Disk.honest g.D.Disk.words old c.args.node c.args.pick was c.arm.new.self was_at c.arm.ensures
+      bound = armed_bound g.D.Disk.honest g.D.Disk.words old c.args.node c.args.pick was c.arm.new.self was_at _ c.arm.ensures
           c.requires.honest c.runs_keep_all.ensures c.requires.order.bound;
       told = c.requires.order.told;
-      room = armed_room g.D.Disk.honest g.D.Disk.words old c.args.node c.args.pick was c.arm.new.self was_at c.arm.ensures
+      room = armed_room g.D.Disk.honest g.D.Disk.words old c.args.node c.args.pick was c.arm.new.self was_at _ c.arm.ensures
           (free_lines c.args.self.now) c.requires.order.room;
     }

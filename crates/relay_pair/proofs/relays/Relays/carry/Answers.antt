@@ -2,10 +2,11 @@ use Rattle.std.proofs.Common.{◌≡◌, ◌-◌, None, true, false, length, sym
 use Rattle.std.specs.Prelude.{vec_len}
 use Rattle.std.proofs.lemmas.Option.{same_Some}
 use Rattle.relay_world.specs.declared.link.Link.{Link}
-use Rattle.relay_world.specs.Crashes.{is_tried_for, serves_for}
+use Rattle.relay_world.specs.Crashes.{serves_for}
 use Rattle.relay_pair.specs.FirstFault.{carry_fault, whole_link}
 use Rattle.relay_pair.specs.Relays.{world_of}
-use Rattle.relay_pair.proofs.CarryLemmas.{is_carried, is_tried}
+use Rattle.relay_pair.proofs.CarriedLemmas.{runs_unserved, tries_whole}
+use Rattle.relay_pair.proofs.CarryLemmas.{is_carried}
 use Rattle.relay_pair.proofs.PlaceLemmas.{link_same, link_there, number_positive}
 use Rattle.relay_pair.proofs.TellLemmas.{get_within}
 use Rattle.relay_pair.proofs.relays.Relays.carry.Goals as goal
@@ -39,27 +40,20 @@ carry_to_server-requires-clause-served g c link found =
     let serves : serves_for c.args.node read.server ≡ true = search rules in
     ap (λ (l : Link). serves_for c.args.node l.server) (same_Some link its.link (sym found ∙ its.found) ∙ sym same) ∙ serves
 
-pub carry_to_client-requires-clause-none : goal.carry_to_client-requires-clause-none
-carry_to_client-requires-clause-none g c = search rules
-
-pub carry_to_client-requires-clause-unserved : goal.carry_to_client-requires-clause-unserved
-carry_to_client-requires-clause-unserved g c link found =
+pub carry_to_client-requires-clause-tries : goal.carry_to_client-requires-clause-tries
+carry_to_client-requires-clause-tries g c =
     let old = world_of c.args.self.now in
     let none : carry_fault old (whole_link old.links c.args.number) c.args.node c.args.count ≡ None = search rules in
-    let its = is_carried old old.links c.args.number c.args.node c.args.count none in
     let read = c.index.result.now in
-    let same = link_same old.links c.args.number its.link read its.link_is c.index.ensures in
-    let serves : serves_for c.args.node read.server ≡ false = search rules in
-    ap (λ (l : Link). serves_for c.args.node l.server) (same_Some link its.link (sym found ∙ its.found) ∙ sym same) ∙ serves
+    let off : serves_for c.args.node read.server ≡ false = search rules in
+    tries_whole old c.args.number c.args.node
+    (runs_unserved old c.args.number c.args.node c.args.count none read c.index.ensures off)
 
-pub carry_to_client-requires-clause-tried : goal.carry_to_client-requires-clause-tried
-carry_to_client-requires-clause-tried g c link found =
+pub returns-clause-steps : goal.returns-clause-steps
+returns-clause-steps g c =
     let old = world_of c.args.self.now in
     let none : carry_fault old (whole_link old.links c.args.number) c.args.node c.args.count ≡ None = search rules in
-    let its = is_carried old old.links c.args.number c.args.node c.args.count none in
     let read = c.index.result.now in
-    let same = link_same old.links c.args.number its.link read its.link_is c.index.ensures in
-    let serves : serves_for c.args.node read.server ≡ false = search rules in
-    ap (λ (l : Link). is_tried_for c.args.node old.attempts l.client) (same_Some link its.link (sym found ∙ its.found))
-    ∙ is_tried old old.links c.args.number c.args.node c.args.count none
-    (ap (λ (l : Link). serves_for c.args.node l.server) (sym same) ∙ serves)
+    let off : serves_for c.args.node read.server ≡ false = search rules in
+    c.carry_to_client.ensures.steps c.args.node none
+    (runs_unserved old c.args.number c.args.node c.args.count none read c.index.ensures off)

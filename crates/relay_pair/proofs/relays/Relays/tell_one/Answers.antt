@@ -33,8 +33,8 @@ end_session-requires-clause-hears g c =
     let hears : hears_on read.server ≡ true = search rules in
     record { link = first.link; link_is = first.link_is; hears = ap (λ (l : Link). hears_on l.server) (sym same) ∙ hears }
 
-pub lose_attempt-requires-clause-tries : goal.lose_attempt-requires-clause-tries
-lose_attempt-requires-clause-tries g c =
+pub lose_attempt-loss-requires-clause-tries : goal.lose_attempt-loss-requires-clause-tries
+lose_attempt-loss-requires-clause-tries g c =
     let first = c.requires.first in
     let links = c.args.self.now.links.items in
     let read = c.index.result.now in
@@ -45,10 +45,17 @@ lose_attempt-requires-clause-tries g c =
 pub returns-then-hears_on-clause-told : goal.returns-then-hears_on-clause-told
 returns-then-hears_on-clause-told g c = ([], EndTold c.end_session.ensures.told, sym (append-nil c.args.stopped.now.items))
 
-pub returns-else-hears_on-clause-told : goal.returns-else-hears_on-clause-told
-returns-else-hears_on-clause-told g c =
-    some_told g.D.Disk.honest g.D.Disk.words (world_of c.args.self.now) (world_of c.lose_attempt.new.self) c.args.number
-    c.args.stopped.now.items c.lose_attempt.new.stopped.items c.lose_attempt.result c.lose_attempt.ensures.told
+pub list_loss-requires : goal.list_loss-requires
+list_loss-requires g c =
+    let room = c.requires.list in
+    let less = c.lose_attempt-loss.ensures.running in
+    omega (arith, room, less)
+
+pub returns-clause-told : goal.returns-clause-told
+returns-clause-told g c =
+    some_told g.D.Disk.honest g.D.Disk.words (world_of c.args.self.now) (world_of c.lose_attempt-loss.new.self) c.args.number
+    c.args.stopped.now.items c.list_loss.new.stopped.items c.lose_attempt-loss.result c.lose_attempt-loss.ensures.told
+    c.list_loss.ensures.items
 
 pub returns-then-hears_on-clause-happened : goal.returns-then-hears_on-clause-happened
 returns-then-hears_on-clause-happened g c =
@@ -62,10 +69,18 @@ returns-then-hears_on-clause-bound g c =
     (one_happened g.D.Disk.honest g.D.Disk.words (world_of c.args.self.now) (world_of c.end_session.new.self)
     (Ends c.args.number c.end_session.ensures.told))
 
-pub returns-else-hears_on-clause-bound : goal.returns-else-hears_on-clause-bound
-returns-else-hears_on-clause-bound g c =
+pub returns-clause-bound : goal.returns-clause-bound
+returns-clause-bound g c =
     still_bound g.D.Disk.honest g.D.Disk.words c.requires.honest c.runs_keep_all.ensures (world_of c.args.self.now)
-    (world_of c.lose_attempt.new.self) c.requires.bound c.lose_attempt.ensures.happened
+    (world_of c.lose_attempt-loss.new.self) c.requires.bound c.lose_attempt-loss.ensures.happened
+
+pub returns-clause-list : goal.returns-clause-list
+returns-clause-list g c =
+    let room = c.requires.list in
+    let less = c.lose_attempt-loss.ensures.running in
+    let len = c.list_loss.ensures.len in
+    let capacity = c.list_loss.ensures.capacity in
+    omega (arith, room, less, len, capacity)
 
 pub returns-then-hears_on-clause-list : goal.returns-then-hears_on-clause-list
 returns-then-hears_on-clause-list g c =
