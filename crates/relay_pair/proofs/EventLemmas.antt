@@ -1,34 +1,22 @@
 -- What a call of one host makes of a world: the event of which it is the node's part, where its caller has put the host, the link,
 -- the attempt and the lines of the ledger.
-use Rattle.std.proofs.Common.{◌≡◌, ℕ, suc, List, [], ◌∷◌, ◌++◌, length, Option, None, Some, sym, subst, ap, ◌∙◌}
+use Rattle.std.proofs.Common.{◌≡◌, ℕ, suc, List, [], ◌∷◌, ◌++◌, length, Option, None, Some, subst, ap, ◌∙◌}
 use Rattle.std.specs.Prelude.{slice_get}
 use Rattle.relay_disk.specs.Device.{DiskWords}
 use Rattle.relay_book.specs.declared.fate.Way.{Way}
-use Rattle.relay_records.specs.declared.noted.Noted.{Noted}
-use Rattle.relay_records.specs.Records.{Kept}
 use Rattle.relay_attempts.specs.declared.reply.Replied.{Replied}
-use Rattle.relay_attempts.specs.declared.start.Started.{Started}
 use Rattle.relay_node.specs.declared.node.Connected.{Connected}
 use Rattle.relay_node.specs.declared.receive.Received.{Received}
 use Rattle.relay_node.specs.Node.{NodeState}
-use Rattle.relay_world.specs.declared.attempt.Attempt.{Attempt}
 use Rattle.relay_world.specs.declared.attempt.Fate.{Fate}
-use Rattle.relay_world.specs.declared.attempt.Fate.TheVariants.{Dropped, Replied as RepliedBy, Lost as LostBy}
+use Rattle.relay_world.specs.declared.attempt.Fate.TheVariants.{Replied as RepliedBy}
 use Rattle.relay_world.specs.declared.line.Line.TheVariants.{Accepted}
-use Rattle.relay_world.specs.declared.link.Link.{Link}
-use Rattle.relay_world.specs.Crashes.{CrashesEnding, CrashesGivingUp, CrashesHearing, CrashesLosing, CrashesReading, GoesDown, let_go}
-use Rattle.relay_world.specs.HopLinks.{IsLinkedToHop}
 use Rattle.relay_world.specs.Ledger.{left_lines, report_told}
-use Rattle.relay_world.specs.Steps.{AttemptOf, DropsAttempt, EndsSession, HasGivenUp, HasHeard, HasLost, HasOpened, HasRead, HasStarted, IsBlank, IsPut, IsPutAt, RecordsHeard, RecordsOutcome, RecordsRead, SessionOf, heard_link, opened_link, read_link, started_attempt, waiting_down, waiting_up, without_note}
-use Rattle.relay_world.specs.Stops.{IsLeftBy}
-use Rattle.relay_world.specs.World.{Down, Host, Up, World}
-use Rattle.relay_pair.specs.declared.host.Origin.{Origin}
-use Rattle.relay_pair.specs.declared.host.Origin.TheVariants.{FromClient, FromLoss, FromNoHop, FromReplies}
+use Rattle.relay_world.specs.Steps.{AttemptOf, EndsSession, HasGivenUp, HasHeard, HasOpened, HasRead, IsPut, IsPutAt, RecordsHeard, RecordsOutcome, RecordsRead, SessionOf, heard_link, opened_link, read_link, waiting_down, waiting_up, without_note}
+use Rattle.relay_world.specs.World.{Host, Up, World}
 use Rattle.relay_pair.specs.declared.recorded.Recorded.{Recorded}
-use Rattle.relay_pair.specs.Call.{Hears, Loses, LosesAttempt, LosesSession, NotesChange, NotesOne, Reads, Runs, StopsHearing, StopsLosing, StopsReading}
-use Rattle.relay_pair.specs.Crash.{CrashesInCall}
-use Rattle.relay_pair.specs.Host.{origin_in}
-use Rattle.relay_pair.specs.Work.{BeginsAttempt, GivesUp, OpensSession, StopsGivingUp}
+use Rattle.relay_pair.specs.Call.{Hears, LosesSession, NotesChange, NotesOne, Reads}
+use Rattle.relay_pair.specs.Work.{GivesUp, OpensSession}
 
 module _ {D : Type 0} (honest : Type 0) (words : DiskWords D) (old new : World D) where
   -- the host of this number was put as it is now

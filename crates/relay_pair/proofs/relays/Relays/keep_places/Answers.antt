@@ -1,4 +1,4 @@
-use Rattle.std.proofs.Common.{◌≡◌, refl, arith}
+use Rattle.std.proofs.Common.{refl}
 use Rattle.relay_pair.specs.Relays.{world_of}
 use Rattle.relay_pair.proofs.GiveLemmas.{same_parts}
 use Rattle.relay_pair.proofs.relays.Relays.keep_places.Goals as goal
