@@ -14,7 +14,7 @@ use relay_disk::Reboot;
 use relay_node::NodeFault;
 
 /// What an event did of itself, before nodes are told of links that it broke.
-#[derive(Debug, Drop)]
+#[derive(Drop)]
 pub(crate) enum Act {
     /// It shows something.
     Shows(Seen),

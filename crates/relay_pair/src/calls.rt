@@ -12,7 +12,6 @@ use relay_trace::Moment;
 use std::mem;
 
 /// What became of an attempt whose node was told that its connection is lost.
-#[derive(Debug)]
 pub(crate) enum ToldLoss {
     /// It has an outcome, the change of this number.
     Ended(u64, Recorded),
@@ -23,7 +22,6 @@ pub(crate) enum ToldLoss {
 }
 
 /// What became of replies that a node was to read.
-#[derive(Debug)]
 pub(crate) enum Read {
     /// They were read, and a change was made or none.
     Done(Replied, Option<Recorded>),
@@ -34,7 +32,6 @@ pub(crate) enum Read {
 }
 
 /// What became of octets that a node was to hear.
-#[derive(Debug)]
 pub(crate) enum Heard {
     /// They were heard, and a change was made or none.
     Done(Received, Option<Recorded>),

@@ -41,7 +41,8 @@ impl<D: Reboot + Drop> Relays<D> {
         requires tries { TriesWhole (world_of self.old) number }
         ensures steps { (node : ℕ) → first_fault (world_of self.old) (Carry number node count) ≡ None
             → RunsAt (world_of self.old) number node
-            → Steps D.Disk.honest D.Disk.words (world_of self.old) (Carry number node count) (world_of self.new) result }
+            → Steps D.Disk.honest D.Disk.words (world_of self.old) (Carry number node count)
+            (world_of self.new) result }
         ensures happened { HasHappened D.Disk.honest D.Disk.words (world_of self.old) (world_of self.new) }
         ensures order { AreInOrder D.Disk.honest D.Disk.words self.new }
     {

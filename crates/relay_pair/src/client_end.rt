@@ -9,7 +9,7 @@ use relay_disk::Disk;
 use relay_world::Fate;
 
 /// The attempt that runs at the client end of a link.
-#[derive(Clone, Copy, Debug)]
+#[derive(Clone, Copy)]
 pub(crate) struct ClientEnd {
     /// Its place among the attempts.
     pub(crate) place: usize,

@@ -23,7 +23,7 @@ use std::marker::Model;
 use std::mem;
 
 /// What a change came from.
-#[derive(Clone, Copy, Debug)]
+#[derive(Clone, Copy)]
 pub(crate) enum Origin {
     /// Octets of a client, on this link.
     FromClient(usize),
@@ -36,7 +36,6 @@ pub(crate) enum Origin {
 }
 
 /// The change of an append that a stop left open.
-#[derive(Debug)]
 pub(crate) struct Undecided {
     pub(crate) note: Noted,
     pub(crate) origin: Origin,

@@ -23,7 +23,7 @@ use relay_world::{Fate, ServerEnd};
 use std::alloc::AllocError;
 
 /// What became of an attempt whose node was told that its connection is lost.
-#[derive(Clone, Copy, Debug)]
+#[derive(Clone, Copy)]
 pub(crate) enum Loss {
     /// It has an outcome, the change of this number.
     Ended(u64),

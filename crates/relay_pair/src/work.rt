@@ -15,7 +15,6 @@ use relay_trace::Moment;
 use std::alloc::Global;
 
 /// What became of an attempt that a node was to begin.
-#[derive(Debug)]
 pub(crate) enum Begun {
     /// It has begun.
     Done(Started),
@@ -26,7 +25,6 @@ pub(crate) enum Begun {
 }
 
 /// What became of places without a hop that a node was to give up.
-#[derive(Debug)]
 pub(crate) enum GivenUp {
     /// They have ended, by the change of this number.
     Done(u64, Recorded),
