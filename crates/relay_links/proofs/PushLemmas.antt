@@ -16,7 +16,7 @@ use Rattle.relay_course.specs.VerdictTable.{all_later}
 use Rattle.relay_client.proofs.Theorems.{followed_is_course}
 use Rattle.relay_attempts.specs.declared.reply.Replied.{Replied}
 use Rattle.relay_attempts.specs.declared.runs.Run.{Run}
-use Rattle.relay_attempts.specs.Reply.{CutsLoss, CutsReply, EndsBy, HasNoRoomAtEnd, HasNoRoomAtLoss, IsLost, Makes, ReadsToEnd, Told, outcome_at, told_more, PushHasEnded as EndsOf}
+use Rattle.relay_attempts.specs.Reply.{CutsLoss, CutsReply, EndsBy, HasNoRoomAtEnd, HasNoRoomAtLoss, IsLost, Makes, ReadsToEnd, Told, outcome_at, told_more, AttemptHasEnded as EndsOf}
 use Rattle.relay_node.specs.Attempts.{IsDropped, ReadsOn, RefusesToReply, Replies, RepliesBy, Tells, UsesReply}
 use Rattle.relay_node.specs.Node.{NodeState}
 use Rattle.relay_links.specs.declared.fault.LinkFault.{LinkFault}
