@@ -2,7 +2,7 @@
 use Rattle.std.proofs.Common.{◌≡◌, ℕ, ◌+◌, ◌<◌, Bool, true, false, ◌&&◌, List, [], ◌∷◌, ◌++◌, length, take, drop, reverse, get_or, refl, sym, ap, ◌∙◌}
 use Rattle.std.proofs.lemmas.List.{take_more, take-append-drop, reverse-append}
 use Rattle.relay_disk.specs.declared.call.Call.{Call}
-use Rattle.relay_disk.specs.declared.call.Call.TheVariants.{Write, FailedWrite, Cut, Sync, Pass}
+use Rattle.relay_disk.specs.declared.call.Call.TheVariants.{Write, FailedWrite, Cut, Sync}
 use Rattle.relay_disk.specs.MayLeave.{seen_after, are_within}
 
 pub and_left : (a b : Bool) → a && b ≡ true → a ≡ true
@@ -22,7 +22,6 @@ first_within start (Write place octets) earlier within = and_true _ (and_left _ 
 first_within start (FailedWrite place count) earlier within = refl
 first_within start (Cut size) earlier within = refl
 first_within start Sync earlier within = refl
-first_within start Pass earlier within = refl
 
 are_within-earlier : (start : List ℕ) (later earlier : List Call) → are_within start (later ++ earlier) ≡ true → are_within start earlier ≡ true
 are_within-earlier start [] earlier within = within
@@ -30,7 +29,6 @@ are_within-earlier start (Write place octets ∷ later) earlier within = are_wit
 are_within-earlier start (FailedWrite place count ∷ later) earlier within = are_within-earlier start later earlier within
 are_within-earlier start (Cut size ∷ later) earlier within = are_within-earlier start later earlier within
 are_within-earlier start (Sync ∷ later) earlier within = are_within-earlier start later earlier within
-are_within-earlier start (Pass ∷ later) earlier within = are_within-earlier start later earlier within
 
 reverse-take : (calls : List Call) (at : ℕ) (call : Call) → at < length calls → call ≡ get_or calls at call → reverse (take (at + 1) calls) ≡ call ∷ reverse (take at calls)
 reverse-take calls at call below is =

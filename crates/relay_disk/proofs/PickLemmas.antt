@@ -8,7 +8,7 @@ use Rattle.std.proofs.lemmas.Bool.Decides.{nat_tests}
 use Rattle.relay_disk.specs.declared.call.Call.{Call}
 use Rattle.relay_disk.specs.declared.memory.MemoryDisk.{MemoryDisk}
 use Rattle.relay_disk.specs.Memory.{start_of, calls_of, synced_of, images_of, LeavesByPick}
-use Rattle.relay_disk.specs.declared.call.Call.TheVariants.{Write, FailedWrite, Cut, Sync, Pass}
+use Rattle.relay_disk.specs.declared.call.Call.TheVariants.{Write, FailedWrite, Cut, Sync}
 use Rattle.relay_disk.specs.Device.{written, Writes, Cuts}
 use Rattle.relay_disk.specs.MayLeave.{seen_after, are_within, synced_after, MayLeave}
 use Rattle.relay_disk.specs.Pick.{is_in, end_of, is_written, is_changed, reach, IsPicked}
@@ -178,9 +178,6 @@ keeping_is_left start (Cut size ∷ earlier) image low high keeps =
       Cuts-before_cut (synced_after start earlier) image size n (omega arith) (omega (arith, low, begin)),
     )
 keeping_is_left start (Sync ∷ earlier) image low high keeps = all_kept (seen_after start earlier) image low (omega (arith, high)) keeps.octets
-keeping_is_left start (Pass ∷ earlier) image low high keeps =
-    keeping_is_left start earlier image low (omega (arith, high))
-    (record { octets = λ at within unchanged. keeps.octets at within (skip_unwritten (nat_le (length (synced_after start earlier)) at) (is_written earlier at) at unchanged) })
 
 -- what the disk held at the last good sync is one of the images
 synced_is_left : (start : List ℕ) (calls : List Call) → MayLeave start calls (synced_after start calls)
@@ -189,7 +186,6 @@ synced_is_left start (Write place octets ∷ earlier) = (synced_after start earl
 synced_is_left start (FailedWrite place count ∷ earlier) = (synced_after start earlier, synced_is_left start earlier, Writes-same (synced_after start earlier) place count)
 synced_is_left start (Cut size ∷ earlier) = (synced_after start earlier, synced_is_left start earlier, Cuts-same (synced_after start earlier) size)
 synced_is_left start (Sync ∷ earlier) = refl
-synced_is_left start (Pass ∷ earlier) = synced_is_left start earlier
 
 -- a place that the tests call unchanged lies outside the range, and was not changed before
 or_false_left : (a b : Bool) → a || b ≡ false → a ≡ false
@@ -231,7 +227,6 @@ unchanged_is_synced start (Cut size ∷ earlier) at fit within unwritten =
     get_or-take size now at 0 (omega (arith, within, begin))
     ∙ unchanged_is_synced start earlier at fit (omega (arith, within, begin)) (or_false_right _ _ unwritten)
 unchanged_is_synced start (Sync ∷ earlier) at fit within unwritten = refl
-unchanged_is_synced start (Pass ∷ earlier) at fit within unwritten = unchanged_is_synced start earlier at fit within (or_false_right _ _ unwritten)
 
 -- what a read gives at a place, or else what was synced there
 read_or_synced : (now synced : List ℕ) (at : ℕ) → (at < length now → slice_index now at ≡ slice_index synced at) → slice_index_or now at (slice_index synced at) ≡ slice_index synced at

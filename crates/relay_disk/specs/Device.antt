@@ -1,5 +1,5 @@
 -- Disks: what a call does to the octets of a disk, and what a stop at any moment may make of it.
-use Rattle.std.specs.Prelude.{◌≡◌, ◌⊎◌, ℕ, ◌+◌, ◌-◌, ◌^◌, ◌<◌, ◌≤◌, min, max, List, ◌++◌, length, take, drop, slice_index, Option, Some, Result, OnOk, OnErr, IsErr}
+use Rattle.std.specs.Prelude.{◌≡◌, ◌⊎◌, ◌↔◌, ℕ, ◌+◌, ◌-◌, ◌^◌, ◌<◌, ◌≤◌, min, max, List, ◌++◌, length, take, drop, slice_index, Option, Some, Result, OnOk, OnErr, IsErr}
 use Rattle.std.specs.Option.{option_map}
 use Rattle.relay_disk.specs.declared.disk.DiskFault.{DiskFault}
 
@@ -111,3 +111,12 @@ module _ {D : Type 0} (words : DiskWords D) where
   pub record Burns {T : Type 0} (old new : D) (result : Result T DiskFault) : Type 0 where
     pub burnt : words.calls_left new ≡ option_map (λ calls. calls - 1) (words.calls_left old)
     pub blown : words.calls_left old ≡ Some 0 → IsErr result
+
+-- a fuse was set, or taken away, and nothing else: no call has failed, and no moment has gone by
+pub record OnlyFuseChanges {D : Type 0} (honest : Type 0) (words : DiskWords D) (old new : D) : Type 0 where
+  pub failures : FailsNot words old new
+  pub seen : honest → words.seen new ≡ words.seen old
+  pub moment : honest → words.moment new ≡ words.moment old
+  pub images : honest → (image : List ℕ) → words.may_leave new image ↔ words.may_leave old image
+  pub since : honest → (moment : ℕ) (image : List ℕ)
+      → words.left_since new moment image ↔ words.left_since old moment image

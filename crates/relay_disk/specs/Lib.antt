@@ -1,4 +1,5 @@
 pub mod Device
+pub mod Disks
 pub mod MayLeave
 pub mod Pick
 pub mod Memory

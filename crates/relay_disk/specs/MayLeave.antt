@@ -1,7 +1,7 @@
 -- What a stop may leave of a disk that began with some octets and had these calls, the newest first.
 use Rattle.std.specs.Prelude.{◌≡◌, ◌⊎◌, ℕ, ◌≤◌, Bool, true, ◌&&◌, nat_le, List, [], ◌∷◌, length, take}
 use Rattle.relay_disk.specs.declared.call.Call.{Call}
-use Rattle.relay_disk.specs.declared.call.Call.TheVariants.{Write, FailedWrite, Cut, Sync, Pass}
+use Rattle.relay_disk.specs.declared.call.Call.TheVariants.{Write, FailedWrite, Cut, Sync}
 use Rattle.relay_disk.specs.Device.{written, Writes, Cuts}
 
 -- what a read gives after the calls
@@ -11,7 +11,6 @@ seen_after start (Write place octets ∷ earlier) = written (seen_after start ea
 seen_after start (FailedWrite _ _ ∷ earlier) = seen_after start earlier
 seen_after start (Cut size ∷ earlier) = take size (seen_after start earlier)
 seen_after start (Sync ∷ earlier) = seen_after start earlier
-seen_after start (Pass ∷ earlier) = seen_after start earlier
 
 -- each write begins within what a read gave before it
 abbrev pub are_within : List ℕ → List Call → Bool
@@ -21,7 +20,6 @@ are_within start (Write place _ ∷ earlier) =
 are_within start (FailedWrite _ _ ∷ earlier) = are_within start earlier
 are_within start (Cut _ ∷ earlier) = are_within start earlier
 are_within start (Sync ∷ earlier) = are_within start earlier
-are_within start (Pass ∷ earlier) = are_within start earlier
 
 -- A stop may leave this image: since the last good sync each call has done its step as far as a stop lets it.
 abbrev pub MayLeave : List ℕ → List Call → List ℕ → Type 0
@@ -32,7 +30,6 @@ MayLeave start (FailedWrite place count ∷ earlier) image =
     (old : List ℕ) × MayLeave start earlier old × Writes place count old image
 MayLeave start (Cut size ∷ earlier) image = (old : List ℕ) × MayLeave start earlier old × Cuts size old image
 MayLeave start (Sync ∷ earlier) image = image ≡ seen_after start earlier
-MayLeave start (Pass ∷ earlier) image = MayLeave start earlier image
 
 -- A stop at this moment or at one since might have left this image. A moment is the number of calls before it.
 abbrev pub LeftSince : List ℕ → List Call → ℕ → List ℕ → Type 0
@@ -47,4 +44,3 @@ synced_after start (Write _ _ ∷ earlier) = synced_after start earlier
 synced_after start (FailedWrite _ _ ∷ earlier) = synced_after start earlier
 synced_after start (Cut _ ∷ earlier) = synced_after start earlier
 synced_after start (Sync ∷ earlier) = seen_after start earlier
-synced_after start (Pass ∷ earlier) = synced_after start earlier

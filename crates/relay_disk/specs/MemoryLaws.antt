@@ -3,7 +3,7 @@ use Rattle.std.specs.Prelude.{◌≡◌, ◌⊎◌, ℕ, ◌+◌, ◌-◌, ◌<�
 use Rattle.std.proofs.Common.{inl, inr, arith, subst, sym, ap, ◌∙◌, get_or, get_or-take, length-take, length-append, length-drop}
 use Rattle.std.proofs.lemmas.List.{get_or-append_right, get_or-drop, get_or_append_left}
 use Rattle.relay_disk.specs.declared.call.Call.{Call}
-use Rattle.relay_disk.specs.declared.call.Call.TheVariants.{Write, FailedWrite, Cut, Sync, Pass}
+use Rattle.relay_disk.specs.declared.call.Call.TheVariants.{Write, FailedWrite, Cut, Sync}
 use Rattle.relay_disk.specs.declared.memory.MemoryDisk.{MemoryDisk}
 use Rattle.relay_disk.specs.Device.{written, Writes, Cuts}
 use Rattle.relay_disk.specs.MayLeave.{seen_after, MayLeave, LeftSince}
@@ -71,7 +71,6 @@ sees_now start (FailedWrite place count ∷ earlier) =
 sees_now start (Cut size ∷ earlier) =
     (seen_after start earlier, sees_now start earlier, Cuts-take (seen_after start earlier) size)
 sees_now start (Sync ∷ earlier) = refl
-sees_now start (Pass ∷ earlier) = sees_now start earlier
 
 -- a sync leaves no image that wasn't there
 pub seen_is_left : (start : List ℕ) (calls : List Call) (image : List ℕ) → image ≡ seen_after start calls

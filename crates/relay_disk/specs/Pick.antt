@@ -2,7 +2,7 @@
 -- sync, what a read gives, and its calls, the newest first.
 use Rattle.std.specs.Prelude.{◌≡◌, ℕ, zero, suc, ◌+◌, ◌-◌, ◌<◌, ◌≤◌, max, Bool, true, false, ◌&&◌, ◌||◌, ◌==◌, nat_le, nat_lt, if◌then◌else◌, List, [], ◌∷◌, length, slice_index, slice_index_or}
 use Rattle.relay_disk.specs.declared.call.Call.{Call}
-use Rattle.relay_disk.specs.declared.call.Call.TheVariants.{Write, FailedWrite, Cut, Sync, Pass}
+use Rattle.relay_disk.specs.declared.call.Call.TheVariants.{Write, FailedWrite, Cut, Sync}
 
 -- the call is a sync
 abbrev pub is_sync : Call → Bool
@@ -10,7 +10,6 @@ is_sync (Write _ _) = false
 is_sync (FailedWrite _ _) = false
 is_sync (Cut _) = false
 is_sync Sync = true
-is_sync Pass = false
 
 -- the range of a write, by its place and its count; that of another call is empty
 abbrev pub range_of : Call → ℕ × ℕ
@@ -18,7 +17,6 @@ range_of (Write place octets) = (place, length octets.items)
 range_of (FailedWrite place count) = (place, count)
 range_of (Cut _) = (0, 0)
 range_of Sync = (0, 0)
-range_of Pass = (0, 0)
 
 -- the place lies in the range
 abbrev pub is_in : ℕ × ℕ → ℕ → Bool

@@ -12,7 +12,6 @@ pub(crate) enum Call {
     FailedWrite { place: usize, count: usize },
     Cut { size: usize },
     Sync,
-    Pass,
 }
 
 impl Call {
@@ -33,7 +32,7 @@ impl Call {
         match self {
             Call::Write { place, octets } => (*place, octets.len()),
             Call::FailedWrite { place, count } => (*place, *count),
-            Call::Cut { .. } | Call::Sync | Call::Pass => (0, 0),
+            Call::Cut { .. } | Call::Sync => (0, 0),
         }
     }
 
@@ -48,7 +47,7 @@ impl Call {
                 image.truncate(*size);
                 Ok(())
             }
-            Call::FailedWrite { .. } | Call::Sync | Call::Pass => Ok(()),
+            Call::FailedWrite { .. } | Call::Sync => Ok(()),
         }
     }
 }

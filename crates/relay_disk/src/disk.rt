@@ -1,7 +1,7 @@
 // A disk as a spool sees it: what a read gives, and what a stop at any moment may leave.
-ghost use Rattle.std.specs.Prelude.{◌≡◌, ◌+◌, ◌<◌, ◌≤◌, ℕ, List, length, take, drop, None, Some, IfOk, OnOk, OnErr, MatchResult};
+ghost use Rattle.std.specs.Prelude.{◌≡◌, ◌+◌, ◌≤◌, ℕ, List, length, take, drop, None, Some, IfOk, OnOk, OnErr, MatchResult};
 ghost use Rattle.std.specs.Result.{result_ok};
-ghost use Rattle.relay_disk.specs.Device.{DiskWords, written, Writes, Cuts, IsSettled, Steps, AddsNoImage, ImagesWithin, FailsNot, CountsFailure, Burns, Rises};
+ghost use Rattle.relay_disk.specs.Device.{DiskWords, written, Writes, Cuts, IsSettled, Steps, AddsNoImage, ImagesWithin, FailsNot, CountsFailure, Burns, OnlyFuseChanges, Rises};
 
 use std::alloc::AllocFailed;
 use thiserror::Error;
@@ -96,14 +96,13 @@ pub trait Disk {
         ensures failures { CountsFailure words self.old self.new result }
         ensures fuse { Burns words self.old self.new result };
 
-    /// Lets a moment go by, and changes nothing else. It is no call of the device: no fuse counts it.
-    fn pass(&mut self) -> Result<(), DiskFault>
-        ensures ok { honest → OnOk result (words.moment self.old < words.moment self.new) }
-        ensures seen { honest → words.seen self.new ≡ words.seen self.old }
-        ensures stop { honest → AddsNoImage words self.old self.new }
-        ensures same { honest → ImagesWithin words self.new self.old }
-        ensures failures { CountsFailure words self.old self.new result }
-        ensures fuse { words.calls_left self.new ≡ words.calls_left self.old };
+    /// Exchanges the fuses of two disks, and changes nothing else. It is no call of the device: no fuse
+    /// counts it, and no moment goes by. It takes no memory.
+    fn swap_fuse(&mut self, other: &mut Self)
+        ensures fuse { words.calls_left self.new ≡ words.calls_left other.old }
+        ensures other_fuse { words.calls_left other.new ≡ words.calls_left self.old }
+        ensures same { OnlyFuseChanges honest words self.old self.new }
+        ensures other_same { OnlyFuseChanges honest words other.old other.new };
 
     /// A stop of the program alone leaves what a read gives, so that is one of the images.
     ghost sees_now: { honest → (disk : Self) → words.may_leave disk (words.seen disk) };
@@ -123,10 +122,7 @@ pub trait Reboot: Disk {
     /// Lets that many calls of `size`, `read`, `write_at`, `cut` and `sync` pass. Each later one fails.
     fn fuse(&mut self, calls: u64)
         ensures fuse { Self.Disk.words.calls_left self.new ≡ Some calls }
-        ensures seen { Self.Disk.honest
-            → Self.Disk.words.seen self.new ≡ Self.Disk.words.seen self.old }
-        ensures stop { Self.Disk.honest → AddsNoImage Self.Disk.words self.old self.new }
-        ensures failures { FailsNot Self.Disk.words self.old self.new };
+        ensures same { OnlyFuseChanges Self.Disk.honest Self.Disk.words self.old self.new };
 
     /// The disk after a stop at this moment, without a fuse. `pick` chooses the image among those
     /// that a stop may leave. Where memory runs out, the disk comes back.

@@ -100,7 +100,7 @@ fn folder_of(path: &str) -> &str {
 
 impl Disk for FileDisk {
     ghost use Rattle.std.specs.Prelude.{◌≡◌, ◌||◌, IsTrue, IsErr, is_err};
-    ghost use Rattle.relay_disk.specs.Device.{CountsFailure};
+    ghost use Rattle.relay_disk.specs.Device.{CountsFailure, OnlyFuseChanges};
     ghost use Rattle.relay_disk.specs.File.{file_words, sync_failed};
 
     ghost honest = { ⊥ };
@@ -162,10 +162,12 @@ impl Disk for FileDisk {
         counted(&mut self.failures, answer)
     }
 
-    fn pass(&mut self) -> Result<(), DiskFault>
-        ensures failures { CountsFailure file_words self.old self.new result }
-        ensures syncs { sync_failed self.new ≡ sync_failed self.old }
+    fn swap_fuse(&mut self, other: &mut Self)
+        ensures same { OnlyFuseChanges ⊥ file_words self.old self.new }
+        ensures other_same { OnlyFuseChanges ⊥ file_words other.old other.new }
+        ensures syncs { (sync_failed self.new ≡ sync_failed self.old)
+            × (sync_failed other.new ≡ sync_failed other.old) }
     {
-        Ok(())
+        let _ = other;
     }
 }

@@ -3,11 +3,13 @@
 
 mod call;
 mod disk;
+mod disks;
 mod file;
 pub mod laws;
 mod memory;
 mod pick;
 
 pub use disk::{Disk, DiskFault, Reboot};
+pub use disks::{Disks, Side};
 pub use file::FileDisk;
 pub use memory::MemoryDisk;

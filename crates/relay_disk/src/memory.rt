@@ -4,13 +4,14 @@ ghost use Rattle.std.specs.Option.{option_map};
 ghost use Rattle.std.specs.Vec.{vec_len, vec_capacity};
 ghost use Rattle.relay_disk.specs.Device.{written};
 ghost use Rattle.relay_disk.specs.MayLeave.{seen_after, are_within};
-ghost use Rattle.relay_disk.specs.declared.call.Call.TheVariants.{Write, FailedWrite, Cut, Sync, Pass};
+ghost use Rattle.relay_disk.specs.declared.call.Call.TheVariants.{Write, FailedWrite, Cut, Sync};
 
 use crate::call::{Call, overwrite};
 use crate::disk::counted;
 use crate::pick::picked;
 use crate::{Disk, DiskFault, Reboot};
 use std::alloc::{AllocError, AllocFailed, Global};
+use std::mem;
 
 /// A disk in memory, and an honest one. A call that fails changes nothing that a read gives, and a disk that
 /// can't grow is a device that failed.
@@ -209,7 +210,7 @@ fn cut_to(calls: &mut Vec<Call>, image: &mut Vec<u8>, size: usize) -> Result<(),
 
 impl Disk for MemoryDisk {
     ghost use Rattle.std.specs.Prelude.{◌≡◌, ◌⊎◌, ◌≤◌, ◌+◌, if◌then◌else◌, length, take, drop, Some, is_ok, IfOk, IsErr, OnOk, OnErr};
-    ghost use Rattle.relay_disk.specs.declared.call.Call.TheVariants.{Write, FailedWrite, Cut, Sync, Pass};
+    ghost use Rattle.relay_disk.specs.declared.call.Call.TheVariants.{Write, FailedWrite, Cut, Sync};
     ghost use Rattle.relay_disk.specs.Device.{written, AddsNoImage, CountsFailure, Burns};
     ghost use Rattle.relay_disk.specs.Memory.{image_of, fuse_of, memory_words, IsBlown, IsFull, TakesMemory, Stores, KeepsAll};
     ghost use Rattle.relay_disk.specs.MemoryLaws.{sees_image, counts_image, leaves_image};
@@ -313,15 +314,8 @@ impl Disk for MemoryDisk {
         counted(&mut self.failures, store(&mut self.calls, Call::Sync))
     }
 
-    fn pass(&mut self) -> Result<(), DiskFault>
-        ensures ok { OnOk result (Stores Pass self.old self.new
-            × (image_of self.new ≡ image_of self.old)) }
-        ensures err { OnErr result (KeepsAll self.old self.new) }
-        ensures cause { IsErr result → IsFull self.old }
-        ensures failures { CountsFailure memory_words self.old self.new result }
-        ensures fuse { fuse_of self.new ≡ fuse_of self.old }
-    {
-        counted(&mut self.failures, store(&mut self.calls, Call::Pass))
+    fn swap_fuse(&mut self, other: &mut Self) {
+        mem::swap(&mut self.fuse, &mut other.fuse);
     }
 }
 

@@ -1,13 +1,14 @@
-//! Steps that call a disk or a spool and leave it in hand.
+//! Steps that call a disk, or two, or a spool and leave it in hand.
 //!
-//! - of a disk `size`, `sync`, `pass`, `failures`, `write PLACE OCTETS`, `cut SIZE` and `fuse CALLS`; `image OCTETS`
-//!   asks whether that is the image, and `read PLACE OCTETS` whether that is what is read;
-//! - of a spool `size`, `live`, `fuse CALLS` and `append OCTETS`; `body INDEX OCTETS` asks whether that is the body
-//!   with which the spool was opened.
+//! - of a disk `size`, `sync`, `failures`, `write PLACE OCTETS`, `cut SIZE` and `fuse CALLS`; `image OCTETS` asks
+//!   whether that is the image, and `read PLACE OCTETS` whether that is what is read;
+//! - of two disks `fuse CALLS`, and `first STEP` and `second STEP` for a step of one of them;
+//! - of a spool `size`, `live`, `fuse CALLS`, `append OCTETS` and `compact OCTETS`; `body INDEX OCTETS` asks whether
+//!   that is the body with which the spool was opened.
 use crate::answer::{of_call, of_fault, of_number, of_question, of_size, word};
 use crate::held::Mounted;
 use crate::octets::octets_of;
-use relay_disk::{Disk, DiskFault, MemoryDisk, Reboot};
+use relay_disk::{Disk, DiskFault, Disks, MemoryDisk, Reboot};
 use relay_spool::{Spool, SpoolFault};
 use std::alloc::{AllocError, Global};
 
@@ -33,7 +34,6 @@ pub fn ask_disk(
     match name {
         "size" => of_size(alloc, disk.size()),
         "sync" => of_call(alloc, disk.sync()),
-        "pass" => of_call(alloc, disk.pass()),
         "failures" => of_number(alloc, disk.failures()),
         "fuse" => {
             disk.fuse(place);
@@ -110,6 +110,26 @@ fn read(
     }
 }
 
+/// What two disks answer to a step.
+pub fn ask_disks(
+    alloc: Global,
+    disks: &mut Disks<MemoryDisk>,
+    name: &str,
+    text: &str,
+    number: u64,
+) -> Result<String, AllocError> {
+    let (step, rest) = text.split_once(' ').unwrap_or((text, ""));
+    match name {
+        "fuse" => {
+            disks.fuse(number_of(text, number));
+            word(alloc, "ok")
+        }
+        "first" => ask_disk(alloc, &mut disks.first, step, rest, number),
+        "second" => ask_disk(alloc, &mut disks.second, step, rest, number),
+        _ => word(alloc, "no step"),
+    }
+}
+
 /// What a spool answers to a step.
 pub fn ask_spool(
     alloc: Global,
@@ -129,6 +149,11 @@ pub fn ask_spool(
             &mut mounted.spool,
             octets_of(alloc, text)?.as_slice(),
         ),
+        "compact" => compact(
+            alloc,
+            &mut mounted.spool,
+            octets_of(alloc, text)?.as_slice(),
+        ),
         "body" => is_body(alloc, mounted.bodies.as_slice(), text),
         _ => word(alloc, "no step"),
     }
@@ -138,10 +163,21 @@ fn append(alloc: Global, spool: &mut Spool<MemoryDisk>, body: &[u8]) -> Result<S
     if !spool.is_live() || u32::try_from(body.len()).is_err() {
         return word(alloc, "spent");
     }
-    appended(alloc, spool.append(body))
+    answered(alloc, spool.append(body))
 }
 
-fn appended(alloc: Global, answer: Result<(), SpoolFault>) -> Result<String, AllocError> {
+fn compact(
+    alloc: Global,
+    spool: &mut Spool<MemoryDisk>,
+    body: &[u8],
+) -> Result<String, AllocError> {
+    if !spool.is_live() {
+        return word(alloc, "spent");
+    }
+    answered(alloc, spool.compact(body))
+}
+
+fn answered(alloc: Global, answer: Result<(), SpoolFault>) -> Result<String, AllocError> {
     match answer {
         Ok(()) => word(alloc, "ok"),
         Err(fault) => of_fault(alloc, fault),

@@ -1,4 +1,4 @@
-use relay_disk::MemoryDisk;
+use relay_disk::{Disks, MemoryDisk};
 use relay_spool::Spool;
 
 /// A spool, and the bodies with which it was opened.
@@ -13,5 +13,6 @@ pub struct Mounted {
 pub enum Held {
     Nothing,
     Disk(MemoryDisk),
+    Disks(Disks<MemoryDisk>),
     Spool(Mounted),
 }

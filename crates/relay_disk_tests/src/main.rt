@@ -1,5 +1,5 @@
-//! Plays each row of data/: steps on a disk in memory and on the spool that stands on it, with what each step is
-//! to answer. Then takes steps on real files. Each row has a line, which says whether it came as it is written
+//! Plays each row of data/: steps on disks in memory and on the spool that stands on two, with what each step is to
+//! answer. Then takes steps on real files. Each row has a line, which says whether it came as it is written
 //! down.
 #![tactic(auto)]
 
@@ -13,7 +13,7 @@ mod row;
 
 use files::{
     a_file_is_locked_by_one_disk_at_a_time, a_file_keeps_what_was_written,
-    a_new_file_is_its_owners_alone, a_path_in_no_folder_is_refused, a_spool_stands_on_a_file,
+    a_new_file_is_its_owners_alone, a_path_in_no_folder_is_refused, a_spool_stands_on_two_files,
 };
 use relay_disk::DiskFault;
 use relay_spool::SpoolFault;
@@ -67,8 +67,8 @@ fn show_files(rt: &HostRuntime) -> Result<(), Fail> {
     say(rt, "a file is locked by one disk at a time", holds)?;
     let holds = a_path_in_no_folder_is_refused(rt);
     say(rt, "a path in no folder is refused", holds)?;
-    let holds = a_spool_stands_on_a_file(rt)?;
-    say(rt, "a spool stands on a file", holds)?;
+    let holds = a_spool_stands_on_two_files(rt)?;
+    say(rt, "a spool stands on two files", holds)?;
     Ok(())
 }
 
@@ -87,5 +87,6 @@ fn show_faults(rt: &HostRuntime) -> Result<(), Fail> {
     println!(rt; "fault: {}", SpoolFault::NoMemory)?;
     println!(rt; "fault: {}", SpoolFault::NotEmpty)?;
     println!(rt; "fault: {}", SpoolFault::Full)?;
+    println!(rt; "fault: {}", SpoolFault::NoSecond)?;
     Ok(())
 }

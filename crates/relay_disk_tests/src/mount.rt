@@ -1,16 +1,18 @@
 //! Steps that turn what is held into another thing; other steps are those of a disk or of a spool.
 //!
 //! - `disk OCTETS`: a disk in memory with this image;
-//! - `anew`: a disk in memory with the image of the one in hand;
-//! - `stop PICK`: what a stop leaves of the disk, by the pick;
-//! - `create`, `open`: a spool on the disk in hand, which answers how many bodies and octets it has;
-//! - `bodiless`: nothing of the disk in hand, which answers whether it holds no spool, or one without a body;
-//! - `unmount`: the disk of the spool.
+//! - `with OCTETS`: that disk as the first of two, and a second one with this image;
+//! - `exchanged`: the two disks, of which the second is now the first;
+//! - `anew`: a disk in memory with the image of the one in hand, or two;
+//! - `stop PICK`: what a stop leaves of the disk, or of both, by the pick;
+//! - `create`, `open`: a spool on the disks in hand, which answers how many bodies and octets it has;
+//! - `bodiless`: nothing of the disks in hand, which answers whether they hold no spool, or one without a body;
+//! - `unmount`: the disks of the spool.
 use crate::answer::{of_fault, of_question, word};
-use crate::device::{ask_disk, ask_spool, number_of};
+use crate::device::{ask_disk, ask_disks, ask_spool, number_of};
 use crate::held::{Held, Mounted};
 use crate::octets::octets_of;
-use relay_disk::{MemoryDisk, Reboot};
+use relay_disk::{Disks, MemoryDisk, Reboot};
 use relay_spool::{Opened, Refused, Spool, SpoolFault};
 use std::alloc::{AllocError, Global};
 use std::test::Fail;
@@ -26,6 +28,7 @@ pub fn take_step(
     match held {
         Held::Nothing => Ok((new_disk(alloc, text)?, word(alloc, "ok")?)),
         Held::Disk(disk) => take_step_on_disk(alloc, disk, name, text, number),
+        Held::Disks(disks) => take_step_on_disks(alloc, disks, name, text, number),
         Held::Spool(mounted) => take_step_on_spool(alloc, mounted, name, text),
     }
 }
@@ -43,11 +46,9 @@ fn take_step_on_disk(
     number: u64,
 ) -> Result<(Held, String), Fail> {
     match name {
-        "anew" => Ok((again(alloc, &disk)?, word(alloc, "ok")?)),
+        "with" => Ok((paired(alloc, disk, text)?, word(alloc, "ok")?)),
+        "anew" => Ok((Held::Disk(again(alloc, &disk)?), word(alloc, "ok")?)),
         "stop" => Ok((stopped(disk, number_of(text, number))?, word(alloc, "ok")?)),
-        "create" => created(alloc, disk),
-        "open" => opened(alloc, disk),
-        "bodiless" => Ok((Held::Nothing, of_question(alloc, is_bodiless(alloc, disk))?)),
         _ => {
             let mut disk = disk;
             let answer = ask_disk(alloc, &mut disk, name, text, number)?;
@@ -56,8 +57,58 @@ fn take_step_on_disk(
     }
 }
 
-fn again(alloc: Global, disk: &MemoryDisk) -> Result<Held, AllocError> {
-    Ok(Held::Disk(MemoryDisk::with_image(alloc, disk.image())?))
+fn paired(alloc: Global, first: MemoryDisk, text: &str) -> Result<Held, AllocError> {
+    let image = octets_of(alloc, text)?;
+    let second = MemoryDisk::with_image(alloc, image.as_slice())?;
+    Ok(Held::Disks(Disks { first, second }))
+}
+
+fn take_step_on_disks(
+    alloc: Global,
+    disks: Disks<MemoryDisk>,
+    name: &str,
+    text: &str,
+    number: u64,
+) -> Result<(Held, String), Fail> {
+    match name {
+        "exchanged" => Ok((exchanged(disks), word(alloc, "ok")?)),
+        "anew" => Ok((both_again(alloc, &disks)?, word(alloc, "ok")?)),
+        "stop" => Ok((
+            both_stopped(disks, number_of(text, number))?,
+            word(alloc, "ok")?,
+        )),
+        "create" => created(alloc, disks),
+        "open" => opened(alloc, disks),
+        "bodiless" => Ok((
+            Held::Nothing,
+            of_question(alloc, is_bodiless(alloc, disks))?,
+        )),
+        _ => {
+            let mut disks = disks;
+            let answer = ask_disks(alloc, &mut disks, name, text, number)?;
+            Ok((Held::Disks(disks), answer))
+        }
+    }
+}
+
+fn exchanged(disks: Disks<MemoryDisk>) -> Held {
+    let Disks { first, second } = disks;
+    Held::Disks(Disks {
+        first: second,
+        second: first,
+    })
+}
+
+fn again(alloc: Global, disk: &MemoryDisk) -> Result<MemoryDisk, AllocError> {
+    MemoryDisk::with_image(alloc, disk.image())
+}
+
+fn both_again(alloc: Global, disks: &Disks<MemoryDisk>) -> Result<Held, AllocError> {
+    let first = again(alloc, &disks.first)?;
+    Ok(Held::Disks(Disks {
+        first,
+        second: again(alloc, &disks.second)?,
+    }))
 }
 
 fn stopped(disk: MemoryDisk, pick: u64) -> Result<Held, Fail> {
@@ -67,23 +118,30 @@ fn stopped(disk: MemoryDisk, pick: u64) -> Result<Held, Fail> {
     }
 }
 
-fn created(alloc: Global, disk: MemoryDisk) -> Result<(Held, String), Fail> {
-    match Spool::create(alloc, disk) {
+fn both_stopped(disks: Disks<MemoryDisk>, pick: u64) -> Result<Held, Fail> {
+    match disks.after_stop(pick) {
+        Ok(stopped) => Ok(Held::Disks(stopped)),
+        Err(_) => Err(Fail::new("no memory")),
+    }
+}
+
+fn created(alloc: Global, disks: Disks<MemoryDisk>) -> Result<(Held, String), Fail> {
+    match Spool::create(alloc, disks) {
         Ok(spool) => mounted(alloc, spool, Vec::new(alloc)),
         Err(refused) => refuse(alloc, refused),
     }
 }
 
-fn opened(alloc: Global, disk: MemoryDisk) -> Result<(Held, String), Fail> {
-    match Spool::open(alloc, disk) {
+fn opened(alloc: Global, disks: Disks<MemoryDisk>) -> Result<(Held, String), Fail> {
+    match Spool::open(alloc, disks) {
         Ok(Opened { spool, bodies }) => mounted(alloc, spool, bodies),
         Err(refused) => refuse(alloc, refused),
     }
 }
 
-/// Whether a disk holds no spool, or one without a body.
-fn is_bodiless(alloc: Global, disk: MemoryDisk) -> bool {
-    match Spool::open(alloc, disk) {
+/// Whether disks hold no spool, or one without a body.
+fn is_bodiless(alloc: Global, disks: Disks<MemoryDisk>) -> bool {
+    match Spool::open(alloc, disks) {
         Ok(opened) => opened.bodies.is_empty(),
         Err(refused) => refused.fault == SpoolFault::NotASpool,
     }
@@ -100,7 +158,7 @@ fn mounted(
 
 fn refuse(alloc: Global, refused: Refused<MemoryDisk>) -> Result<(Held, String), Fail> {
     let Refused { fault, disk } = refused;
-    Ok((Held::Disk(disk), of_fault(alloc, fault)?))
+    Ok((Held::Disks(disk), of_fault(alloc, fault)?))
 }
 
 fn take_step_on_spool(
@@ -122,5 +180,5 @@ fn unmounted(mounted: Mounted) -> Held {
         spool,
         bodies: _bodies,
     } = mounted;
-    Held::Disk(spool.into_disk())
+    Held::Disks(spool.into_disk())
 }
