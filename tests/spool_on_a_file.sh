@@ -1,6 +1,6 @@
 #!/usr/bin/env bash
-# Takes steps on a spool in a file, with the calls that it makes of the device written down by a shim, which lets some
-# fail: what the program answers, which calls it made in which order, and what the file holds then.
+# Takes steps on a spool in two files, with the calls that it makes of the device written down by a shim, which lets some
+# fail: what the program answers, which calls it made in which order, and what the files hold then.
 #
 #   tests/spool_on_a_file.sh build/relay_spool_tests
 set -euo pipefail
@@ -12,7 +12,7 @@ trap 'rm -rf "$room"' EXIT
 cc -shared -fPIC -O1 -Wall -o "$room/calls.so" tests/device_calls.c
 cd "$room"
 
-head='RELAYQ01\x01\0\0\0\0\0\0\0\x01'
+head='RELAYQ01\x01\0\0\0\0\0\0\0'
 
 fail() {
     echo "spool_on_a_file: $name: $1" >&2
@@ -24,16 +24,17 @@ hold() {
     diff -u - "$2" >&2 || fail "other $1"
 }
 
-# take NAME FAULTS STEPS: takes the steps, words of a line each, in a fresh file. The shim is given the faults.
+# take NAME FAULTS STEPS: takes the steps, words of a line each, in fresh files. The shim is given the faults.
 take() {
     name=$1
-    rm -f spool calls
+    rm -f spool spool.2 calls
     printf '%s\n' "${@:3}" | env $2 CALLS=calls LD_PRELOAD=./calls.so "$steps" spool > answers
 }
 
-# image OCTETS: the file is these, in the form of printf.
+# image OCTETS FILE: the file is these, in the form of printf; the first one, where none is named.
 image() {
-    printf "$1" | cmp -s - spool || fail "the file is $(od -An -c spool)"
+    local file=${2:-spool}
+    printf "$1" | cmp -s - "$file" || fail "$file is $(od -An -c "$file")"
 }
 
 # Each body is on the device before its gate is opened, and that before the append is answered.
@@ -47,6 +48,11 @@ hold calls calls << END
 open spool, mode 600
 open folder .
 sync folder
+open spool.2, mode 600
+open folder .
+sync folder
+write 18 octets at 0
+sync
 write 18 octets at 0
 sync
 write 1 octets at 8
@@ -58,10 +64,38 @@ sync
 open spool, mode 600
 open folder .
 sync folder
+open spool.2, mode 600
+open folder .
+sync folder
+sync
 sync
 END
-image "$head"'\x01\0\0\0\x03abc\0'
-[ "$(stat -c %a spool)" = 600 ] || fail "the file's mode is $(stat -c %a spool)"
+image "$head"'\x01\x01\0\0\0\x03abc\0'
+image 'RELAYQ01\0\0\0\0\0\0\0\0\0\0' spool.2
+[ "$(stat -c %a spool spool.2 | uniq)" = 600 ] || fail "the files' modes are $(stat -c %a spool spool.2)"
+
+# A body that takes the place of all is on the device before its head is opened; a head that is open is closed first.
+take "two compactions" "" create "append abc" "append de" "compact one" "compact next" open
+hold answers answers << END
+created, 18 octets
+appended, 26 octets
+appended, 33 octets
+compacted, 26 octets
+compacted, 27 octets
+opened, 1 bodies, 27 octets
+END
+hold calls <(tail -n +21 calls | head -n 8) << END
+write 17 octets at 9
+sync
+write 1 octets at 8
+sync
+write 1 octets at 8
+sync
+write 18 octets at 9
+sync
+END
+image "$head"'\x03\x01\0\0\0\x04next\0'
+image "$head"'\x02\x01\0\0\0\x03one\0' spool.2
 
 # The folder is the file's own.
 mkdir inner
@@ -70,48 +104,48 @@ printf 'create\n' | CALLS=calls LD_PRELOAD=./calls.so "$steps" inner/../inner/sp
 sync folder" ] || fail "another folder is synced"
 
 # Behind a failed sync no other one succeeds, until the file is opened anew. It is the append's second one here.
-take "a sync that fails" FAILED_SYNC=4 create "append abc" "append de" again again open "append f"
+take "a sync that fails" FAILED_SYNC=5 create "append abc" "append de" again again open "append f"
 hold answers answers << END
 created, 18 octets
 append refused: device
 spent
-refused: device, 2 calls failed
-refused: device, 3 calls failed
+refused: device, 2 and 0 calls failed
+refused: device, 3 and 0 calls failed
 opened, 1 bodies, 26 octets
 appended, 32 octets
 END
 [ "$(grep -c '^sync: failed$' calls)" = 1 ] || fail "not one failed sync"
-image "$head"'\x01\0\0\0\x03abc\x01\0\0\0\x01f\0'
+image "$head"'\x01\x01\0\0\0\x03abc\x01\0\0\0\x01f\0'
 
 # Before the first one no gate is opened.
-take "the first sync of an append fails" FAILED_SYNC=3 create "append abc" again open
+take "the first sync of an append fails" FAILED_SYNC=4 create "append abc" again open
 hold answers answers << END
 created, 18 octets
 append refused: device
-refused: device, 2 calls failed
+refused: device, 2 and 0 calls failed
 opened, 0 bodies, 18 octets
 END
 grep -q '^write 1 octets at 17$' calls && fail "the gate was opened"
-image "$head"'\0\0\0\0\x03abc\0'
+image "$head"'\x01\0\0\0\0\x03abc\0'
 
 # What a write leaves undone is written behind it.
-take "a write that takes half" HALF_WRITE=3 create "append abc" open
+take "a write that takes half" HALF_WRITE=4 create "append abc" open
 hold answers answers << END
 created, 18 octets
 appended, 26 octets
 opened, 1 bodies, 26 octets
 END
-hold calls <(tail -n +8 calls | head -n 5) << END
+hold calls <(tail -n +13 calls | head -n 5) << END
 write 4 octets at 18
 write 4 octets at 22
 sync
 write 1 octets at 17
 sync
 END
-image "$head"'\x01\0\0\0\x03abc\0'
+image "$head"'\x01\x01\0\0\0\x03abc\0'
 
 # Want of space loses nothing: the disk is opened again as it stands, and takes bodies as soon as there is space.
-for full in 3 4; do
+for full in 4 5; do
     take "no space for write $full" FULL_WRITE=$full create "append abc" "append de" again "append f" open
     hold answers answers << END
 created, 18 octets
@@ -122,7 +156,7 @@ appended, 24 octets
 opened, 1 bodies, 24 octets
 END
 done
-take "no space behind half" "HALF_WRITE=5 FULL_WRITE=6" create "append abc" "append de" again "append f"
+take "no space behind half" "HALF_WRITE=6 FULL_WRITE=7" create "append abc" "append de" again "append f"
 hold answers answers << END
 created, 18 octets
 appended, 26 octets
@@ -130,6 +164,6 @@ append refused: device
 opened, 1 bodies, 26 octets
 appended, 32 octets
 END
-image "$head"'\x01\0\0\0\x03abc\x01\0\0\0\x01f\0'
+image "$head"'\x01\x01\0\0\0\x03abc\x01\0\0\0\x01f\0'
 
 echo "spool_on_a_file: the calls of the device are in order, and a sync that fails, half a write and want of space lose no body"

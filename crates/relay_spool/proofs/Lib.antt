@@ -1,4 +1,5 @@
 mod RunLemmas
+mod TurnLemmas
 mod ImageLemmas
 mod LinkLemmas
 mod WalkLemmas
@@ -7,4 +8,6 @@ mod BlockLemmas
 mod HeadLemmas
 mod ChainLemmas
 mod ReadingLemmas
+mod RenewalLemmas
+mod PairLemmas
 pub mod Theorems

@@ -4,8 +4,11 @@ use Rattle.std.proofs.lemmas.List.{take_at, drop_at, take-take, get_or_at}
 use Rattle.std.proofs.lemmas.Bool.{cases_eq}
 use Rattle.relay_disk.specs.Device.{DiskWords, written, Writes, WritesLeaveTheRest}
 use Rattle.relay_spool.specs.Image.{IsFront, IsImageOf, HasBodies, size_of}
-use Rattle.relay_spool.specs.Spool.{IsBeforeOrWith, AtEachMoment}
-use Rattle.relay_spool.proofs.RunLemmas.{weakened}
+use Rattle.relay_spool.specs.Run.{AtEachMoment}
+use Rattle.relay_spool.specs.Spool.{IsBeforeOrWith}
+use Rattle.relay_spool.specs.Head.{KeepsHead}
+use Rattle.relay_spool.proofs.HeadLemmas.{writes_keep_head}
+use Rattle.relay_spool.proofs.RunLemmas.{joined, weakened}
 use Rattle.relay_spool.proofs.ImageLemmas.{IsTail, length-front, with_front, with_link}
 
 -- where the last gate of an image stands
@@ -61,20 +64,20 @@ pub record Ready (image : List ℕ) (bodies : List (List ℕ)) (place : ℕ) (ta
   pub rest : List ℕ
   pub behind : drop (place + 1) image ≡ tail ++ rest
 
-length-written : (image : List ℕ) (place : ℕ) (octets : List ℕ) → place ≤ length image → place + length octets ≤ length (written image place octets)
+pub length-written : (image : List ℕ) (place : ℕ) (octets : List ℕ) → place ≤ length image → place + length octets ≤ length (written image place octets)
 length-written image place octets within =
     let begin = length-take place image in
     let front = length-append (take place image) octets in
     let all = length-append (take place image ++ octets) (drop (place + length octets) image) in
     omega (arith, begin, front, all, within)
 
-take-written : (image : List ℕ) (place : ℕ) (octets : List ℕ) → place ≤ length image → take place (written image place octets) ≡ take place image
+pub take-written : (image : List ℕ) (place : ℕ) (octets : List ℕ) → place ≤ length image → take place (written image place octets) ≡ take place image
 take-written image place octets within =
     let begin = length-take place image in
     ap (λ (xs : List ℕ). take place xs) (append_assoc (take place image) octets (drop (place + length octets) image))
     ∙ take_at (take place image) (octets ++ drop (place + length octets) image) place (omega (arith, begin, within))
 
-drop-written : (image : List ℕ) (place : ℕ) (octets : List ℕ) → place ≤ length image → drop place (written image place octets) ≡ octets ++ drop (place + length octets) image
+pub drop-written : (image : List ℕ) (place : ℕ) (octets : List ℕ) → place ≤ length image → drop place (written image place octets) ≡ octets ++ drop (place + length octets) image
 drop-written image place octets within =
     let begin = length-take place image in
     ap (λ (xs : List ℕ). drop place xs) (append_assoc (take place image) octets (drop (place + length octets) image))
@@ -156,3 +159,21 @@ module _ {D : Type 0} (words : DiskWords D) where
   gate_run law old new image bodies place tail body ready is_tail =
       weakened words old new (Writes place 1 image) (HasBodies (IsBeforeOrWith bodies body))
       (λ other writes. at_the_gate law image other bodies place tail body ready is_tail writes)
+
+  -- a write behind the head keeps it
+  pub head_run : WritesLeaveTheRest → (old new : D) (image : List ℕ) (place count : ℕ) → 17 ≤ place → 17 ≤ length image
+      → AtEachMoment words old new (Writes place count image) → AtEachMoment words old new (KeepsHead image)
+  head_run law old new image place count low long =
+      weakened words old new (Writes place count image) (KeepsHead image) (λ other writes. writes_keep_head law image other place count low long writes)
+
+  -- and so does another one behind it
+  pub head_runs : WritesLeaveTheRest → (old mid new : D) (place count : ℕ) → 17 ≤ place → place < length (words.seen old) → words.may_leave mid (words.seen mid)
+      → AtEachMoment words old mid (Writes (place + 1) count (words.seen old)) → AtEachMoment words mid new (Writes place 1 (words.seen mid))
+      → AtEachMoment words old new (KeepsHead (words.seen old))
+  head_runs law old mid new place count low within sees one two =
+      let longer = (one.now (words.seen mid) sees).no_shorter in
+      let first = head_run law old mid (words.seen old) (place + 1) count (omega (arith, low)) (omega (arith, low, within)) one in
+      let same = first.now (words.seen mid) sees in
+      joined words old mid new (KeepsHead (words.seen old)) first
+      (weakened words mid new (KeepsHead (words.seen mid)) (KeepsHead (words.seen old)) (λ other keeps. keeps ∙ same)
+      (head_run law mid new (words.seen mid) place 1 low (omega (arith, low, within, longer)) two))

@@ -1,4 +1,8 @@
 pub mod Image
 pub mod Walk
-pub mod Spool
+pub mod Head
+pub mod Run
 pub mod Blocks
+pub mod Pair
+pub mod Opening
+pub mod Spool

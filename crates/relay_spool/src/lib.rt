@@ -1,15 +1,21 @@
-//! The spool: a list of bodies on a disk. Every stop keeps a body whose append was answered `Ok`.
+//! The spool: a list of bodies on two disks. Every stop keeps a body whose append was answered `Ok`.
 #![tactic(auto)]
 
 mod chain;
+mod compact;
 mod fault;
 mod gate;
 mod head;
+mod heads;
 pub mod laws;
 mod link;
+mod make;
+mod opening;
 mod questions;
 mod reader;
+mod renewal;
 mod spool;
+mod taken;
 
 pub use chain::SIZE_LIMIT;
 pub use fault::{Refused, SpoolFault};

@@ -1,15 +1,18 @@
-//! Takes steps on a spool in a file: one line of standard input each, and a line of what came of
-//! it. The file is the first word. tests/spool_on_a_file.sh runs it, with the calls that it makes
-//! of the device written down.
+//! Takes steps on a spool in two files: one line of standard input each, and a line of what came of
+//! it. The first file is the first word, and the second one's name is that with `.2` behind it.
+//! tests/spool_on_a_file.sh runs it, with the calls that it makes of the device written down.
 //!
-//! - `remove`: removes the file, where there is one;
-//! - `create`: opens the file, which is to be empty, and makes a spool there;
-//! - `open`: opens the file anew, and the spool in it;
-//! - `again`: opens the spool on the disk that the last step left, without opening the file anew;
-//! - `append TEXT`: appends a body.
+//! - `remove`: removes the files, where there are any;
+//! - `create`: opens the files, which are to be empty, and makes a spool there;
+//! - `open`: opens the files anew, and the spool in them;
+//! - `again`: opens the spool on the disks that the last step left, without opening the files anew;
+//! - `append TEXT`: appends a body;
+//! - `compact TEXT`: puts this one body in place of all.
 #![tactic(auto)]
 
-use relay_disk::{Disk, FileDisk};
+ghost use Rattle.std.specs.Prelude.{IsTrue};
+
+use relay_disk::{Disk, Disks, FileDisk};
 use relay_spool::{Opened, Refused, Spool};
 use std::test::Fail;
 use std::{env, fs};
@@ -18,7 +21,7 @@ use std::{env, fs};
 #[derive(Drop)]
 enum Held {
     Nothing,
-    Disk(FileDisk),
+    Disks(Disks<FileDisk>),
     Spool(Spool<FileDisk>),
 }
 
@@ -39,30 +42,61 @@ fn main(rt: HostRuntime) -> Result<(), Fail> {
 fn take_step(rt: &HostRuntime, path: &str, held: Held, line: &str) -> Result<Held, Fail> {
     let (step, text) = line.split_once(' ').unwrap_or((line, ""));
     if step == "remove" {
+        let second = second_of(rt, path)?;
         let _ = fs::remove_file(rt, path);
+        let _ = fs::remove_file(rt, second.as_str());
         Ok(Held::Nothing)
     } else if step == "create" {
-        create(rt, FileDisk::open(rt, path)?)
+        create(rt, open_files(rt, path)?)
     } else if step == "open" {
-        open(rt, FileDisk::open(rt, path)?)
+        open(rt, open_files(rt, path)?)
     } else if step == "again" {
         match held {
             Held::Nothing => Err(Fail::new("there is no disk")),
-            Held::Disk(disk) => open(rt, disk),
+            Held::Disks(disks) => open(rt, disks),
             Held::Spool(spool) => open(rt, spool.into_disk()),
         }
-    } else if step == "append" {
-        match held {
-            Held::Spool(spool) => append(rt, spool, text),
-            Held::Nothing | Held::Disk(_) => Err(Fail::new("there is no spool")),
-        }
     } else {
-        Err(Fail::new("the steps are: remove, create, open, again, append TEXT"))
+        match held {
+            Held::Spool(spool) => change(rt, spool, step, text),
+            Held::Nothing | Held::Disks(_) => Err(Fail::new("there is no spool")),
+        }
     }
 }
 
-fn create(rt: &HostRuntime, disk: FileDisk) -> Result<Held, Fail> {
-    match Spool::create(rt.alloc(), disk) {
+/// Takes a step on a spool.
+fn change(rt: &HostRuntime, spool: Spool<FileDisk>, step: &str, text: &str) -> Result<Held, Fail> {
+    let mut spool = spool;
+    if !spool.is_live() {
+        println!(rt; "spent")?;
+    } else if step == "append" {
+        append(rt, &mut spool, text.as_bytes())?;
+    } else if step == "compact" {
+        compact(rt, &mut spool, text.as_bytes())?;
+    } else {
+        return Err(Fail::new(
+            "the steps are: remove, create, open, again, append TEXT, compact TEXT",
+        ));
+    }
+    Ok(Held::Spool(spool))
+}
+
+/// The name of the second file.
+fn second_of(rt: &HostRuntime, path: &str) -> Result<String, Fail> {
+    Ok(format!(in rt.alloc(); "{path}.2")?)
+}
+
+fn open_files(rt: &HostRuntime, path: &str) -> Result<Disks<FileDisk>, Fail> {
+    let second = second_of(rt, path)?;
+    let first = FileDisk::open(rt, path)?;
+    Ok(Disks {
+        first,
+        second: FileDisk::open(rt, second.as_str())?,
+    })
+}
+
+fn create(rt: &HostRuntime, disks: Disks<FileDisk>) -> Result<Held, Fail> {
+    match Spool::create(rt.alloc(), disks) {
         Ok(spool) => {
             println!(rt; "created, {} octets", spool.size())?;
             Ok(Held::Spool(spool))
@@ -71,8 +105,8 @@ fn create(rt: &HostRuntime, disk: FileDisk) -> Result<Held, Fail> {
     }
 }
 
-fn open(rt: &HostRuntime, disk: FileDisk) -> Result<Held, Fail> {
-    match Spool::open(rt.alloc(), disk) {
+fn open(rt: &HostRuntime, disks: Disks<FileDisk>) -> Result<Held, Fail> {
+    match Spool::open(rt.alloc(), disks) {
         Ok(Opened { spool, bodies }) => {
             println!(rt; "opened, {} bodies, {} octets", bodies.len(), spool.size())?;
             Ok(Held::Spool(spool))
@@ -81,26 +115,33 @@ fn open(rt: &HostRuntime, disk: FileDisk) -> Result<Held, Fail> {
     }
 }
 
-fn append(rt: &HostRuntime, spool: Spool<FileDisk>, text: &str) -> Result<Held, Fail> {
-    let body = text.as_bytes();
+fn append(rt: &HostRuntime, spool: &mut Spool<FileDisk>, body: &[u8]) -> Result<(), Fail>
+    requires { IsTrue spool.old.live }
+{
     if u32::try_from(body.len()).is_err() {
         return Err(Fail::new("the body is too long"));
-    }
-    let mut spool = spool;
-    if !spool.is_live() {
-        println!(rt; "spent")?;
-        return Ok(Held::Spool(spool));
     }
     match spool.append(body) {
         Ok(()) => println!(rt; "appended, {} octets", spool.size())?,
         Err(fault) => println!(rt; "append refused: {fault}")?,
     }
-    Ok(Held::Spool(spool))
+    Ok(())
 }
 
-/// Says why no spool was made of a disk, and how many of its calls have failed.
+fn compact(rt: &HostRuntime, spool: &mut Spool<FileDisk>, body: &[u8]) -> Result<(), Fail>
+    requires { IsTrue spool.old.live }
+{
+    match spool.compact(body) {
+        Ok(()) => println!(rt; "compacted, {} octets", spool.size())?,
+        Err(fault) => println!(rt; "compact refused: {fault}")?,
+    }
+    Ok(())
+}
+
+/// Says why no spool was made of disks, and how many of the calls of each have failed.
 fn refuse(rt: &HostRuntime, refused: Refused<FileDisk>) -> Result<Held, Fail> {
     let Refused { fault, disk } = refused;
-    println!(rt; "refused: {fault}, {} calls failed", disk.failures())?;
-    Ok(Held::Disk(disk))
+    let (first, second) = (disk.first.failures(), disk.second.failures());
+    println!(rt; "refused: {fault}, {first} and {second} calls failed")?;
+    Ok(Held::Disks(disk))
 }

@@ -1,0 +1,122 @@
+// A spool's body written anew, on the disk that isn't taken.
+ghost use Rattle.std.specs.Prelude.{◌≡◌, ◌≢◌, ◌+◌, ◌<◌, ◌^◌, [], ◌∷◌, ℕ, List, length, slice_index, Some, IfOk, OnOk};
+ghost use Rattle.relay_disk.specs.Device.{CountsFailure as CountsDiskFailure, IsSettled};
+ghost use Rattle.relay_disk.specs.Disks.{CountsFailure, other};
+ghost use Rattle.relay_spool.specs.Head.{HasHeadGate, IsClosedOr, IsFilled, IsGateOf, IsNotOpen, IsOldOrNew, IsRenewal, renewal_calls, renewed};
+ghost use Rattle.relay_spool.specs.Pair.{HasBodies, renewed_taken};
+ghost use Rattle.relay_spool.specs.Run.{AtEachMoment as AtEachDiskMoment, Makes as DiskMakes};
+ghost use Rattle.relay_spool.specs.Spool.{AtEachMoment, IsBeforeOrOne, Makes, Rests};
+
+use crate::gate::{CLOSED, open_gate, write_through};
+use crate::head::{GENERATION, HEAD_GATE};
+use crate::link::{BODY_OVERHEAD, push_link};
+use crate::taken::{HeadGate, Taken};
+use relay_disk::laws::writes_leave_the_rest;
+use relay_disk::{Disk, DiskFault, Disks};
+use std::alloc::{AllocError, Global};
+
+/// What stands behind the head gate of a spool of this generation with this body alone.
+pub(crate) fn renewal_of(alloc: Global, generation: u64, body: &[u8]) -> Result<Vec<u8>, AllocError>
+    requires { length body.now < 2 ^ 32 }
+    ensures { IfOk result (λ octets. IsRenewal octets.items generation body.now) }
+{
+    let mut octets = Vec::with_capacity(alloc, 9 + BODY_OVERHEAD + body.len())?;
+    octets.extend_from_slice(&generation.to_be_bytes())?;
+    push_link(&mut octets, body)?;
+    Ok(octets)
+}
+
+/// Writes a spool with one body to the disk that isn't taken, which is then, by five calls, or by seven
+/// where its head is open. The disk that was taken stays as it is.
+pub(crate) fn renew<D: Disk>(
+    disks: &mut Disks<D>,
+    taken: Taken,
+    gate: HeadGate,
+    octets: &[u8],
+) -> Result<(), DiskFault>
+    requires { D.honest → IsGateOf (D.words.seen (other taken.side disks.old)) (Some gate) }
+    ensures renewed { D.honest → (before : List (List ℕ)) (body : List ℕ)
+        → Rests D.words disks.old taken before → IsRenewal octets.now (taken.generation + 1) body
+        → OnOk result (Rests D.words disks.new (renewed_taken taken) (body ∷ [])) }
+    ensures stop { D.honest → (before : List (List ℕ)) (body : List ℕ)
+        → Rests D.words disks.old taken before → IsRenewal octets.now (taken.generation + 1) body
+        → AtEachMoment D.words disks.old disks.new (HasBodies (IsBeforeOrOne before body)) }
+    ensures failures { CountsFailure D.words disks.old disks.new result }
+    ensures calls { Makes D.words (renewal_calls (Some gate)) disks.old disks.new result }
+{
+    let side = taken.side.turned();
+    disks.turn(side);
+    let answer = write_anew(&mut disks.first, gate, octets);
+    disks.turn(side);
+    answer
+}
+
+/// Writes a spool to a disk that has a head gate. An open one is closed first.
+fn write_anew<D: Disk>(disk: &mut D, gate: HeadGate, octets: &[u8]) -> Result<(), DiskFault>
+    requires { D.honest → IsGateOf (D.words.seen disk.old) (Some gate) }
+    ensures renewed { D.honest → OnOk result (D.words.seen disk.new ≡ renewed octets.now) }
+    ensures settled { D.honest → OnOk result (IsSettled D.words disk.new) }
+    ensures stop { D.honest → IsSettled D.words disk.old → AtEachDiskMoment D.words disk.old disk.new
+        (IsOldOrNew (D.words.seen disk.old) (renewed octets.now)) }
+    ensures failures { CountsDiskFailure D.words disk.old disk.new result }
+    ensures calls { DiskMakes D.words (renewal_calls (Some gate)) disk.old disk.new result }
+{
+    match gate {
+        HeadGate::Open => {
+            close_head(disk)?;
+            write_closed(disk, octets)
+        }
+        HeadGate::Closed => write_closed(disk, octets),
+    }
+}
+
+/// Closes an open head gate, by two calls.
+fn close_head<D: Disk>(disk: &mut D) -> Result<(), DiskFault>
+    requires { D.honest → HasHeadGate (D.words.seen disk.old)
+        × (slice_index (D.words.seen disk.old) 8 ≡ 1) }
+    ensures closed { D.honest → OnOk result (HasHeadGate (D.words.seen disk.new)
+        × (slice_index (D.words.seen disk.new) 8 ≢ 1)) }
+    ensures settled { D.honest → OnOk result (IsSettled D.words disk.new) }
+    ensures stop { D.honest → IsSettled D.words disk.old → AtEachDiskMoment D.words disk.old disk.new
+        (IsClosedOr (D.words.seen disk.old)) }
+    ensures failures { CountsDiskFailure D.words disk.old disk.new result }
+    ensures calls { DiskMakes D.words 2 disk.old disk.new result }
+{
+    writes_leave_the_rest();
+    write_through(disk, HEAD_GATE, &[CLOSED])?;
+    Ok(())
+}
+
+/// Writes a spool behind a closed head gate, and then opens that, by five calls.
+fn write_closed<D: Disk>(disk: &mut D, octets: &[u8]) -> Result<(), DiskFault>
+    requires { D.honest → HasHeadGate (D.words.seen disk.old)
+        × (slice_index (D.words.seen disk.old) 8 ≢ 1) }
+    ensures renewed { D.honest → OnOk result (D.words.seen disk.new ≡ renewed octets.now) }
+    ensures settled { D.honest → OnOk result (IsSettled D.words disk.new) }
+    ensures stop { D.honest → IsSettled D.words disk.old
+        → AtEachDiskMoment D.words disk.old disk.new (IsClosedOr (renewed octets.now)) }
+    ensures failures { CountsDiskFailure D.words disk.old disk.new result }
+    ensures calls { DiskMakes D.words 5 disk.old disk.new result }
+{
+    writes_leave_the_rest();
+    fill(disk, octets)?;
+    open_gate(disk, HEAD_GATE)?;
+    Ok(())
+}
+
+/// Writes all but the gate, behind a closed one, by three calls.
+fn fill<D: Disk>(disk: &mut D, octets: &[u8]) -> Result<(), DiskFault>
+    requires { D.honest → HasHeadGate (D.words.seen disk.old)
+        × (slice_index (D.words.seen disk.old) 8 ≢ 1) }
+    ensures filled { D.honest → OnOk result (IsFilled (D.words.seen disk.new) octets.now) }
+    ensures settled { D.honest → OnOk result (IsSettled D.words disk.new) }
+    ensures stop { D.honest → IsSettled D.words disk.old
+        → AtEachDiskMoment D.words disk.old disk.new IsNotOpen }
+    ensures failures { CountsDiskFailure D.words disk.old disk.new result }
+    ensures calls { DiskMakes D.words 3 disk.old disk.new result }
+{
+    disk.cut(GENERATION)?;
+    disk.write_at(GENERATION, octets)?;
+    disk.sync()?;
+    Ok(())
+}
