@@ -15,7 +15,7 @@ use Rattle.relay_book.proofs.TailLemmas.{Ends, ends_itself, ends_more}
 use Rattle.relay_book.proofs.ValueLemmas.{code_recipient}
 
 -- texts that end the record
-long_4 : (text : List ℕ) (n : ℕ) (rest : List ℕ) → text ≡ octets_4 n ++ rest → 4 ≤ length text
+pub long_4 : (text : List ℕ) (n : ℕ) (rest : List ℕ) → text ≡ octets_4 n ++ rest → 4 ≤ length text
 unfolding octets_4
 long_4 text n rest e =
     let four : length (octets_4 n) ≡ 4 = refl in

@@ -13,15 +13,15 @@ use Rattle.relay_book.specs.Record.{IsAccept, IsOutcome, IsRuling, IsVerdict, ac
 use Rattle.relay_book.specs.StandsFor.{RecordIsShort}
 use Rattle.relay_book.proofs.FitLemmas.{hop_fits, limit_fits, path_fits, reverse_path_fits, written_envid_fits, written_orcpt_fits}
 
-length_8 : (n : ℕ) → length (octets_8 n) ≡ 8
+pub length_8 : (n : ℕ) → length (octets_8 n) ≡ 8
 unfolding octets_8
 length_8 n = refl
 
-length_sized_2 : (text : List ℕ) → length (sized_2 text) ≡ 2 + length text
+pub length_sized_2 : (text : List ℕ) → length (sized_2 text) ≡ 2 + length text
 unfolding octets_2
 length_sized_2 text = let is : length (sized_2 text) ≡ suc (suc (length text)) = refl in omega (arith, is)
 
-length_sized_4 : (text : List ℕ) → length (sized_4 text) ≡ 4 + length text
+pub length_sized_4 : (text : List ℕ) → length (sized_4 text) ≡ 4 + length text
 unfolding octets_4
 length_sized_4 text = let is : length (sized_4 text) ≡ suc (suc (suc (suc (length text)))) = refl in omega (arith, is)
 

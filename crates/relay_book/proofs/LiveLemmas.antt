@@ -24,6 +24,10 @@ pub rise_next : {A : Type 0} (least next : ℕ) (entries : List (ℕ × A)) → 
 rise_next least next [] rise = omega (arith, rise)
 rise_next least next (entry ∷ entries) rise = (rise.0, rise_next (suc entry.0) next entries rise.1)
 
+pub rise_to : {A : Type 0} (least next number : ℕ) (entries : List (ℕ × A)) → Rise least next entries → next ≤ number → Rise least number entries
+rise_to least next number [] rise up = omega (arith, rise, up)
+rise_to least next number (entry ∷ entries) rise up = (rise.0, rise_to (suc entry.0) next number entries rise.1 up)
+
 pub rise_last : {A : Type 0} (least next : ℕ) (entries : List (ℕ × A)) (value : A) → Rise least next entries → Rise least (next + 1) (entries ++ (next, value) ∷ [])
 rise_last least next [] value rise = (rise, omega arith)
 rise_last least next (entry ∷ entries) value rise = (rise.0, rise_last (suc entry.0) next entries value rise.1)

@@ -8,7 +8,7 @@ use Rattle.relay_book.specs.Book.{if_there, live, marks_live, marks_of_slot, num
 use Rattle.relay_book.proofs.PlaceLemmas.{none_some, some_is}
 
 -- the entry at a place, and those behind it
-entry_at : (entries : List (ℕ × Option Message)) (index : ℕ) (entry : ℕ × Option Message) → slice_get entries index ≡ Some entry → drop index entries ≡ entry ∷ drop (suc index) entries
+pub entry_at : (entries : List (ℕ × Option Message)) (index : ℕ) (entry : ℕ × Option Message) → slice_get entries index ≡ Some entry → drop index entries ≡ entry ∷ drop (suc index) entries
 entry_at [] index entry is = absurd (none_some entry is)
 entry_at (first ∷ entries) zero entry is = ap (λ (e : ℕ × Option Message). e ∷ entries) (some_is first entry is)
 entry_at (first ∷ entries) (suc index) entry is = entry_at entries index entry is
@@ -32,7 +32,7 @@ marks_step test entries index number slot old new all is before new_is =
     ∙ ap (λ (l : List (ℕ × Option Message)). old ++ marks_live test l) (sym (entry_at entries index (number, slot) (sym is)))
     ∙ before
 
-drop_past : (entries : List (ℕ × Option Message)) (index : ℕ) → length entries ≤ index → drop index entries ≡ []
+pub drop_past : (entries : List (ℕ × Option Message)) (index : ℕ) → length entries ≤ index → drop index entries ≡ []
 drop_past [] zero past = refl
 drop_past [] (suc index) past = refl
 drop_past (entry ∷ entries) zero past = absurd (omega (arith, past))

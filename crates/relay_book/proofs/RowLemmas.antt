@@ -46,7 +46,7 @@ row_from Valid octets_of code (first ∷ done) (value ∷ values) behind rest fe
     (sym (append_assoc (octets_of first) (flat_map octets_of done) behind) ∙ e ∙ append_assoc (octets_of value) (flat_map octets_of values) rest) in
     row_from Valid octets_of code done values behind rest (omega (arith, fewer)) all.1 valid.1 none same.1
 
-no_row : {A : Type 0} (Valid : A → Type 0) (octets_of : A → List ℕ) → IsCode Valid octets_of → (count done : ℕ) (text : List ℕ) (values : List A) (behind : List ℕ)
+pub no_row : {A : Type 0} (Valid : A → Type 0) (octets_of : A → List ℕ) → IsCode Valid octets_of → (count done : ℕ) (text : List ℕ) (values : List A) (behind : List ℕ)
     → done < count → AreSoMany Valid done values → text ≡ flat_map octets_of values ++ behind → HasNone Valid octets_of behind → HasNoRow Valid octets_of count text
 no_row Valid octets_of code count done text values behind fewer are is none = record {
   none = λ others rest many e.

@@ -1,27 +1,39 @@
 -- The laws of what bodies stand for.
-use Rattle.std.proofs.Common.{◌≡◌, ℕ, suc, List, [], ◌∷◌, ◌++◌, map, fold, drop, length, refl, sym, subst, ap, ◌∙◌, arith}
+use Rattle.std.proofs.Common.{◌≡◌, ℕ, ◌≤◌, List, [], ◌∷◌, ◌++◌, map, fold, inl, inr, refl, sym, subst, ap, ◌∙◌, arith}
+use Rattle.std.proofs.lemmas.List.Sums.{fold-append}
 use Rattle.relay_book.specs.declared.change.Change.{Change}
 use Rattle.relay_book.specs.declared.change.Change.TheVariants.{Accept, Outcome}
 use Rattle.relay_book.specs.Record.{IsChange, encode}
 use Rattle.relay_book.specs.Queue.{Queue, FitsQueue, FitsFrom, empty_queue, queue_of, step}
-use Rattle.relay_book.specs.StandsFor.{BodiesStandForOne, NoneStandForNone, OneMoreStands, QueueIsRead, ReadsQueue}
+use Rattle.relay_book.specs.Snapshot.{IsQueue, IsSnapshotOf, snapshot}
+use Rattle.relay_book.specs.StandsFor.{BodiesLeaveOne, EncodingsStand, NoneStandForNone, OneMoreStands, QueueIsRead, ReadsAll, ReadsBody, ReadsFirst, ReadsQueue, SnapshotIsRead, SnapshotStands}
 use Rattle.relay_book.proofs.ChangeFieldLemmas.{encoding_is_one}
+use Rattle.relay_book.proofs.CodeLemmas.{first_of}
+use Rattle.relay_book.proofs.QueueLemmas.{list_is_queue, step_is_queue}
+use Rattle.relay_book.proofs.SnapshotLemmas.{snapshot_is_one}
+use Rattle.relay_book.proofs.SnapshotLengthLemmas.{few_messages}
 
 pub none_stand_for_none : NoneStandForNone
-none_stand_for_none = record { fitting = tt; bodies_are = refl }
+none_stand_for_none = record { fitting = tt; reads = refl }
 
-one_more_fits : (queue : Queue) (changes : List Change) (change : Change) → FitsFrom queue changes → FitsQueue (fold step queue changes) change → FitsFrom queue (changes ++ change ∷ [])
+pub one_more_fits : (queue : Queue) (changes : List Change) (change : Change) → FitsFrom queue changes → FitsQueue (fold step queue changes) change → FitsFrom queue (changes ++ change ∷ [])
 one_more_fits queue [] change fitting fits = (fits, tt)
 one_more_fits queue (first ∷ changes) change fitting fits = (fitting.0, one_more_fits (step queue first) changes change fitting.1 fits)
 
-one_more_body : (changes : List Change) (change : Change) → map encode changes ++ encode change ∷ [] ≡ map encode (changes ++ change ∷ [])
-one_more_body [] change = refl
-one_more_body (first ∷ changes) change = ap (λ (xs : List (List ℕ)). encode first ∷ xs) (one_more_body changes change)
+-- one body more is read
+more_read : (queue : Queue) (bodies : List (List ℕ)) (mid : Queue) (body : List ℕ) (left : Queue) → ReadsQueue queue bodies mid → ReadsBody mid body left → ReadsQueue queue (bodies ++ body ∷ []) left
+more_read queue [] mid body left reads one = (left, subst (λ (q : Queue). ReadsBody q body left) reads one, refl)
+more_read queue (first ∷ bodies) mid body left reads one = (reads.0, reads.1, more_read reads.0 bodies mid body left reads.2 one)
+
+pub one_more_read : (bodies : List (List ℕ)) (mid : Queue) (body : List ℕ) (left : Queue) → ReadsAll bodies mid → ReadsBody mid body left → ReadsAll (bodies ++ body ∷ []) left
+one_more_read [] mid body left reads one = (left, inr (subst (λ (q : Queue). ReadsBody q body left) reads one), refl)
+one_more_read (first ∷ bodies) mid body left reads one = (reads.0, reads.1, more_read reads.0 bodies mid body left reads.2 one)
 
 pub one_more_stands : OneMoreStands
 one_more_stands bodies changes change stands fits = record {
   fitting = one_more_fits empty_queue changes change stands.fitting fits;
-  bodies_are = ap (λ (xs : List (List ℕ)). xs ++ encode change ∷ []) stands.bodies_are ∙ one_more_body changes change;
+  reads = one_more_read bodies (queue_of changes) (encode change) (queue_of (changes ++ change ∷ [])) stands.reads
+      (record { change = change; fits = fits; body_is = refl; left_is = fold-append step empty_queue changes (change ∷ []) });
 }
 
 -- what fits a queue may be stored
@@ -29,52 +41,96 @@ pub fits_is_change : (queue : Queue) (change : Change) → FitsQueue queue chang
 fits_is_change queue (Accept accept) fits = fits.1
 fits_is_change queue (Outcome outcome) fits = fits.2
 
-first_body : List (List ℕ) → List ℕ
-first_body [] = []
-first_body (body ∷ bodies) = body
+-- a body is the record of one change
+body_leaves_one : (queue : Queue) (body : List ℕ) (left other : Queue) → ReadsBody queue body left → ReadsBody queue body other → left ≡ other
+body_leaves_one queue body left other one two =
+    let same = encoding_is_one one.change two.change (fits_is_change queue one.change one.fits) (fits_is_change queue two.change two.fits) (sym one.body_is ∙ two.body_is) in
+    one.left_is ∙ ap (step queue) same ∙ sym two.left_is
 
-same_first : (body other : List ℕ) (bodies others : List (List ℕ)) → body ∷ bodies ≡ other ∷ others → (body ≡ other) × (bodies ≡ others)
-unfolding first_body
-same_first body other bodies others e = (ap first_body e, ap (drop 1) e)
+rest_leaves_one : (queue : Queue) (bodies : List (List ℕ)) (left other : Queue) → ReadsQueue queue bodies left → ReadsQueue queue bodies other → left ≡ other
+rest_leaves_one queue [] left other one two = one ∙ sym two
+rest_leaves_one queue (body ∷ bodies) left other one two =
+    let same = body_leaves_one queue body one.0 two.0 one.1 two.1 in
+    rest_leaves_one two.0 bodies left other (subst (λ (q : Queue). ReadsQueue q bodies left) same one.2) two.2
 
-not_empty : (body : List ℕ) (bodies : List (List ℕ)) → [] ≡ body ∷ bodies → ⊥
-not_empty body bodies e = let none : 0 ≡ suc (length bodies) = ap length e in omega (arith, none)
+kind_below : (change : Change) → first_of (encode change) ≤ 2
+kind_below (Accept accept) = omega arith
+kind_below (Outcome outcome) = omega arith
 
-changes_are_one : (queue : Queue) (changes others : List Change) → FitsFrom queue changes → FitsFrom queue others → map encode changes ≡ map encode others → changes ≡ others
-changes_are_one queue [] [] fits also e = refl
-changes_are_one queue [] (other ∷ others) fits also e = absurd (not_empty (encode other) (map encode others) e)
-changes_are_one queue (change ∷ changes) [] fits also e = absurd (not_empty (encode change) (map encode changes) (sym e))
-changes_are_one queue (change ∷ changes) (other ∷ others) fits also e =
-    let parts = same_first (encode change) (encode other) (map encode changes) (map encode others) e in
-    let first = encoding_is_one change other (fits_is_change queue change fits.0) (fits_is_change queue other also.0) parts.0 in
-    let rest = changes_are_one (step queue change) changes others fits.1 (subst (λ (c : Change). FitsFrom (step queue c) others) (sym first) also.1) parts.1 in
-    (λ i. first i ∷ rest i)
+-- no snapshot is the record of a change
+pub not_both : (body : List ℕ) (queue left : Queue) → IsSnapshotOf body queue → ReadsBody empty_queue body left → ⊥
+unfolding snapshot
+not_both body queue left is reads =
+    let kind = kind_below reads.change in
+    let same : 3 ≡ first_of (encode reads.change) = ap first_of (sym is.octets_are ∙ reads.body_is) in
+    omega (arith, kind, same)
 
-pub bodies_stand_for_one : BodiesStandForOne
-bodies_stand_for_one bodies changes others stands also = changes_are_one empty_queue changes others stands.fitting also.fitting (sym stands.bodies_are ∙ also.bodies_are)
+first_leaves_one : (body : List ℕ) (left other : Queue) → ReadsFirst body left → ReadsFirst body other → left ≡ other
+first_leaves_one body left other (inl one) (inl two) = snapshot_is_one body left other one two
+first_leaves_one body left other (inl one) (inr two) = absurd (not_both body left other one two)
+first_leaves_one body left other (inr one) (inl two) = absurd (not_both body other left two one)
+first_leaves_one body left other (inr one) (inr two) = body_leaves_one empty_queue body left other one two
 
-reads_from : (queue : Queue) (changes : List Change) (bodies : List (List ℕ)) (left : Queue) → FitsFrom queue changes → bodies ≡ map encode changes → ReadsQueue queue bodies left → left ≡ fold step queue changes
-reads_from queue [] [] left fits e reads = reads
-reads_from queue [] (body ∷ bodies) left fits e reads = absurd (not_empty body bodies (sym e))
-reads_from queue (change ∷ changes) [] left fits e reads = absurd (not_empty (encode change) (map encode changes) e)
-reads_from queue (change ∷ changes) (body ∷ bodies) left fits e reads =
-    let parts = same_first body (encode change) bodies (map encode changes) e in
-    let same = encoding_is_one reads.1.change change (fits_is_change queue reads.1.change reads.1.fits) (fits_is_change queue change fits.0) (sym reads.1.body_is ∙ parts.0) in
-    let next_is : reads.0 ≡ step queue change = reads.1.left_is ∙ ap (step queue) same in
-    reads_from (step queue change) changes bodies left fits.1 parts.1 (subst (λ (q : Queue). ReadsQueue q bodies left) next_is reads.2)
+pub bodies_leave_one : BodiesLeaveOne
+bodies_leave_one [] left other one two = one ∙ sym two
+bodies_leave_one (body ∷ bodies) left other one two =
+    let same = first_leaves_one body one.0 two.0 one.1 two.1 in
+    rest_leaves_one two.0 bodies left other (subst (λ (q : Queue). ReadsQueue q bodies left) same one.2) two.2
+
+pub queue_is_read : QueueIsRead
+queue_is_read bodies changes queue stands =
+    ((λ reads. bodies_leave_one bodies queue (queue_of changes) reads stands.reads), (λ is. subst (ReadsAll bodies) (sym is) stands.reads))
 
 are_read : (queue : Queue) (changes : List Change) → FitsFrom queue changes → ReadsQueue queue (map encode changes) (fold step queue changes)
 are_read queue [] fits = refl
 are_read queue (change ∷ changes) fits =
     (step queue change, record { change = change; fits = fits.0; body_is = refl; left_is = refl }, are_read (step queue change) changes fits.1)
 
-pub queue_is_read : QueueIsRead
-queue_is_read bodies changes queue stands = (there, back)
-  where
-    there : ReadsQueue empty_queue bodies queue → queue ≡ queue_of changes
-    there reads = reads_from empty_queue changes bodies queue stands.fitting stands.bodies_are reads
+all_read : (changes : List Change) → FitsFrom empty_queue changes → ReadsAll (map encode changes) (queue_of changes)
+all_read [] fits = refl
+all_read (change ∷ changes) fits =
+    (step empty_queue change, inr (record { change = change; fits = fits.0; body_is = refl; left_is = refl }), are_read (step empty_queue change) changes fits.1)
 
-    back : queue ≡ queue_of changes → ReadsQueue empty_queue bodies queue
-    back is =
-        subst (λ (b : List (List ℕ)). ReadsQueue empty_queue b queue) (sym stands.bodies_are)
-        (subst (λ (q : Queue). ReadsQueue empty_queue (map encode changes) q) (sym is) (are_read empty_queue changes stands.fitting))
+pub encodings_stand : EncodingsStand
+encodings_stand changes fits = record { fitting = fits; reads = all_read changes fits }
+
+rest_front : (queue : Queue) (bodies rest : List (List ℕ)) (left : Queue) → ReadsQueue queue (bodies ++ rest) left → (mid : Queue) × ReadsQueue queue bodies mid
+rest_front queue [] rest left reads = (queue, refl)
+rest_front queue (body ∷ bodies) rest left reads =
+    let behind = rest_front reads.0 bodies rest left reads.2 in
+    (behind.0, (reads.0, reads.1, behind.1))
+
+-- what is read whole is read in front
+pub reads_front : (bodies rest : List (List ℕ)) (left : Queue) → ReadsAll (bodies ++ rest) left → (mid : Queue) × ReadsAll bodies mid
+reads_front [] rest left reads = (empty_queue, refl)
+reads_front (body ∷ bodies) rest left reads =
+    let behind = rest_front reads.0 bodies rest left reads.2 in
+    (behind.0, (reads.0, reads.1, behind.1))
+
+pub snapshot_is_read : SnapshotIsRead
+snapshot_is_read queue is short =
+    (queue, inl (record { valid = is; few = few_messages queue short; octets_are = refl }), refl)
+
+pub snapshot_stands : SnapshotStands
+snapshot_stands changes fitting short = record {
+  fitting = fitting;
+  reads = snapshot_is_read (queue_of changes) (list_is_queue changes fitting) short;
+}
+
+-- what is read from a queue that may be stored leaves one
+pub body_is_queue : (queue : Queue) (body : List ℕ) (left : Queue) → IsQueue queue → ReadsBody queue body left → IsQueue left
+body_is_queue queue body left is reads = subst IsQueue (sym reads.left_is) (step_is_queue queue reads.change reads.fits is)
+
+rest_is_queue : (queue : Queue) (bodies : List (List ℕ)) (left : Queue) → IsQueue queue → ReadsQueue queue bodies left → IsQueue left
+rest_is_queue queue [] left is reads = subst IsQueue (sym reads) is
+rest_is_queue queue (body ∷ bodies) left is reads =
+    rest_is_queue reads.0 bodies left (body_is_queue queue body reads.0 is reads.1) reads.2
+
+pub first_is_queue : (body : List ℕ) (left : Queue) → ReadsFirst body left → IsQueue left
+first_is_queue body left (inl is) = is.valid
+first_is_queue body left (inr reads) = body_is_queue empty_queue body left (list_is_queue [] tt) reads
+
+pub read_is_queue : (bodies : List (List ℕ)) (left : Queue) → ReadsAll bodies left → IsQueue left
+read_is_queue [] left reads = subst IsQueue (sym reads) (list_is_queue [] tt)
+read_is_queue (body ∷ bodies) left reads =
+    rest_is_queue reads.0 bodies left (first_is_queue body reads.0 reads.1) reads.2

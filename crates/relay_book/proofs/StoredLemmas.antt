@@ -38,10 +38,10 @@ own_is_valid changes (suc k) accept fits is = by (slice_get changes k) refl is
     by (Some (Accept own)) e is = accepts_are_valid empty_queue changes k accept fits (e ∙ ap (λ (a : AcceptFields). Some (Accept a)) (some_is own accept is))
     by (Some (Outcome outcome)) e is = absurd (none_some accept is)
 
-not_null_text : (path : List ℕ) → is_null path ≡ false → path ≢ codes "<>"
+pub not_null_text : (path : List ℕ) → is_null path ≡ false → path ≢ codes "<>"
 not_null_text path some is = false≢true (sym some ∙ ap is_null is)
 
-report_is_accept : (accept : AcceptFields) (outcome : OutcomeFields) → IsOutcome outcome → IsForwardPath accept.envelope.reverse_path → IsAccept (report_of accept outcome)
+pub report_is_accept : (accept : AcceptFields) (outcome : OutcomeFields) → IsOutcome outcome → IsForwardPath accept.envelope.reverse_path → IsAccept (report_of accept outcome)
 report_is_accept accept outcome valid forward = record {
   moment = valid.moment;
   envelope = record {

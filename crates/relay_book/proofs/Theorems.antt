@@ -2,7 +2,10 @@
 
 -- records, and the bodies of a spool
 pub use Rattle.relay_book.proofs.ChangeFieldLemmas.{encoding_is_one}
-pub use Rattle.relay_book.proofs.StandLemmas.{none_stand_for_none, one_more_stands, queue_is_read, bodies_stand_for_one}
+pub use Rattle.relay_book.proofs.StandLemmas.{none_stand_for_none, one_more_stands, queue_is_read, bodies_leave_one, encodings_stand, one_more_fits, one_more_read, reads_front}
+pub use Rattle.relay_book.proofs.StandLemmas.{read_is_queue, snapshot_is_read, snapshot_stands}
+pub use Rattle.relay_book.proofs.QueueLemmas.{found_is_queued, list_is_queue, step_is_queue}
+pub use Rattle.relay_book.proofs.SnapshotLemmas.{snapshot_is_one}
 pub use Rattle.relay_book.proofs.LengthLemmas.{record_is_short}
 -- custody
 pub use Rattle.relay_book.proofs.MarkLaws.{fold_finds, fold_holds, fold_knows, exactly_one, one_more_holds}

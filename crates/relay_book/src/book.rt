@@ -10,10 +10,13 @@ ghost use Rattle.relay_book.specs.Record.{IsAccept};
 
 mod decoded;
 mod entries;
+mod first;
 mod leaving;
 mod make;
 mod numbers;
 mod questions;
+mod restored;
+mod snapshot;
 
 use crate::change::{Accept, Change, Outcome};
 use crate::fate::Way;

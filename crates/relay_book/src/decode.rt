@@ -5,7 +5,9 @@ ghost use Rattle.relay_envelope.specs.Mail.{mail_value};
 ghost use Rattle.relay_book.specs.Record.{IsAccept, IsChange, IsNoRecord, IsOutcome, MayBeHop, accept_octets, encode, outcome_octets, sized_4, text_limit};
 ghost use Rattle.relay_book.specs.Fields.{BeginsAccept, BeginsRecord, BeginsWithHop, BeginsWithMail, HasNoHead, IsNoSized, MayBeRecord, SpellsHead, SpellsAccept, SpellsNoAccept, SpellsNoOutcome, SpellsOutcome};
 
+mod entry;
 mod mail;
+mod placed;
 mod recipient;
 mod ruling;
 mod tail;
@@ -14,6 +16,7 @@ use crate::change::{Accept, Change, Outcome, Rulings};
 use crate::fault::BookFault;
 use crate::field::{read_4, read_8, read_sized_2};
 use crate::limits::{REPORT_LIMIT, may_be_hop, text_limit};
+pub(crate) use entry::read_entry_in;
 use mail::mail_of;
 use recipient::{read_fields, read_recipients};
 use relay_envelope::{Envelope, Recipients};

@@ -1,11 +1,13 @@
-//! Records written.
+//! Records and messages written.
 ghost use Rattle.std.specs.Prelude.{◌≡◌, ◌++◌, ◌∷◌, ◌<◌, ◌≤◌, ◌^◌, length, OnOk, IfOk};
-ghost use Rattle.std.specs.List.{flat_map, AllByRecursion};
+ghost use Rattle.std.specs.List.{flat_map, AllByRecursion, zip};
 ghost use Rattle.relay_envelope.specs.Envelope.{IsEnvelope, IsRecipient};
 ghost use Rattle.relay_book.specs.Record.{IsAccept, IsChange, IsOutcome, IsRuling, IsVerdict, accept_octets, counted, encode, notify_number, octets_8, outcome_octets, recipient_octets, ret_number, ruling_octets, verdict_octets};
+ghost use Rattle.relay_book.specs.Snapshot.{IsQueued, entry_octets, place_octets, placed_octets};
 
 use crate::change::{Accept, Change, Outcome, Ruling, Verdict};
 use crate::field::{push_1, push_2, push_8, push_sized_2, push_sized_4};
+use crate::message::{Message, Place};
 use relay_envelope::{Notify, Recipient, Ret};
 use std::alloc::{AllocError, Global};
 
@@ -150,4 +152,77 @@ fn push_verdict(out: &mut Vec<u8>, verdict: &Verdict) -> Result<(), AllocError>
         Verdict::CantSend => push_1(out, 5),
         Verdict::NoRoute => push_1(out, 6),
     }
+}
+
+/// Adds a message that is queued: its number, and the fields of its accept, each recipient followed by its place.
+#[tactic(auto, using(crate::proofs::FitLemmas::reverse_path_fits, crate::proofs::FitLemmas::given_envid_fits, crate::proofs::FitLemmas::text_fits), unfolding(crate::specs::Snapshot::entry_octets))]
+pub(crate) fn push_entry(
+    out: &mut Vec<u8>,
+    number: u64,
+    message: &Message,
+) -> Result<(), AllocError>
+    requires { IsQueued (number, message.now) }
+    ensures { OnOk result (out.new.items ≡ out.old.items ++ entry_octets (number, message.now)) }
+{
+    let accept = &message.accept;
+    let envelope = &accept.envelope;
+    push_8(out, number)?;
+    push_8(out, accept.at.seconds())?;
+    push_sized_2(out, envelope.reverse_path.as_slice())?;
+    push_1(out, number_of_ret(envelope.ret))?;
+    match &envelope.envid {
+        Some(envid) => push_sized_2(out, envid.as_slice())?,
+        None => push_sized_2(out, b"")?,
+    }
+    push_placed(
+        out,
+        envelope.recipients.as_slice(),
+        message.places.as_slice(),
+    )?;
+    push_sized_4(out, message.accept.stored_text.as_slice())
+}
+
+/// Adds recipients, each followed by its place, behind their count.
+fn push_placed(
+    out: &mut Vec<u8>,
+    recipients: &[Recipient],
+    places: &[Place],
+) -> Result<(), AllocError>
+    requires few { length recipients.now ≤ 100 }
+    requires as_many { length places.now ≡ length recipients.now }
+    requires valid { AllByRecursion IsRecipient recipients.now }
+    ensures { OnOk result
+        (out.new.items ≡ out.old.items ++ counted placed_octets (zip recipients.now places.now)) }
+{
+    push_1(out, recipients.len() as u8)?;
+    push_row(out, recipients, places)?;
+    Ok(())
+}
+
+/// Adds recipients, each followed by its place.
+fn push_row(out: &mut Vec<u8>, recipients: &[Recipient], places: &[Place]) -> Result<(), AllocError>
+    requires { AllByRecursion IsRecipient recipients.now }
+    ensures { OnOk result
+        (out.new.items ≡ out.old.items ++ flat_map placed_octets (zip recipients.now places.now)) }
+{
+    match recipients {
+        [] => Ok(()),
+        [recipient, others @ ..] => match places {
+            [] => Ok(()),
+            [place, rest @ ..] => {
+                push_recipient(out, recipient)?;
+                push_place(out, *place)?;
+                push_row(out, others, rest)
+            }
+        },
+    }
+}
+
+/// Adds a place: whether it is held, its Later verdicts, and when it is due.
+fn push_place(out: &mut Vec<u8>, place: Place) -> Result<(), AllocError>
+    ensures { OnOk result (out.new.items ≡ out.old.items ++ place_octets place) }
+{
+    push_1(out, if place.held { 1 } else { 0 })?;
+    push_1(out, place.laters)?;
+    push_8(out, place.due)
 }

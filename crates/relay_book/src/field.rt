@@ -2,6 +2,7 @@
 ghost use Rattle.std.specs.Prelude.{◌≡◌, ◌≢◌, ◌<◌, ◌^◌, ◌++◌, ◌∷◌, [], ℕ, List, length, OnOk, OnErr, MatchOption};
 ghost use Rattle.relay_book.specs.Record.{octets_2, octets_4, octets_8, sized_2, sized_4};
 ghost use Rattle.relay_book.specs.Fields.{HasNoSized};
+ghost use Rattle.relay_book.specs.SnapshotFields.{HasNoLong};
 
 use std::alloc::AllocError;
 
@@ -45,6 +46,22 @@ pub(crate) fn read_sized_2(text: &[u8]) -> Option<(&[u8], &[u8])>
     }
 }
 
+/// A text behind its length of four octets, and what follows it.
+#[tactic(auto, using(crate::proofs::LongLemmas::none_short, crate::proofs::LongLemmas::none_cut))]
+pub(crate) fn read_sized_4(text: &[u8]) -> Option<(&[u8], &[u8])>
+    ensures { MatchOption result
+        (HasNoLong text.now)
+        (λ parts. (text.now ≡ sized_4 parts.0.now ++ parts.1.now) × (length parts.0.now < 2 ^ 32)) }
+{
+    let (len, rest) = read_4(text)?;
+    let len = len as usize;
+    if len <= rest.len() {
+        Some(rest.split_at(len))
+    } else {
+        None
+    }
+}
+
 /// A number of eight octets, and what follows it.
 #[tactic(auto, unfolding(crate::specs::Record::octets_8))]
 pub(crate) fn read_8(text: &[u8]) -> Option<(u64, &[u8])>
@@ -72,6 +89,14 @@ pub(crate) fn push_1(out: &mut Vec<u8>, octet: u8) -> Result<(), AllocError>
 #[tactic(auto, unfolding(crate::specs::Record::octets_2))]
 pub(crate) fn push_2(out: &mut Vec<u8>, number: u16) -> Result<(), AllocError>
     ensures { OnOk result (out.new.items ≡ out.old.items ++ octets_2 number) }
+{
+    out.extend_from_slice(&number.to_be_bytes())
+}
+
+/// Adds a number of four octets.
+#[tactic(auto, unfolding(crate::specs::Record::octets_4))]
+pub(crate) fn push_4(out: &mut Vec<u8>, number: u32) -> Result<(), AllocError>
+    ensures { OnOk result (out.new.items ≡ out.old.items ++ octets_4 number) }
 {
     out.extend_from_slice(&number.to_be_bytes())
 }

@@ -11,6 +11,7 @@ mod fate;
 mod fault;
 mod field;
 mod judge;
+mod length;
 mod limits;
 mod message;
 mod question;

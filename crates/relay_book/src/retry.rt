@@ -45,7 +45,7 @@ pub(crate) fn place_after(at: Moment, place: Place, fate: Fate) -> Place
 }
 
 /// A place that left.
-const LEFT_PLACE: Place = Place {
+pub(crate) const LEFT_PLACE: Place = Place {
     held: false,
     laters: 0,
     due: 0,

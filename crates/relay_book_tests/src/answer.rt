@@ -4,6 +4,7 @@ use crate::generate::decode_records;
 use crate::hex::octets_of;
 use crate::number::number_in;
 use crate::octets::{fits, values_that_fit};
+use crate::snapshot::{book_of, cuts_text, snapshot_text, word};
 use relay_book::{Book, BookFault, decode_change, encode_change};
 use relay_trace::Moment;
 use std::alloc::{AllocError, Global};
@@ -46,6 +47,12 @@ impl Subject {
             values_that_fit(alloc, &mut self.book, self.record.as_slice(), place)
         } else if let Some(text) = row.strip_prefix("due ") {
             due(alloc, &self.book, text)
+        } else if let Some(text) = row.strip_prefix("snapshot ") {
+            snapshot_text(alloc, text)
+        } else if let Some(text) = row.strip_prefix("read ") {
+            self.read(alloc, text)
+        } else if let Some(text) = row.strip_prefix("cut ") {
+            cuts_text(alloc, text)
         } else if let Some(text) = row.strip_prefix("generate ") {
             decode_records(alloc, number_in(text)?)
         } else {
@@ -62,6 +69,26 @@ impl Subject {
         } else {
             word(alloc, BookFault::BadRecord)
         }
+    }
+
+    /// Reads a snapshot: the book that comes of it is the one that the next rows are about.
+    fn read(&mut self, alloc: Global, text: &str) -> Result<String, RowsFault> {
+        let octets = octets_of(alloc, text)?;
+        match book_of(alloc, octets.as_slice()) {
+            Err(fault) => word(alloc, fault),
+            Ok((book, same)) => {
+                self.book = book;
+                Ok(read_text(alloc, octets.len(), same)?)
+            }
+        }
+    }
+}
+
+fn read_text(alloc: Global, len: usize, same: bool) -> Result<String, AllocError> {
+    if same {
+        format!(in alloc; "a snapshot of {len}")
+    } else {
+        format!(in alloc; "another snapshot")
     }
 }
 
@@ -99,14 +126,6 @@ fn decoded(alloc: Global, text: &str) -> Result<String, RowsFault> {
 fn is_written_again(alloc: Global, record: &[u8]) -> Result<bool, BookFault> {
     let change = decode_change(alloc, record)?;
     Ok(encode_change(alloc, &change)?.as_slice() == record)
-}
-
-/// A fault in a word; want of memory ends the program.
-fn word(alloc: Global, fault: BookFault) -> Result<String, RowsFault> {
-    match fault {
-        BookFault::BadRecord => Ok(format!(in alloc; "BadRecord")?),
-        BookFault::NoMemory => Err(RowsFault::NoMemory),
-    }
 }
 
 /// The places that are due at a moment.

@@ -1,7 +1,8 @@
 //! Reads each row of data/, and prints what comes of it. A row applies a change to a book, asks that book,
-//! reads a record, takes a record in hand and changes an octet of it, or decodes records of a fixed generator:
-//! its answer stands behind it. Of the rows of reports.in, one shows the report of an outcome and whether it is
-//! taken apart again, or the boundary of three parts: its answer stands alone.
+//! reads a record, takes a record or a snapshot in hand and changes an octet of it, writes, reads or cuts a
+//! snapshot, or decodes records of a fixed generator: its answer stands behind it. Of the rows of reports.in, one
+//! shows the report of an outcome and whether it is taken apart again, or the boundary of three parts: its answer
+//! stands alone.
 #![tactic(auto)]
 
 mod answer;
@@ -13,6 +14,7 @@ mod number;
 mod octets;
 mod report;
 mod shown;
+mod snapshot;
 mod sum;
 mod tally;
 
@@ -40,6 +42,7 @@ fn show_rows(rt: &HostRuntime) -> Result<(), RowsFault> {
     };
     show_lines(rt, file(rt, folder, "rows.in")?.as_str())?;
     show_lines(rt, file(rt, folder, "octets.in")?.as_str())?;
+    show_lines(rt, file(rt, folder, "snapshots.in")?.as_str())?;
     show_reports(rt, file(rt, folder, "reports.in")?.as_str())
 }
 

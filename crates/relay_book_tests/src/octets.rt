@@ -1,10 +1,14 @@
-//! A record, one octet of which is changed.
+//! A record or a snapshot, one octet of which is changed.
 use crate::fault::RowsFault;
+use crate::snapshot::is_snapshot;
 use relay_book::{Book, BookFault, Change, decode_change};
 use std::alloc::Global;
 
-/// Whether the octets are the record of a change that fits the book, which stays as it is.
+/// Whether the octets are a snapshot, or the record of a change that fits the book, which stays as it is.
 pub fn fits(alloc: Global, book: &mut Book, record: &[u8]) -> Result<bool, RowsFault> {
+    if is_snapshot(alloc, record)? {
+        return Ok(true);
+    }
     match decode_change(alloc, record) {
         Ok(change) => is_prepared(alloc, book, change),
         Err(BookFault::BadRecord) => Ok(false),

@@ -108,7 +108,7 @@ fn recipient_of<'a>(path: &'a [u8], number: u8, orcpt: &'a [u8]) -> Option<Rcpt<
 
 /// A recipient, and what follows it.
 #[tactic(auto, using(crate::proofs::FieldLemmas::none_without_fields, crate::proofs::FieldLemmas::none_of_fields, crate::proofs::FieldLemmas::spelled))]
-fn read_recipient(text: &[u8]) -> Option<(Rcpt<'_>, &[u8])>
+pub(super) fn read_recipient(text: &[u8]) -> Option<(Rcpt<'_>, &[u8])>
     ensures { MatchOption result
         (HasNone IsRecipient recipient_octets text.now)
         (λ parts. IsRecipient (recipient_from (rcpt_value parts.0))

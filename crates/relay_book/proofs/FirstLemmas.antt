@@ -1,0 +1,61 @@
+-- A first body is a snapshot or the record of a first change, and never both.
+use Rattle.std.proofs.Common.{◌≡◌, inl, inr, ℕ, List, Result, Ok, Err, OnOk, refl, sym, ◌∙◌, subst, arith}
+use Rattle.relay_book.specs.declared.change.Change.{Change}
+use Rattle.relay_book.specs.declared.change.Change.TheVariants.{Accept, Outcome}
+use Rattle.relay_book.specs.Record.{IsChange, IsNoRecord, encode}
+use Rattle.relay_book.specs.Queue.{Queue, FitsQueue, empty_queue, step}
+use Rattle.relay_book.specs.Snapshot.{IsNoSnapshot, IsQueue, IsSnapshotOf, snapshot}
+use Rattle.relay_book.specs.SnapshotFields.{IsOfSnapshot}
+use Rattle.relay_book.specs.StandsFor.{ReadsBody, ReadsFirst, ReadsNoBody, ReadsNoFirst}
+use Rattle.relay_book.proofs.ChangeFieldLemmas.{encoding_is_one}
+use Rattle.relay_book.proofs.QueueLemmas.{step_is_queue}
+use Rattle.relay_book.proofs.StandLemmas.{fits_is_change}
+
+is_of_snapshot : (octets : List ℕ) (queue : Queue) → IsSnapshotOf octets queue → IsOfSnapshot octets
+unfolding snapshot
+is_of_snapshot octets queue is = subst IsOfSnapshot (sym is.octets_are) refl
+
+of_no_record : (octets : List ℕ) (change : Change) → octets ≡ encode change → IsOfSnapshot octets → ⊥
+of_no_record octets (Accept accept) is of = let same = subst IsOfSnapshot is of in omega (arith, same)
+of_no_record octets (Outcome outcome) is of = let same = subst IsOfSnapshot is of in omega (arith, same)
+
+pub snapshot_first : (body : List ℕ) (left : Queue) → IsSnapshotOf body left → ReadsFirst body left
+snapshot_first body left is = inl is
+
+pub change_first : (body : List ℕ) (queue left : Queue) → queue ≡ empty_queue → ReadsBody queue body left → ReadsFirst body left
+change_first body queue left is reads = inr (subst (λ (q : Queue). ReadsBody q body left) is reads)
+
+pub no_snapshot_first : (body : List ℕ) → IsOfSnapshot body → IsNoSnapshot body → ReadsNoFirst body
+no_snapshot_first body of out = record { none = by }
+  where
+    by : (left : Queue) → ReadsFirst body left → ⊥
+    by left (inl snapshot) = out.none left snapshot
+    by left (inr reads) = of_no_record body reads.change reads.body_is of
+
+pub no_change_first : (body : List ℕ) (queue : Queue) → queue ≡ empty_queue → (IsOfSnapshot body → ⊥) → ReadsNoBody queue body → ReadsNoFirst body
+no_change_first body queue is other out = record { none = by }
+  where
+    by : (left : Queue) → ReadsFirst body left → ⊥
+    by left (inl snapshot) = other (is_of_snapshot body left snapshot)
+    by left (inr reads) = out.none left (subst (λ (q : Queue). ReadsBody q body left) (sym is) reads)
+
+-- where a body records no change that fits
+pub no_record : (queue : Queue) (body : List ℕ) → IsNoRecord body → ReadsNoBody queue body
+no_record queue body out = record {
+  none = λ left reads. out.none reads.change (fits_is_change queue reads.change reads.fits) reads.body_is;
+}
+
+pub no_fit : (queue : Queue) (body : List ℕ) (change : Change) → IsChange change → body ≡ encode change → (FitsQueue queue change → ⊥) → ReadsNoBody queue body
+no_fit queue body change valid is misfit = record {
+  none = λ left reads.
+      misfit (subst (FitsQueue queue) (encoding_is_one reads.change change (fits_is_change queue reads.change reads.fits) valid (sym reads.body_is ∙ is)) reads.fits);
+}
+
+-- the change that a body records was applied
+next_is_queue : (queue : Queue) (change : Change) (left : Queue) → FitsQueue queue change → left ≡ step queue change → IsQueue queue → IsQueue left
+next_is_queue queue change left fits is valid = subst IsQueue (sym is) (step_is_queue queue change fits valid)
+
+pub queue_on_ok : {T E : Type 0} (result : Result T E) (queue : Queue) (change : Change) (left : Queue) → OnOk result (FitsQueue queue change)
+    → OnOk result (left ≡ step queue change) → OnOk result (IsQueue queue → IsQueue left)
+queue_on_ok (Ok value) queue change left fits is = next_is_queue queue change left fits is
+queue_on_ok (Err fault) queue change left fits is = tt

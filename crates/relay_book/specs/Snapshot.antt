@@ -1,0 +1,71 @@
+-- Snapshots: the one encoding of a queue, which may stand for the whole list of changes that left it. Numbers are
+-- big endian.
+use Rattle.std.specs.Prelude.{◌≡◌, ℕ, ◌+◌, ◌≤◌, ◌<◌, ◌^◌, true, false, List, ◌∷◌, ◌++◌, length}
+use Rattle.std.specs.List.{AllByRecursion, flat_map, list_any, zip}
+use Rattle.relay_envelope.specs.declared.envelope.Recipient.{Recipient}
+use Rattle.relay_book.specs.declared.message.Place.{Place}
+use Rattle.relay_book.specs.declared.message.Message.{Message}
+use Rattle.relay_book.specs.Book.{Rise}
+use Rattle.relay_book.specs.Queue.{Queue, is_held, last_number}
+use Rattle.relay_book.specs.Record.{IsAccept, counted, octets_4, octets_8, recipient_octets, ret_number, sized_2, sized_4, worth, written}
+
+-- a place: whether it is held, its Later verdicts, and when it is due
+abbrev pub place_octets : Place → List ℕ
+place_octets place = worth place.held 1 ∷ place.laters ∷ octets_8 place.due
+
+-- a recipient, followed by its place
+abbrev pub placed_octets : Recipient × Place → List ℕ
+placed_octets placed = recipient_octets placed.0 ++ place_octets placed.1
+
+-- a message: its number, and the fields of its accept, each recipient followed by its place
+unfoldable pub entry_octets : ℕ × Message → List ℕ
+entry_octets entry =
+    octets_8 entry.0
+    ++ (octets_8 entry.1.accept.at
+    ++ (sized_2 entry.1.accept.envelope.reverse_path
+    ++ (ret_number entry.1.accept.envelope.ret
+    ∷ (sized_2 (written entry.1.accept.envelope.envid)
+    ++ (counted placed_octets (zip entry.1.accept.envelope.recipients entry.1.places)
+    ++ sized_4 entry.1.accept.stored_text)))))
+
+-- the one encoding of a queue: the next number, and the messages behind their count
+unfoldable pub snapshot : Queue → List ℕ
+snapshot queue =
+    3 ∷ (octets_8 queue.next ++ (octets_4 (length queue.messages) ++ flat_map entry_octets queue.messages))
+
+-- a place that may be stored: one that left has had no Later verdict and isn't due
+pub record IsPlace (place : Place) : Type 0 where
+  pub laters : place.laters ≤ 4
+  pub due : place.due < 2 ^ 64
+  pub left : place.held ≡ false → (place.laters ≡ 0) × (place.due ≡ 0)
+
+-- a message that may be stored: it has a place for each recipient, and one of them is held
+pub record IsQueued (entry : ℕ × Message) : Type 0 where
+  pub number_is : entry.1.number ≡ entry.0
+  pub number_fits : entry.0 < 2 ^ 64
+  pub accept : IsAccept entry.1.accept
+  pub as_many : length entry.1.places ≡ length entry.1.accept.envelope.recipients
+  pub places : AllByRecursion IsPlace entry.1.places
+  pub some : list_any is_held entry.1.places ≡ true
+
+-- a queue that may be stored: numbers begin at 1, and rise to below the next
+pub record IsQueue (queue : Queue) : Type 0 where
+  pub next : queue.next ≤ last_number + 1
+  pub rise : Rise 1 queue.next queue.messages
+  pub messages : AllByRecursion IsQueued queue.messages
+
+-- the octets are the snapshot of a queue, of which the count of messages fits four octets
+pub record IsSnapshotOf (octets : List ℕ) (queue : Queue) : Type 0 where
+  pub valid : IsQueue queue
+  pub few : length queue.messages < 2 ^ 32
+  pub octets_are : octets ≡ snapshot queue
+
+-- they are the snapshot of no queue
+pub record IsNoSnapshot (octets : List ℕ) : Type 0 where
+  pub none : (queue : Queue) → IsSnapshotOf octets queue → ⊥
+
+-- Octets are the snapshot of one queue.
+abbrev pub SnapshotIsOne : Type 0
+SnapshotIsOne =
+    (octets : List ℕ) (queue other : Queue) → IsSnapshotOf octets queue → IsSnapshotOf octets other
+    → queue ≡ other

@@ -1,0 +1,50 @@
+//! The first body of a spool: a snapshot, or the record of a first change.
+ghost use Rattle.std.specs.Prelude.{◌↔◌, IfOk, IsTrue, OnOk, IsErrOf};
+ghost use Rattle.relay_book.specs.Snapshot.{IsQueue};
+ghost use Rattle.relay_book.specs.SnapshotFields.{IsOfSnapshot};
+ghost use Rattle.relay_book.specs.StandsFor.{ReadsBody, ReadsFirst, ReadsNoBody, ReadsNoFirst};
+
+use crate::book::Book;
+use crate::decode::decode_record;
+use crate::fault::BookFault;
+use std::alloc::Global;
+
+impl Book {
+    /// The book that a first body leaves: of the queue of which it is the snapshot, or of the one change that it
+    /// records. It fails with `BadRecord` exactly where it is neither, and where memory runs out.
+    #[tactic(auto, using(crate::proofs::FirstLemmas::snapshot_first, crate::proofs::FirstLemmas::no_snapshot_first, crate::proofs::FirstLemmas::change_first, crate::proofs::FirstLemmas::no_change_first, crate::proofs::StandLemmas::first_is_queue))]
+    pub fn read_first(alloc: Global, body: Vec<u8>) -> Result<Self, BookFault>
+        ensures reads { IfOk result (λ book. ReadsFirst body.items book.queue) }
+        ensures queue { IfOk result (λ book. IsQueue book.queue) }
+        ensures bad { IsErrOf result BookFault.BadRecord → ReadsNoFirst body.items }
+    {
+        if is_of_snapshot(body.as_slice()) {
+            return Book::decode_snapshot(alloc, body.as_slice());
+        }
+        let mut book = Book::new(alloc);
+        book.read_next(alloc, body)?;
+        Ok(book)
+    }
+
+    /// Applies the change that a body records; a message that it queues keeps the body's memory. It fails with
+    /// `BadRecord` exactly where the body records none that fits, and where memory runs out.
+    #[tactic(auto, using(crate::proofs::FirstLemmas::no_record))]
+    pub fn read_next(&mut self, alloc: Global, body: Vec<u8>) -> Result<(), BookFault>
+        ensures reads { OnOk result (ReadsBody self.old.queue body.items self.new.queue) }
+        ensures queue { OnOk result (IsQueue self.old.queue → IsQueue self.new.queue) }
+        ensures bad { IsErrOf result BookFault.BadRecord → ReadsNoBody self.old.queue body.items }
+    {
+        let change = decode_record(alloc, body)?;
+        self.apply_decoded(alloc, change)
+    }
+}
+
+/// Whether the first octet is that of a snapshot.
+fn is_of_snapshot(octets: &[u8]) -> bool
+    ensures { IsTrue result ↔ IsOfSnapshot octets.now }
+{
+    match octets {
+        [] => false,
+        [kind, ..] => *kind == 3,
+    }
+}

@@ -1,0 +1,226 @@
+//! The snapshot of a book's queue, written and read back.
+ghost use Rattle.std.specs.Prelude.{◌≡◌, ◌≢◌, ◌≤◌, ◌<◌, ◌+◌, ◌-◌, ◌^◌, ◌++◌, length, min, IfOk, OnOk, IsErrOf, MatchOption};
+ghost use Rattle.std.specs.List.{AllByRecursion, flat_map};
+ghost use Rattle.relay_book.specs.Book.{if_there, live};
+ghost use Rattle.relay_book.specs.Queue.{empty_queue, last_number};
+ghost use Rattle.relay_book.specs.Snapshot.{IsNoSnapshot, IsQueue, IsQueued, IsSnapshotOf, entry_octets, snapshot};
+ghost use Rattle.relay_book.specs.SnapshotFields.{AreEntries, HasNoEntries, MayBeSnapshot, SpellsCounts, SpellsNoCounts, SpellsNoSnapshot, SpellsSnapshot, entries_length};
+
+use crate::book::Book;
+use crate::decode::read_entry_in;
+use crate::encode::push_entry;
+use crate::fault::BookFault;
+use crate::field::{push_1, push_4, push_8, read_4, read_8};
+use crate::length::{ENTRY_HEAD, entry_length};
+use crate::limits::LAST_NUMBER;
+use crate::message::Message;
+use indexmap::IndexMap;
+use std::alloc::{AllocError, Global};
+
+/// The octets of a snapshot in front of its messages: that of its kind, the next number, and their count.
+const HEAD_LENGTH: usize = 13;
+
+impl Book {
+    /// The snapshot of the queue, from which `decode_snapshot` makes the same queue. It fails where memory runs out,
+    /// and counts 2^32 messages and more as that.
+    pub fn encode_snapshot(&self, alloc: Global) -> Result<Vec<u8>, AllocError>
+        requires { IsQueue self.now.queue }
+        ensures { IfOk result (λ octets. octets.items ≡ snapshot self.now.queue) }
+    {
+        write_snapshot(alloc, self.next, &self.messages)
+    }
+
+    /// How many octets the snapshot takes. It takes no memory, and 2^64 - 1 octets stand for as many and more.
+    #[tactic(auto, using(crate::proofs::SnapshotLengthLemmas::length_is))]
+    pub fn snapshot_length(&self) -> usize
+        requires { IsQueue self.now.queue }
+        ensures { result ≡ min (length (snapshot self.now.queue)) (2 ^ 64 - 1) }
+    {
+        length_of(&self.messages)
+    }
+
+    /// The book of the queue of which these octets are the snapshot, with one copy of each text. It fails with
+    /// `BadRecord` exactly where they are no snapshot of a queue, and where memory runs out; memory is wanted only
+    /// behind the count of messages.
+    #[tactic(auto, using(crate::proofs::SnapshotReadLemmas::bad_head, crate::proofs::SnapshotReadLemmas::bad_next, crate::proofs::SnapshotReadLemmas::bad_entries, crate::proofs::SnapshotReadLemmas::may_be))]
+    pub fn decode_snapshot(alloc: Global, octets: &[u8]) -> Result<Self, BookFault>
+        ensures snapshot { IfOk result (λ book. IsSnapshotOf octets.now book.queue) }
+        ensures bad { IsErrOf result BookFault.BadRecord → IsNoSnapshot octets.now }
+        ensures memory { IsErrOf result BookFault.NoMemory → MayBeSnapshot octets.now }
+    {
+        let Some((next, count, rest)) = read_head(octets) else {
+            return Err(BookFault::BadRecord);
+        };
+        if next < 1 || next > LAST_NUMBER + 1 {
+            return Err(BookFault::BadRecord);
+        }
+        let mut book = Book::new(alloc);
+        book.read_entries(alloc, next, count, rest)?;
+        Ok(book)
+    }
+
+    /// Reads so many messages into an empty book, and takes this next number; the whole text is these messages. Memory
+    /// is asked for no more messages than may stand in the text.
+    #[tactic(auto, using(crate::proofs::SnapshotReadLemmas::none_read, crate::proofs::SnapshotReadLemmas::too_many))]
+    fn read_entries(
+        &mut self,
+        alloc: Global,
+        next: u64,
+        count: u32,
+        text: &[u8],
+    ) -> Result<(), BookFault>
+        requires empty { self.old.queue ≡ empty_queue }
+        requires some { 1 ≤ next }
+        requires few { next ≤ last_number + 1 }
+        ensures next { OnOk result (self.new.queue.next ≡ next) }
+        ensures entries { OnOk result (AreEntries count next text.now self.new.queue.messages) }
+        ensures bad { IsErrOf result BookFault.BadRecord → HasNoEntries count next text.now }
+    {
+        if count as usize > text.len() / ENTRY_HEAD {
+            return Err(BookFault::BadRecord);
+        }
+        self.make_room(count as usize)?;
+        let mut rest = text;
+        for index in 0..count {
+            match read_entry_in(alloc, self.next_number(), next, rest) {
+                Err(fault) => return Err(fault),
+                Ok((message, behind)) => {
+                    self.restore(message)?;
+                    rest = behind;
+                }
+            }
+        }
+        if !rest.is_empty() {
+            return Err(BookFault::BadRecord);
+        }
+        self.skip_to(next);
+        Ok(())
+    }
+}
+
+/// The octet of a snapshot, the next number, the count of messages, and what follows them.
+#[tactic(auto, using(crate::proofs::SnapshotReadLemmas::no_kind, crate::proofs::SnapshotReadLemmas::other_kind, crate::proofs::SnapshotReadLemmas::no_counts, crate::proofs::SnapshotReadLemmas::head_is))]
+fn read_head(octets: &[u8]) -> Option<(u64, u32, &[u8])>
+    ensures { MatchOption result (SpellsNoSnapshot octets.now)
+        (λ parts. SpellsSnapshot octets.now parts.0 parts.1 parts.2.now) }
+{
+    let (kind, rest) = octets.split_first()?;
+    if *kind != 3 {
+        return None;
+    }
+    let (next, count, rest) = read_counts(rest)?;
+    Some((next, count, rest))
+}
+
+/// The next number, the count of messages, and what follows them.
+#[tactic(auto, using(crate::proofs::SnapshotReadLemmas::no_next, crate::proofs::SnapshotReadLemmas::no_count, crate::proofs::SnapshotReadLemmas::counts_are))]
+fn read_counts(text: &[u8]) -> Option<(u64, u32, &[u8])>
+    ensures { MatchOption result (SpellsNoCounts text.now)
+        (λ parts. SpellsCounts text.now parts.0 parts.1 parts.2.now) }
+{
+    let (next, rest) = read_8(text)?;
+    let (count, rest) = read_4(rest)?;
+    Some((next, count, rest))
+}
+
+/// Writes the snapshot of a map's messages and a next number.
+fn write_snapshot(
+    alloc: Global,
+    next: u64,
+    messages: &IndexMap<u64, Option<Message>>,
+) -> Result<Vec<u8>, AllocError>
+    requires { AllByRecursion IsQueued (live messages.now.entries) }
+    ensures { IfOk result (λ octets.
+        octets.items ≡ snapshot (record { next = next; messages = live messages.now.entries })) }
+{
+    let count = queued_count(messages);
+    let Ok(count) = u32::try_from(count) else {
+        return Err(AllocError);
+    };
+    let mut out = Vec::with_capacity(alloc, length_of(messages))?;
+    push_1(&mut out, 3)?;
+    push_8(&mut out, next)?;
+    push_4(&mut out, count)?;
+    push_entries(&mut out, messages)?;
+    Ok(out)
+}
+
+/// How many octets the snapshot of these messages takes.
+fn length_of(messages: &IndexMap<u64, Option<Message>>) -> usize
+    ensures { result ≡ min (13 + entries_length (live messages.now.entries)) (2 ^ 64 - 1) }
+{
+    let mut total = HEAD_LENGTH;
+    for index in 0..messages.len() {
+        let Some((_, slot)) = messages.get_index(index) else {
+            return total;
+        };
+        total = total.saturating_add(length_of_slot(slot));
+    }
+    total
+}
+
+/// How many octets the message of an entry takes, if it hasn't ended.
+fn length_of_slot(slot: &Option<Message>) -> usize
+    ensures { result ≡ min (entries_length (if_there 0 slot.now)) (2 ^ 64 - 1) }
+{
+    match slot {
+        Some(message) => entry_length(message),
+        None => 0,
+    }
+}
+
+/// How many messages haven't ended.
+#[tactic(auto, using(crate::proofs::SnapshotWriteLemmas::count_end))]
+fn queued_count(messages: &IndexMap<u64, Option<Message>>) -> usize
+    ensures { result ≡ length (live messages.now.entries) }
+{
+    let mut count = 0;
+    for index in 0..messages.len() {
+        let Some((_, slot)) = messages.get_index(index) else {
+            return count;
+        };
+        count += count_of(slot);
+    }
+    count
+}
+
+/// How many messages an entry has that haven't ended.
+fn count_of(slot: &Option<Message>) -> usize
+    ensures { result ≡ length (if_there 0 slot.now) }
+{
+    match slot {
+        Some(_) => 1,
+        None => 0,
+    }
+}
+
+/// Adds the messages that haven't ended.
+#[tactic(auto, using(crate::proofs::SnapshotWriteLemmas::entries_end))]
+fn push_entries(
+    out: &mut Vec<u8>,
+    messages: &IndexMap<u64, Option<Message>>,
+) -> Result<(), AllocError>
+    requires { AllByRecursion IsQueued (live messages.now.entries) }
+    ensures { OnOk result
+        (out.new.items ≡ out.old.items ++ flat_map entry_octets (live messages.now.entries)) }
+{
+    for index in 0..messages.len() {
+        let Some((number, slot)) = messages.get_index(index) else {
+            return Ok(());
+        };
+        push_slot(out, *number, slot)?;
+    }
+    Ok(())
+}
+
+/// Adds the message of an entry, unless it has ended.
+fn push_slot(out: &mut Vec<u8>, number: u64, slot: &Option<Message>) -> Result<(), AllocError>
+    requires { AllByRecursion IsQueued (if_there number slot.now) }
+    ensures { OnOk result
+        (out.new.items ≡ out.old.items ++ flat_map entry_octets (if_there number slot.now)) }
+{
+    match slot {
+        Some(message) => push_entry(out, number, message),
+        None => Ok(()),
+    }
+}

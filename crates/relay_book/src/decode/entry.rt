@@ -1,0 +1,121 @@
+//! The messages of a snapshot.
+ghost use Rattle.std.specs.Prelude.{◌≡◌, ◌++◌, ◌≤◌, ◌<◌, IfOk, IsErrOf};
+ghost use Rattle.relay_book.specs.Fields.{HasNone};
+ghost use Rattle.relay_book.specs.Snapshot.{IsQueued, entry_octets};
+ghost use Rattle.relay_book.specs.SnapshotFields.{IsQueuedIn, SpellsEntry, numbered};
+
+use super::mail::mail_of;
+use super::placed::read_placed;
+use super::recipient::read_fields;
+use crate::change::Accept;
+use crate::fault::BookFault;
+use crate::field::{read_8, read_sized_4};
+use crate::limits::text_limit;
+use crate::message::{Message, Places};
+use relay_envelope::{Envelope, Recipients};
+use relay_octets::Octets;
+use relay_trace::Moment;
+use std::alloc::Global;
+
+/// The fields of a message: its number, its moment, the three of MAIL, the recipients, their places, the stored text,
+/// and what follows them.
+type EntryFields<'a> = (
+    u64,
+    u64,
+    &'a [u8],
+    u8,
+    &'a [u8],
+    Recipients,
+    Places,
+    &'a [u8],
+    &'a [u8],
+);
+
+/// Cuts a message into its fields.
+#[tactic(auto, using(crate::proofs::EntryFieldLemmas::no_number, crate::proofs::EntryFieldLemmas::no_moment, crate::proofs::EntryFieldLemmas::no_mail_fields, crate::proofs::EntryFieldLemmas::no_placed, crate::proofs::EntryFieldLemmas::no_stored_text, crate::proofs::EntryFieldLemmas::entry_spelled))]
+fn split_entry(alloc: Global, text: &[u8]) -> Result<EntryFields<'_>, BookFault>
+    ensures fields { IfOk result (λ parts. SpellsEntry
+        text.now parts.0 parts.1 parts.2.now parts.3 parts.4.now parts.5 parts.6 parts.7.now parts.8.now) }
+    ensures bad { IsErrOf result BookFault.BadRecord → HasNone IsQueued entry_octets text.now }
+{
+    let Some((number, rest)) = read_8(text) else {
+        return Err(BookFault::BadRecord);
+    };
+    let Some((at, rest)) = read_8(rest) else {
+        return Err(BookFault::BadRecord);
+    };
+    let Some((path, ret, envid, rest)) = read_fields(rest) else {
+        return Err(BookFault::BadRecord);
+    };
+    let (recipients, places, rest) = read_placed(alloc, rest)?;
+    match read_sized_4(rest) {
+        Some((stored_text, rest)) => Ok((
+            number,
+            at,
+            path,
+            ret,
+            envid,
+            recipients,
+            places,
+            stored_text,
+            rest,
+        )),
+        None => Err(BookFault::BadRecord),
+    }
+}
+
+/// A message, with a copy of its stored text, and what follows it.
+#[tactic(auto, using(crate::proofs::EntryFieldLemmas::bad_mail, crate::proofs::EntryFieldLemmas::bad_moment, crate::proofs::EntryFieldLemmas::bad_text, crate::proofs::EntryFieldLemmas::bad_places))]
+fn read_entry(alloc: Global, text: &[u8]) -> Result<(Message, &[u8]), BookFault>
+    ensures entry { IfOk result (λ parts. IsQueued (numbered parts.0)
+        × (text.now ≡ entry_octets (numbered parts.0) ++ parts.1.now)) }
+    ensures bad { IsErrOf result BookFault.BadRecord → HasNone IsQueued entry_octets text.now }
+{
+    let (number, at, path, ret, envid, recipients, places, stored_text, rest) = split_entry(
+        alloc, text,
+    )?;
+    let Some(mail) = mail_of(path, ret, envid) else {
+        return Err(BookFault::BadRecord);
+    };
+    let Ok(at) = Moment::new(at) else {
+        return Err(BookFault::BadRecord);
+    };
+    if stored_text.len() > text_limit(path) || !places.any_held() {
+        return Err(BookFault::BadRecord);
+    }
+    let mut envelope = Envelope::new(alloc, mail)?;
+    envelope.recipients = recipients;
+    let accept = Accept {
+        at,
+        envelope,
+        stored_text: Octets::from_slice(alloc, stored_text)?,
+    };
+    Ok((
+        Message {
+            number,
+            accept,
+            places,
+        },
+        rest,
+    ))
+}
+
+/// A message of a number from a least one to below the next, and what follows it.
+#[tactic(auto, using(crate::proofs::EntryFieldLemmas::none_in, crate::proofs::EntryFieldLemmas::out_of_row))]
+pub(crate) fn read_entry_in(
+    alloc: Global,
+    least: u64,
+    next: u64,
+    text: &[u8],
+) -> Result<(Message, &[u8]), BookFault>
+    ensures entry { IfOk result (λ parts. IsQueuedIn least next (numbered parts.0)
+        × (text.now ≡ entry_octets (numbered parts.0) ++ parts.1.now)) }
+    ensures bad { IsErrOf result BookFault.BadRecord
+        → HasNone (IsQueuedIn least next) entry_octets text.now }
+{
+    let (message, rest) = read_entry(alloc, text)?;
+    if message.number < least || message.number >= next {
+        return Err(BookFault::BadRecord);
+    }
+    Ok((message, rest))
+}
