@@ -1,5 +1,6 @@
 mod ListLemmas
 mod RecordLemmas
+mod CompactLemmas
 mod ReadLemmas
 mod LawLemmas
 mod PlaceLemmas

@@ -1,16 +1,15 @@
 -- Lists of changes, and the queues that they leave.
-use Rattle.std.proofs.Common.{◌≡◌, ℕ, ◌+◌, List, [], ◌∷◌, ◌++◌, fold, length, map, Option, None, Some, IfSome, Bor, ◌↔◌, refl, sym, ap, ◌∙◌, subst, arith}
+use Rattle.std.proofs.Common.{◌≡◌, ℕ, ◌+◌, List, [], ◌∷◌, ◌++◌, fold, length, Option, None, Some, IfSome, Bor, ◌↔◌, sym, ap, ◌∙◌, subst, arith}
 use Rattle.std.specs.List.{Contains}
 use Rattle.std.specs.Option.{option_copied}
 use Rattle.std.proofs.lemmas.List.Sums.{fold-append}
 use Rattle.relay_book.specs.declared.change.Change.{Change}
 use Rattle.relay_book.specs.declared.change.Change.TheVariants.{Accept, Outcome}
-use Rattle.relay_book.specs.Record.{encode}
 use Rattle.relay_book.specs.Queue.{Queue, FitsQueue, Fitting, empty_queue, held_of, message_of, queue_of, step}
 use Rattle.relay_book.specs.declared.message.Message.{Message}
 use Rattle.relay_book.specs.Marks.{Held, IsQueuedAs}
 use Rattle.relay_records.specs.ListLaws.{NextIsOneMore}
-use Rattle.relay_book.proofs.Theorems.{fold_holds, fold_knows, one_more_stands}
+use Rattle.relay_book.proofs.Theorems.{fold_holds, fold_knows, one_more_fits}
 
 next_after : (queue : Queue) (changes : List Change) → (fold step queue changes).next ≡ queue.next + length changes
 next_after queue [] = omega arith
@@ -26,8 +25,7 @@ queue_of_more changes change = fold-append step empty_queue changes (change ∷ 
 
 -- a change that fits makes a list that fits
 pub fitting_more : (changes : List Change) (change : Change) → Fitting changes → FitsQueue (queue_of changes) change → Fitting (changes ++ change ∷ [])
-fitting_more changes change fitting fits =
-    (one_more_stands (map encode changes) changes change (record { fitting = fitting; bodies_are = refl }) fits).fitting
+fitting_more changes change fitting fits = one_more_fits empty_queue changes change fitting fits
 
 -- the places that are held by the queue of a list are those that the list holds
 pub held_by_list : (changes : List Change) (queue : Queue) (marks : List (ℕ × ℕ)) → Fitting changes → queue ≡ queue_of changes → marks ≡ held_of queue

@@ -1,55 +1,71 @@
 -- Bodies that are read one by one.
-use Rattle.std.proofs.Common.{◌≡◌, ◌≢◌, ℕ, ◌+◌, List, [], ◌∷◌, ◌++◌, length, map, Vec, sym, ap, ◌∙◌, subst}
+use Rattle.std.proofs.Common.{◌≡◌, ℕ, zero, suc, ◌+◌, List, [], ◌∷◌, ◌++◌, length, map, Vec, refl, sym, ap, ◌∙◌, subst}
 use Rattle.std.specs.Iterator.{Yields}
 use Rattle.std.proofs.lemmas.List.{map-append}
 use Rattle.std.specs.Vec.Iter.{into_iter_items, into_iter_steps}
 use Rattle.std.specs.declared.alloc.Global.{Global}
 use Rattle.std.specs.declared.vec.IntoIter.{IntoIter}
-use Rattle.relay_book.specs.declared.change.Change.{Change}
-use Rattle.relay_book.specs.Record.{IsChange, encode}
-use Rattle.relay_book.specs.Queue.{Queue, FitsQueue, queue_of, step}
-use Rattle.relay_book.specs.StandsFor.{ReadsBody, StandsFor}
-use Rattle.relay_book.proofs.Theorems.{encoding_is_one, none_stand_for_none, one_more_stands}
-use Rattle.relay_records.specs.Open.{IsBadRecord, LeavesQueue, NoneFits}
-use Rattle.relay_records.proofs.ListLemmas.{queue_of_more}
-use Rattle.relay_records.proofs.RecordLemmas.{fits_is_change}
+use Rattle.relay_book.specs.Queue.{Queue, empty_queue}
+use Rattle.relay_book.specs.Snapshot.{IsQueue}
+use Rattle.relay_book.specs.StandsFor.{ReadsAll, ReadsBody, ReadsFirst, ReadsNoBody, ReadsNoFirst, ReadsQueue}
+use Rattle.relay_book.proofs.Theorems.{bodies_leave_one, one_more_read, read_is_queue}
+use Rattle.relay_records.specs.Open.{IsBadRecord}
+use Rattle.relay_records.specs.Reading.{ReadsAt, ReadsNoneAt}
 
--- the one change that a body records doesn't fit
-pub none_fits_of : (queue : Queue) (body : List ℕ) (read : Change) → IsChange read → body ≡ encode read → (FitsQueue queue read → ⊥) → NoneFits queue body
-none_fits_of queue body read valid body_is misfit = λ change fits is.
-    misfit (subst (FitsQueue queue) (encoding_is_one change read (fits_is_change queue change fits) valid (sym is ∙ body_is)) fits)
+-- the first body, and each other one
+pub first_at : (before : ℕ) (queue : Queue) (body : List ℕ) (left : Queue) → before ≡ 0 → ReadsFirst body left → ReadsAt before queue body left
+first_at before queue body left is reads = subst (λ (n : ℕ). ReadsAt n queue body left) (sym is) reads
 
--- a body that records no change records none that fits
-pub none_fits_unread : (queue : Queue) (body : List ℕ) → ((change : Change) → IsChange change → body ≢ encode change) → NoneFits queue body
-none_fits_unread queue body none = λ change fits is. none change (fits_is_change queue change fits) is
+pub next_at : (before : ℕ) (queue : Queue) (body : List ℕ) (left : Queue) → (before ≡ 0 → ⊥) → ReadsBody queue body left → ReadsAt before queue body left
+next_at zero queue body left some reads = absurd (some refl)
+next_at (suc before) queue body left some reads = reads
 
--- no body was read yet
-pub leaves_none : (queue : Queue) → queue ≡ queue_of [] → LeavesQueue [] queue
-leaves_none queue is = record { changes = []; stands = none_stand_for_none; queue_is = is }
+pub none_first : (before : ℕ) (queue : Queue) (body : List ℕ) → before ≡ 0 → ReadsNoFirst body → ReadsNoneAt before queue body
+none_first before queue body is out = subst (λ (n : ℕ). ReadsNoneAt n queue body) (sym is) (record { none = out.none })
+
+pub none_next : (before : ℕ) (queue : Queue) (body : List ℕ) → (before ≡ 0 → ⊥) → ReadsNoBody queue body → ReadsNoneAt before queue body
+none_next zero queue body some out = absurd (some refl)
+none_next (suc before) queue body some out = record { none = out.none }
 
 -- one body more was read
-pub leaves_more : (front : List (List ℕ)) (body : List ℕ) (old new : Queue) → LeavesQueue front old → ReadsBody old body new → LeavesQueue (front ++ body ∷ []) new
-leaves_more front body old new leaves reads =
-    let fits = subst (λ (q : Queue). FitsQueue q reads.change) leaves.queue_is reads.fits in
-    record {
-      changes = leaves.changes ++ reads.change ∷ [];
-      stands = subst (λ (b : List ℕ). StandsFor (front ++ b ∷ []) (leaves.changes ++ reads.change ∷ [])) (sym reads.body_is)
-          (one_more_stands front leaves.changes reads.change leaves.stands fits);
-      queue_is = reads.left_is ∙ ap (λ (q : Queue). step q reads.change) leaves.queue_is ∙ sym (queue_of_more leaves.changes reads.change);
-    }
+pub all_more : (front : List (List ℕ)) (body : List ℕ) (old new : Queue) → ReadsAll front old → ReadsAt (length front) old body new → ReadsAll (front ++ body ∷ []) new
+all_more [] body old new reads at = (new, at, refl)
+all_more (first ∷ front) body old new reads at = one_more_read (first ∷ front) old body new reads at
+
+-- the last of bodies that were read
+rest_last : (queue : Queue) (bodies : List (List ℕ)) (body : List ℕ) (left : Queue) → ReadsQueue queue (bodies ++ body ∷ []) left
+    → (mid : Queue) × ReadsQueue queue bodies mid × ReadsBody mid body left
+rest_last queue [] body left reads = (queue, refl, subst (ReadsBody queue body) (sym reads.2) reads.1)
+rest_last queue (first ∷ bodies) body left reads =
+    let behind = rest_last reads.0 bodies body left reads.2 in
+    (behind.0, (reads.0, reads.1, behind.1), behind.2)
+
+all_last : (front : List (List ℕ)) (body : List ℕ) (left : Queue) → ReadsAll (front ++ body ∷ []) left
+    → (mid : Queue) × ReadsAll front mid × ReadsAt (length front) mid body left
+all_last [] body left reads = (empty_queue, refl, subst (ReadsFirst body) (sym reads.2) reads.1)
+all_last (first ∷ front) body left reads =
+    let behind = rest_last reads.0 front body left reads.2 in
+    (behind.0, (reads.0, reads.1, behind.1), behind.2)
+
+-- what was read may be stored
+pub read_queue : (bodies : List (List ℕ)) (left : Queue) → ReadsAll bodies left → IsQueue left
+read_queue bodies left reads = read_is_queue bodies left reads
 
 -- a body was not read
-pub is_bad : (front : List (List ℕ)) (body : List ℕ) (rest bodies : List (List ℕ)) (number : ℕ) (queue : Queue) → LeavesQueue front queue
-    → bodies ≡ front ++ body ∷ rest → number ≡ length front + 1 → NoneFits queue body → IsBadRecord number bodies
-is_bad front body rest bodies number queue leaves are is none = record {
+pub is_bad : (front : List (List ℕ)) (body : List ℕ) (rest bodies : List (List ℕ)) (number : ℕ) (queue : Queue) → ReadsAll front queue
+    → bodies ≡ front ++ body ∷ rest → number ≡ length front + 1 → ReadsNoneAt (length front) queue body → IsBadRecord number bodies
+is_bad front body rest bodies number queue reads are is out = record {
   front = front;
   body = body;
   rest = rest;
   bodies_are = are;
   number_is = is;
-  changes = leaves.changes;
-  stands = leaves.stands;
-  none_fits = subst (λ (q : Queue). NoneFits q body) leaves.queue_is none;
+  queue = queue;
+  reads = reads;
+  none = λ left more.
+      let last = all_last front body left more in
+      let same = bodies_leave_one front last.0 queue last.1 reads in
+      out.none left (subst (λ (q : Queue). ReadsAt (length front) q body left) same last.2);
 }
 
 -- what the iterator of a vector has given is a front of its items

@@ -1,20 +1,23 @@
 -- What one change more does to records and to their list.
-use Rattle.std.proofs.Common.{◌≡◌, ◌+◌, ◌≢◌, inl, inr, ℕ, ◌<◌, ◌^◌, false, List, [], ◌∷◌, ◌++◌, length, Some, refl, sym, ap, ◌∙◌, subst, arith}
-use Rattle.relay_disk.specs.Device.{DiskWords, EachImage}
-use Rattle.relay_spool.specs.Image.{HasBodies}
+use Rattle.std.proofs.Common.{◌≡◌, ◌+◌, ◌≢◌, inl, inr, ℕ, ◌<◌, ◌^◌, false, List, [], ◌∷◌, ◌++◌, length, Some, refl, sym, ap, ◌∙◌, subst}
+use Rattle.relay_disk.specs.declared.disks.Disks.{Disks}
+use Rattle.relay_disk.specs.Device.{DiskWords}
+use Rattle.relay_disk.specs.Disks.{Images}
+use Rattle.relay_spool.specs.Pair.{HasBodies}
 use Rattle.relay_spool.specs.Spool.{AtEachMoment, IsAppended, IsBeforeOrWith, RefusesToAppend, Stored}
 use Rattle.relay_spool.specs.declared.fault.SpoolFault.{SpoolFault}
-use Rattle.relay_spool.specs.declared.fault.SpoolFault.TheVariants.{Device, NotASpool, Damaged, NoMemory, NotEmpty, Full}
+use Rattle.relay_spool.specs.declared.fault.SpoolFault.TheVariants.{Device, NotASpool, Damaged, NoMemory, NotEmpty, Full, NoSecond}
 use Rattle.relay_book.specs.declared.change.Change.{Change}
 use Rattle.relay_book.specs.declared.change.Change.TheVariants.{Accept, Outcome}
 use Rattle.relay_book.specs.Record.{IsChange, encode}
-use Rattle.relay_book.specs.Queue.{Queue, FitsQueue, Fitting, queue_of, step}
+use Rattle.relay_book.specs.Queue.{Queue, FitsQueue, queue_of, step}
 use Rattle.relay_book.specs.Marks.{leaving_of}
+use Rattle.relay_book.specs.Snapshot.{IsQueue}
 use Rattle.relay_book.specs.StandsFor.{StandsFor}
-use Rattle.relay_book.proofs.Theorems.{one_more_stands, queue_leaves, record_is_short}
+use Rattle.relay_book.proofs.Theorems.{one_more_stands, queue_leaves, record_is_short, step_is_queue}
 use Rattle.relay_records.specs.declared.noted.Noted.{Noted}
 use Rattle.relay_records.specs.Note.{IsNoted, NotesNext}
-use Rattle.relay_records.specs.Records.{Adds, Cuts, HasList, Keeps, Kept, StandsForOrWith}
+use Rattle.relay_records.specs.Records.{Adds, Cuts, Keeps, Kept, StandsForOrWith}
 use Rattle.relay_records.proofs.ListLemmas.{fitting_more, next_is_one_more, queue_of_more}
 
 pub fits_is_change : (queue : Queue) (change : Change) → FitsQueue queue change → IsChange change
@@ -47,14 +50,11 @@ refused_otherwise words old new Full refused other = refused
 refused_otherwise words old new NotASpool refused other = absurd refused
 refused_otherwise words old new (Damaged place) refused other = absurd refused
 refused_otherwise words old new NotEmpty refused other = absurd refused
+refused_otherwise words old new NoSecond refused other = absurd refused
 
--- one change more makes the list of one change more
-pub list_more : (old new : Queue) (change : Change) → HasList old → FitsQueue old change → new ≡ step old change → HasList new
-list_more old new change list fits is = record {
-  changes = list.changes ++ change ∷ [];
-  fitting = fitting_more list.changes change list.fitting (subst (λ (q : Queue). FitsQueue q change) list.queue_is fits);
-  queue_is = is ∙ ap (λ (q : Queue). step q change) list.queue_is ∙ sym (queue_of_more list.changes change);
-}
+-- one change more leaves a queue that may be stored
+pub queue_more : (old new : Queue) (change : Change) → IsQueue old → FitsQueue old change → new ≡ step old change → IsQueue new
+queue_more old new change valid fits is = subst IsQueue (sym is) (step_is_queue old change fits valid)
 
 -- The fields of the records are seen apart while a call changes them; `seen` is the value that they make.
 module _ {D : Type 0} (honest : Type 0) (words : DiskWords D) (seen old : Kept D) (seen_is : seen ≡ old)
@@ -103,25 +103,18 @@ module _ {D : Type 0} (honest : Type 0) (words : DiskWords D) (seen old : Kept D
     noted = noted;
   }
 
-  image_is : honest → (image : List ℕ) → HasBodies (IsBeforeOrWith seen.spool.bodies body) image → HasBodies (StandsForOrWith changes (Some change)) image
-  image_is h image found = (found.0, found.1, stands_or_with found.0 seen.spool.bodies changes change body (before h) fits_list body_is found.2)
+  image_is : honest → (images : Images) → HasBodies (IsBeforeOrWith seen.spool.bodies body) images → HasBodies (StandsForOrWith changes (Some change)) images
+  image_is h images found = (found.0, found.1, stands_or_with found.0 seen.spool.bodies changes change body (before h) fits_list body_is found.2)
 
   -- what a stop leaves at any moment of the call
-  pub stop_stands : (new : D) → honest → AtEachMoment words seen.spool.disk new (HasBodies (IsBeforeOrWith seen.spool.bodies body))
+  pub stop_stands : (new : Disks D) → honest → AtEachMoment words seen.spool.disk new (HasBodies (IsBeforeOrWith seen.spool.bodies body))
       → AtEachMoment words old.spool.disk new (HasBodies (StandsForOrWith changes (Some change)))
   stop_stands new h stop = subst (λ (r : Kept D). AtEachMoment words r.spool.disk new (HasBodies (StandsForOrWith changes (Some change)))) seen_is moments
     where
       moments : AtEachMoment words seen.spool.disk new (HasBodies (StandsForOrWith changes (Some change)))
       moments = record {
-        since = record {
-          later = stop.since.later;
-          each = λ image left. image_is h image (stop.since.each image left);
-          earlier = λ moment image early left. elim (stop.since.earlier moment image early left) [
-            | inl was ↦ inl was
-            | inr found ↦ inr (image_is h image found)
-          ];
-        };
-        now = λ image left. image_is h image (stop.now image left);
+        since = λ images first second. image_is h images (stop.since images first second);
+        now = λ images left. image_is h images (stop.now images left);
       }
 
   -- the device failed while the change was added

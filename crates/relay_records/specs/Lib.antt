@@ -1,5 +1,6 @@
 pub mod Note
 pub mod Records
+pub mod Reading
 pub mod Open
 pub mod HeldPlace
 pub mod ListLaws

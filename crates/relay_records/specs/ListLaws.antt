@@ -1,6 +1,8 @@
--- The list of changes that records keep is one, and a stop takes no change of it away.
+-- The lists of changes that records keep leave one queue, and a stop takes no change of them away.
 use Rattle.std.specs.Prelude.{◌≡◌, ◌⊎◌, ◌+◌, List, [], ◌∷◌, ◌++◌, length, Option, Some}
-use Rattle.relay_disk.specs.Device.{DiskWords, ImagesWithin}
+use Rattle.relay_disk.specs.declared.disks.Disks.{Disks}
+use Rattle.relay_disk.specs.Device.{DiskWords}
+use Rattle.relay_disk.specs.Disks.{ImagesWithin, seen_of}
 use Rattle.relay_spool.specs.declared.fault.SpoolFault.TheVariants.{Device, NoMemory, Full}
 use Rattle.relay_book.specs.declared.change.Change.{Change}
 use Rattle.relay_book.specs.Queue.{FitsQueue, queue_of}
@@ -17,26 +19,26 @@ NextIsOneMore = (changes : List Change) → (queue_of changes).next ≡ length c
 abbrev pub IsNoFaultOfImage : Cause → Type 0
 IsNoFaultOfImage cause = (cause ≡ Spool Device) ⊎ (cause ≡ Spool NoMemory) ⊎ (cause ≡ Spool Full)
 
--- Of the other disk a stop leaves nothing that it doesn't leave of the records' own: so it is with that disk
--- itself, behind a stop, and where `open` has refused it.
+-- Of the other disks a stop leaves nothing that it doesn't leave of the records' own: so it is with those
+-- themselves, behind a stop, and where `open` has refused them.
 module _ {D : Type 0} (honest : Type 0) (words : DiskWords D) where
-  -- Records keep one list.
+  -- The lists that records keep leave one queue.
   abbrev pub OneListIsKept : Type 0
   OneListIsKept =
       (records : Kept D) (changes others : List Change) → Keeps honest words records changes
-      → Keeps honest words records others → changes ≡ others
+      → Keeps honest words records others → queue_of changes ≡ queue_of others
 
   -- What live records kept is opened as it was.
   abbrev pub KeptIsOpened : Type 0
   KeptIsOpened =
-      (records opened : Kept D) (changes : List Change) (disk : D) → Keeps honest words records changes
+      (records opened : Kept D) (changes : List Change) (disk : Disks D) → Keeps honest words records changes
       → ImagesWithin words records.spool.disk disk → Opens honest words disk opened
       → Keeps honest words opened changes
 
   -- What stopped records kept is opened as it was, or with the change that was being added.
   abbrev pub HaltedIsOpened : Type 0
   HaltedIsOpened =
-      (records opened : Kept D) (changes : List Change) (pending : Option Change) (disk : D)
+      (records opened : Kept D) (changes : List Change) (pending : Option Change) (disk : Disks D)
       → Halted honest words records changes pending → ImagesWithin words records.spool.disk disk
       → Opens honest words disk opened
       → Keeps honest words opened changes
@@ -46,13 +48,13 @@ module _ {D : Type 0} (honest : Type 0) (words : DiskWords D) where
   -- What live records kept isn't refused for its octets.
   abbrev pub KeptIsNotRefused : Type 0
   KeptIsNotRefused =
-      (records : Kept D) (changes : List Change) (disk : D) (cause : Cause)
+      (records : Kept D) (changes : List Change) (disk : Disks D) (cause : Cause)
       → Keeps honest words records changes → ImagesWithin words records.spool.disk disk
-      → RefusesImage honest (words.seen disk) cause → IsNoFaultOfImage cause
+      → RefusesImage honest (seen_of words disk) cause → IsNoFaultOfImage cause
 
   -- Nor is what stopped records kept.
   abbrev pub HaltedIsNotRefused : Type 0
   HaltedIsNotRefused =
-      (records : Kept D) (changes : List Change) (pending : Option Change) (disk : D) (cause : Cause)
+      (records : Kept D) (changes : List Change) (pending : Option Change) (disk : Disks D) (cause : Cause)
       → Halted honest words records changes pending → ImagesWithin words records.spool.disk disk
-      → RefusesImage honest (words.seen disk) cause → IsNoFaultOfImage cause
+      → RefusesImage honest (seen_of words disk) cause → IsNoFaultOfImage cause

@@ -1,14 +1,16 @@
 -- The records of a node in its list of changes: what they keep, and what a stop leaves of them.
 use Rattle.std.specs.Prelude.{◌≡◌, ◌⊎◌, ℕ, ◌+◌, true, false, List, [], ◌∷◌, ◌++◌, length, Option, Some}
-use Rattle.relay_disk.specs.Device.{DiskWords, Fails, FailsNot}
+use Rattle.relay_disk.specs.Device.{DiskWords}
+use Rattle.relay_disk.specs.Disks.{Fails, FailsNot}
 use Rattle.relay_spool.specs.Spool.{EveryImageHas, Stored}
 use Rattle.relay_book.specs.declared.change.Change.{Change}
 use Rattle.relay_book.specs.Record.{encode}
 use Rattle.relay_book.specs.Queue.{Queue, FitsQueue, Fitting, queue_of, step}
+use Rattle.relay_book.specs.Snapshot.{snapshot}
 use Rattle.relay_book.specs.StandsFor.{StandsFor}
 use Rattle.relay_records.specs.declared.noted.Noted.{Noted}
 use Rattle.relay_records.specs.declared.fault.NodeFault.{NodeFault}
-use Rattle.relay_records.specs.declared.fault.NodeFault.TheVariants.{NoMemory, Stopped, Full}
+use Rattle.relay_records.specs.declared.fault.NodeFault.TheVariants.{NoMemory, Stopped, Full, NoSecond}
 use Rattle.relay_records.specs.Note.{IsNoted}
 
 -- what a caller sees of records: the spool, the queue that its bodies leave, and the note of the last append
@@ -17,12 +19,6 @@ pub record Kept (D : Type 0) : Type 0 where
   pub spool : Stored D
   pub queue : Queue
   pub noted : Option Noted
-
--- a list of changes leaves this queue
-pub record HasList (queue : Queue) : Type 0 where
-  pub changes : List Change
-  pub fitting : Fitting changes
-  pub queue_is : queue ≡ queue_of changes
 
 -- What a stop may leave: the bodies stand for the changes, or for these with one more, which was being added.
 abbrev pub StandsForOrWith : List Change → Option Change → List (List ℕ) → Type 0
@@ -84,3 +80,18 @@ RefusesToAdd words old new NoMemory = new ≡ old
 RefusesToAdd words old new Stopped = IsStopped words old new
 RefusesToAdd words old new Full = new ≡ old
 RefusesToAdd words old new other = ⊥
+
+-- what a compaction did to the records, whatever list they keep: the spool has one body, the snapshot of the queue
+pub record Compacts {D : Type 0} (honest : Type 0) (words : DiskWords D) (old new : Kept D) : Type 0 where
+  pub bodies_are : honest → new.spool.bodies ≡ snapshot old.queue ∷ []
+  pub size : new.spool.size ≡ 23 + length (snapshot old.queue)
+  pub live : new.spool.live ≡ true
+  pub failures : FailsNot words old.spool.disk new.spool.disk
+
+-- what a compaction leaves that wasn't made
+abbrev pub RefusesToCompact : {D : Type 0} → DiskWords D → Kept D → Kept D → NodeFault → Type 0
+RefusesToCompact words old new NoMemory = new ≡ old
+RefusesToCompact words old new Stopped = IsStopped words old new
+RefusesToCompact words old new Full = new ≡ old
+RefusesToCompact words old new NoSecond = new ≡ old
+RefusesToCompact words old new other = ⊥

@@ -1,7 +1,7 @@
 //! The one way by which a change comes into records.
 ghost use Rattle.std.specs.Prelude.{◌≡◌, ◌↔◌, ◌⊎◌, ◌+◌, ◌<◌, ◌≤◌, ◌^◌, ◌≢◌, List, false, length, Err, Some, IfErr, IfOk, IsErrOf, IsTrue, MatchResult, OnOk};
-ghost use Rattle.relay_disk.specs.Device.{Fails};
-ghost use Rattle.relay_spool.specs.Image.{HasBodies};
+ghost use Rattle.relay_disk.specs.Disks.{Fails};
+ghost use Rattle.relay_spool.specs.Pair.{HasBodies};
 ghost use Rattle.relay_spool.specs.Spool.{AtEachMoment, IsAppended, IsBeforeOrWith};
 ghost use Rattle.relay_book.specs.declared.change.Change.{Change};
 ghost use Rattle.relay_book.specs.Queue.{FitsQueue, step};

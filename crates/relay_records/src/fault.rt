@@ -1,4 +1,5 @@
 //! Why a call of a node is refused, and why a disk isn't opened.
+use relay_disk::Disks;
 use relay_spool::SpoolFault;
 use std::alloc::AllocError;
 use thiserror::Error;
@@ -38,16 +39,20 @@ pub enum NodeFault {
     /// The disk wasn't opened.
     #[error("not opened: {0}")]
     Open(Cause),
-    /// The spool would pass 2^40 octets, or the number of a change 2^62. The records are unchanged.
+    /// The spool would pass 2^40 octets, or the number of a change 2^62. The records are unchanged. For a
+    /// compaction: the snapshot passes 4,294,967,295 octets, or the spool's generation is the last.
     #[error("full")]
     Full,
+    /// The spool has no second disk, so it can't be compacted. The records are unchanged.
+    #[error("no second disk")]
+    NoSecond,
 }
 
-/// A disk that wasn't opened, or on which no records were made, with the reason.
+/// Disks that weren't opened, or on which no records were made, with the reason.
 #[derive(Debug, Drop)]
 pub struct NotOpened<D> {
     pub cause: Cause,
-    pub disk: D,
+    pub disk: Disks<D>,
 }
 
 impl From<AllocError> for Cause {

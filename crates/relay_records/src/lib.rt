@@ -1,7 +1,9 @@
-//! The records of a node: the spool, the queue and the note, which one call grows by a change.
+//! The records of a node: the spool, the queue and the note, which one call grows by a change, and one makes as small
+//! as the queue.
 #![tactic(auto)]
 
 mod add;
+mod compact;
 mod fault;
 pub mod list_laws;
 mod noted;

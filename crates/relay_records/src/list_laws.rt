@@ -1,4 +1,4 @@
-//! What is true of the list of changes that records keep on an honest disk.
+//! What is true of the lists of changes that records keep on an honest disk.
 ghost use Rattle.relay_records.specs.ListLaws.{HaltedIsNotRefused, HaltedIsOpened, KeptIsNotRefused, KeptIsOpened, NextIsOneMore, OneListIsKept};
 
 use relay_disk::Disk;
@@ -8,7 +8,7 @@ pub fn next_is_one_more()
     ensures { NextIsOneMore }
 {}
 
-/// Records keep one list.
+/// The lists that records keep leave one queue.
 pub fn one_list_is_kept<D: Disk>()
     ensures { D.honest → OneListIsKept D.honest D.words }
 {}

@@ -1,38 +1,47 @@
 //! The queue that the bodies of a spool leave.
-ghost use Rattle.std.specs.Prelude.{◌≡◌, OnOk, IfErr, IfOk, IsErrOf};
-ghost use Rattle.relay_book.specs.StandsFor.{ReadsBody};
+ghost use Rattle.std.specs.Prelude.{IfErr, IfOk, IsErrOf};
+ghost use Rattle.relay_book.specs.Snapshot.{IsQueue};
+ghost use Rattle.relay_book.specs.StandsFor.{ReadsAll};
 ghost use Rattle.relay_spool.specs.Spool.{texts_of};
-ghost use Rattle.relay_records.specs.Open.{LeavesQueue, NoneFits, RefusesBodies};
+ghost use Rattle.relay_records.specs.Open.{RefusesBodies};
+ghost use Rattle.relay_records.specs.Reading.{ReadsAt, ReadsNoneAt};
 
 use crate::fault::Cause;
-use relay_book::{Book, BookFault, decode_record};
+use relay_book::{Book, BookFault};
 use relay_spool::SpoolFault;
 use std::alloc::Global;
 
-/// Applies the change that a body records; a message that it queues keeps the body's memory. It fails with
-/// `BadRecord` exactly where the body records none that fits, and where memory runs out.
-fn read_body(alloc: Global, book: &mut Book, body: Vec<u8>) -> Result<(), BookFault>
-    ensures reads { OnOk result (ReadsBody book.old.queue body.items book.new.queue) }
-    ensures bad { IsErrOf result BookFault.BadRecord → NoneFits book.old.queue body.items }
+/// The book that a body leaves behind so many others, which left this book. It fails with `BadRecord` exactly where it
+/// leaves none, and where memory runs out.
+#[tactic(auto, using(crate::proofs::ReadLemmas::first_at, crate::proofs::ReadLemmas::next_at, crate::proofs::ReadLemmas::none_first, crate::proofs::ReadLemmas::none_next))]
+fn read_body(alloc: Global, mut book: Book, before: usize, body: Vec<u8>) -> Result<Book, BookFault>
+    ensures reads { IfOk result (λ left. ReadsAt before book.queue body.items left.queue) }
+    ensures bad { IsErrOf result BookFault.BadRecord → ReadsNoneAt before book.queue body.items }
 {
-    let change = decode_record(alloc, body)?;
-    book.apply_decoded(alloc, change)
+    if before == 0 {
+        return Book::read_first(alloc, body);
+    }
+    book.read_next(alloc, body)?;
+    Ok(book)
 }
 
-/// The book of the changes that the bodies record. Each body is let go, or kept by its message, when it has been read.
+/// The book that the bodies leave, of a queue that may be stored. Each body is let go, or kept by its message, when it
+/// has been read.
+#[tactic(auto, using(crate::proofs::ReadLemmas::read_queue))]
 pub(crate) fn read_bodies(alloc: Global, bodies: Vec<Vec<u8>>) -> Result<Book, Cause>
-    ensures leaves { IfOk result (λ book. LeavesQueue (texts_of bodies) book.queue) }
+    ensures reads { IfOk result (λ book. ReadsAll (texts_of bodies) book.queue) }
+    ensures queue { IfOk result (λ book. IsQueue book.queue) }
     ensures refused { IfErr result (RefusesBodies (texts_of bodies)) }
 {
     let mut book = Book::new(alloc);
-    let mut number: usize = 0;
+    let mut before: usize = 0;
     for body in bodies {
-        number += 1;
-        match read_body(alloc, &mut book, body) {
-            Ok(()) => {}
-            Err(BookFault::BadRecord) => return Err(Cause::BadRecord(number)),
+        match read_body(alloc, book, before, body) {
+            Ok(left) => book = left,
+            Err(BookFault::BadRecord) => return Err(Cause::BadRecord(before + 1)),
             Err(BookFault::NoMemory) => return Err(Cause::Spool(SpoolFault::NoMemory)),
         }
+        before += 1;
     }
     Ok(book)
 }

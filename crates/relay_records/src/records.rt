@@ -2,18 +2,19 @@
 ghost use Rattle.std.specs.Prelude.{◌≡◌, ◌↔◌, ◌+◌, ◌≤◌, ◌^◌, ℕ, List, length, map, Option, None, Some, IfOk, IfSome, IsTrue, MatchOption};
 ghost use Rattle.std.specs.List.{Contains, filter};
 ghost use Rattle.std.specs.Option.{option_copied, option_map};
-ghost use Rattle.relay_disk.specs.Device.{AddsNoImage, FailsNot};
+ghost use Rattle.relay_disk.specs.Disks.{AddsNoImage, FailsNot, calls_left_of};
 ghost use Rattle.relay_book.specs.declared.change.Change.{Change};
 ghost use Rattle.relay_book.specs.Book.{Rise};
 ghost use Rattle.relay_book.specs.Marks.{Held, IsQueuedAs};
 ghost use Rattle.relay_book.specs.Queue.{due_of, held_of, message_of};
-ghost use Rattle.relay_records.specs.Records.{Halted, HasList, Keeps, Stays};
+ghost use Rattle.relay_book.specs.Snapshot.{IsQueue};
+ghost use Rattle.relay_records.specs.Records.{Halted, Keeps, Stays};
 ghost use Rattle.relay_records.specs.HeldPlace.{IsWaiting, waiting_at};
 
 use crate::noted::Noted;
 use crate::place::{HeldPlace, held_place};
 use relay_book::{Book, LAST_NUMBER, Message, Question};
-use relay_disk::{Disk, Reboot};
+use relay_disk::{Disk, Disks, Reboot};
 use relay_spool::Spool;
 use relay_trace::Moment;
 use std::alloc::{AllocError, Global};
@@ -40,13 +41,14 @@ impl<D: Disk + Drop> Drop for Records<D> {
 }
 
 impl<D: Disk> Model for Records<D> {
-    ghost use Rattle.relay_records.specs.Records.{HasList, Kept};
+    ghost use Rattle.relay_book.specs.Snapshot.{IsQueue};
+    ghost use Rattle.relay_records.specs.Records.{Kept};
 
     ghost Value = { Kept D };
 
     ghost view = { λ r. record { spool = r.spool; queue = r.book.queue; noted = r.noted } };
 
-    ghost invariant = { λ r. HasList r.book.queue };
+    ghost invariant = { λ r. IsQueue r.book.queue };
 }
 
 impl<D: Disk> Records<D> {
@@ -68,9 +70,9 @@ impl<D: Disk> Records<D> {
         self.book.numbers_rise();
     }
 
-    /// Tells that the queue is that of a list of changes. It does nothing.
-    pub fn has_list(&self)
-        ensures { HasList self.now.queue }
+    /// Tells that the queue may be stored. It does nothing.
+    pub fn is_queue(&self)
+        ensures { IsQueue self.now.queue }
     {
         let _is_noted = self.noted.is_some();
     }
@@ -158,8 +160,8 @@ impl<D: Disk> Records<D> {
         mem::replace(&mut self.noted, None)
     }
 
-    /// The disk, live or stopped. It takes no memory.
-    pub fn into_disk(self) -> D
+    /// The disks, live or stopped. It takes no memory.
+    pub fn into_disk(self) -> Disks<D>
         ensures { result ≡ self.spool.disk }
     {
         let Records {
@@ -172,7 +174,7 @@ impl<D: Disk> Records<D> {
 }
 
 impl<D: Reboot> Records<D> {
-    /// Sets the fuse of the disk: so many calls pass, and each later one fails. Nothing else changes.
+    /// Sets the fuse of the disks: so many calls pass, and each later one fails. Nothing else changes.
     pub fn fuse(&mut self, calls: u64)
         ensures same { (self.new.spool.size ≡ self.old.spool.size)
             × (self.new.spool.live ≡ self.old.spool.live)
@@ -181,7 +183,7 @@ impl<D: Reboot> Records<D> {
             → Stays D.Disk.honest D.Disk.words self.old self.new changes }
         ensures stop { D.Disk.honest → AddsNoImage D.Disk.words self.old.spool.disk self.new.spool.disk }
         ensures failures { FailsNot D.Disk.words self.old.spool.disk self.new.spool.disk }
-        ensures fuse { D.Disk.words.calls_left self.new.spool.disk ≡ Some calls }
+        ensures fuse { calls_left_of D.Disk.words self.new.spool.disk ≡ Some calls }
     {
         self.spool.fuse(calls);
     }

@@ -2,7 +2,7 @@
 use Rattle.std.proofs.Common.{◌≡◌, false, ◌∙◌, ap, rules, sym, subst}
 use Rattle.relay_book.specs.Queue.{FitsQueue, Queue, step}
 use Rattle.relay_records.specs.Records.{Kept}
-use Rattle.relay_records.proofs.RecordLemmas.{added, body_is_short, cut_short, list_more, noted_here, number_is, stop_stands}
+use Rattle.relay_records.proofs.RecordLemmas.{added, body_is_short, cut_short, queue_more, noted_here, number_is, stop_stands}
 use Rattle.relay_records.proofs.records.Records.add.Goals as goal
 
 pub append-requires-clause-short : goal.append-requires-clause-short
@@ -53,7 +53,7 @@ returns-in-Err-clause-stop g c = λ changes keeps h.
 
 pub invariant_of-self-2 : goal.invariant_of-self-2
 invariant_of-self-2 g c =
-    list_more c.self.inside.book.queue c.append.new.book.queue c.args.change c.self.invariant
+    queue_more c.self.inside.book.queue c.append.new.book.queue c.args.change c.self.invariant
     (subst (λ (k : Kept _). FitsQueue k.queue c.args.change) (sym c.self.view_is) (c.requires.fits (search rules)))
     (c.in-Ok.ensures.committed ∙ ap (step c.ready_of.new.book.queue) c.in_ok-ready.ensures.change
     ∙ ap (λ (q : Queue). step q c.args.change) c.ready_of.ensures.queue)
