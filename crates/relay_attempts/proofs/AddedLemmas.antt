@@ -5,15 +5,15 @@ use Rattle.relay_envelope.specs.HostName.{IsHostName}
 use Rattle.relay_book.specs.declared.change.Outcome.{Outcome}
 use Rattle.relay_book.specs.declared.change.Ruling.{Ruling}
 use Rattle.relay_book.specs.declared.message.Message.{Message}
-use Rattle.relay_book.specs.Queue.{Queue, FitsMessage, message_of, queue_of}
-use Rattle.relay_book.proofs.Theorems.{fold_knows, queued_may_be_stored}
+use Rattle.relay_book.specs.Queue.{Queue, FitsMessage, message_of}
+use Rattle.relay_book.specs.Snapshot.{IsQueue}
+use Rattle.relay_book.proofs.Theorems.{found_is_queued}
 use Rattle.relay_disk.specs.Device.{DiskWords}
 use Rattle.relay_book.specs.declared.change.Change.{Change}
 use Rattle.relay_book.specs.Record.{encode}
 use Rattle.relay_records.specs.declared.fault.NodeFault.{NodeFault}
-use Rattle.relay_records.specs.declared.fault.NodeFault.TheVariants.{NoMemory, Stopped, Unknown, TooMany, NotDue, Busy, Open, Full}
-use Rattle.relay_records.specs.Records.{HasList, Kept, RefusesToAdd}
-use Rattle.relay_report.specs.Fits.{MayBeTold}
+use Rattle.relay_records.specs.declared.fault.NodeFault.TheVariants.{NoMemory, Stopped, Unknown, TooMany, NotDue, Busy, Open, Full, NoSecond}
+use Rattle.relay_records.specs.Records.{Kept, RefusesToAdd}
 use Rattle.relay_report.specs.Report.{IsDueReport, IsReportedOf, ReportedFrom, told_by}
 use Rattle.relay_report.proofs.Theorems.{due_report_fits}
 use Rattle.relay_attempts.specs.AddedOutcome.{HasNoRoom, NoNumber, TooLarge, IsReported, MayCome, RefusesOutcome, RulesOn, reported_as}
@@ -29,19 +29,17 @@ due_as host number same_number message hop same_hop rulings same_rulings at text
     (subst (λ (l : ℕ). IsDueReport (record { host = host; number = l; message = message; hop = hop; rulings = rulings; at = at }) text) n due))
 
 pub is_reported : (host : List ℕ) (queue : Queue) (outcome : Outcome) (message : Message) (text : List ℕ)
-    → queue.next ≤ 2 ^ 62 → IsHostName host → outcome.at ≤ LAST_SECOND → MayCome queue outcome → HasList queue
+    → queue.next ≤ 2 ^ 62 → IsHostName host → outcome.at ≤ LAST_SECOND → MayCome queue outcome → IsQueue queue
     → message_of queue.messages outcome.message ≡ Some message → IsDueReport (told_by host queue.next outcome message) text
     → IsReported host queue outcome (reported_as outcome text)
-is_reported host queue outcome message text next is_host moment comes listed found due =
-    let in_list : message_of (queue_of listed.changes).messages outcome.message ≡ Some message =
-    sym (ap (λ (q : Queue). message_of q.messages outcome.message) listed.queue_is) ∙ found in
-    let known = fold_knows listed.changes listed.fitting outcome.message message in_list in
+is_reported host queue outcome message text next is_host moment comes valid found due =
+    let queued = found_is_queued queue outcome.message message valid found in
     let rules : RulesOn outcome message = subst (λ (o : Option Message). MatchOption o ⊥ (RulesOn outcome)) found comes.message in
     let fit = due_report_fits (told_by host queue.next outcome message) text (record {
       host = is_host;
       number = omega (arith, next);
-      message = subst (λ (n : ℕ). n < 2 ^ 64) (sym known.number_is) comes.number;
-      accept = queued_may_be_stored listed.changes listed.fitting outcome.message message in_list;
+      message = subst (λ (n : ℕ). n < 2 ^ 64) (sym queued.number_is) comes.number;
+      accept = queued.accept;
       hop = comes.hop;
       within = comes.within;
       rulings = comes.rulings;
@@ -88,5 +86,6 @@ refused_outcome words host outcome change octets old new (Err TooMany) is octets
 refused_outcome words host outcome change octets old new (Err NotDue) is octets_are full refused = refused
 refused_outcome words host outcome change octets old new (Err Busy) is octets_are full refused = refused
 refused_outcome words host outcome change octets old new (Err (Open cause)) is octets_are full refused = refused
+refused_outcome words host outcome change octets old new (Err NoSecond) is octets_are full refused = refused
 refused_outcome words host outcome change octets old new (Err Full) is octets_are full refused =
     (refused, no_room host outcome change octets old is octets_are (full.0 refl))

@@ -14,7 +14,7 @@ use Rattle.relay_book.specs.declared.message.Place.{Place}
 use Rattle.relay_book.specs.Queue.{AllNoRoute, AreRulings, Queue, holds_at, is_held, message_after, message_of, reported, ruled, step}
 use Rattle.relay_book.specs.Record.{IsRuling}
 use Rattle.relay_records.specs.declared.fault.NodeFault.{NodeFault}
-use Rattle.relay_records.specs.declared.fault.NodeFault.TheVariants.{NoMemory, Stopped, Unknown, TooMany, NotDue, Busy, Open, Full}
+use Rattle.relay_records.specs.declared.fault.NodeFault.TheVariants.{NoMemory, Stopped, Unknown, TooMany, NotDue, Busy, Open, Full, NoSecond}
 use Rattle.relay_records.specs.Records.{Kept}
 use Rattle.relay_attempts.specs.AddedOutcome.{HasNoRoom, MayCome, RefusesOutcome, RulesOn}
 use Rattle.relay_attempts.specs.declared.runs.Run.{Run}
@@ -214,5 +214,6 @@ refused_to_give_up words host table number at message outcome old new TooMany li
 refused_to_give_up words host table number at message outcome old new NotDue live found is refused = absurd refused
 refused_to_give_up words host table number at message outcome old new Busy live found is refused = absurd refused
 refused_to_give_up words host table number at message outcome old new (Open cause) live found is refused = absurd refused
+refused_to_give_up words host table number at message outcome old new NoSecond live found is refused = absurd refused
 refused_to_give_up words host table number at message outcome old new Full live found is refused =
     (live, refused.0, record { message = message; found = found; room = subst (λ (o : Outcome). HasNoRoom host o old) is refused.1 })

@@ -3,7 +3,7 @@ use Rattle.std.proofs.Common.{◌≡◌, ◌≢◌, inr, ℕ, List, Option, Resu
 use Rattle.relay_disk.specs.Device.{DiskWords}
 use Rattle.relay_book.specs.declared.change.Outcome.{Outcome}
 use Rattle.relay_records.specs.declared.fault.NodeFault.{NodeFault}
-use Rattle.relay_records.specs.declared.fault.NodeFault.TheVariants.{NoMemory, Stopped, Unknown, TooMany, NotDue, Busy, Open, Full}
+use Rattle.relay_records.specs.declared.fault.NodeFault.TheVariants.{NoMemory, Stopped, Unknown, TooMany, NotDue, Busy, Open, Full, NoSecond}
 use Rattle.relay_records.specs.Records.{Kept}
 use Rattle.relay_attempts.specs.AddedOutcome.{HasNoRoom, RefusesOutcome}
 use Rattle.relay_attempts.specs.declared.runs.Run.{Run}
@@ -50,6 +50,7 @@ module _ {D : Type 0} (words : DiskWords D) (host : List ℕ) (outcome : Outcome
   queue_stays NotDue refused = absurd refused
   queue_stays Busy refused = absurd refused
   queue_stays (Open cause) refused = absurd refused
+  queue_stays NoSecond refused = absurd refused
   queue_stays Full refused = ap (λ (r : Kept D). r.queue) refused.0
 
   -- the attempt is gone where its outcome isn't added
@@ -62,4 +63,5 @@ module _ {D : Type 0} (words : DiskWords D) (host : List ℕ) (outcome : Outcome
   refused_to_hear number before after NotDue gone refused = absurd refused
   refused_to_hear number before after Busy gone refused = absurd refused
   refused_to_hear number before after (Open cause) gone refused = absurd refused
+  refused_to_hear number before after NoSecond gone refused = absurd refused
   refused_to_hear number before after Full gone refused = (gone, refused.0)

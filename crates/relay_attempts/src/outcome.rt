@@ -62,7 +62,7 @@ fn reported<D: Disk>(
     let Some(message) = records.message(outcome.message) else {
         unreachable!()
     };
-    records.has_list();
+    records.is_queue();
     let is_moment = outcome.at.seconds() <= LAST_SECOND;
     prove!(is_moment);
     let report = report_if_due(

@@ -1,24 +1,20 @@
 -- The attempts of a node, and what is told of them, by the queue and by the list of changes.
-use Rattle.std.proofs.Common.{◌≡◌, ℕ, List, [], ◌∷◌, ◌++◌, Option, Some, None, Result, Ok, Err, IfOk, refl, sym, ap, ◌∙◌, subst}
+use Rattle.std.proofs.Common.{◌≡◌, ℕ, List, Option, Some, Result, Ok, Err, IfOk, refl, sym, ap, ◌∙◌, subst}
 use Rattle.relay_disk.specs.Device.{DiskWords}
-use Rattle.relay_slots.specs.Slots.{slot_at}
 use Rattle.relay_slots.proofs.Theorems.{others_of_set}
 use Rattle.relay_routes.specs.declared.config.Config.{Config}
 use Rattle.relay_routes.specs.Routes.{RouteTable}
-use Rattle.relay_book.specs.declared.change.Accept.{Accept}
 use Rattle.relay_book.specs.declared.change.Change.{Change}
-use Rattle.relay_book.specs.declared.message.Message.{Message}
-use Rattle.relay_book.specs.Marks.{message_at}
 use Rattle.relay_book.specs.Queue.{Fitting, Queue, message_of, queue_of}
 use Rattle.relay_book.proofs.Theorems.{fold_knows, message_stays}
 use Rattle.relay_records.specs.Records.{Kept}
 use Rattle.relay_records.specs.declared.fault.NodeFault.{NodeFault}
-use Rattle.relay_records.specs.declared.fault.NodeFault.TheVariants.{NoMemory, Stopped, Unknown, TooMany, NotDue, Busy, Open, Full}
+use Rattle.relay_records.specs.declared.fault.NodeFault.TheVariants.{NoMemory, Stopped, Unknown, TooMany, NotDue, Busy, Open, Full, NoSecond}
 use Rattle.relay_attempts.specs.declared.runs.Run.{Run}
 use Rattle.relay_attempts.specs.declared.start.Started.{Started}
 use Rattle.relay_attempts.specs.Attempts.{Serves, AttemptTable, Starts}
-use Rattle.relay_attempts.specs.Runs.{EachRuns, NoneTwice, RunsFor}
-use Rattle.relay_node.specs.Attempts.{Begins, Tells, ToldStays}
+use Rattle.relay_attempts.specs.Runs.{EachRuns, NoneTwice}
+use Rattle.relay_node.specs.Attempts.{Begins, ToldStays}
 use Rattle.relay_node.specs.Node.{RefusesToHear}
 
 -- attempts serve a queue as long as these parts stay
@@ -38,6 +34,7 @@ refused_queue words old new Unknown refused = absurd refused
 refused_queue words old new TooMany refused = absurd refused
 refused_queue words old new NotDue refused = absurd refused
 refused_queue words old new Busy refused = absurd refused
+refused_queue words old new NoSecond refused = absurd refused
 refused_queue words old new (Open cause) refused = absurd refused
 refused_queue {D = D} words old new Full refused = ap (λ (k : Kept D). k.queue) refused.0
 

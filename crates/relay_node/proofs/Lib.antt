@@ -4,5 +4,6 @@ mod ReceiveLemmas
 mod QueuedLemmas
 mod NodeLemmas
 mod AttemptLemmas
+mod CompactionLemmas
 mod ReplyLemmas
 pub mod Theorems

@@ -1,6 +1,7 @@
 -- Replies to attempts and lost connections, by the list of changes.
-use Rattle.std.proofs.Common.{◌≡◌, ◌≢◌, ◌⊎◌, inl, inr, ◌≤◌, ℕ, true, false, List, [], ◌∷◌, ◌++◌, length, take, Option, Some, None, Result, Ok, Err, IfOk, IfErr, OnOk, refl, sym, ap, ◌∙◌, subst}
-use Rattle.relay_disk.specs.Device.{DiskWords, FailsNot}
+use Rattle.std.proofs.Common.{◌≡◌, ◌≢◌, inl, inr, ℕ, true, false, List, take, Option, Some, None, Result, Ok, Err, IfOk, IfErr, OnOk, refl, sym, ap, ◌∙◌, subst}
+use Rattle.relay_disk.specs.Device.{DiskWords}
+use Rattle.relay_disk.specs.Disks.{FailsNot}
 use Rattle.relay_slots.specs.Slots.{slot_at}
 use Rattle.relay_routes.specs.declared.config.Config.{Config}
 use Rattle.relay_routes.specs.Routes.{RouteTable}
@@ -10,7 +11,7 @@ use Rattle.relay_book.specs.Queue.{Fitting, Queue, message_of, queue_of}
 use Rattle.relay_book.proofs.Theorems.{fold_knows}
 use Rattle.relay_records.specs.Records.{Kept}
 use Rattle.relay_records.specs.declared.fault.NodeFault.{NodeFault}
-use Rattle.relay_records.specs.declared.fault.NodeFault.TheVariants.{NoMemory, Stopped, Unknown, TooMany, NotDue, Busy, Open, Full}
+use Rattle.relay_records.specs.declared.fault.NodeFault.TheVariants.{NoMemory, Stopped, Unknown, TooMany, NotDue, Busy, Open, Full, NoSecond}
 use Rattle.relay_attempts.specs.declared.reply.Replied.{Replied}
 use Rattle.relay_attempts.specs.declared.runs.Run.{Run}
 use Rattle.relay_attempts.specs.Attempts.{Serves, AttemptTable}
@@ -92,7 +93,8 @@ uses {D = D} words now number len old new (Ok replied) heard = record {
     gone_by (Some change) made some = made.gone
 
     not_failed : (change : Option ℕ) → Makes words old.config.host now number old.attempts new.attempts old.records new.records change → FailsNot words old.records.spool.disk new.records.spool.disk
-    not_failed None made = ap (λ (kept : Kept D). words.failed kept.spool.disk) made.2
+    not_failed None made =
+        (ap (λ (kept : Kept D). words.failed kept.spool.disk.first) made.2, ap (λ (kept : Kept D). words.failed kept.spool.disk.second) made.2)
     not_failed (Some change) made = made.grows.grows.failures
 
 -- a fault of a live node
@@ -120,6 +122,7 @@ module _ {D : Type 0} (words : DiskWords D) (number : ℕ) (before after : Attem
   refuses TooMany r = absurd r
   refuses NotDue r = absurd r
   refuses Busy r = absurd r
+  refuses NoSecond r = absurd r
   refuses (Open cause) r = absurd r
   refuses Full r = record { attempt = ap (λ (l : List (Option Run)). slot_at l number) is ∙ r.0.gone; records = r.1 }
 
@@ -140,6 +143,7 @@ module _ {D : Type 0} (words : DiskWords D) (number : ℕ) (before after : Attem
   none_else TooMany r none = absurd r
   none_else NotDue r none = absurd r
   none_else Busy r none = absurd r
+  none_else NoSecond r none = absurd r
   none_else (Open cause) r none = absurd r
   none_else Full r none = absurd (r.0.was none)
 

@@ -1,6 +1,7 @@
 -- The attempts of a node to pass its mail on, in its list of changes (RFC 5321, section 4.5.4.1).
-use Rattle.std.specs.Prelude.{◌≡◌, ◌≢◌, ◌⊎◌, ℕ, ◌≤◌, true, false, List, [], ◌∷◌, ◌++◌, length, take, Option, None, Some}
-use Rattle.relay_disk.specs.Device.{DiskWords, FailsNot}
+use Rattle.std.specs.Prelude.{◌≡◌, ◌≢◌, ℕ, ◌≤◌, false, List, [], ◌∷◌, ◌++◌, length, take, Option, None, Some}
+use Rattle.relay_disk.specs.Device.{DiskWords}
+use Rattle.relay_disk.specs.Disks.{FailsNot}
 use Rattle.relay_slots.specs.Slots.{IsLeastFree, OthersStay, slot_at}
 use Rattle.relay_routes.specs.declared.config.Config.{Config}
 use Rattle.relay_book.specs.declared.change.Accept.{Accept}
@@ -8,7 +9,7 @@ use Rattle.relay_book.specs.declared.change.Change.{Change}
 use Rattle.relay_book.specs.declared.message.Message.{Message}
 use Rattle.relay_book.specs.Marks.{message_at}
 use Rattle.relay_book.specs.Queue.{Fitting, message_of, queue_of}
-use Rattle.relay_records.specs.Records.{IsStopped, Kept}
+use Rattle.relay_records.specs.Records.{IsStopped}
 use Rattle.relay_records.specs.declared.fault.NodeFault.{NodeFault}
 use Rattle.relay_records.specs.declared.fault.NodeFault.TheVariants.{NoMemory, Stopped, Unknown, Full}
 use Rattle.relay_client.specs.Attempt.{Follows}

@@ -4,3 +4,4 @@ pub mod Queued
 pub mod Listening
 pub mod Node
 pub mod Attempts
+pub mod Compaction

@@ -1,7 +1,9 @@
 -- A node in its list of changes, and in what was said on its sessions.
 use Rattle.std.specs.Prelude.{◌≡◌, ◌≢◌, ◌⊎◌, ◌↔◌, ℕ, ◌+◌, ◌≤◌, ◌<◌, ◌^◌, Bool, true, false, List, [], ◌∷◌, ◌++◌, length, take, Option, Some, None, Result, Err, IfErr}
 use Rattle.std.specs.List.{AllByRecursion}
-use Rattle.relay_disk.specs.Device.{DiskWords, FailsNot}
+use Rattle.relay_disk.specs.declared.disks.Disks.{Disks}
+use Rattle.relay_disk.specs.Device.{DiskWords}
+use Rattle.relay_disk.specs.Disks.{FailsNot}
 use Rattle.relay_spool.specs.declared.fault.SpoolFault.TheVariants as spool_fault
 use Rattle.relay_routes.specs.declared.config.Config.{Config}
 use Rattle.relay_server.specs.declared.offer.Answer.TheVariants.{Queued}
@@ -196,15 +198,15 @@ pub record IsIdle {D : Type 0} (config : Config) (node : NodeState D) : Type 0 w
   pub places : HasPlaces node.seats × HasPlaces node.attempts
   pub noted : node.records.noted ≡ None
 
--- all but the disk is the same
+-- all but the disks is the same
 pub record IsFused {D : Type 0} (old new : Kept D) : Type 0 where
   pub size : new.spool.size ≡ old.spool.size
   pub live : new.spool.live ≡ old.spool.live
   pub queue : new.queue ≡ old.queue
   pub noted : new.noted ≡ old.noted
 
--- why no node is made on a disk: want of memory leaves the disk as it was
-abbrev pub RefusesToMake : {D : Type 0} → Type 0 → DiskWords D → D → D → Cause → Type 0
+-- why no node is made on two disks: want of memory leaves them as they were
+abbrev pub RefusesToMake : {D : Type 0} → Type 0 → DiskWords D → Disks D → Disks D → Cause → Type 0
 RefusesToMake honest words old new cause =
     ((cause ≡ Spool spool_fault.NoMemory) × (new ≡ old)) ⊎ RefusesDisk honest words old new cause
 

@@ -1,13 +1,13 @@
 //! A node that is opened again under the same configuration.
 ghost use Rattle.std.specs.Prelude.{◌≡◌, IfErr, IfOk, MatchResult};
-ghost use Rattle.relay_disk.specs.Device.{FailsNot};
+ghost use Rattle.relay_disk.specs.Disks.{FailsNot, seen_of};
 ghost use Rattle.relay_node.specs.Node.{IsIdle};
 ghost use Rattle.relay_records.specs.Open.{FailsFor, Opens, RefusesImage};
 ghost use Rattle.relay_spool.specs.Spool.{OnlyReads};
 
 use crate::node::{Node, out_of_memory};
 use relay_attempts::Attempts;
-use relay_disk::Disk;
+use relay_disk::{Disk, Disks};
 use relay_records::{NotOpened, Records};
 use relay_routes::Config;
 use relay_slots::Slots;
@@ -22,12 +22,12 @@ pub struct NotReopened<D> {
 
 impl<D: Disk> Node<D> {
     /// As [`Node::open`]; the configuration comes back with a disk that is refused.
-    pub fn open_again(alloc: Global, config: Config, disk: D) -> Result<Self, NotReopened<D>>
+    pub fn open_again(alloc: Global, config: Config, disk: Disks<D>) -> Result<Self, NotReopened<D>>
         ensures opens { IfOk result (λ node. Opens D.honest D.words disk node.records) }
         ensures idle { IfOk result (IsIdle config) }
         ensures config { IfErr result (λ not. not.config ≡ config) }
         ensures refused { IfErr result
-            (λ not. RefusesImage D.honest (D.words.seen disk) not.refused.cause) }
+            (λ not. RefusesImage D.honest (seen_of D.words disk) not.refused.cause) }
         ensures keeps { D.honest → MatchResult result
             (λ node. OnlyReads D.words disk node.records.spool.disk)
             (λ not. OnlyReads D.words disk not.refused.disk) }

@@ -5,6 +5,7 @@
 mod accept;
 mod again;
 mod attempts;
+mod compact;
 mod intake;
 pub mod laws;
 mod listen;

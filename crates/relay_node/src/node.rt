@@ -4,7 +4,7 @@ ghost use Rattle.std.specs.List.{Contains};
 ghost use Rattle.relay_book.specs.declared.change.Change.{Change};
 ghost use Rattle.relay_book.specs.Marks.{Held};
 ghost use Rattle.relay_book.specs.Queue.{held_of};
-ghost use Rattle.relay_disk.specs.Device.{AddsNoImage, FailsNot, Only};
+ghost use Rattle.relay_disk.specs.Disks.{AddsNoImage, FailsNot, LeavesNothing, calls_left_of, no_octets, seen_of};
 ghost use Rattle.relay_node.specs.Node.{Connects, CutsTalk, IsFused, IsIdle, Receives, RefusesAt, SeatHasSaid, UsesOctets};
 ghost use Rattle.relay_node.specs.Node.{RefusesToConnect, RefusesToEnd, RefusesToMake, RefusesToReceive};
 ghost use Rattle.relay_node.specs.Room.{ComesToOffer};
@@ -14,14 +14,14 @@ ghost use Rattle.relay_records.specs.Open.{FailsFor, Opens, RefusesImage};
 ghost use Rattle.relay_records.specs.Records.{Halted, Keeps, Stays};
 ghost use Rattle.relay_server.specs.Dialogue.{Said};
 ghost use Rattle.relay_server.specs.Setup.{setup_of_config};
-ghost use Rattle.relay_spool.specs.Image.{HasNoBody};
+ghost use Rattle.relay_spool.specs.Pair.{HasNoBody};
 ghost use Rattle.relay_spool.specs.Spool.{AtEachMoment, OnlyReads};
 
 use crate::attempts::note;
 use crate::receive::{Received, hear};
 use crate::seat::Seat;
 use relay_attempts::Attempts;
-use relay_disk::{Disk, Reboot};
+use relay_disk::{Disk, Disks, Reboot};
 use relay_records::{Cause, HeldPlace, NodeFault, NotOpened, Noted, Records};
 use relay_routes::Config;
 use relay_server::Session;
@@ -83,19 +83,19 @@ impl<D: Disk> Model for Node<D> {
 }
 
 impl<D: Disk> Node<D> {
-    /// A node without changes, on a disk of size 0. A disk that isn't empty comes back unchanged, and
-    /// one that failed with any octets.
-    pub fn create(alloc: Global, config: Config, disk: D) -> Result<Self, NotOpened<D>>
+    /// A node without changes, on two disks of size 0. Disks of which one isn't empty come back unchanged, and
+    /// disks that failed with any octets.
+    pub fn create(alloc: Global, config: Config, disk: Disks<D>) -> Result<Self, NotOpened<D>>
         ensures keeps { IfOk result (λ node. Keeps D.honest D.words node.records []) }
         ensures idle { IfOk result (IsIdle config) }
         ensures empty { IfOk result (λ node. (node.records.spool.size ≡ 18)
-            × (D.honest → D.words.seen disk ≡ [])) }
+            × (D.honest → seen_of D.words disk ≡ no_octets)) }
         ensures refused { IfErr result
             (λ refused. RefusesToMake D.honest D.words disk refused.disk refused.cause) }
         ensures failures { MatchResult result (λ node. FailsNot D.words disk node.records.spool.disk)
             (λ refused. FailsFor D.words disk refused.disk refused.cause) }
-        // Where a stop left nothing of the disk before, it leaves no change at any moment of this call.
-        ensures stop { D.honest → Only [] (D.words.may_leave disk) → MatchResult result
+        // Where a stop left nothing of the disks before, it leaves no change at any moment of this call.
+        ensures stop { D.honest → LeavesNothing D.words disk → MatchResult result
             (λ node. AtEachMoment D.words disk node.records.spool.disk HasNoBody)
             (λ refused. AtEachMoment D.words disk refused.disk HasNoBody) }
     {
@@ -117,12 +117,12 @@ impl<D: Disk> Node<D> {
         }
     }
 
-    /// A node of the changes that a disk holds, whatever configuration they were made under. The disk
-    /// is synced and read, and not written: it comes back as it was where it is refused.
-    pub fn open(alloc: Global, config: Config, disk: D) -> Result<Self, NotOpened<D>>
+    /// A node of the changes that two disks hold, whatever configuration they were made under. The disks
+    /// are synced and read, and not written: they come back as they were where they are refused.
+    pub fn open(alloc: Global, config: Config, disk: Disks<D>) -> Result<Self, NotOpened<D>>
         ensures opens { IfOk result (λ node. Opens D.honest D.words disk node.records) }
         ensures idle { IfOk result (IsIdle config) }
-        ensures refused { IfErr result (λ refused. RefusesImage D.honest (D.words.seen disk) refused.cause) }
+        ensures refused { IfErr result (λ refused. RefusesImage D.honest (seen_of D.words disk) refused.cause) }
         ensures keeps { D.honest → MatchResult result
             (λ node. OnlyReads D.words disk node.records.spool.disk)
             (λ refused. OnlyReads D.words disk refused.disk) }
@@ -135,8 +135,8 @@ impl<D: Disk> Node<D> {
         }
     }
 
-    /// The disk, live or stopped. It takes no memory.
-    pub fn into_disk(self) -> D
+    /// The disks, live or stopped. It takes no memory.
+    pub fn into_disk(self) -> Disks<D>
         ensures { result ≡ self.records.spool.disk }
     {
         let Node {
@@ -149,8 +149,8 @@ impl<D: Disk> Node<D> {
         records.into_disk()
     }
 
-    /// The configuration and the disk, live or stopped. It takes no memory.
-    pub fn into_parts(self) -> (Config, D)
+    /// The configuration and the disks, live or stopped. It takes no memory.
+    pub fn into_parts(self) -> (Config, Disks<D>)
         ensures config { result.0 ≡ self.config }
         ensures disk { result.1 ≡ self.records.spool.disk }
     {
@@ -325,7 +325,7 @@ impl<D: Disk> Node<D> {
 }
 
 /// The refusal of a disk for want of memory.
-pub(crate) fn out_of_memory<D>(disk: D) -> NotOpened<D>
+pub(crate) fn out_of_memory<D>(disk: Disks<D>) -> NotOpened<D>
     ensures { (result.cause ≡ Cause.Spool SpoolFault.NoMemory) × (result.disk ≡ disk) }
 {
     NotOpened {
@@ -335,7 +335,7 @@ pub(crate) fn out_of_memory<D>(disk: D) -> NotOpened<D>
 }
 
 impl<D: Reboot> Node<D> {
-    /// Sets the fuse of the disk: so many calls pass, and each later one fails. Nothing else changes.
+    /// Sets the fuse of the disks: so many calls of both pass, and each later one fails. Nothing else changes.
     pub fn fuse(&mut self, calls: u64)
         ensures rest { (self.new.config ≡ self.old.config) × (self.new.seats ≡ self.old.seats)
             × (self.new.attempts ≡ self.old.attempts) }
@@ -345,7 +345,7 @@ impl<D: Reboot> Node<D> {
         ensures stop { D.Disk.honest
             → AddsNoImage D.Disk.words self.old.records.spool.disk self.new.records.spool.disk }
         ensures failures { FailsNot D.Disk.words self.old.records.spool.disk self.new.records.spool.disk }
-        ensures fuse { D.Disk.words.calls_left self.new.records.spool.disk ≡ Some calls }
+        ensures fuse { calls_left_of D.Disk.words self.new.records.spool.disk ≡ Some calls }
     {
         self.records.fuse(calls);
     }

@@ -1,5 +1,7 @@
 //! What a node answers, told line by line.
-use crate::calls::{MemoryNode, connect, due, end, give_up, lose, marks, place, start, take_noted};
+use crate::calls::{
+    MemoryNode, compact, connect, due, end, give_up, lose, marks, place, start, take_noted,
+};
 use crate::scene::Scene;
 use crate::words::Words;
 use relay_book::Way;
@@ -43,6 +45,14 @@ impl Scene {
     pub fn give_up(&mut self, node: &mut MemoryNode, message: u64) {
         match give_up(node, message, self.now) {
             Ok(number) => self.tell_number("change", number),
+            Err(fault) => self.tell_fault(fault),
+        }
+    }
+
+    /// Writes the spool anew, and tells its sizes before and behind that.
+    pub fn compact(&mut self, node: &mut MemoryNode) {
+        match compact(node) {
+            Ok((before, behind)) => self.tell_numbers(before as u64, behind as u64),
             Err(fault) => self.tell_fault(fault),
         }
     }
@@ -100,17 +110,10 @@ impl Scene {
         match marks(self.alloc, node) {
             Ok(marks) => {
                 for (number, place) in marks.as_slice() {
-                    self.tell_mark(*number, *place);
+                    self.tell_numbers(*number, u64::from(*place));
                 }
             }
             Err(fault) => self.tell_fault(fault),
-        }
-    }
-
-    fn tell_mark(&mut self, number: u64, place: u8) {
-        match format!(in self.alloc; "{number} {place}") {
-            Ok(line) => self.tell(line.as_str()),
-            Err(_) => self.is_short = true,
         }
     }
 

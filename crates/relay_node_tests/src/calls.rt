@@ -1,5 +1,5 @@
 //! Each call of a node once, in a function without clauses: what calls these sees none of a node's contracts.
-use relay_disk::{MemoryDisk, Reboot};
+use relay_disk::{Disks, MemoryDisk};
 use relay_node::{
     Connected, HeldPlace, Node, NodeFault, NotOpened, Noted, Received, Replied, Started, Work,
 };
@@ -7,10 +7,13 @@ use relay_routes::{Config, HostName};
 use relay_trace::Moment;
 use std::alloc::{AllocError, Global};
 
-/// A node on a disk in memory.
+/// Two disks in memory.
+pub type MemoryDisks = Disks<MemoryDisk>;
+
+/// A node on disks in memory.
 pub type MemoryNode = Node<MemoryDisk>;
 
-/// A disk in memory that was refused.
+/// Disks in memory that were refused.
 pub type Refused = NotOpened<MemoryDisk>;
 
 /// What a node has done with octets of a client or of a next hop.
@@ -52,29 +55,38 @@ spool_limit = {spool_limit}
     Ok(Config::read(alloc, text.as_str()).ok())
 }
 
-/// A node without changes, on an empty disk.
+/// A node without changes, on empty disks.
 pub fn create(alloc: Global, config: Config) -> Result<MemoryNode, Refused> {
-    Node::create(alloc, config, MemoryDisk::new(alloc))
+    let disks = Disks {
+        first: MemoryDisk::new(alloc),
+        second: MemoryDisk::new(alloc),
+    };
+    Node::create(alloc, config, disks)
 }
 
-/// A node of what a disk holds.
-pub fn open(alloc: Global, config: Config, disk: MemoryDisk) -> Result<MemoryNode, Refused> {
-    Node::open(alloc, config, disk)
+/// A node of what disks hold.
+pub fn open(alloc: Global, config: Config, disks: MemoryDisks) -> Result<MemoryNode, Refused> {
+    Node::open(alloc, config, disks)
 }
 
-/// The disk of a node.
-pub fn into_disk(node: MemoryNode) -> MemoryDisk {
+/// The disks of a node.
+pub fn into_disk(node: MemoryNode) -> MemoryDisks {
     node.into_disk()
 }
 
-/// What a stop by this pick leaves of a disk.
-pub fn after_stop(disk: MemoryDisk, pick: u64) -> Option<MemoryDisk> {
-    disk.after_stop(pick).ok()
+/// What a stop by this pick leaves of disks.
+pub fn after_stop(disks: MemoryDisks, pick: u64) -> Option<MemoryDisks> {
+    disks.after_stop(pick).ok()
 }
 
-/// Lets so many calls of the disk pass, and each later one fail.
+/// Lets so many calls of the disks pass, and each later one fail.
 pub fn fuse(node: &mut MemoryNode, calls: u64) {
     node.fuse(calls);
+}
+
+/// Writes the spool anew, and gives its sizes before and behind that.
+pub fn compact(node: &mut MemoryNode) -> Result<(usize, usize), NodeFault> {
+    node.compact()
 }
 
 /// Opens a session for a client at 127.0.0.1.

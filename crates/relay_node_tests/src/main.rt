@@ -25,13 +25,16 @@ use std::{env, fs};
 use trial::difference_of;
 
 /// The files of scenarios.
-const FILES: [&str; 7] = [
+const FILES: [&str; 10] = [
     "receiving",
     "sessions",
     "stops",
     "passing",
     "retrying",
     "moments",
+    "compaction",
+    "compaction_refused",
+    "compaction_stops",
     "wrong",
 ];
 

@@ -43,7 +43,7 @@ pub fn report(rt: &HostRuntime) -> Result<(), Fail> {
     }
 }
 
-/// A node without changes, on a disk in memory.
+/// A node without changes, on disks in memory.
 fn node(alloc: Global) -> Result<MemoryNode, Fail> {
     let Some(config) = configuration(alloc, 67_108_864, "example.org next.example")? else {
         return Err(Fail::new("no configuration"));

@@ -39,7 +39,8 @@ impl Drop for Scene {
 impl Scene {
     /// Performs an event of a node.
     ///
-    /// `at 1000` sets the clock, `fuse` the disk's fuse, and `connect 2` opens two sessions. `give client 0`
+    /// `at 1000` sets the clock, `fuse` the disks' fuse as the course of the scenario says, `fuse 5` to five
+    /// calls, `compact` writes the spool anew, and `connect 2` opens two sessions. `give client 0`
     /// gives a session what `>` lines say, in pieces, and `give hop 0` an attempt; `once client 0` does it
     /// in one call, and `turns hop 0 hop 1` gives two peers each octet. Further events are `end 0` of a
     /// session, `start 1 next.example` and `lose 0` of an attempt, and `give_up 1` of a message.
@@ -63,7 +64,8 @@ impl Scene {
         let number = words.number();
         match word {
             "at" => self.set_moment(number),
-            "fuse" => fuse(node, self.course.calls),
+            "fuse" => self.fuse(node, rest),
+            "compact" => self.compact(node),
             "connect" => self.connect(node, number),
             "end" => self.end(node, number),
             "lose" => self.lose(node, number),
@@ -77,6 +79,12 @@ impl Scene {
             "record" => self.tell_record(),
             _ => self.tell("no event"),
         }
+    }
+
+    /// Sets the fuse of the disks to so many calls, or as the course says.
+    fn fuse(&mut self, node: &mut MemoryNode, rest: Words<'_>) {
+        let mut words = rest;
+        fuse(node, words.number_or(self.course.calls));
     }
 
     /// Sets the clock, where there is such a moment.
@@ -102,6 +110,14 @@ impl Scene {
     /// Tells a line of a word and a number.
     pub fn tell_number(&mut self, word: &str, number: u64) {
         match format!(in self.alloc; "{word} {number}") {
+            Ok(line) => self.tell(line.as_str()),
+            Err(_) => self.is_short = true,
+        }
+    }
+
+    /// Tells a line of two numbers.
+    pub fn tell_numbers(&mut self, first: u64, second: u64) {
+        match format!(in self.alloc; "{first} {second}") {
             Ok(line) => self.tell(line.as_str()),
             Err(_) => self.is_short = true,
         }

@@ -1,9 +1,11 @@
-use crate::calls::{MemoryNode, Refused, after_stop, configuration, create, into_disk, open};
+use crate::calls::{
+    MemoryDisks, MemoryNode, Refused, after_stop, configuration, create, into_disk, open,
+};
 use crate::course::Course;
 use crate::scene::Scene;
 use crate::step::Step;
 use crate::words::Words;
-use relay_disk::MemoryDisk;
+use relay_disk::{Disks, MemoryDisk};
 use relay_node::NodeFault;
 use relay_routes::Config;
 use relay_trace::Moment;
@@ -15,10 +17,10 @@ const SPOOL_LIMIT: u64 = 67_108_864;
 /// The table of routes where a scenario sets no other one.
 const TABLE: &str = "example.org next.example";
 
-/// What scenarios happen to: a node or a disk, what it is made with, and what comes.
+/// What scenarios happen to: a node or its disks, what it is made with, and what comes.
 pub struct Stage<'a> {
     node: Option<MemoryNode>,
-    disk: Option<MemoryDisk>,
+    disks: Option<MemoryDisks>,
     spool_limit: u64,
     /// A domain and a hop for each two words.
     table: &'a str,
@@ -29,7 +31,7 @@ impl Drop for Stage<'_> {
     fn drop(self) {
         let Stage {
             node: _node,
-            disk: _disk,
+            disks: _disks,
             spool_limit: _,
             table: _,
             scene: _scene,
@@ -42,7 +44,7 @@ impl<'a> Stage<'a> {
     pub fn new(alloc: Global, course: Course, now: Moment) -> Self {
         Stage {
             node: None,
-            disk: None,
+            disks: None,
             spool_limit: SPOOL_LIMIT,
             table: TABLE,
             scene: Scene {
@@ -60,19 +62,20 @@ impl<'a> Stage<'a> {
     /// Performs an event. What comes of it stands in the scene.
     ///
     /// `table example.org next.example` and `limit 178` say what a node is made with from then on, `disk`
-    /// puts a disk there of which `>` lines are the image, `create` makes a node on an empty disk, and
-    /// `open` opens the disk, or what the node had. `stop` stops the node and leaves its disk as that leaves
-    /// it; `image` tells what the disk holds.
+    /// puts a disk there of which `>` lines are the image, and an empty one behind it, `disk second` puts one
+    /// in the place of that, `create` makes a node on empty disks, and `open` opens the disks, or what the
+    /// node had. `stop` stops the node and leaves its disks as the course of the scenario picks, `stop 0` by
+    /// pick 0; `image` tells what the first disk holds, and `image second` the second.
     pub fn perform(&mut self, step: &Step<'a>) {
         let mut words = Words { rest: step.event };
         match words.word() {
             "table" => self.table = words.rest,
             "limit" => self.spool_limit = words.number(),
-            "disk" => self.insert(step.said.as_slice()),
+            "disk" => self.insert(words.word(), step.said.as_slice()),
             "create" => self.start(None),
             "open" => self.open(),
-            "image" => self.tell_image(),
-            "stop" => self.stop(),
+            "image" => self.tell_image(words.word()),
+            "stop" => self.stop(words.number_or(self.scene.course.pick)),
             word => self.perform_on_node(step, word, words),
         }
     }
@@ -85,68 +88,96 @@ impl<'a> Stage<'a> {
         }
     }
 
-    /// Puts a disk with this image in the place of the other one.
-    fn insert(&mut self, image: &[u8]) {
-        self.disk = MemoryDisk::with_image(self.scene.alloc, image).ok();
+    /// Puts a disk with this image there: a second one behind the first, and else a first one before an empty
+    /// one.
+    fn insert(&mut self, which: &str, image: &[u8]) {
+        self.halt();
+        let alloc = self.scene.alloc;
+        let Ok(disk) = MemoryDisk::with_image(alloc, image) else {
+            self.scene.is_short = true;
+            return;
+        };
+        if which == "second" {
+            self.put_behind(disk);
+        } else {
+            self.disks = Some(Disks {
+                first: disk,
+                second: MemoryDisk::new(alloc),
+            });
+        }
     }
 
-    /// Opens a node on the disk, if there is one, and else makes one on an empty disk.
+    /// Puts a second disk behind the first, where there is one.
+    fn put_behind(&mut self, disk: MemoryDisk) {
+        if let Some(disks) = &mut self.disks {
+            disks.second = disk;
+        }
+    }
+
+    /// Opens a node on the disks, if there are any, and else makes one on empty ones.
     fn open(&mut self) {
         self.halt();
-        let disk = self.disk.take();
-        self.start(disk);
+        let disks = self.disks.take();
+        self.start(disks);
     }
 
-    /// Starts a node on this disk, and on an empty one where there is none.
-    fn start(&mut self, disk: Option<MemoryDisk>) {
+    /// Starts a node on these disks, and on empty ones where there are none.
+    fn start(&mut self, disks: Option<MemoryDisks>) {
         match configuration(self.scene.alloc, self.spool_limit, self.table) {
-            Ok(Some(config)) => self.start_with(config, disk),
+            Ok(Some(config)) => self.start_with(config, disks),
             Ok(None) => self.scene.tell("no configuration"),
             Err(_) => self.scene.is_short = true,
         }
     }
 
-    /// Starts a node with this configuration. Where its disk is refused, that comes back, and the reason is
+    /// Starts a node with this configuration. Where its disks are refused, they come back, and the reason is
     /// told.
-    fn start_with(&mut self, config: Config, disk: Option<MemoryDisk>) {
-        match made(self.scene.alloc, config, disk) {
+    fn start_with(&mut self, config: Config, disks: Option<MemoryDisks>) {
+        match made(self.scene.alloc, config, disks) {
             Ok(node) => self.node = Some(node),
             Err(refused) => {
                 self.scene.tell_fault(NodeFault::Open(refused.cause));
-                self.disk = Some(refused.disk);
+                self.disks = Some(refused.disk);
             }
         }
     }
 
-    /// Takes the disk of the node, which is gone then.
+    /// Takes the disks of the node, which is gone then.
     fn halt(&mut self) {
         if let Some(node) = self.node.take() {
-            self.disk = Some(into_disk(node));
+            self.disks = Some(into_disk(node));
         }
     }
 
-    /// Stops the node as the course of the scenario picks, and leaves the disk as that leaves it.
-    fn stop(&mut self) {
+    /// Stops the node, and leaves the disks as that leaves them by this pick.
+    fn stop(&mut self, pick: u64) {
         self.halt();
-        if let Some(disk) = self.disk.take() {
-            self.disk = after_stop(disk, self.scene.course.pick);
+        if let Some(disks) = self.disks.take() {
+            self.disks = after_stop(disks, pick);
         }
     }
 
-    /// Tells what a read of the disk gives. The node is gone then.
-    pub fn tell_image(&mut self) {
+    /// Tells what a read of the second disk gives, or of the first. The node is gone then.
+    fn tell_image(&mut self, which: &str) {
         self.halt();
-        match &self.disk {
-            Some(disk) => self.scene.tell_octets(disk.image()),
-            None => self.scene.tell("no disk"),
+        match &self.disks {
+            Some(disks) if which == "second" => self.scene.tell_octets(disks.second.image()),
+            Some(disks) => self.scene.tell_octets(disks.first.image()),
+            None => self.scene.tell("no disks"),
         }
+    }
+
+    /// Tells what reads of both disks give. The node is gone then.
+    pub fn tell_images(&mut self) {
+        self.tell_image("first");
+        self.tell_image("second");
     }
 }
 
-/// A node on this disk, or on an empty one.
-fn made(alloc: Global, config: Config, disk: Option<MemoryDisk>) -> Result<MemoryNode, Refused> {
-    match disk {
-        Some(disk) => open(alloc, config, disk),
+/// A node on these disks, or on empty ones.
+fn made(alloc: Global, config: Config, disks: Option<MemoryDisks>) -> Result<MemoryNode, Refused> {
+    match disks {
+        Some(disks) => open(alloc, config, disks),
         None => create(alloc, config),
     }
 }

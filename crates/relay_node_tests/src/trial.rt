@@ -37,12 +37,12 @@ fn difference_at_stops(
     Ok(None)
 }
 
-/// Plays a scenario whole, and for each cutting, after which the disk holds the same.
+/// Plays a scenario whole, and for each cutting, after which the disks hold the same.
 fn difference_by_cutting(
     alloc: Global,
     scenario: &Scenario<'_>,
 ) -> Result<Option<String>, AllocError> {
-    let mut image = Vec::new(alloc);
+    let mut images = Vec::new(alloc);
     let length = scenario.longest();
     for number in 0..=length {
         let course = Course {
@@ -50,7 +50,7 @@ fn difference_by_cutting(
             calls: 0,
             pick: 0,
         };
-        let difference = play(alloc, scenario, course, &mut image)?;
+        let difference = play(alloc, scenario, course, &mut images)?;
         if difference.is_some() {
             return Ok(difference);
         }
@@ -58,19 +58,19 @@ fn difference_by_cutting(
     Ok(None)
 }
 
-/// Plays a scenario in one course, and says what came first that isn't written down, or that the disk holds
-/// another image than this one in the end. In the place of an empty image it leaves that of the disk.
+/// Plays a scenario in one course, and says what came first that isn't written down, or that the disks hold
+/// other images than these in the end. In the place of no images it leaves those of the disks.
 fn play(
     alloc: Global,
     scenario: &Scenario<'_>,
     course: Course,
-    image: &mut Vec<u8>,
+    images: &mut Vec<u8>,
 ) -> Result<Option<String>, AllocError> {
     let Ok(now) = Moment::new(0) else {
         return Err(AllocError);
     };
     let mut stage = Stage::new(alloc, course, now);
-    let difference = play_on(&mut stage, scenario, image)?;
+    let difference = play_on(&mut stage, scenario, images)?;
     if stage.scene.is_short {
         return Err(AllocError);
     }
@@ -81,7 +81,7 @@ fn play(
 fn play_on<'a>(
     stage: &mut Stage<'a>,
     scenario: &Scenario<'a>,
-    image: &mut Vec<u8>,
+    images: &mut Vec<u8>,
 ) -> Result<Option<String>, AllocError> {
     for step in scenario.steps.as_slice() {
         stage.perform(step);
@@ -90,11 +90,11 @@ fn play_on<'a>(
         }
         stage.scene.came.clear();
     }
-    stage.tell_image();
-    if image.is_empty() {
-        mem::swap(image, &mut stage.scene.came);
-    } else if image.as_slice() != stage.scene.came.as_slice() {
-        return Ok(Some(told(&stage.scene, "the last image")?));
+    stage.tell_images();
+    if images.is_empty() {
+        mem::swap(images, &mut stage.scene.came);
+    } else if images.as_slice() != stage.scene.came.as_slice() {
+        return Ok(Some(told(&stage.scene, "the last images")?));
     }
     Ok(None)
 }

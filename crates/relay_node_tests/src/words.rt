@@ -23,7 +23,12 @@ impl<'a> Words<'a> {
 
     /// The next word as a number, the greatest where it is none.
     pub fn number(&mut self) -> u64 {
-        self.word().parse::<u64>().unwrap_or(u64::MAX)
+        self.number_or(u64::MAX)
+    }
+
+    /// The next word as a number, and this one where it is none.
+    pub fn number_or(&mut self, other: u64) -> u64 {
+        self.word().parse::<u64>().unwrap_or(other)
     }
 
     /// The peer that the next two words name: `client 0`, `hop 0`.

@@ -26,7 +26,7 @@ returns-in-More-clause-heard g c =
     let by = ends_for_more _ _ _ _ ends c.in-More.is in
     let l = c.in_ok-used.ensures.listens c.requires.history.0 c.requires.history.1.stands in
     record {
-      used = record { within = ends.within; some = λ made. absurd (made refl); whole = λ _ _. by.1; failures = refl };
+      used = record { within = ends.within; some = λ made. absurd (made refl); whole = λ _ _. by.1; failures = (refl, refl) };
       takes = refl;
       history = (l.later, record { stands = l.stands; settled = by.0 });
     }
@@ -37,7 +37,7 @@ returns-in-Close-clause-heard g c =
     let by = ends_for_close _ _ _ _ ends c.in-Close.is in
     let l = c.in_ok-used.ensures.listens c.requires.history.0 c.requires.history.1.stands in
     record {
-      used = record { within = ends.within; some = λ made. absurd (made refl); whole = λ _ going. absurd (closes going); failures = refl };
+      used = record { within = ends.within; some = λ made. absurd (made refl); whole = λ _ going. absurd (closes going); failures = (refl, refl) };
       takes = refl;
       history = (l.later, record { stands = l.stands; settled = by.0 });
     }
