@@ -7,7 +7,7 @@ use Rattle.relay_world.specs.declared.link.ServerEnd.{ServerEnd}
 use Rattle.relay_world.specs.Bound.{IsBound, IsServed, IsTried}
 use Rattle.relay_world.specs.Steps.{BreakingKeeps}
 use Rattle.relay_world.proofs.LinkLemmas.{relinked}
-use Rattle.relay_world.proofs.PieceLemmas.{fate_as}
+use Rattle.relay_world.proofs.PieceLemmas.{passes_whole}
 
 pub breaking_keeps : {D : Type 0} (honest : Type 0) (words : DiskWords D) → BreakingKeeps honest words
 breaking_keeps {D} honest words old new lists number bound breaks =
@@ -61,20 +61,6 @@ breaking_keeps {D} honest words old new lists number bound breaks =
           host = was.host;
           changes = was.changes;
           stands = record { host_at = was.stands.host_at; list_at = was.stands.list_at };
-          passes = record {
-            accept = was.passes.accept;
-            accepted = was.passes.accepted;
-            valid = was.passes.valid;
-            some = was.passes.some;
-            few = was.passes.few;
-            within = was.passes.within;
-            told = was.passes.told;
-            output = was.passes.output;
-            verdicts = was.passes.verdicts;
-            course = was.passes.course;
-            wrote = was.passes.wrote;
-            whole = λ is. absurd (false≢true (sym is));
-            fate = fate_as was.host was.changes breaks.link broken was.attempt was.passes.accept was.passes.output was.passes.told
-                was.passes.verdicts was.attempt.fate refl was.passes.fate;
-          };
+          passes = passes_whole was.host was.changes breaks.link broken was.attempt refl refl
+              (λ is. absurd (false≢true (sym is))) was.passes;
         }

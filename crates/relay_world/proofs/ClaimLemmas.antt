@@ -6,6 +6,7 @@ use Rattle.std.proofs.lemmas.List.{append-nil}
 use Rattle.std.proofs.lemmas.Option.{none-some, same_Some}
 use Rattle.relay_octets.specs.Beginning.{Begins}
 use Rattle.relay_disk.specs.Device.{DiskWords}
+use Rattle.relay_disk.specs.declared.disks.Disks.{Disks}
 use Rattle.relay_book.specs.declared.change.Change.{Change}
 use Rattle.relay_book.specs.declared.change.Change.TheVariants as change
 use Rattle.relay_book.specs.declared.change.Outcome.{Outcome}
@@ -144,7 +145,7 @@ module _ {D : Type 0} (honest : Type 0) (words : DiskWords D) where
     -- and so does an undecided change that came from no attempt
     abbrev pub GivenUpKept : Type 0
     GivenUpKept =
-        (node message : ℕ) (host : Host D) (changes : List Change) (disk : D) (undecided : Undecided)
+        (node message : ℕ) (host : Host D) (changes : List Change) (disk : Disks D) (undecided : Undecided)
         → StandsAt new later node host changes → host.state ≡ Down disk (Some undecided)
         → undecided.origin ≡ FromNoHop message → GivesUpNoHops host.config.routes changes undecided.note.octets
 
@@ -319,7 +320,7 @@ module _ {D : Type 0} (honest : Type 0) (words : DiskWords D) where
 
     -- the undecided changes, where one node has moved on, or none
     pub given_put : (node : ℕ) (moved : Host D) → IsPut old.hosts new.hosts node moved
-        → ((message : ℕ) (changes : List Change) (disk : D) (undecided : Undecided) → StandsAt new later node moved changes
+        → ((message : ℕ) (changes : List Change) (disk : Disks D) (undecided : Undecided) → StandsAt new later node moved changes
         → moved.state ≡ Down disk (Some undecided) → undecided.origin ≡ FromNoHop message
         → GivesUpNoHops moved.config.routes changes undecided.note.octets) → GivenUpKept
     given_put node moved put here n message host changes disk undecided stands down origin =

@@ -1,16 +1,22 @@
--- A node that crashes between two calls, or while it gives up places without a hop, lets go of its ends, and then stops.
-use Rattle.std.proofs.Common.{inr, ℕ, zero, suc, List, map, refl, sym, subst, ◌∙◌}
+-- A node that crashes between two calls, while its spool is written anew, or while it gives up places without a hop,
+-- lets go of its ends, and then stops.
+use Rattle.std.proofs.Common.{inl, inr, ◌≡◌, ℕ, zero, suc, List, map, None, Some, refl, sym, subst, ◌∙◌}
 use Rattle.std.specs.Prelude.{slice_get}
+use Rattle.std.proofs.lemmas.Option.{none-some}
 use Rattle.relay_disk.specs.Device.{DiskWords}
+use Rattle.relay_disk.specs.declared.disks.Disks.{Disks}
+use Rattle.relay_book.specs.declared.change.Change.{Change}
+use Rattle.relay_records.specs.Records.{Halted, Keeps, Kept}
+use Rattle.relay_node.specs.Node.{NodeState}
 use Rattle.relay_world.specs.declared.attempt.Attempt.{Attempt}
 use Rattle.relay_world.specs.declared.link.Link.{Link}
 use Rattle.relay_world.specs.Bound.{HasSession, HasSlot}
-use Rattle.relay_world.specs.Crashes.{CrashesAtRest, CrashesGivingUp, let_go, let_go_link}
-use Rattle.relay_world.specs.CrashRuns.{RestingCrashHappens}
+use Rattle.relay_world.specs.Crashes.{CrashesAtRest, CrashesCompacting, CrashesGivingUp, GoesDown, let_go, let_go_link}
+use Rattle.relay_world.specs.CrashRuns.{CompactingHappens, RestingCrashHappens}
 use Rattle.relay_world.specs.HangUp.{HangsUp, IsLetGo, hung_up_attempt}
-use Rattle.relay_world.specs.Once.{Happen, LetsGo, Stops, StopsInGivingUp}
-use Rattle.relay_world.specs.Stops.{HasStopped, NoAttempt, NoSession, StopsGivingUp}
-use Rattle.relay_world.specs.World.{World, link_at}
+use Rattle.relay_world.specs.Once.{GoesOn, Happen, LetsGo, Reopens, Stops, StopsInGivingUp}
+use Rattle.relay_world.specs.Stops.{HasReopened, IsLeftBy, LeavesList, NoAttempt, NoSession, StopsGivingUp}
+use Rattle.relay_world.specs.World.{Host, Up, World, link_at}
 use Rattle.relay_world.proofs.CrashLemmas.{let_go_one, no_session_left}
 use Rattle.relay_world.proofs.HangUpLemmas.{as_long, attempt_was, get_map, link_map, link_was, no_attempt}
 
@@ -46,31 +52,55 @@ module _ {D : Type 0} (node : ℕ) (old : World D) where
       no_attempt node was.0 slot (subst (λ a. HasSlot a node slot) was.1 has)
 
 module _ {D : Type 0} (honest : Type 0) (words : DiskWords D) (old new : World D) where
-  rest_stops : (node : ℕ) (crash : CrashesAtRest honest words old new node)
-      → HasStopped honest words (let_go node old) (record (let_go node old) { hosts = crash.down.hosts }) node
-  rest_stops node crash = record {
-    host = crash.host;
-    host_at = crash.host_at;
-    before = crash.before;
-    up = crash.up;
-    no_session = none_heard node old;
-    no_attempt = none_runs node old;
-    disk = crash.disk;
-    left = crash.left;
-    hosts = crash.down.put;
-    rest = (refl, refl, refl, refl, crash.down.as_many);
-  }
-
-  pub rest_run : (node : ℕ) → CrashesAtRest honest words old new node → Happen honest words (suc (suc zero)) old new
-  rest_run node crash = (
+  -- a node that lets go of its ends, and then stops with nothing undecided
+  stopped_run : (node : ℕ) (host : Host D) (before : NodeState D) (disk : Disks D)
+      → slice_get old.hosts node ≡ Some host → host.state ≡ Up before → LeavesList honest words before.records disk
+      → GoesDown old new node host disk None → Happen honest words (suc (suc zero)) old new
+  stopped_run node host before disk host_at up left down = (
     let_go node old,
     LetsGo node (hangs node old),
     (
-      record (let_go node old) { hosts = crash.down.hosts },
-      Stops node (rest_stops node crash),
-      crash.down.new_is,
+      record (let_go node old) { hosts = down.hosts },
+      Stops node (record {
+        host = host;
+        host_at = host_at;
+        before = before;
+        up = up;
+        no_session = none_heard node old;
+        no_attempt = none_runs node old;
+        disk = disk;
+        left = left;
+        hosts = down.put;
+        rest = (refl, refl, refl, refl, down.as_many);
+      }),
+      down.new_is,
     ),
   )
+
+  pub rest_run : (node : ℕ) → CrashesAtRest honest words old new node → Happen honest words (suc (suc zero)) old new
+  rest_run node crash =
+      stopped_run node crash.host crash.before crash.disk crash.host_at crash.up
+      (λ changes keeps is image may. keeps.images is image (crash.left is image may)) crash.down
+
+  -- what is left of a call that adds no change stands for the changes before
+  left_by_none : (before stopped : Kept D) (disk : Disks D)
+      → ((changes : List Change) → Keeps honest words before changes → Halted honest words stopped changes None)
+      → IsLeftBy honest words stopped disk → LeavesList honest words before disk
+  left_by_none before stopped disk halts left changes keeps is image may =
+      let found = (halts changes keeps).images is image (left is image may) in (
+        found.0,
+        found.1,
+        elim found.2 [
+          | inl stands ↦ stands
+          | inr more ↦ absurd (none-some more.0 more.1)
+        ],
+      )
+
+  pub compacting_run : (node : ℕ) → CrashesCompacting honest words old new node
+      → Happen honest words (suc (suc zero)) old new
+  compacting_run node crash =
+      stopped_run node crash.host crash.before crash.disk crash.host_at crash.up
+      (left_by_none crash.before.records crash.stopped crash.disk crash.halts crash.left) crash.down
 
   giving_stops : (node message : ℕ) (crash : CrashesGivingUp honest words old new node message)
       → StopsGivingUp honest words (let_go node old) (record (let_go node old) { hosts = crash.down.hosts }) node message
@@ -104,5 +134,18 @@ module _ {D : Type 0} (honest : Type 0) (words : DiskWords D) (old new : World D
   )
 
 pub resting_crash_happens : {D : Type 0} (honest : Type 0) (words : DiskWords D) → RestingCrashHappens honest words
-resting_crash_happens honest words old new node message =
-    (rest_run honest words old new node, giving_run honest words old new node message)
+resting_crash_happens honest words old new node message = (
+  rest_run honest words old new node,
+  giving_run honest words old new node message,
+  compacting_run honest words old new node,
+)
+
+-- a run of three, of which the last event opens a node
+pub compacting_happens : {D : Type 0} (honest : Type 0) (words : DiskWords D) → CompactingHappens honest words
+compacting_happens honest words old between new node = (
+  λ compacted. (new, GoesOn node compacted.stays, refl),
+  λ crash opens.
+      let run = compacting_run honest words old between node crash in
+      let opened = Reopens node (subst (λ w. HasReopened honest words w new node) run.2.2 opens) in
+      (run.0, run.1, (run.2.0, run.2.1, (new, opened, refl))),
+)

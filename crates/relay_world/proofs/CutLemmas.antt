@@ -5,10 +5,9 @@ use Rattle.std.specs.Prelude.{slice_get}
 use Rattle.std.specs.List.{AllByRecursion}
 use Rattle.std.proofs.lemmas.Bool.{false≢true}
 use Rattle.std.proofs.lemmas.Option.{same_Some}
-use Rattle.relay_octets.specs.Beginning.{Begins}
 use Rattle.relay_disk.specs.Device.{DiskWords}
+use Rattle.relay_disk.specs.declared.disks.Disks.{Disks}
 use Rattle.relay_book.specs.declared.change.Change.{Change}
-use Rattle.relay_course.specs.Course.{IsCourse}
 use Rattle.relay_world.specs.declared.attempt.Attempt.{Attempt}
 use Rattle.relay_world.specs.declared.attempt.Fate.TheVariants.{Running}
 use Rattle.relay_world.specs.declared.link.Link.{Link}
@@ -19,30 +18,15 @@ use Rattle.relay_world.specs.Steps.{IsPut, IsPutAt}
 use Rattle.relay_world.specs.Stops.{NoSessionBut}
 use Rattle.relay_world.specs.World.{Down, Host, Undecided, World, link_at}
 use Rattle.relay_world.proofs.FrameLemmas.{ChangesStay, MessagesStay}
-use Rattle.relay_world.proofs.PieceLemmas.{fate_as}
+use Rattle.relay_world.proofs.PieceLemmas.{passes_whole}
 use Rattle.relay_world.proofs.MoveLemmas.{client_was, link_cases, link_kept, Moves, Settled, moved_keeps}
 
 -- a client end stays, on a link that is broken now, where what it has read and written stays
 pub passes_cut : {D : Type 0} (host : Host D) (changes : List Change) (link now : Link) (attempt : Attempt)
     → take link.down_read link.down ≡ take now.down_read now.down → link.up ≡ now.up → now.broken ≡ true
     → PassesOn host changes link attempt → PassesOn host changes now attempt
-passes_cut host changes link now attempt read wrote broken passes = record {
-  accept = passes.accept;
-  accepted = passes.accepted;
-  valid = passes.valid;
-  some = passes.some;
-  few = passes.few;
-  within = passes.within;
-  told = passes.told;
-  output = passes.output;
-  verdicts = passes.verdicts;
-  course = subst (λ l. IsCourse host.config.host passes.accept.envelope passes.accept.stored_text attempt.places.items l
-      passes.told passes.output passes.verdicts) read passes.course;
-  wrote = subst (λ l. Begins l passes.output) wrote passes.wrote;
-  whole = λ is. absurd (false≢true (sym is ∙ broken));
-  fate = fate_as host changes link now attempt passes.accept passes.output passes.told passes.verdicts attempt.fate read
-      passes.fate;
-}
+passes_cut host changes link now attempt read wrote broken passes =
+    passes_whole host changes link now attempt read wrote (λ is. absurd (false≢true (sym is ∙ broken))) passes
 
 -- an attempt was there, for the same node and link, and runs only where it ran
 pub record WasThere (before : List Attempt) (place : ℕ) (attempt : Attempt) : Type 0 where
@@ -139,7 +123,7 @@ module _ {D : Type 0} (honest : Type 0) (words : DiskWords D) (old new : World D
       pub tried : (place : ℕ) → now.client ≡ Some place → IsTried new later number now place
       pub reads : ReadsWithin now
       pub settled : link.broken ≡ true → Settled honest words old new lists later node number host moved changes grown now link
-      pub may_be_in : (disk : D) (undecided : Undecided) → moved.state ≡ Down disk (Some undecided)
+      pub may_be_in : (disk : Disks D) (undecided : Undecided) → moved.state ≡ Down disk (Some undecided)
           → MayBeIn new node moved grown undecided
 
     pub link_moved : Ends → IsBound honest words new later

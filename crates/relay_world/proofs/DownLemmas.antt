@@ -5,15 +5,16 @@ use Rattle.std.specs.List.{AllByRecursion}
 use Rattle.std.proofs.Math.Numerals.{add-one}
 use Rattle.std.proofs.lemmas.Option.{none-some, same_Some}
 use Rattle.relay_disk.specs.Device.{DiskWords}
+use Rattle.relay_disk.specs.declared.disks.Disks.{Disks}
 use Rattle.relay_book.specs.declared.change.Accept.{Accept}
 use Rattle.relay_book.specs.declared.change.Change.{Change}
 use Rattle.relay_book.specs.declared.change.Change.TheVariants as change
 use Rattle.relay_book.specs.declared.change.Outcome.{Outcome}
 use Rattle.relay_book.specs.declared.fate.Way.{Way}
 use Rattle.relay_book.specs.Marks.{leaving}
-use Rattle.relay_book.specs.Queue.{FitsQueue, Fitting, queue_of}
+use Rattle.relay_book.specs.Queue.{FitsQueue, Fitting, empty_queue, queue_of}
 use Rattle.relay_book.specs.Record.{encode}
-use Rattle.relay_book.proofs.Theorems.{one_more_stands}
+use Rattle.relay_book.proofs.Theorems.{one_more_fits}
 use Rattle.relay_records.specs.declared.noted.Noted.{Noted}
 use Rattle.relay_records.specs.Note.{IsNoted, accepted_by, is_text, queues_report}
 use Rattle.relay_records.specs.Records.{Halted, Keeps, Kept}
@@ -25,7 +26,7 @@ use Rattle.relay_world.specs.declared.link.Link.{Link}
 use Rattle.relay_world.specs.Bound.{HasFate, HasLink, StateKeeps, HostKeeps, IsBound, IsServed, IsTried, MayBeIn, SaysThere, StandsAt, link_of}
 use Rattle.relay_world.specs.Ledger.{Accepts, Leaves, accepts_on, left_lines, lines_by, report_told, steps_by, steps_in, steps_of}
 use Rattle.relay_world.specs.Steps.{IsPut}
-use Rattle.relay_world.specs.Stops.{IsLeftBy, NoAttempt, NoSession}
+use Rattle.relay_world.specs.Stops.{IsLeftBy, LeavesList, NoAttempt, NoSession}
 use Rattle.relay_world.specs.World.{Down, FromClient, HostState, Host, Origin, Undecided, Up, World, link_at}
 use Rattle.relay_world.proofs.FrameLemmas.{ChangesStay, MessagesStay}
 use Rattle.relay_world.proofs.PieceLemmas.{same_number}
@@ -42,7 +43,7 @@ abbrev undecided_or : {D : Type 0} → Option Undecided → HostState D → Opti
 undecided_or other (Up node) = other
 undecided_or other (Down disk undecided) = undecided
 
-pub same_undecided : {D : Type 0} (disk other : D) (one another : Option Undecided) → Down disk one ≡ Down other another
+pub same_undecided : {D : Type 0} (disk other : Disks D) (one another : Option Undecided) → Down disk one ≡ Down other another
     → one ≡ another
 same_undecided disk other one another same = ap (λ h. undecided_or one h) same
 
@@ -93,20 +94,19 @@ outcome_steps node link noted changes outcome report used told =
 -- changes with one more that fits
 pub fits_more : (changes : List Change) (change : Change) → Fitting changes → FitsQueue (queue_of changes) change
     → Fitting (changes ++ change ∷ [])
-fits_more changes change fitting fits =
-    (one_more_stands (map encode changes) changes change (record { fitting = fitting; bodies_are = refl }) fits).fitting
+fits_more changes change fitting fits = one_more_fits empty_queue changes change fitting fits
 
 module _ {D : Type 0} (honest : Type 0) (words : DiskWords D) where
   -- what a stop of live records leaves
-  pub down_kept : (changes : List Change) (records : Kept D) (disk : D) (undecided : Option Undecided) (host : Host D)
-      → Keeps honest words records changes → IsLeftBy honest words records disk
+  pub down_left : (changes : List Change) (records : Kept D) (disk : Disks D) (undecided : Option Undecided) (host : Host D)
+      → Keeps honest words records changes → LeavesList honest words records disk
       → StateKeeps honest words host.config (Down disk undecided) changes
-  down_kept changes records disk undecided host keeps left is image may =
-      let found = keeps.images is image (left is image may) in
+  down_left changes records disk undecided host keeps left is image may =
+      let found = left changes keeps is image may in
       (found.0, found.1, inl found.2)
 
   -- what a stop of records leaves while a change was added, of which this is the note
-  pub down_halted : (changes : List Change) (change : Change) (records : Kept D) (disk : D) (noted : Noted) (origin : Origin)
+  pub down_halted : (changes : List Change) (change : Change) (records : Kept D) (disk : Disks D) (noted : Noted) (origin : Origin)
       (host : Host D) → Halted honest words records changes (Some change) → noted.octets ≡ encode change
       → IsLeftBy honest words records disk
       → StateKeeps honest words host.config (Down disk (Some (record { note = noted; origin = origin }))) changes
@@ -122,7 +122,7 @@ module _ {D : Type 0} (honest : Type 0) (words : DiskWords D) where
 
   -- a node that is down has no session and no attempt
   module _ (world : World D) (lists : List (List Change)) (bound : IsBound honest words world lists) (node : ℕ) (host : Host D)
-      (disk : D) (undecided : Option Undecided) (at : slice_get world.hosts node ≡ Some host)
+      (disk : Disks D) (undecided : Option Undecided) (at : slice_get world.hosts node ≡ Some host)
       (down : host.state ≡ Down disk undecided) where
     is_down : (n : ℕ) (h : Host D) (standing : NodeState D) → n ≡ node → slice_get world.hosts n ≡ Some h
         → h.state ≡ Up standing → ⊥
@@ -189,7 +189,7 @@ module _ {D : Type 0} (honest : Type 0) (words : DiskWords D) (old new : World D
     pub no_session : NoSession old node
     pub no_attempt : NoAttempt old node
     pub keeps : HostKeeps honest words moved grown
-    pub may_be_in : (disk : D) (undecided : Undecided) → moved.state ≡ Down disk (Some undecided)
+    pub may_be_in : (disk : Disks D) (undecided : Undecided) → moved.state ≡ Down disk (Some undecided)
         → MayBeIn new node moved grown undecided
 
   module _ (bound : IsBound honest words old lists) (host_moves : HostMoves) where

@@ -13,7 +13,7 @@ use Rattle.relay_world.specs.declared.attempt.Fate.TheVariants.{Lost, Replied}
 use Rattle.relay_world.specs.declared.link.Link.{Link}
 use Rattle.relay_world.specs.Growth.{GrownListsBegin, HasGrown, LinkGrows, RunsGrow}
 use Rattle.relay_world.specs.HangUp.{HangsUp}
-use Rattle.relay_world.specs.Once.{Arms, BreaksOff, Drops, Ends, GivesUp, Happens, Hears, IsNotOpened, LetsGo, Loses, Opens, Reads, Reopens, Starts, Stops, StopsInGivingUp, StopsInHearing, StopsInLosing, StopsInReading, Ticks, Writes}
+use Rattle.relay_world.specs.Once.{BreaksOff, Drops, Ends, GivesUp, GoesOn, Happens, Hears, IsNotOpened, LetsGo, Loses, Opens, Reads, Reopens, Starts, Stops, StopsInGivingUp, StopsInHearing, StopsInLosing, StopsInReading, Ticks, Writes}
 use Rattle.relay_world.specs.Steps.{AttemptOf, IsPut, IsPutAt, RecordsHeard, RecordsOutcome, RecordsRead, WritesAs, heard_link, opened_link, read_link, unless_broken, without_note}
 use Rattle.relay_world.specs.Stops.{Decides, DropsAtStop, Finds, FindsOutcome, HasFound, cut_off_link}
 use Rattle.relay_world.specs.World.{Down, FromClient, FromLoss, FromNoHop, FromReplies, Host, Origin, Undecided, Up, World, link_at}
@@ -337,7 +337,7 @@ event_grows honest words old new (Ticks clock is) =
     (same_ledger old new (ap (λ (w : World _). w.ledger) is.new_is))
     (octets_same old new (ap (λ (w : World _). w.links) is.new_is))
 event_grows honest words old new (LetsGo node is) = let_go old new node is
-event_grows honest words old new (Arms node is) =
+event_grows honest words old new (GoesOn node is) =
     grown old new (stays old new node is.host (record is.host { state = Up is.after }) is.host_at is.hosts refl)
     (same_ledger old new is.rest.2) (octets_same old new is.rest.0)
 

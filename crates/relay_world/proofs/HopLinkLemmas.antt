@@ -13,7 +13,7 @@ use Rattle.relay_world.specs.declared.link.Link.{Link}
 use Rattle.relay_world.specs.declared.link.ServerEnd.{ServerEnd}
 use Rattle.relay_world.specs.HangUp.{HangsUp}
 use Rattle.relay_world.specs.HopLinks.{AreLinkedToHops, IsLinkedToHop, LeadsTo, HopLinksAtFirst}
-use Rattle.relay_world.specs.Once.{Arms, BreaksOff, Drops, Ends, GivesUp, Hears, IsNotOpened, LetsGo, Loses, HopLinksAreKept, Opens, Reads, Reopens, Starts, Stops, StopsInGivingUp, StopsInHearing, StopsInLosing, StopsInReading, Ticks, Writes}
+use Rattle.relay_world.specs.Once.{BreaksOff, Drops, Ends, GivesUp, GoesOn, Hears, IsNotOpened, LetsGo, Loses, HopLinksAreKept, Opens, Reads, Reopens, Starts, Stops, StopsInGivingUp, StopsInHearing, StopsInLosing, StopsInReading, Ticks, Writes}
 use Rattle.relay_world.specs.Steps.{AttemptOf, HasStarted, IsPut, IsPutAt, RecordsHeard, RecordsOutcome, RecordsRead, WritesAs, heard_link, opened_link, read_link, session_after, without_note}
 use Rattle.relay_world.specs.Stops.{Decides, DropsAtStop, Finds, FindsOutcome, HasFound, cut_off_link}
 use Rattle.relay_records.specs.Records.{Kept}
@@ -396,9 +396,9 @@ hop_links_are_kept honest words old new linked (Ticks clock ticks) =
     (ways_same old new (ap (λ (w : World _). w.links) ticks.new_is)) linked
     (hops_same old new (ap (λ (w : World _). w.attempts) ticks.new_is))
 hop_links_are_kept honest words old new linked (LetsGo node hangs) = let_go old new linked node hangs
-hop_links_are_kept honest words old new linked (Arms node arms) =
-    one_node old new linked node arms.host (record arms.host { state = Up arms.after }) arms.host_at arms.hosts refl arms.rest.4
-    arms.rest.0 arms.rest.1
+hop_links_are_kept honest words old new linked (GoesOn node stays) =
+    one_node old new linked node stays.host (record stays.host { state = Up stays.after }) stays.host_at stays.hosts refl stays.rest.4
+    stays.rest.0 stays.rest.1
 
 pub hop_links_at_first : (D : Type 0) → HopLinksAtFirst D
 hop_links_at_first D world none at attempt is = absurd (none-some attempt (ap (λ l. slice_get l at) (sym none) ∙ is))

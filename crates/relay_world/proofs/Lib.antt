@@ -44,7 +44,7 @@ mod StopOnceLemmas
 mod HeldLemmas
 mod ReopenOnceLemmas
 mod TickLemmas
-mod ArmLemmas
+mod StayUpLemmas
 mod OnceMoreLemmas
 mod HopLinkLemmas
 mod RunLemmas

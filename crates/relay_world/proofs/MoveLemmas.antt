@@ -5,6 +5,7 @@ use Rattle.std.specs.List.{AllByRecursion}
 use Rattle.std.proofs.lemmas.Bool.{cases_eq}
 use Rattle.std.proofs.lemmas.Option.{same_Some}
 use Rattle.relay_disk.specs.Device.{DiskWords}
+use Rattle.relay_disk.specs.declared.disks.Disks.{Disks}
 use Rattle.relay_server.specs.Dialogue.{Said}
 use Rattle.relay_book.specs.declared.change.Change.{Change}
 use Rattle.relay_world.specs.declared.attempt.Attempt.{Attempt}
@@ -129,7 +130,7 @@ module _ {D : Type 0} (honest : Type 0) (words : DiskWords D) (old new : World D
         → HasLink new.links place attempt
     -- what is undecided elsewhere rests on the link only where that was broken, and then its end stays
     pub settled : (was : Link) → link_at old.links number ≡ Some was → was.broken ≡ true → Settled was
-    pub may_be_in : (disk : D) (undecided : Undecided) → moved.state ≡ Down disk (Some undecided)
+    pub may_be_in : (disk : Disks D) (undecided : Undecided) → moved.state ≡ Down disk (Some undecided)
         → MayBeIn new node moved grown undecided
 
   module _ (bound : IsBound honest words old lists) (moves : Moves) where
@@ -295,7 +296,7 @@ module _ {D : Type 0} (honest : Type 0) (words : DiskWords D) (old new : World D
         ];
       }
 
-      all_decided : (n : ℕ) (h : Host D) (cs : List Change) (disk : D) (undecided : Undecided) → StandsAt new later n h cs
+      all_decided : (n : ℕ) (h : Host D) (cs : List Change) (disk : Disks D) (undecided : Undecided) → StandsAt new later n h cs
           → h.state ≡ Down disk (Some undecided) → MayBeIn new n h cs undecided
       all_decided n h cs disk undecided stands down =
           elim (put_cases old.hosts new.hosts node moved moves.hosts n h stands.host_at) [

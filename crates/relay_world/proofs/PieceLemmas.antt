@@ -124,7 +124,7 @@ kept_without_note honest words records changes keeps = record {
 }
 
 -- what became of an attempt stays where what it has read stays
-pub fate_as : {D : Type 0} (host : Host D) (changes : List Change) (link same : Link) (attempt : Attempt) (accept : Accept)
+fate_as : {D : Type 0} (host : Host D) (changes : List Change) (link same : Link) (attempt : Attempt) (accept : Accept)
     (output : List ℕ) (told : Bool) (verdicts : Option (List Verdict)) (fate : Fate)
     → take link.down_read link.down ≡ take same.down_read same.down
     → HasFate host changes link attempt accept output told verdicts fate

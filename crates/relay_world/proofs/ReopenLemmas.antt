@@ -423,14 +423,14 @@ module _ {D : Type 0} (honest : Type 0) (words : DiskWords D) (old new : World D
         → (later : List (List Change)) × IsBound honest words new later
     decided None same found = (
       lists,
-      opened_before (opens_to_list honest words sees_now h opens.host opens.disk opens.after.records listed.0
+      opened_before (opens_to_list honest words sees_now h opens.host opens.disk opens.after.records listed.0 kept.list.fitting
           (subst (λ u. StateKeeps honest words opens.host.config (Down opens.disk u) listed.0) same holds) opens.opens) found,
     )
     decided (Some undecided) same (inl before) =
         let may : MayBeIn old node opens.host listed.0 undecided = may_be_there undecided same in (
           lists,
           opened_before (opens_before honest words sees_now h old node opens.host opens.disk opens.after.records listed.0
-              undecided
+              undecided kept.list.fitting
               (subst (λ u. StateKeeps honest words opens.host.config (Down opens.disk u) listed.0) same holds) opens.opens
               may before.0)
               before.1,
@@ -440,6 +440,7 @@ module _ {D : Type 0} (honest : Type 0) (words : DiskWords D) (old new : World D
           _,
           found_by undecided.note undecided.origin may
               (opens_with honest words sees_now h old node opens.host opens.disk opens.after.records listed.0 undecided
+              kept.list.fitting
               (subst (λ u. StateKeeps honest words opens.host.config (Down opens.disk u) listed.0) same holds) opens.opens
               may more.0)
               more.1,

@@ -10,9 +10,8 @@ use Rattle.relay_book.specs.Marks.{change_at}
 use Rattle.relay_world.specs.Bound.{IsBound}
 use Rattle.relay_world.specs.HopLinks.{AreLinkedToHops}
 use Rattle.relay_world.specs.Ledger.{accepts_on}
-use Rattle.relay_world.specs.Once.{Arms, BreaksOff, Drops, Ends, GivesUp, Happens, Hears, IsNotOpened, IsTriedOnce, LetsGo, Loses, OnceAtFirst, OnceIsKept, Opens, Reads, Reopens, RunsKeepAll, Starts, Stops, StopsInGivingUp, StopsInHearing, StopsInLosing, StopsInReading, Ticks, Writes}
+use Rattle.relay_world.specs.Once.{BreaksOff, Drops, Ends, GivesUp, GoesOn, Happens, Hears, IsNotOpened, IsTriedOnce, LetsGo, Loses, OnceAtFirst, OnceIsKept, Opens, Reads, Reopens, RunsKeepAll, Starts, Stops, StopsInGivingUp, StopsInHearing, StopsInLosing, StopsInReading, Ticks, Writes}
 use Rattle.relay_world.specs.World.{World}
-use Rattle.relay_world.proofs.ArmLemmas.{armed, arming_keeps}
 use Rattle.relay_world.proofs.BreakLemmas.{breaking_keeps}
 use Rattle.relay_world.proofs.EndLemmas.{ending_keeps}
 use Rattle.relay_world.proofs.EventLemmas.{broken, dropped, ended, given_up, heard, lost, opened, read_by, written}
@@ -34,6 +33,7 @@ use Rattle.relay_world.proofs.StopReadLemmas.{stopping_losing_keeps, stopping_re
 use Rattle.relay_world.proofs.UndecidedLemmas.{up_not_down}
 use Rattle.relay_world.proofs.ReadLemmas.{reading_keeps}
 use Rattle.relay_world.proofs.StartLemmas.{starting_keeps}
+use Rattle.relay_world.proofs.StayUpLemmas.{stayed_up, staying_up_keeps}
 use Rattle.relay_world.proofs.TickLemmas.{ticking_keeps}
 use Rattle.relay_world.proofs.WriteLemmas.{writing_keeps}
 
@@ -97,8 +97,8 @@ once_is_kept honest words old new lists later bound once (Ticks clock ticks) now
     ticked honest words old new lists later bound once now clock ticks
 once_is_kept honest words old new lists later bound once (LetsGo node hangs) now =
     let_go honest words old new lists later bound once now node hangs
-once_is_kept honest words old new lists later bound once (Arms node arms) now =
-    armed honest words old new lists later bound once now node arms
+once_is_kept honest words old new lists later bound once (GoesOn node stays) now =
+    stayed_up honest words old new lists later bound once now node stays
 
 -- an event keeps a world bound, by lists that may have grown
 event_keeps : {D : Type 0} (honest : Type 0) (words : DiskWords D) (old new : World D) (lists : List (List Change))
@@ -142,8 +142,8 @@ event_keeps honest words old new lists sees is bound (Ticks clock ticks) =
     (lists, ticking_keeps honest words old new lists clock bound ticks)
 event_keeps honest words old new lists sees is bound (LetsGo node hangs) =
     (lists, hanging_up_keeps honest words old new lists node bound hangs)
-event_keeps honest words old new lists sees is bound (Arms node arms) =
-    (lists, arming_keeps honest words old new lists node bound arms)
+event_keeps honest words old new lists sees is bound (GoesOn node stays) =
+    (lists, staying_up_keeps honest words old new lists node bound stays)
 
 pub runs_keep_all : {D : Type 0} (honest : Type 0) (words : DiskWords D)
     → ((disk : D) → words.may_leave disk (words.seen disk)) → RunsKeepAll honest words

@@ -4,6 +4,7 @@ use Rattle.std.specs.Prelude.{slice_get}
 use Rattle.std.proofs.lemmas.List.{append-nil}
 use Rattle.std.proofs.lemmas.Option.{none-some, same_Some}
 use Rattle.relay_disk.specs.Device.{DiskWords}
+use Rattle.relay_disk.specs.declared.disks.Disks.{Disks}
 use Rattle.relay_book.specs.declared.change.Change.{Change}
 use Rattle.relay_book.specs.declared.change.Outcome.{Outcome}
 use Rattle.relay_book.specs.Queue.{Queue, message_of, queue_of}
@@ -27,7 +28,7 @@ use Rattle.relay_world.proofs.OpenLemmas.{list_there, node_kept}
 use Rattle.relay_world.proofs.TakerLemmas.{ended_still, lists_stay}
 
 -- a node that is down with this note has no other
-same_note : {D : Type 0} (disk other : D) (one another : Undecided) → Down disk (Some one) ≡ Down other (Some another)
+same_note : {D : Type 0} (disk other : Disks D) (one another : Undecided) → Down disk (Some one) ≡ Down other (Some another)
     → one ≡ another
 same_note disk other one another same =
     same_Some one another (same_undecided disk other (Some one) (Some another) same)
@@ -61,7 +62,7 @@ module _ {D : Type 0} (honest : Type 0) (words : DiskWords D) (old new : World D
       (same_accepts honest words old new lists later bound once now ledger))
 
   -- what came from a client or an attempt was not given up
-  given_by : (node : ℕ) (host : Host D) (disk : D) (undecided : Undecided)
+  given_by : (node : ℕ) (host : Host D) (disk : Disks D) (undecided : Undecided)
       → IsPut old.hosts new.hosts node (record host { state = Down disk (Some undecided) })
       → slice_get old.hosts node ≡ Some host
       → ((message : ℕ) (changes : List Change) → slice_get lists node ≡ Some changes → undecided.origin ≡ FromNoHop message

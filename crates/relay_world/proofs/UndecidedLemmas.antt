@@ -1,5 +1,6 @@
 -- What stays of a change that is undecided at a node while others, and other links, change.
 use Rattle.std.proofs.Common.{◌≡◌, ◌≤◌, ◌+◌, ℕ, Bool, true, false, List, [], ◌∷◌, ◌++◌, length, take, Option, None, Some, sym, subst, ap, ◌∙◌}
+use Rattle.relay_disk.specs.declared.disks.Disks.{Disks}
 use Rattle.std.specs.Prelude.{slice_get}
 use Rattle.std.proofs.lemmas.Bool.{false≢true}
 use Rattle.std.proofs.lemmas.Option.{same_Some}
@@ -27,7 +28,7 @@ abbrev is_up : {D : Type 0} → HostState D → Bool
 is_up (Up node) = true
 is_up (Down disk undecided) = false
 
-pub up_not_down : {D : Type 0} (node : NodeState D) (disk : D) (undecided : Option Undecided) → Up node ≡ Down disk undecided → ⊥
+pub up_not_down : {D : Type 0} (node : NodeState D) (disk : Disks D) (undecided : Option Undecided) → Up node ≡ Down disk undecided → ⊥
 up_not_down node disk undecided same = false≢true (sym (ap is_up same))
 
 -- a whole link isn't broken

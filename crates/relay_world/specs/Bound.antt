@@ -4,6 +4,7 @@ use Rattle.std.specs.Prelude.{◌≡◌, ◌⊎◌, ℕ, ◌+◌, ◌≤◌, Boo
 use Rattle.std.specs.List.{AllByRecursion}
 use Rattle.relay_octets.specs.Beginning.{Begins}
 use Rattle.relay_disk.specs.Device.{DiskWords}
+use Rattle.relay_disk.specs.declared.disks.Disks.{Disks}
 use Rattle.relay_spool.specs.Spool.{EveryImageHas}
 use Rattle.relay_routes.specs.declared.config.Config.{Config}
 use Rattle.relay_server.specs.Dialogue.{IsDialogue, Offered, Said}
@@ -281,7 +282,7 @@ pub record IsBound {D : Type 0} (honest : Type 0) (words : DiskWords D) (world :
   pub hosts : (node : ℕ) (host : Host D) (changes : List Change) → StandsAt world lists node host changes
       → HostKeeps honest words host changes
   -- whether the next opening of a node that is down finds an undecided change or not, all is bound
-  pub may_be_in : (node : ℕ) (host : Host D) (changes : List Change) (disk : D) (undecided : Undecided)
+  pub may_be_in : (node : ℕ) (host : Host D) (changes : List Change) (disk : Disks D) (undecided : Undecided)
       → StandsAt world lists node host changes → host.state ≡ Down disk (Some undecided)
       → MayBeIn world node host changes undecided
   pub servers : (number : ℕ) (link : Link) (end : ServerEnd) → link_at world.links number ≡ Some link

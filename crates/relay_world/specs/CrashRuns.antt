@@ -3,8 +3,9 @@ use Rattle.std.specs.Prelude.{ℕ, zero, suc, List}
 use Rattle.relay_disk.specs.Device.{DiskWords}
 use Rattle.relay_book.specs.declared.change.Change.{Change}
 use Rattle.relay_world.specs.Bound.{IsBound}
-use Rattle.relay_world.specs.Crashes.{CrashesAtRest, CrashesGivingUp, CrashesHearing, CrashesLosing, CrashesReading}
+use Rattle.relay_world.specs.Crashes.{CrashesAtRest, CrashesCompacting, CrashesGivingUp, CrashesHearing, CrashesLosing, CrashesReading}
 use Rattle.relay_world.specs.Once.{Happen, IsTriedOnce}
+use Rattle.relay_world.specs.Stops.{HasCompacted, HasReopened}
 use Rattle.relay_world.specs.World.{World}
 
 abbrev pub CrashingKeepsOnce : {D : Type 0} → Type 0 → DiskWords D → Type 0
@@ -23,9 +24,18 @@ CrashingHappens {D} honest words =
     × (CrashesReading honest words old new number count → Happen honest words (suc (suc zero)) old new)
     × (CrashesLosing honest words old new number → Happen honest words (suc (suc zero)) old new)
 
--- So is a crash between two calls, or while places without a hop are given up.
+-- So is a crash between two calls, while places without a hop are given up, or while a spool is written anew.
 abbrev pub RestingCrashHappens : {D : Type 0} → Type 0 → DiskWords D → Type 0
 RestingCrashHappens {D} honest words =
     (old new : World D) (node message : ℕ)
     → (CrashesAtRest honest words old new node → Happen honest words (suc (suc zero)) old new)
     × (CrashesGivingUp honest words old new node message → Happen honest words (suc (suc zero)) old new)
+    × (CrashesCompacting honest words old new node → Happen honest words (suc (suc zero)) old new)
+
+-- A spool that is written anew is one event; and a node that crashes in that call and is then opened is a run of three.
+abbrev pub CompactingHappens : {D : Type 0} → Type 0 → DiskWords D → Type 0
+CompactingHappens {D} honest words =
+    (old between new : World D) (node : ℕ)
+    → (HasCompacted honest words old new node → Happen honest words (suc zero) old new)
+    × (CrashesCompacting honest words old between node → HasReopened honest words between new node
+    → Happen honest words (suc (suc (suc zero))) old new)

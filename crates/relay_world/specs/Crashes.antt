@@ -2,10 +2,11 @@
 -- links are broken. The nodes at their other ends learn of it behind its opening, in events of their own.
 use Rattle.std.specs.Prelude.{◌≡◌, ℕ, nat_eq, Bool, true, false, List, length, map, Option, None, Some, if◌then◌else◌, slice_get}
 use Rattle.relay_disk.specs.Device.{DiskWords}
+use Rattle.relay_disk.specs.declared.disks.Disks.{Disks}
 use Rattle.relay_server.specs.Dialogue.{Said}
 use Rattle.relay_book.specs.declared.change.Change.{Change}
 use Rattle.relay_records.specs.declared.noted.Noted.{Noted}
-use Rattle.relay_records.specs.Records.{Keeps, Kept}
+use Rattle.relay_records.specs.Records.{Halted, Keeps, Kept}
 use Rattle.relay_attempts.specs.Outcomes.{CutsUnroutable}
 use Rattle.relay_attempts.specs.Reply.{CutsLoss, CutsReply, Told}
 use Rattle.relay_node.specs.Attempts.{Tells}
@@ -48,8 +49,8 @@ let_go node world = record world {
   attempts = map (hung_up_attempt node) world.attempts;
 }
 
--- A node has gone down, with this disk and what its opening will decide, and has let go of its ends.
-pub record GoesDown {D : Type 0} (old new : World D) (node : ℕ) (host : Host D) (disk : D)
+-- A node has gone down, with these disks and what its opening will decide, and has let go of its ends.
+pub record GoesDown {D : Type 0} (old new : World D) (node : ℕ) (host : Host D) (disk : Disks D)
     (undecided : Option Undecided) : Type 0
   where
     pub hosts : List (Host D)
@@ -64,8 +65,22 @@ pub record CrashesAtRest {D : Type 0} (honest : Type 0) (words : DiskWords D) (o
   pub host_at : slice_get old.hosts node ≡ Some host
   pub before : NodeState D
   pub up : host.state ≡ Up before
-  pub disk : D
+  pub disk : Disks D
   pub left : IsLeftBy honest words before.records disk
+  pub down : GoesDown old new node host disk None
+
+-- A node crashed in a call that adds no change: while its spool was written anew.
+pub record CrashesCompacting {D : Type 0} (honest : Type 0) (words : DiskWords D) (old new : World D) (node : ℕ)
+    : Type 0 where
+  pub host : Host D
+  pub host_at : slice_get old.hosts node ≡ Some host
+  pub before : NodeState D
+  pub up : host.state ≡ Up before
+  pub stopped : Kept D
+  pub halts : (changes : List Change) → Keeps honest words before.records changes
+      → Halted honest words stopped changes None
+  pub disk : Disks D
+  pub left : IsLeftBy honest words stopped disk
   pub down : GoesDown old new node host disk None
 
 -- A node crashed in a call that gave up the places of a message without a hop, while their outcome was added.
@@ -82,7 +97,7 @@ pub record CrashesGivingUp {D : Type 0} (honest : Type 0) (words : DiskWords D) 
         before.records stopped
     pub noted : Noted
     pub note_is : stopped.noted ≡ Some noted
-    pub disk : D
+    pub disk : Disks D
     pub left : IsLeftBy honest words stopped disk
     pub down : GoesDown old new node host disk (Some (record { note = noted; origin = FromNoHop message }))
 
@@ -97,7 +112,7 @@ pub record CrashesHearing {D : Type 0} (honest : Type 0) (words : DiskWords D) (
       of.before.records stopped
   pub noted : Noted
   pub note_is : stopped.noted ≡ Some noted
-  pub disk : D
+  pub disk : Disks D
   pub left : IsLeftBy honest words stopped disk
   pub down : GoesDown old new of.end.node of.host disk (Some (record { note = noted; origin = FromClient number }))
 
@@ -107,7 +122,7 @@ pub record CrashesEnding {D : Type 0} (honest : Type 0) (words : DiskWords D) (o
     (stopped : Kept D) (origin : Origin) : Type 0 where
   pub noted : Noted
   pub note_is : stopped.noted ≡ Some noted
-  pub disk : D
+  pub disk : Disks D
   pub left : IsLeftBy honest words stopped disk
   pub down : GoesDown old new of.attempt.node of.host disk (Some (record { note = noted; origin = origin }))
 

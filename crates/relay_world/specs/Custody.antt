@@ -4,6 +4,7 @@ use Rattle.std.specs.Prelude.{◌≡◌, ◌↔◌, ℕ, zero, suc, ◌+◌, ◌
 use Rattle.std.specs.List.{Contains}
 use Rattle.relay_octets.specs.Beginning.{Begins}
 use Rattle.relay_disk.specs.Device.{DiskWords}
+use Rattle.relay_disk.specs.declared.disks.Disks.{Disks}
 use Rattle.relay_spool.specs.Spool.{EveryImageHas}
 use Rattle.relay_server.specs.declared.offer.Answer.{Answer}
 use Rattle.relay_server.specs.declared.offer.Answer.TheVariants.{Queued}
@@ -87,7 +88,7 @@ pub record KeepsCustody {D : Type 0} (honest : Type 0) (words : DiskWords D) (wo
   pub images : honest → (standing : NodeState D) → host.state ≡ Up standing
       → EveryImageHas words standing.records.spool.disk (λ bodies. StandsFor bodies changes)
   -- of a node that is down every image stands for its changes, or for these and the one that its next opening decides
-  pub images_down : honest → (disk : D) (undecided : Option Undecided) → host.state ≡ Down disk undecided
+  pub images_down : honest → (disk : Disks D) (undecided : Option Undecided) → host.state ≡ Down disk undecided
       → EveryImageHas words disk (StandsForUnlessDecided changes undecided)
   -- each that has left has left for a cause, with the report that is due
   pub left : (at number place : ℕ) (way : Way) → LeavesAt changes at number place way

@@ -3,6 +3,7 @@
 use Rattle.std.specs.Prelude.{◌≡◌, ◌⊎◌, ℕ, zero, suc, Bool, true, List, [], None, Some, slice_get}
 use Rattle.std.specs.List.{AllByRecursion, Contains}
 use Rattle.relay_disk.specs.Device.{DiskWords}
+use Rattle.relay_disk.specs.declared.disks.Disks.{Disks}
 use Rattle.relay_attempts.specs.Hops.{goes_to, hop_of_place}
 use Rattle.relay_book.specs.declared.change.Accept.{Accept}
 use Rattle.relay_book.specs.declared.change.Change.{Change}
@@ -24,7 +25,7 @@ use Rattle.relay_world.specs.Ledger.{accepts_on}
 use Rattle.relay_world.specs.HopLinks.{AreLinkedToHops}
 use Rattle.relay_world.specs.Passing.{Rules}
 use Rattle.relay_world.specs.Steps.{Breaks, DropsAttempt, EndsSession, HasGivenUp, HasHeard, HasLost, HasOpened, HasRead, HasStarted, HasTicked, HasWritten}
-use Rattle.relay_world.specs.Stops.{HasArmed, HasReopened, HasStopped, StaysDown, StopsGivingUp, StopsHearing, StopsLosing, StopsReading}
+use Rattle.relay_world.specs.Stops.{HasReopened, HasStopped, StaysDown, StaysUp, StopsGivingUp, StopsHearing, StopsLosing, StopsReading}
 use Rattle.relay_world.specs.World.{Down, FromNoHop, Host, Undecided, Up, World, link_at}
 
 -- an attempt of this fate claims a place: it goes on, or its replies ended it and the place was taken
@@ -90,7 +91,7 @@ pub record IsTriedOnce {D : Type 0} (world : World D) (lists : List (List Change
       → StandsAt world lists node host changes → change_at changes number ≡ Some (change.Outcome outcome)
       → IsOutcomeOf world node number ⊎ HasNoHops host.config.routes changes outcome
   -- and so does an undecided change that came from no attempt
-  pub given_up : (node message : ℕ) (host : Host D) (changes : List Change) (disk : D) (undecided : Undecided)
+  pub given_up : (node message : ℕ) (host : Host D) (changes : List Change) (disk : Disks D) (undecided : Undecided)
       → StandsAt world lists node host changes → host.state ≡ Down disk (Some undecided)
       → undecided.origin ≡ FromNoHop message → GivesUpNoHops host.config.routes changes undecided.note.octets
   -- on a link that no node serves no node has accepted anything
@@ -120,7 +121,7 @@ pub data Happens {D : Type 0} (honest : Type 0) (words : DiskWords D) (old new :
   Reopens : (node : ℕ) → HasReopened honest words old new node → Happens honest words old new
   Ticks : (now : ℕ) → HasTicked old new now → Happens honest words old new
   LetsGo : (node : ℕ) → HangsUp old new node → Happens honest words old new
-  Arms : (node : ℕ) → HasArmed honest words old new node → Happens honest words old new
+  GoesOn : (node : ℕ) → StaysUp honest words old new node → Happens honest words old new
 
 -- Where each node is up, and nothing has come, was tried and accepted yet, it is so.
 abbrev pub OnceAtFirst : {D : Type 0} → DiskWords D → Type 0

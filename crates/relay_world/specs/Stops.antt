@@ -1,14 +1,18 @@
 -- What a stop of a node, and its opening, do to two relays and their links. A node that stops in a call leaves one
 -- change undecided, and its next opening tells by its next number whether the change is there.
 use Rattle.std.specs.Prelude.{◌≡◌, ◌≢◌, ◌⊎◌, ℕ, ◌+◌, ◌≤◌, ◌<◌, true, List, [], ◌∷◌, ◌++◌, length, Option, Some, None, slice_get}
-use Rattle.relay_disk.specs.Device.{DiskWords, ImagesWithin}
+use Rattle.relay_disk.specs.Device.{DiskWords}
+use Rattle.relay_disk.specs.declared.disks.Disks.{Disks}
+use Rattle.relay_disk.specs.Disks.{ImagesWithin, seen_of}
+use Rattle.relay_spool.specs.Spool.{EveryImageHas}
 use Rattle.relay_server.specs.Dialogue.{Said}
 use Rattle.relay_book.specs.declared.change.Change.{Change}
+use Rattle.relay_book.specs.StandsFor.{StandsFor}
 use Rattle.relay_records.specs.declared.noted.Noted.{Noted}
 use Rattle.relay_records.specs.declared.fault.Cause.{Cause}
 use Rattle.relay_records.specs.ListLaws.{IsNoFaultOfImage}
 use Rattle.relay_records.specs.Open.{Opens, RefusesImage}
-use Rattle.relay_records.specs.Records.{Keeps, Kept}
+use Rattle.relay_records.specs.Records.{Compacts, Keeps, Kept}
 use Rattle.relay_attempts.specs.Outcomes.{CutsUnroutable}
 use Rattle.relay_attempts.specs.Reply.{CutsLoss, CutsReply, Told}
 use Rattle.relay_node.specs.Attempts.{Tells}
@@ -49,9 +53,15 @@ NoAttempt world node =
     (place : ℕ) (attempt : Attempt) (slot : ℕ) → slice_get world.attempts place ≡ Some attempt
     → HasSlot attempt node slot → ⊥
 
--- what a stop made of a node: its disk, of which a further stop leaves no image that the stop of this one doesn't leave
-abbrev pub IsLeftBy : {D : Type 0} → Type 0 → DiskWords D → Kept D → D → Type 0
+-- what a stop made of a node: its disks, of which a further stop leaves no images that the stop of these doesn't leave
+abbrev pub IsLeftBy : {D : Type 0} → Type 0 → DiskWords D → Kept D → Disks D → Type 0
 IsLeftBy honest words stopped disk = honest → ImagesWithin words stopped.spool.disk disk
+
+-- what a stop made of a node that was adding no change: whatever changes it kept, a further stop leaves them
+abbrev pub LeavesList : {D : Type 0} → Type 0 → DiskWords D → Kept D → Disks D → Type 0
+LeavesList honest words before disk =
+    (changes : List Change) → Keeps honest words before changes
+    → honest → EveryImageHas words disk (λ bodies. StandsFor bodies changes)
 
 -- all but the nodes is the same
 abbrev pub OnlyHostsChange : {D : Type 0} → World D → World D → Type 0
@@ -59,7 +69,7 @@ OnlyHostsChange old new =
     (new.links ≡ old.links) × (new.attempts ≡ old.attempts) × (new.ledger ≡ old.ledger) × (new.clock ≡ old.clock)
     × (length new.hosts ≡ length old.hosts)
 
--- A node has stopped between two calls, on which nothing went on.
+-- A node has stopped between two calls, or in one that adds no change, and nothing went on on it.
 pub record HasStopped {D : Type 0} (honest : Type 0) (words : DiskWords D) (old new : World D) (node : ℕ) : Type 0 where
   pub host : Host D
   pub host_at : slice_get old.hosts node ≡ Some host
@@ -67,20 +77,20 @@ pub record HasStopped {D : Type 0} (honest : Type 0) (words : DiskWords D) (old 
   pub up : host.state ≡ Up before
   pub no_session : NoSession old node
   pub no_attempt : NoAttempt old node
-  pub disk : D
-  pub left : IsLeftBy honest words before.records disk
+  pub disk : Disks D
+  pub left : LeavesList honest words before.records disk
   pub hosts : IsPut old.hosts new.hosts node (record host { state = Down disk None })
   pub rest : OnlyHostsChange old new
 
--- A stop waits for a node: its disk will fail at a later call. The node keeps the changes that it kept, and all else is
--- the same.
-pub record HasArmed {D : Type 0} (honest : Type 0) (words : DiskWords D) (old new : World D) (node : ℕ) : Type 0 where
+-- A node that is up stays so: its disks will fail at a later call, or its spool was written anew. It keeps the changes
+-- that it kept, and all else is the same.
+pub record StaysUp {D : Type 0} (honest : Type 0) (words : DiskWords D) (old new : World D) (node : ℕ) : Type 0 where
   pub host : Host D
   pub host_at : slice_get old.hosts node ≡ Some host
   pub before : NodeState D
   pub up : host.state ≡ Up before
   pub after : NodeState D
-  pub fused : IsFused before.records after.records
+  pub noted : after.records.noted ≡ before.records.noted
   pub keeps : (changes : List Change) → Keeps honest words before.records changes
       → Keeps honest words after.records changes
   pub config : after.config ≡ before.config
@@ -88,6 +98,18 @@ pub record HasArmed {D : Type 0} (honest : Type 0) (words : DiskWords D) (old ne
   pub attempts : after.attempts ≡ before.attempts
   pub hosts : IsPut old.hosts new.hosts node (record host { state = Up after })
   pub rest : OnlyHostsChange old new
+
+-- So it does where a stop waits for it: of the records only the disks have changed.
+pub record HasArmed {D : Type 0} (honest : Type 0) (words : DiskWords D) (old new : World D) (node : ℕ) : Type 0 where
+  pub stays : StaysUp honest words old new node
+  pub fused : IsFused stays.before.records stays.after.records
+
+-- And so it does where its spool was written anew, as one body of all that its queue holds.
+pub record HasCompacted {D : Type 0} (honest : Type 0) (words : DiskWords D) (old new : World D) (node : ℕ)
+    : Type 0 where
+  pub stays : StaysUp honest words old new node
+  pub compacts : Compacts honest words stays.before.records stays.after.records
+  pub queue : stays.after.records.queue ≡ stays.before.records.queue
 
 -- the link without a session, broken
 abbrev pub cut_off_link : Link → ServerEnd → Link
@@ -107,7 +129,7 @@ pub record StopsHearing {D : Type 0} (honest : Type 0) (words : DiskWords D) (ol
       of.before.records stopped
   pub noted : Noted
   pub note_is : stopped.noted ≡ Some noted
-  pub disk : D
+  pub disk : Disks D
   pub left : IsLeftBy honest words stopped disk
   pub hosts : IsPut old.hosts new.hosts of.end.node
       (record of.host { state = Down disk (Some (record { note = noted; origin = FromClient number })) })
@@ -123,7 +145,7 @@ pub record DropsAtStop {D : Type 0} (honest : Type 0) (words : DiskWords D) (old
   pub no_attempt : NoAttemptBut old of.attempt.node of.place
   pub noted : Noted
   pub note_is : stopped.noted ≡ Some noted
-  pub disk : D
+  pub disk : Disks D
   pub left : IsLeftBy honest words stopped disk
   pub hosts : IsPut old.hosts new.hosts of.attempt.node
       (record of.host { state = Down disk (Some (record { note = noted; origin = origin })) })
@@ -168,21 +190,21 @@ pub record StopsGivingUp {D : Type 0} (honest : Type 0) (words : DiskWords D) (o
         before.records stopped
     pub noted : Noted
     pub note_is : stopped.noted ≡ Some noted
-    pub disk : D
+    pub disk : Disks D
     pub left : IsLeftBy honest words stopped disk
     pub hosts : IsPut old.hosts new.hosts node
         (record host { state = Down disk (Some (record { note = noted; origin = FromNoHop message })) })
     pub rest : OnlyHostsChange old new
 
--- A node that is down stays so: its disk was refused, or stopped again, and leaves no image that it didn't leave
+-- A node that is down stays so: its disks were refused, or stopped again, and leave no images that they didn't leave
 -- before.
 pub record StaysDown {D : Type 0} (honest : Type 0) (words : DiskWords D) (old new : World D) (node : ℕ) : Type 0 where
   pub host : Host D
   pub host_at : slice_get old.hosts node ≡ Some host
-  pub disk : D
+  pub disk : Disks D
   pub undecided : Option Undecided
   pub down : host.state ≡ Down disk undecided
-  pub again : D
+  pub again : Disks D
   pub left : honest → ImagesWithin words disk again
   pub hosts : IsPut old.hosts new.hosts node (record host { state = Down again undecided })
   pub rest : OnlyHostsChange old new
@@ -240,7 +262,7 @@ pub record HasReopened {D : Type 0} (honest : Type 0) (words : DiskWords D) (old
     : Type 0 where
   pub host : Host D
   pub host_at : slice_get old.hosts node ≡ Some host
-  pub disk : D
+  pub disk : Disks D
   pub undecided : Option Undecided
   pub down : host.state ≡ Down disk undecided
   pub after : NodeState D
@@ -250,10 +272,10 @@ pub record HasReopened {D : Type 0} (honest : Type 0) (words : DiskWords D) (old
   pub rest : (new.clock ≡ old.clock) × (length new.hosts ≡ length old.hosts)
 
 -- Each of these events keeps a world bound.
-abbrev pub ArmingKeeps : {D : Type 0} → Type 0 → DiskWords D → Type 0
-ArmingKeeps {D} honest words =
+abbrev pub StayingUpKeeps : {D : Type 0} → Type 0 → DiskWords D → Type 0
+StayingUpKeeps {D} honest words =
     (old new : World D) (lists : List (List Change)) (node : ℕ) → IsBound honest words old lists
-    → HasArmed honest words old new node → IsBound honest words new lists
+    → StaysUp honest words old new node → IsBound honest words new lists
 
 abbrev pub StoppingKeeps : {D : Type 0} → Type 0 → DiskWords D → Type 0
 StoppingKeeps {D} honest words =
@@ -291,11 +313,11 @@ ReopeningKeeps {D} honest words =
     → HasReopened honest words old new node
     → (later : List (List Change)) × IsBound honest words new later
 
--- A node that is down can be opened: what refuses its disk is the device, want of memory, or its size, and never the
+-- A node that is down can be opened: what refuses its disks is the device, want of memory, or their size, and never the
 -- octets.
 abbrev pub DownIsNotRefused : {D : Type 0} → Type 0 → DiskWords D → Type 0
 DownIsNotRefused {D} honest words =
-    (world : World D) (lists : List (List Change)) (node : ℕ) (host : Host D) (changes : List Change) (disk : D)
+    (world : World D) (lists : List (List Change)) (node : ℕ) (host : Host D) (changes : List Change) (disk : Disks D)
     (undecided : Option Undecided) (cause : Cause) → IsBound honest words world lists
     → StandsAt world lists node host changes
-    → host.state ≡ Down disk undecided → RefusesImage honest (words.seen disk) cause → IsNoFaultOfImage cause
+    → host.state ≡ Down disk undecided → RefusesImage honest (seen_of words disk) cause → IsNoFaultOfImage cause

@@ -1,6 +1,7 @@
 -- Two relays and the links between them, as they stand: what each node keeps, what each end of a link has written and
 -- read, the attempts, and the ledger.
 use Rattle.std.specs.Prelude.{ℕ, suc, zero, List, Option, None, slice_get}
+use Rattle.relay_disk.specs.declared.disks.Disks.{Disks}
 use Rattle.relay_routes.specs.declared.config.Config.{Config}
 use Rattle.relay_records.specs.declared.noted.Noted.{Noted}
 use Rattle.relay_node.specs.Node.{NodeState}
@@ -21,10 +22,10 @@ pub record Undecided : Type 0 where
   pub note : Noted
   pub origin : Origin
 
--- a node is up, or it is down: then it is its disk, and perhaps a change that its next opening decides
+-- a node is up, or it is down: then it is its disks, and perhaps a change that its next opening decides
 pub data HostState (D : Type 0) : Type 0 where
   Up : NodeState D → HostState D
-  Down : D → Option Undecided → HostState D
+  Down : Disks D → Option Undecided → HostState D
 
 -- a node: its configuration, itself, and the records of its changes, of which the notes told, in order
 pub record Host (D : Type 0) : Type 0 where

@@ -2,7 +2,7 @@
 ghost use Rattle.relay_world.specs.Content.{ContentIsKept};
 ghost use Rattle.relay_world.specs.Custody.{CustodyIsKept};
 ghost use Rattle.relay_world.specs.HangUp.{HangingUpEnds, HangingUpKeeps};
-ghost use Rattle.relay_world.specs.Stops.{ArmingKeeps, DownIsNotRefused, ReopeningKeeps, StayingDownKeeps, StoppingGivingUpKeeps, StoppingHearingKeeps, StoppingKeeps, StoppingLosingKeeps, StoppingReadingKeeps};
+ghost use Rattle.relay_world.specs.Stops.{DownIsNotRefused, ReopeningKeeps, StayingDownKeeps, StayingUpKeeps, StoppingGivingUpKeeps, StoppingHearingKeeps, StoppingKeeps, StoppingLosingKeeps, StoppingReadingKeeps};
 ghost use Rattle.relay_world.specs.Steps.{BreakingKeeps, DroppingKeeps, EndingKeeps, GivingUpKeeps, HearingKeeps, LosingKeeps, OpeningKeeps, ReadingKeeps, StartingKeeps, TickingKeeps, WritingKeeps};
 ghost use Rattle.relay_world.specs.Crashes.{CrashingInHearingKeeps, CrashingInLosingKeeps, CrashingInReadingKeeps};
 
@@ -75,9 +75,9 @@ pub fn ticking_keeps<D: Disk>()
     ensures { TickingKeeps D.honest D.words }
 {}
 
-/// A stop that waits for a node keeps a world bound.
-pub fn arming_keeps<D: Disk>()
-    ensures { ArmingKeeps D.honest D.words }
+/// A node that stays up, and keeps its changes, keeps a world bound.
+pub fn staying_up_keeps<D: Disk>()
+    ensures { StayingUpKeeps D.honest D.words }
 {}
 
 /// A node that stops between two calls keeps a world bound.
@@ -106,18 +106,18 @@ pub fn stopping_giving_up_keeps<D: Disk>()
     ensures { StoppingGivingUpKeeps D.honest D.words }
 {}
 
-/// A node that is down, and whose disk isn't opened, keeps a world bound.
+/// A node that is down, and whose disks aren't opened, keeps a world bound.
 pub fn staying_down_keeps<D: Disk>()
     ensures { StayingDownKeeps D.honest D.words }
 {}
 
-/// A node that is opened again on an honest disk keeps a world bound: without the change that was undecided, or with
+/// A node that is opened again on honest disks keeps a world bound: without the change that was undecided, or with
 /// it.
 pub fn reopening_keeps<D: Disk>()
     ensures { D.honest → ReopeningKeeps D.honest D.words }
 {}
 
-/// A node that is down isn't refused for the octets of its disk, where that is honest.
+/// A node that is down isn't refused for the octets of its disks, where they are honest.
 pub fn down_is_not_refused<D: Disk>()
     ensures { D.honest → DownIsNotRefused D.honest D.words }
 {}

@@ -1,7 +1,7 @@
 //! What two relays say to each other of each place: what a node has recorded of it is so at its next hop.
 ghost use Rattle.relay_world.specs.Causes.{LeavingIsCaused};
 ghost use Rattle.relay_world.specs.Copies.{CopiesAreFew};
-ghost use Rattle.relay_world.specs.CrashRuns.{CrashingHappens, CrashingKeepsOnce, RestingCrashHappens};
+ghost use Rattle.relay_world.specs.CrashRuns.{CompactingHappens, CrashingHappens, CrashingKeepsOnce, RestingCrashHappens};
 ghost use Rattle.relay_world.specs.Growth.{GrownListsBegin, RunsGrow};
 ghost use Rattle.relay_world.specs.Forbidden.{DroppingBreaks, ForgettingBreaks, LeadingElsewhereBreaks};
 ghost use Rattle.relay_world.specs.Invented.{InventingBreaks};
@@ -121,7 +121,13 @@ pub fn crashing_happens<D: Disk>()
     ensures { CrashingHappens D.honest D.words }
 {}
 
-/// A node that crashes between two calls, or while it gives up places without a hop, is a run of two events.
+/// A node that crashes between two calls, while it gives up places without a hop, or while its spool is written anew,
+/// is a run of two events.
 pub fn resting_crash_happens<D: Disk>()
     ensures { RestingCrashHappens D.honest D.words }
+{}
+
+/// A node whose spool is written anew is one event; one that crashes in that call and is then opened is a run of three.
+pub fn compacting_happens<D: Disk>()
+    ensures { CompactingHappens D.honest D.words }
 {}
