@@ -253,6 +253,7 @@ module _ {D : Type 0} (honest : Type 0) (words : DiskWords D) (start : Start) (a
   refuses left held waiting old new node_fault.TooMany h never cut = absurd never
   refuses left held waiting old new node_fault.NotDue h never cut = absurd never
   refuses left held waiting old new node_fault.Busy h never cut = absurd never
+  refuses left held waiting old new node_fault.NoSecond h never cut = absurd never
   refuses left held waiting old new (node_fault.Open cause) h never cut = absurd never
   refuses left held waiting old new node_fault.Full h gone cut =
       breaks left held waiting old new.records Full h gone.0.records (λ e. absurd cc) (λ _. subst (λ (records : Kept D). 2 ^ 62 < records.queue.next) (sym gone.0.records) gone.1)

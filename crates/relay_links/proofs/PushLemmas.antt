@@ -57,6 +57,7 @@ gone_by_fault {D} words number old new fault refused stopped unknown live = by_l
     by_fault node_fault.TooMany never unknown = absurd never
     by_fault node_fault.NotDue never unknown = absurd never
     by_fault node_fault.Busy never unknown = absurd never
+    by_fault node_fault.NoSecond never unknown = absurd never
     by_fault (node_fault.Open cause) never unknown = absurd never
     by_fault node_fault.Full gone unknown = gone.attempt
 
@@ -79,6 +80,7 @@ left_by_fault {D} words number old new fault refused stopped = by_live old.recor
     by_fault node_fault.TooMany never = absurd never
     by_fault node_fault.NotDue never = absurd never
     by_fault node_fault.Busy never = absurd never
+    by_fault node_fault.NoSecond never = absurd never
     by_fault (node_fault.Open cause) never = absurd never
     by_fault node_fault.Full gone = gone.records
 
@@ -282,6 +284,7 @@ module _ {D : Type 0} (honest : Type 0) (words : DiskWords D) (start : PushStart
   refuses left held waiting unwritten old new node_fault.TooMany h never cut full unknown = absurd never
   refuses left held waiting unwritten old new node_fault.NotDue h never cut full unknown = absurd never
   refuses left held waiting unwritten old new node_fault.Busy h never cut full unknown = absurd never
+  refuses left held waiting unwritten old new node_fault.NoSecond h never cut full unknown = absurd never
   refuses left held waiting unwritten old new (node_fault.Open cause) h never cut full unknown = absurd never
   refuses left held waiting unwritten old new node_fault.Full h gone cut full unknown = full refl gone.records
 

@@ -51,6 +51,7 @@ link_fault_of node_fault.Unknown = Input
 link_fault_of node_fault.TooMany = Input
 link_fault_of node_fault.NotDue = Input
 link_fault_of node_fault.Busy = Input
+link_fault_of node_fault.NoSecond = Input
 link_fault_of (node_fault.Open cause) = Input
 
 -- The words below are of a link from its start on, at a moment.

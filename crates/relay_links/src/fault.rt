@@ -47,6 +47,7 @@ pub(crate) fn link_fault(fault: NodeFault) -> LinkFault
         NodeFault::TooMany => LinkFault::Input,
         NodeFault::NotDue => LinkFault::Input,
         NodeFault::Busy => LinkFault::Input,
+        NodeFault::NoSecond => LinkFault::Input,
         NodeFault::Open(_) => LinkFault::Input,
     }
 }

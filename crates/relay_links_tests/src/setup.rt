@@ -2,7 +2,7 @@
 //! a node or a link stands here alone, in a function without clauses: what calls these sees none of their
 //! contracts.
 use crate::mail::{COMMANDS, text_of};
-use relay_disk::MemoryDisk;
+use relay_disk::{Disks, MemoryDisk};
 use relay_links::{LinkFault, Pushed, push_link, serve_link};
 use relay_node::{Node, NodeFault, Work};
 use relay_routes::{Config, HostName};
@@ -11,7 +11,7 @@ use std::alloc::Global;
 use std::io::{Read, Write};
 use std::test::Fail;
 
-/// A node on a disk in memory.
+/// A node on disks in memory.
 pub type MemoryNode = Node<MemoryDisk>;
 
 const CONFIGURATION: &str = "host = \"relay.example\"
@@ -37,7 +37,11 @@ pub fn empty_node(alloc: Global) -> Result<MemoryNode, Fail> {
     let Ok(config) = Config::read(alloc, CONFIGURATION) else {
         return Err(Fail::new("no configuration"));
     };
-    match Node::create(alloc, config, MemoryDisk::new(alloc)) {
+    let disks = Disks {
+        first: MemoryDisk::new(alloc),
+        second: MemoryDisk::new(alloc),
+    };
+    match Node::create(alloc, config, disks) {
         Ok(node) => Ok(node),
         Err(_) => Err(Fail::new("not created")),
     }

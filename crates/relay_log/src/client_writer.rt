@@ -2,6 +2,9 @@
 use std::io::{Result, Write};
 use std::net::TcpStream;
 
+/// How the reply begins to mail for which the spool has no room.
+const SPOOL_FULL: &[u8] = b"452 spool full";
+
 /// Writes replies to a client, and counts those that refuse what the client asked for: their codes
 /// begin with 4 or 5 (RFC 5321, section 4.2.1).
 #[derive(Drop)]
@@ -9,6 +12,9 @@ pub struct ClientWriter<'a> {
     stream: &'a TcpStream,
     is_line_begun: bool,
     refusals: u64,
+    /// How many octets of the line are those of `SPOOL_FULL`, while all are.
+    alike: Option<usize>,
+    was_full: bool,
 }
 
 impl<'a> ClientWriter<'a> {
@@ -18,6 +24,8 @@ impl<'a> ClientWriter<'a> {
             stream,
             is_line_begun: false,
             refusals: 0,
+            alike: Some(0),
+            was_full: false,
         }
     }
 
@@ -26,13 +34,28 @@ impl<'a> ClientWriter<'a> {
         self.refusals
     }
 
+    /// Whether one of the replies that were written says that the spool is full.
+    pub fn was_full(&self) -> bool {
+        self.was_full
+    }
+
     fn count(&mut self, octets: &[u8]) {
         for octet in octets {
+            self.compare(*octet);
             if !self.is_line_begun && (*octet == b'4' || *octet == b'5') {
                 self.refusals = self.refusals.saturating_add(1);
             }
             self.is_line_begun = *octet != b'\n';
         }
+    }
+
+    fn compare(&mut self, octet: u8) {
+        self.alike = match self.alike {
+            _ if octet == b'\n' => Some(0),
+            Some(place) if SPOOL_FULL.get(place) == Some(&octet) => Some(place.saturating_add(1)),
+            _ => None,
+        };
+        self.was_full |= self.alike == Some(SPOOL_FULL.len());
     }
 }
 

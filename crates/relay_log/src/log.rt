@@ -50,6 +50,13 @@ impl<'a, E: Write> Log<'a, E> {
         }
     }
 
+    /// Says that the spool was written anew, with its sizes before and behind that, in octets.
+    pub fn compacted(&mut self, before: usize, behind: usize) {
+        if self.speaks {
+            self.say(compacted_text(self.alloc, before, behind));
+        }
+    }
+
     /// Whether it was asked to write lines.
     pub fn speaks(&self) -> bool {
         self.speaks
@@ -80,6 +87,15 @@ fn write_line<E: Write>(alloc: Global, errors: &mut E, text: &[u8]) -> io::Resul
 fn listens_text(alloc: Global, at: SocketAddrV4) -> io::Result<Vec<u8>> {
     let mut text = Vec::new(alloc);
     write!(text, "relayd: listening on {at}")?;
+    Ok(text)
+}
+
+fn compacted_text(alloc: Global, before: usize, behind: usize) -> io::Result<Vec<u8>> {
+    let mut text = Vec::new(alloc);
+    write!(
+        text,
+        "relayd: spool compacted, {before} octets before, {behind} now"
+    )?;
     Ok(text)
 }
 
