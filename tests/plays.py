@@ -1,7 +1,8 @@
 #!/usr/bin/env python3
 """Plays scripts of two relays with `relayd play`: those of docs/plays/, whose output stands beside each; each refusal, in its
 order; faults of a script and of the streams; a message that goes round in a circle until it has too many Received fields; a
-stop whose telling stops the other node; and how long a circle and 10,000 carries take. It ends at the first difference.
+stop whose telling stops the other node; spools that are written anew between any two lines; and how long a circle and 10,000
+carries take. It ends at the first difference.
 
     tests/plays.py build/relayd
 """
@@ -202,6 +203,20 @@ def faults(program):
     same("an input that can't be read", (done.returncode, done.stderr), (1, b"relayd: input\n"))
 
 
+def compactions(program):
+    """A spool that is written anew between any two lines changes nothing else of what is seen; each new spool has 36 octets."""
+    line = "compact {0}\n"
+    same("new nodes", run(program, b"compact a\ncompact b\ncompact a\n"),
+         (0, b"compact a size 36\ncompact b size 36\ncompact a size 36\n", b""))
+    script = PLAYS / "lost_reply.play"
+    lines, wanted = script.read_text().splitlines(keepends=True), script.with_suffix(".seen").read_text()
+    for at in range(len(lines) + 1):
+        given = "".join(lines[:at]) + line.format("a") + line.format("b") + "".join(lines[at:])
+        status, out, errors = run(program, given.encode())
+        found = "".join(one for one in out.decode().splitlines(keepends=True) if not one.startswith("compact "))
+        same(f"compactions before line {at + 1}", (status, found, errors), (0, wanted, b""))
+
+
 def shown(script):
     return f"the script {script!r}"
 
@@ -252,10 +267,10 @@ def carries(program):
 
 def main(program):
     program = str(pathlib.Path(program).resolve())
-    for check in (scripts, refusals, too_many, no_route, cascade, faults):
+    for check in (scripts, compactions, refusals, too_many, no_route, cascade, faults):
         check(program)
     count, seconds = circle(program)
-    print(f"ok: plays: scripts, refusals, stops, faults; a circle of {count} carries in {seconds:.2f} s, "
+    print(f"ok: plays: scripts, compactions, refusals, stops, faults; a circle of {count} carries in {seconds:.2f} s, "
           f"10,000 carries in {carries(program):.2f} s")
 
 

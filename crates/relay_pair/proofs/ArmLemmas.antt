@@ -1,6 +1,7 @@
 -- A node for which a stop is set.
 use Rattle.std.proofs.Common.{◌≡◌, ℕ, List, Some, refl, sym, subst, ap}
 use Rattle.relay_disk.specs.Device.{DiskWords}
+use Rattle.relay_disk.specs.Disks.{calls_left_of}
 use Rattle.relay_book.specs.declared.change.Change.{Change}
 use Rattle.relay_records.specs.Records.{Keeps}
 use Rattle.relay_routes.specs.declared.config.Config.{Config}
@@ -14,7 +15,7 @@ pub is_armed : {D : Type 0} (honest : Type 0) (words : DiskWords D) (before afte
     → (after.config ≡ before.config) × (after.seats ≡ before.seats) × (after.attempts ≡ before.attempts)
     → IsFused before.records after.records
     → ((changes : List Change) → Keeps honest words before.records changes → Keeps honest words after.records changes)
-    → (calls : ℕ) → words.calls_left after.records.spool.disk ≡ Some calls → IsArmed honest words old (host_of after records) calls
+    → (calls : ℕ) → calls_left_of words after.records.spool.disk ≡ Some calls → IsArmed honest words old (host_of after records) calls
 is_armed honest words before after records old is rest fused keeps calls left =
     subst (λ h. IsArmed honest words h (host_of after records) calls) (sym is) (record {
       before = before;

@@ -6,6 +6,7 @@ use Rattle.std.specs.Option.{is_some}
 use Rattle.std.proofs.lemmas.Bool.{false≢true}
 use Rattle.std.proofs.lemmas.Option.{same_Some}
 use Rattle.relay_disk.specs.Device.{DiskWords}
+use Rattle.relay_disk.specs.declared.disks.Disks.{Disks}
 use Rattle.relay_routes.specs.declared.config.Config.{Config}
 use Rattle.relay_records.specs.Records.{Keeps}
 use Rattle.relay_book.specs.declared.change.Change.{Change}
@@ -59,7 +60,7 @@ module _ {D : Type 0} (honest : Type 0) (words : DiskWords D) where
       (subst (λ h. HostKeeps honest words h []) (same_Some new host at) (new_keeps config new is))
 
   -- a host that has just begun isn't down
-  not_down : (config : Config) (new host : Host D) (disk : D) (undecided : Option Undecided) → IsNew honest words config new
+  not_down : (config : Config) (new host : Host D) (disk : Disks D) (undecided : Option Undecided) → IsNew honest words config new
       → Some new ≡ Some host → host.state ≡ Down disk undecided → ⊥
   not_down config new host disk undecided is at down =
       false≢true (sym (ap is_up (sym is.up ∙ ap (λ (h : Host D). h.state) (same_Some new host at) ∙ down)))
@@ -71,7 +72,7 @@ module _ {D : Type 0} (honest : Type 0) (words : DiskWords D) where
     both_keep (suc zero) host changes at list = keeps_there other b host changes second at list
     both_keep (suc (suc node)) host changes at list = absurd (none_there node host at)
 
-    none_down : (node : ℕ) (host : Host D) (disk : D) (undecided : Option Undecided) → slice_get (a ∷ b ∷ []) node ≡ Some host
+    none_down : (node : ℕ) (host : Host D) (disk : Disks D) (undecided : Option Undecided) → slice_get (a ∷ b ∷ []) node ≡ Some host
         → host.state ≡ Down disk undecided → ⊥
     none_down zero host disk undecided at down = not_down one a host disk undecided first at down
     none_down (suc zero) host disk undecided at down = not_down other b host disk undecided second at down

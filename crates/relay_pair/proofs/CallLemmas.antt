@@ -9,7 +9,7 @@ use Rattle.relay_routes.specs.declared.config.Config.{Config}
 use Rattle.relay_server.specs.Dialogue.{Offered, Said}
 use Rattle.relay_book.specs.declared.change.Change.{Change}
 use Rattle.relay_records.specs.declared.fault.NodeFault.{NodeFault}
-use Rattle.relay_records.specs.declared.fault.NodeFault.TheVariants.{NoMemory, Stopped, Unknown, TooMany, NotDue, Busy, Open, Full}
+use Rattle.relay_records.specs.declared.fault.NodeFault.TheVariants.{NoMemory, Stopped, Unknown, TooMany, NotDue, Busy, Open, Full, NoSecond}
 use Rattle.relay_records.specs.declared.noted.Noted.{Noted}
 use Rattle.relay_records.specs.Note.{IsNoted}
 use Rattle.relay_records.specs.Records.{Keeps, Kept}
@@ -35,6 +35,7 @@ stop_is NotDue is = absurd (false≢true is)
 stop_is Busy is = absurd (false≢true is)
 stop_is (Open cause) is = absurd (false≢true is)
 stop_is Full is = absurd (false≢true is)
+stop_is NoSecond is = absurd (false≢true is)
 
 pub noted_some : (noted : Option Noted) (changes : List Change) (change : Change) (used : ℕ) → IsNoted noted changes change used
     → is_some noted ≡ true
@@ -66,6 +67,7 @@ module _ {D : Type 0} (before after : NodeState D) (records : List (List ℕ)) (
     session_records session Busy ok refuses = absurd refuses
     session_records session (Open cause) ok refuses = absurd refuses
     session_records session Full ok refuses = refuses.0.records
+    session_records session NoSecond ok refuses = absurd refuses
 
     -- and there was no memory or room for what was heard, where the session was known
     pub session_want : (session : ℕ) (fault : NodeFault) → is_stop fault ≡ false → fault ≢ Unknown
@@ -78,6 +80,7 @@ module _ {D : Type 0} (before after : NodeState D) (records : List (List ℕ)) (
     session_want session Busy ok known refuses = absurd refuses
     session_want session (Open cause) ok known refuses = absurd refuses
     session_want session Full ok known refuses = inr refl
+    session_want session NoSecond ok known refuses = absurd refuses
 
     pub attempt_records : (slot : ℕ) (fault : NodeFault) → is_stop fault ≡ false
         → RefusesToReply words slot before after fault → after.records ≡ before.records
@@ -89,6 +92,7 @@ module _ {D : Type 0} (before after : NodeState D) (records : List (List ℕ)) (
     attempt_records slot Busy ok refuses = absurd refuses
     attempt_records slot (Open cause) ok refuses = absurd refuses
     attempt_records slot Full ok refuses = refuses.records
+    attempt_records slot NoSecond ok refuses = absurd refuses
 
     -- an attempt that is known is gone for want of memory or room alone
     pub attempt_want : (slot : ℕ) (fault : NodeFault) → is_stop fault ≡ false → fault ≢ Unknown
@@ -101,6 +105,7 @@ module _ {D : Type 0} (before after : NodeState D) (records : List (List ℕ)) (
     attempt_want slot Busy ok known refuses = absurd refuses
     attempt_want slot (Open cause) ok known refuses = absurd refuses
     attempt_want slot Full ok known refuses = inr refl
+    attempt_want slot NoSecond ok known refuses = absurd refuses
 
   pub session_lost : (session : ℕ) → after.records ≡ before.records → OthersStay before.seats after.seats session
       → after.attempts ≡ before.attempts → LosesSession (host_of before records) (host_of after records) session

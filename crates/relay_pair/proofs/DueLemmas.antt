@@ -21,7 +21,7 @@ use Rattle.relay_book.specs.Book.{Rise}
 use Rattle.relay_book.specs.Queue.{Queue, accepted, empty_queue, is_due_at, is_held, message_after, message_of, queue_of, report_of, reported, ruled, step}
 use Rattle.relay_records.specs.declared.fault.NodeFault.{NodeFault}
 use Rattle.relay_records.specs.Records.{Kept}
-use Rattle.relay_records.specs.declared.fault.NodeFault.TheVariants.{NoMemory, Stopped, Unknown, TooMany, NotDue, Busy, Open, Full}
+use Rattle.relay_records.specs.declared.fault.NodeFault.TheVariants.{NoMemory, Stopped, Unknown, TooMany, NotDue, Busy, Open, Full, NoSecond}
 use Rattle.relay_attempts.specs.declared.runs.Run.{Run}
 use Rattle.relay_attempts.specs.declared.work.Work.{Work}
 use Rattle.relay_attempts.specs.declared.work.Work.TheVariants.{NoRoute, Try}
@@ -288,6 +288,7 @@ module _ {D : Type 0} (node : NodeState D) (now message : ℕ) (live : node.reco
       absurd (true≢false (sym refuses.2 ∙ ap (λ (n : ℕ). is_running node.attempts n hop) (sym work.has.0) ∙ work.has.1))
   refused_try hop (Open cause) work refuses = absurd refuses
   refused_try hop Full work refuses = absurd refuses
+  refused_try hop NoSecond work refuses = absurd refuses
 
   -- and it refuses to give up the places of its first work for want of memory, or of room
   refused_no_route : (words : DiskWords D) (fault : NodeFault)
@@ -310,6 +311,7 @@ module _ {D : Type 0} (node : NodeState D) (now message : ℕ) (live : node.reco
   refused_no_route words Busy work refuses = absurd refuses
   refused_no_route words (Open cause) work refuses = absurd refuses
   refused_no_route words Full work refuses = inr (refl, refuses.2)
+  refused_no_route words NoSecond work refuses = absurd refuses
 
 module _ {D : Type 0} (honest : Type 0) (words : DiskWords D) (now message : ℕ) (old new : Host D) where
   -- the work of a host that is up with a node

@@ -9,6 +9,7 @@ mod CallLemmas
 mod CarriedLemmas
 mod CarryLemmas
 mod ClientEndLemmas
+mod CompactLemmas
 mod ConnectLemmas
 mod CopyLemmas
 mod CountLemmas

@@ -1,5 +1,5 @@
 -- The held places of nodes, node by node.
-use Rattle.std.proofs.Common.{◌≡◌, ◌<◌, ◌+◌, ℕ, zero, suc, List, [], ◌∷◌, ◌++◌, length, map, drop, Some, refl, sym, ap, ◌∙◌, arith}
+use Rattle.std.proofs.Common.{◌≡◌, ◌<◌, ◌≤◌, ◌+◌, ℕ, zero, suc, List, [], ◌∷◌, ◌++◌, length, map, drop, Some, refl, sym, ap, ◌∙◌, arith, append-nil}
 use Rattle.std.specs.Prelude.{slice_get, slice_index_or}
 use Rattle.std.proofs.lemmas.List.{append_assoc}
 use Rattle.std.proofs.Math.Numerals.{add-one}
@@ -38,6 +38,21 @@ one_more {D = D} hosts node host before now held all within there its added so_f
     ∙ ap (λ n. before ++ (mine ++ marks_from (node + 1) (drop n hosts))) (add-one node)
     ∙ ap (λ l. before ++ l) (sym (first_marks node host (drop (suc node) hosts)))
     ∙ ap (λ (l : List (Host D)). before ++ marks_from node l) (sym (drop_there hosts node host within there))
+    ∙ so_far
+
+-- nothing is left of a row behind its end
+none_behind : {A : Type 0} (xs : List A) (place : ℕ) → length xs ≤ place → drop place xs ≡ []
+none_behind [] zero past = refl
+none_behind [] (suc place) past = refl
+none_behind (x ∷ xs) zero past = absurd (omega (arith, past))
+none_behind (x ∷ xs) (suc place) past = none_behind xs place (omega (arith, past))
+
+-- and behind the last node the places so far are all
+pub all_marked : {D : Type 0} (hosts : List (Host D)) (node : ℕ) (marks all : List (ℕ × ℕ × ℕ)) → length hosts ≤ node
+    → marks ++ marks_from node (drop node hosts) ≡ all → marks ≡ all
+all_marked {D = D} hosts node marks all past so_far =
+    sym (append-nil marks)
+    ∙ ap (λ (l : List (Host D)). marks ++ marks_from node l) (sym (none_behind hosts node past))
     ∙ so_far
 
 module _ {D : Type 0} (honest : Type 0) (words : DiskWords D) where

@@ -8,7 +8,7 @@ use Rattle.relay_node.specs.Node.{NodeState}
 use Rattle.relay_routes.specs.declared.config.Config.{Config}
 use Rattle.relay_world.specs.declared.attempt.Fate.{Fate}
 use Rattle.relay_world.specs.declared.attempt.Fate.TheVariants.{Lost, Replied}
-use Rattle.relay_world.specs.Once.{Arms, BreaksOff, Drops, Ends, GivesUp, Happen, Happens, Hears, IsNotOpened, LetsGo, Loses, Opens, Reads, Reopens, Starts, Stops, StopsInGivingUp, StopsInHearing, StopsInLosing, StopsInReading, Ticks, Writes}
+use Rattle.relay_world.specs.Once.{BreaksOff, Drops, Ends, GivesUp, GoesOn, Happen, Happens, Hears, IsNotOpened, LetsGo, Loses, Opens, Reads, Reopens, Starts, Stops, StopsInGivingUp, StopsInHearing, StopsInLosing, StopsInReading, Ticks, Writes}
 use Rattle.relay_world.specs.Steps.{AttemptOf, IsPut, RecordsHeard, RecordsOutcome, RecordsRead, without_note}
 use Rattle.relay_world.specs.Stops.{Decides, DropsAtStop}
 use Rattle.relay_records.specs.Records.{Kept}
@@ -133,8 +133,8 @@ module _ {D : Type 0} where
         decided node reopens.host reopens.after reopens.undecided reopens.host_at reopens.decides
     event_names (Ticks clock ticks) = names_same old.hosts new.hosts (ap (λ (w : World D). w.hosts) ticks.new_is)
     event_names (LetsGo node hangs) = names_same old.hosts new.hosts (ap (λ (w : World D). w.hosts) hangs.new_is)
-    event_names (Arms node arms) =
-        names_put old.hosts new.hosts node arms.host (record arms.host { state = Up arms.after }) arms.host_at arms.hosts refl
+    event_names (GoesOn node stays) =
+        names_put old.hosts new.hosts node stays.host (record stays.host { state = Up stays.after }) stays.host_at stays.hosts refl
 
   -- and so do events, one behind another
   pub run_names : (honest : Type 0) (words : DiskWords D) (count : ℕ) (old new : World D) → Happen honest words count old new

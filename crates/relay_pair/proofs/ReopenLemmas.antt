@@ -6,6 +6,7 @@ use Rattle.std.proofs.lemmas.Bool.{true≢false}
 use Rattle.std.proofs.lemmas.List.{length-set}
 use Rattle.std.proofs.lemmas.Option.{none-some, same_Some}
 use Rattle.relay_disk.specs.Device.{DiskWords}
+use Rattle.relay_disk.specs.declared.disks.Disks.{Disks}
 use Rattle.relay_book.specs.declared.change.Change.{Change}
 use Rattle.relay_records.specs.declared.noted.Noted.{Noted}
 use Rattle.relay_routes.specs.declared.config.Config.{Config}
@@ -146,7 +147,7 @@ same_ends honest words old new node found at = ap (λ w. ends_of w) at.new_is
 
 -- a node that was opened has the change that was undecided
 record IsUpWith {D : Type 0} (honest : Type 0) (words : DiskWords D) (was now : Host D) (found : Undecided) : Type 0 where
-  pub disk : D
+  pub disk : Disks D
   pub undecided : Undecided
   pub down : was.state ≡ Down disk (Some (undecided_in undecided))
   pub after : NodeState D

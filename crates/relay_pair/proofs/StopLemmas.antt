@@ -1,7 +1,9 @@
 -- A host whose node was stopped, between two calls or in one.
 use Rattle.std.proofs.Common.{inl, inr, ◌≡◌, ℕ, List, Option, None, Some, refl, sym, subst, ap, ◌∙◌}
 use Rattle.std.specs.Option.{option_map}
-use Rattle.relay_disk.specs.Device.{DiskWords, ImagesWithin}
+use Rattle.relay_disk.specs.Device.{DiskWords}
+use Rattle.relay_disk.specs.declared.disks.Disks.{Disks}
+use Rattle.relay_disk.specs.Disks.{ImagesWithin}
 use Rattle.relay_records.specs.Open.{Opens}
 use Rattle.relay_node.specs.Node.{IsIdle, NodeState}
 use Rattle.relay_routes.specs.declared.config.Config.{Config}
@@ -27,7 +29,7 @@ module _ {D : Type 0} (honest : Type 0) (words : DiskWords D) where
       subst (λ h. StateCrashes honest words h (Down down) origin) (sym is) crashes
 
   -- the host of a node that is down
-  same_down : (before : NodeState D) (down : DownNode D) (records : List (List ℕ)) (undecided : Option Undecided)
+  pub same_down : (before : NodeState D) (down : DownNode D) (records : List (List ℕ)) (undecided : Option Undecided)
       → down.config ≡ before.config → down.undecided ≡ undecided
       → host_in (Down down) records
       ≡ record { config = before.config; state = world.Down down.disk (option_map undecided_in undecided); records = records }
@@ -72,7 +74,7 @@ module _ {D : Type 0} (honest : Type 0) (words : DiskWords D) where
 module _ {D : Type 0} (honest : Type 0) (words : DiskWords D) (down : DownNode D) (records : List (List ℕ)) where
   -- a node that was opened owes nothing
   pub owes_none : (node : NodeState D) → Opens honest words down.disk node.records → IsIdle down.config node → notes_of node ≡ 0
-  owes_none node opens idle = owed_live node opens.keeps.live ∙ count_free node.attempts idle.none_runs
+  owes_none node opens idle = owed_live node opens.live ∙ count_free node.attempts idle.none_runs
 
   pub comes_up : (node : NodeState D) (host : world.Host D) (found : Option Undecided)
       → Opens honest words down.disk node.records → IsIdle down.config node → Decided node records down.undecided host found
@@ -87,7 +89,7 @@ module _ {D : Type 0} (honest : Type 0) (words : DiskWords D) (down : DownNode D
     decides = decides;
   })
 
-  pub stays_down : (config : Config) (again : D) → config ≡ down.config → (honest → ImagesWithin words down.disk again)
+  pub stays_down : (config : Config) (again : Disks D) → config ≡ down.config → (honest → ImagesWithin words down.disk again)
       → OpensOrNot honest words (host_in (Down down) records)
       (host_in (Down (record { config = config; disk = again; undecided = down.undecided })) records) None
   stays_down config again same left = inr (record {

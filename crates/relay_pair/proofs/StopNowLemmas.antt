@@ -9,9 +9,9 @@ use Rattle.relay_disk.specs.Device.{DiskWords}
 use Rattle.relay_routes.specs.declared.config.Config.{Config}
 use Rattle.relay_world.specs.Crashes.{CrashesAtRest, let_go}
 use Rattle.relay_world.specs.CrashRuns.{RestingCrashHappens}
-use Rattle.relay_world.specs.Once.{Arms, IsNotOpened, RunsKeepAll}
+use Rattle.relay_world.specs.Once.{GoesOn, IsNotOpened, RunsKeepAll}
 use Rattle.relay_world.specs.Steps.{IsPut}
-use Rattle.relay_world.specs.Stops.{HasArmed, StaysDown}
+use Rattle.relay_world.specs.Stops.{HasArmed, StaysDown, StaysUp}
 use Rattle.relay_world.specs.World as world
 use Rattle.relay_world.specs.World.{Host, World}
 use Rattle.relay_pair.specs.declared.event.Event.TheVariants.{Stop}
@@ -216,14 +216,14 @@ module _ {D : Type 0} (honest : Type 0) (words : DiskWords D) (old : World D) (n
     abbrev pub armed_world : World D
     armed_world = record old { hosts = slice_set old.hosts node now }
 
-    abbrev has_armed : HasArmed honest words old armed_world node
-    has_armed = record {
+    abbrev stays_up : StaysUp honest words old armed_world node
+    stays_up = record {
       host = was;
       host_at = was_at;
       before = armed.before;
       up = armed.up;
       after = armed.after;
-      fused = armed.fused;
+      noted = armed.fused.noted;
       keeps = armed.keeps;
       config = armed.config;
       seats = armed.seats;
@@ -232,6 +232,9 @@ module _ {D : Type 0} (honest : Type 0) (words : DiskWords D) (old : World D) (n
           (value_put old.hosts node was now was_at);
       rest = (refl, refl, refl, refl, length-set old.hosts node now);
     }
+
+    abbrev has_armed : HasArmed honest words old armed_world node
+    has_armed = record { stays = stays_up; fused = armed.fused }
 
     pub armed_steps : (calls : ℕ) → 0 < calls → passing ≡ calls - 1 → unless_up old node None ≡ None → IsToldOfBreaks old
         → Steps honest words old (Stop node calls pick) armed_world (Ok Armed)
@@ -252,7 +255,7 @@ module _ {D : Type 0} (honest : Type 0) (words : DiskWords D) (old : World D) (n
         one_less n = omega arith
 
     pub armed_happened : HasHappened honest words old armed_world
-    armed_happened = one_happened honest words old armed_world (Arms node has_armed)
+    armed_happened = one_happened honest words old armed_world (GoesOn node stays_up)
 
     pub armed_bound : honest → RunsKeepAll honest words → AreBound honest words old → AreBound honest words armed_world
     armed_bound is_honest keeps bound = still_bound honest words is_honest keeps old armed_world bound armed_happened

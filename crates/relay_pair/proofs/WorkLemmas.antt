@@ -8,7 +8,7 @@ use Rattle.relay_routes.specs.declared.config.Config.{Config}
 use Rattle.relay_routes.specs.Routes.{RouteTable}
 use Rattle.relay_book.specs.declared.change.Change.{Change}
 use Rattle.relay_records.specs.declared.fault.NodeFault.{NodeFault}
-use Rattle.relay_records.specs.declared.fault.NodeFault.TheVariants.{NoMemory, Stopped, Unknown, TooMany, NotDue, Busy, Open, Full}
+use Rattle.relay_records.specs.declared.fault.NodeFault.TheVariants.{NoMemory, Stopped, Unknown, TooMany, NotDue, Busy, Open, Full, NoSecond}
 use Rattle.relay_records.specs.Records.{Keeps, Kept}
 use Rattle.relay_attempts.specs.declared.runs.Run.{Run}
 use Rattle.relay_attempts.specs.declared.work.Work.{Work}
@@ -70,6 +70,7 @@ given_up_same words host table message now old new NotDue ok refuses = refuses.2
 given_up_same words host table message now old new Busy ok refuses = absurd refuses
 given_up_same words host table message now old new (Open cause) ok refuses = absurd refuses
 given_up_same words host table message now old new Full ok refuses = refuses.1
+given_up_same words host table message now old new NoSecond ok refuses = absurd refuses
 
 module _ {D : Type 0} (honest : Type 0) (words : DiskWords D) (before after : NodeState D) (old new : List (List ℕ))
     (message now : ℕ) where
@@ -126,6 +127,7 @@ module _ {D : Type 0} (before after : NodeState D) (records : List (List ℕ)) (
   unchanged_by Busy refuses = absurd refuses
   unchanged_by (Open cause) refuses = absurd refuses
   unchanged_by Full refuses = absurd refuses
+  unchanged_by NoSecond refuses = absurd refuses
 
   only_these : (fault : NodeFault) → (fault ≡ Stopped → ⊥) → RefusesToConnect before after fault
       → (fault ≡ NoMemory) ⊎ (fault ≡ TooMany)
@@ -137,6 +139,7 @@ module _ {D : Type 0} (before after : NodeState D) (records : List (List ℕ)) (
   only_these Busy goes_on refuses = absurd refuses
   only_these (Open cause) goes_on refuses = absurd refuses
   only_these Full goes_on refuses = absurd refuses
+  only_these NoSecond goes_on refuses = absurd refuses
 
   same_fault : (one other : NodeFault) → ◌≡◌ {A = Result Connected NodeFault} (Err one) (Err other) → one ≡ other
   same_fault one other same = cc

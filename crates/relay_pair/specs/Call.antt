@@ -33,6 +33,7 @@ is_stop node_fault.NotDue = false
 is_stop node_fault.Busy = false
 is_stop (node_fault.Open cause) = false
 is_stop node_fault.Full = false
+is_stop node_fault.NoSecond = false
 
 -- why a node loses a session or an attempt: there was no memory for what it heard or read, or no room
 abbrev pub IsWant : NodeFault → Type 0

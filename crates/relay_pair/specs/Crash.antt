@@ -1,7 +1,9 @@
 -- What a stop makes of one host of a pair, between two calls or in one, and what its opening makes of it.
 use Rattle.std.specs.Prelude.{◌≡◌, ◌⊎◌, ◌≤◌, ◌<◌, ℕ, Bool, true, false, List, [], ◌∷◌, ◌++◌, Option, None, Some}
 use Rattle.std.specs.Option.{is_some, option_map}
-use Rattle.relay_disk.specs.Device.{DiskWords, ImagesWithin}
+use Rattle.relay_disk.specs.Device.{DiskWords}
+use Rattle.relay_disk.specs.declared.disks.Disks.{Disks}
+use Rattle.relay_disk.specs.Disks.{ImagesWithin}
 use Rattle.relay_records.specs.declared.noted.Noted.{Noted}
 use Rattle.relay_records.specs.Open.{Opens}
 use Rattle.relay_node.specs.Node.{IsIdle, NodeState}
@@ -44,7 +46,7 @@ Decided node records (Some undecided) host (Some found) =
     (undecided.note.number < node.records.queue.next) × (found ≡ without_octets undecided)
     × (host ≡ host_of node (records ++ undecided.note.octets ∷ []))
 
--- what a stop between two calls made of a node that was up, whose configuration and disk these are now
+-- what a stop between two calls made of a node that was up, whose configuration and disks these are now
 pub record NodeStops {D : Type 0} (honest : Type 0) (words : DiskWords D) (before : NodeState D) (new : DownNode D)
     : Type 0 where
   pub config : new.config ≡ before.config
@@ -71,28 +73,28 @@ StateCrashes honest words (Up before) (Down down) origin = NodeCrashes honest wo
 StateCrashes honest words (Down was) new origin = ⊥
 
 module _ {D : Type 0} (honest : Type 0) (words : DiskWords D) (old new : world.Host D) where
-  -- A host that was up is down between two calls, with a disk of which a stop leaves no more than of the one before.
+  -- A host that was up is down between two calls, with disks of which a stop leaves no more than of those before.
   pub record StopsAtRest : Type 0 where
     pub before : NodeState D
     pub up : old.state ≡ world.Up before
-    pub disk : D
+    pub disk : Disks D
     pub left : IsLeftBy honest words before.records disk
     pub new_is : new ≡ record old { state = world.Down disk None }
 
-  -- A host that stopped in a call is down, with such a disk, and the change that it was adding is undecided.
+  -- A host that stopped in a call is down, with such disks, and the change that it was adding is undecided.
   pub record CrashesInCall (origin : Origin) : Type 0 where
     pub before : NodeState D
     pub up : old.state ≡ world.Up before
     pub noted : Noted
     pub note_is : before.records.noted ≡ Some noted
-    pub disk : D
+    pub disk : Disks D
     pub left : IsLeftBy honest words before.records disk
     pub new_is : new
         ≡ record old { state = world.Down disk (Some (record { note = noted; origin = origin_in origin })) }
 
   -- A host that was down is opened, with this undecided change or none.
   pub record ComesUp (found : Option Undecided) : Type 0 where
-    pub disk : D
+    pub disk : Disks D
     pub undecided : Option Undecided
     pub down : old.state ≡ world.Down disk (option_map undecided_in undecided)
     pub after : NodeState D
@@ -100,12 +102,12 @@ module _ {D : Type 0} (honest : Type 0) (words : DiskWords D) (old new : world.H
     pub idle : IsIdle old.config after
     pub decides : Decided after old.records undecided new found
 
-  -- A host that is down stays so, with a disk of which a stop leaves no more than of the one before.
+  -- A host that is down stays so, with disks of which a stop leaves no more than of those before.
   pub record StaysSo (found : Option Undecided) : Type 0 where
-    pub disk : D
+    pub disk : Disks D
     pub undecided : Option world.Undecided
     pub down : old.state ≡ world.Down disk undecided
-    pub again : D
+    pub again : Disks D
     pub left : honest → ImagesWithin words disk again
     pub new_is : new ≡ record old { state = world.Down again undecided }
     pub none : found ≡ None

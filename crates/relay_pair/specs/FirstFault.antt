@@ -13,7 +13,7 @@ use Rattle.relay_world.specs.declared.link.ServerEnd.{ServerEnd}
 use Rattle.relay_world.specs.Crashes.{is_tried_for, serves_for}
 use Rattle.relay_world.specs.World.{Down, HostState, Host, Up, World, link_at}
 use Rattle.relay_pair.specs.declared.event.Event.{Event}
-use Rattle.relay_pair.specs.declared.event.Event.TheVariants.{Connect, Send, Carry, Break, Tick, Give, Stop}
+use Rattle.relay_pair.specs.declared.event.Event.TheVariants.{Connect, Send, Carry, Break, Tick, Give, Compact, Stop}
 use Rattle.relay_pair.specs.declared.fault.PairFault.{PairFault}
 use Rattle.relay_pair.specs.declared.fault.PairFault.TheVariants as fault
 
@@ -142,4 +142,5 @@ module _ {D : Type 0} (world : World D) where
   first_fault (Break number) = break_fault (whole_link world.links number)
   first_fault (Tick now) = None
   first_fault (Give node) = give_fault (slice_get world.hosts node)
+  first_fault (Compact node) = unless_up node None
   first_fault (Stop node calls pick) = stop_fault node calls

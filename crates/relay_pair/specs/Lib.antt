@@ -4,6 +4,7 @@ pub mod BreakOff
 pub mod Call
 pub mod Carried
 pub mod ClientEnd
+pub mod Compact
 pub mod Copied
 pub mod Crash
 pub mod FirstFault

@@ -1,6 +1,7 @@
 -- What a crash of a node in a call, and its opening, make of the parts of a pair.
 use Rattle.std.specs.Prelude.{◌≡◌, ◌≤◌, ◌++◌, ℕ, ◌+◌, false, List, length, Option, Some, slice_get, slice_set}
 use Rattle.relay_disk.specs.Device.{DiskWords}
+use Rattle.relay_disk.specs.declared.disks.Disks.{Disks}
 use Rattle.relay_node.specs.Node.{NodeState}
 use Rattle.relay_records.specs.declared.noted.Noted.{Noted}
 use Rattle.relay_world.specs.declared.attempt.Attempt.{Attempt}
@@ -43,7 +44,7 @@ module _ {D : Type 0} (honest : Type 0) (words : DiskWords D) (old new : World D
     pub up : host.state ≡ Up before
     pub noted : Noted
     pub note_is : before.records.noted ≡ Some noted
-    pub disk : D
+    pub disk : Disks D
     pub left : IsLeftBy honest words before.records disk
     pub down : GoesDown old new node host disk (Some (record { note = noted; origin = origin_in origin }))
     pub hosts_are : new.hosts

@@ -3,15 +3,16 @@ use Rattle.std.specs.Prelude.{◌≡◌, ◌⊎◌, ◌<◌, ◌≤◌, ℕ, zer
 use Rattle.std.specs.Option.{is_some}
 use Rattle.std.specs.Global.{Vec}
 use Rattle.relay_disk.specs.Device.{DiskWords}
+use Rattle.relay_disk.specs.Disks.{calls_left_of}
 use Rattle.relay_slots.specs.declared.slots.TheConstants.{SLOT_COUNT}
 use Rattle.relay_world.specs.declared.attempt.Attempt.{Attempt}
 use Rattle.relay_world.specs.declared.link.Link.{Link}
-use Rattle.relay_world.specs.Crashes.{CrashesAtRest, CrashesGivingUp, CrashesHearing, CrashesReading, serves_for}
+use Rattle.relay_world.specs.Crashes.{CrashesAtRest, CrashesCompacting, CrashesGivingUp, CrashesHearing, CrashesReading, serves_for}
 use Rattle.relay_world.specs.Steps.{Breaks, DropsAttempt, EndsSession, HasGivenUp, HasHeard, HasLost, HasOpened, HasRead, HasStarted, HasTicked, HasWritten}
-use Rattle.relay_world.specs.Stops.{HasArmed, StaysDown}
+use Rattle.relay_world.specs.Stops.{HasArmed, HasCompacted, StaysDown}
 use Rattle.relay_world.specs.World.{Host, World}
 use Rattle.relay_pair.specs.declared.event.Event.{Event}
-use Rattle.relay_pair.specs.declared.event.Event.TheVariants.{Connect, Send, Carry, Break, Tick, Give, Stop}
+use Rattle.relay_pair.specs.declared.event.Event.TheVariants.{Connect, Send, Carry, Break, Tick, Give, Compact, Stop}
 use Rattle.relay_pair.specs.declared.fault.PairFault.{PairFault}
 use Rattle.relay_pair.specs.declared.fault.PairFault.TheVariants as fault
 use Rattle.relay_pair.specs.declared.seen.Seen.{Seen}
@@ -19,6 +20,7 @@ use Rattle.relay_pair.specs.declared.seen.Seen.TheVariants as seen
 use Rattle.relay_records.specs.declared.fault.NodeFault.{NodeFault}
 use Rattle.relay_records.specs.declared.fault.NodeFault.TheVariants as node_fault
 use Rattle.relay_pair.specs.Call.{IsWant}
+use Rattle.relay_pair.specs.Compact.{IsWhyNotCompacted}
 use Rattle.relay_pair.specs.FirstFault.{first_fault, is_nil, waits_down}
 use Rattle.relay_pair.specs.Give.{IsFirstWork, IsWhyNotBegun, IsWhyNotGivenUp, LeadsOn, tries_of}
 use Rattle.relay_pair.specs.Told.{AreTold, CrashesTold, IsOpened}
@@ -57,6 +59,7 @@ fault_of node_fault.NotDue = fault.Node node_fault.NotDue
 fault_of node_fault.Busy = fault.Node node_fault.Busy
 fault_of (node_fault.Open cause) = fault.Node (node_fault.Open cause)
 fault_of node_fault.Full = fault.Node node_fault.Full
+fault_of node_fault.NoSecond = fault.Node node_fault.NoSecond
 
 -- whether octets wait at the server end of a link
 abbrev pub waits_up : Link → Bool
@@ -76,10 +79,10 @@ module _ {D : Type 0} (honest : Type 0) (words : DiskWords D) where
     pub stops : CrashesAtRest honest words old down node ⊎ StaysDown honest words old down node
     pub opened : IsOpened honest words down new node
 
-  -- A stop is set for a node that is up: of its disk so many calls pass, and the next fails.
+  -- A stop is set for a node that is up: of its disks so many calls pass, and the next fails.
   pub record SetsStop (old new : World D) (node calls : ℕ) : Type 0 where
     pub armed : HasArmed honest words old new node
-    pub calls_left : words.calls_left armed.after.records.spool.disk ≡ Some calls
+    pub calls_left : calls_left_of words armed.stays.after.records.spool.disk ≡ Some calls
 
   -- what waits for a node on a link is carried to it: octets are heard or read, or, where none wait, the end of the
   -- other side; or octets are heard or read, and there is no memory for what the node answers, so that the link breaks;
@@ -163,6 +166,15 @@ module _ {D : Type 0} (honest : Type 0) (words : DiskWords D) where
         → CrashesGivingUp honest words old down node message → IsOpened honest words down new node
         → Gives old node new (Stops node)
 
+  -- A node writes its spool anew, and its size now is told; or the node refuses to, or stops in that call.
+  pub data Rewrites (old : World D) (node : ℕ) (new : World D) : Did → Type 0 where
+    CompactsSpool : (compacted : HasCompacted honest words old new node)
+        → Rewrites old node new (Shows (seen.Compacted node compacted.stays.after.records.spool.size))
+    RefusesToCompact : (host : Host D) → slice_get old.hosts node ≡ Some host → (why : NodeFault)
+        → IsWhyNotCompacted host why → new ≡ old → Rewrites old node new (Refuses (fault_of why))
+    CrashesInCompacting : (down : World D) → CrashesCompacting honest words old down node
+        → IsOpened honest words down new node → Rewrites old node new (Stops node)
+
   -- what an event does of itself, before nodes are told of links that it broke
   abbrev pub Acts : World D → Event → World D → Did → Type 0
   Acts old (Connect node) middle did = OpensFromOutside old node middle did
@@ -171,6 +183,7 @@ module _ {D : Type 0} (honest : Type 0) (words : DiskWords D) where
   Acts old (Break number) middle did = Breaks old middle number × (did ≡ Shows (seen.Broken number))
   Acts old (Tick now) middle did = HasTicked old middle now × (did ≡ Shows seen.Set)
   Acts old (Give node) middle did = Gives old node middle did
+  Acts old (Compact node) middle did = Rewrites old node middle did
   Acts old (Stop node zero pick) middle did = StopsNow old middle node × (did ≡ Stops node)
   Acts old (Stop node (suc calls) pick) middle did = SetsStop old middle node calls × (did ≡ Shows seen.Armed)
 
@@ -182,6 +195,7 @@ module _ {D : Type 0} (honest : Type 0) (words : DiskWords D) where
   LooksForWork (Break number) = ⊥
   LooksForWork (Tick now) = ⊥
   LooksForWork (Give node) = Unit {0}
+  LooksForWork (Compact node) = ⊥
   LooksForWork (Stop node calls pick) = ⊥
 
   -- Where memory runs out before a node is called, nothing changes.

@@ -1,6 +1,7 @@
 -- What a stop between two calls makes of the parts of a pair, or a stop that is set for a later call.
 use Rattle.std.specs.Prelude.{◌≡◌, ◌⊎◌, ℕ, List, None, Some, slice_get, slice_set}
-use Rattle.relay_disk.specs.Device.{DiskWords, ImagesWithin}
+use Rattle.relay_disk.specs.Device.{DiskWords}
+use Rattle.relay_disk.specs.Disks.{ImagesWithin, calls_left_of}
 use Rattle.relay_book.specs.declared.change.Change.{Change}
 use Rattle.relay_records.specs.Records.{Keeps}
 use Rattle.relay_node.specs.Node.{IsFused, NodeState}
@@ -24,7 +25,7 @@ StateStopsAgain honest words (Down was) (Up after) = ⊥
 StateStopsAgain honest words (Down was) (Down now) = DownStops honest words was now
 
 module _ {D : Type 0} (honest : Type 0) (words : DiskWords D) where
-  -- a stop was set for a node that is up: of its disk so many calls pass, and the next fails
+  -- a stop was set for a node that is up: of its disks so many calls pass, and the next fails
   pub record IsArmed (old new : Host D) (calls : ℕ) : Type 0 where
     pub before : NodeState D
     pub up : old.state ≡ world.Up before
@@ -35,7 +36,7 @@ module _ {D : Type 0} (honest : Type 0) (words : DiskWords D) where
     pub config : after.config ≡ before.config
     pub seats : after.seats ≡ before.seats
     pub attempts : after.attempts ≡ before.attempts
-    pub calls_left : words.calls_left after.records.spool.disk ≡ Some calls
+    pub calls_left : calls_left_of words after.records.spool.disk ≡ Some calls
     pub new_is : new ≡ record old { state = world.Up after }
 
   -- A node that was up has stopped between two calls, and has let go of its ends; or one that was down has stopped

@@ -86,5 +86,6 @@ pub(crate) fn fault_of(fault: NodeFault) -> PairFault
         NodeFault::Busy => PairFault::Node(NodeFault::Busy),
         NodeFault::Open(cause) => PairFault::Node(NodeFault::Open(cause)),
         NodeFault::Full => PairFault::Node(NodeFault::Full),
+        NodeFault::NoSecond => PairFault::Node(NodeFault::NoSecond),
     }
 }

@@ -5,15 +5,19 @@ ghost use Rattle.relay_pair.specs.Relays.{world_of};
 
 use crate::host::{Host, HostState};
 use crate::relays::Relays;
-use relay_disk::Disk;
+use relay_disk::{Disk, Disks};
 use relay_node::{Node, NotOpened};
 use relay_routes::Config;
 use relay_trace::Moment;
 use std::alloc::{AllocError, Global};
 
 impl<D: Disk> Host<D> {
-    /// A node that begins, on a disk of size 0. It fails where memory runs out, or the disk fails or isn't empty.
-    pub(crate) fn create(alloc: Global, config: Config, disk: D) -> Result<Self, NotOpened<D>>
+    /// A node that begins, on two disks of size 0. It fails where memory runs out, or a disk fails or isn't empty.
+    pub(crate) fn create(
+        alloc: Global,
+        config: Config,
+        disk: Disks<D>,
+    ) -> Result<Self, NotOpened<D>>
         ensures { IfOk result (IsNew D.honest D.words config) }
     {
         match Node::create(alloc, config, disk) {

@@ -56,6 +56,7 @@ pub(crate) fn is_stop(fault: NodeFault) -> bool
         NodeFault::Busy => false,
         NodeFault::Open(_) => false,
         NodeFault::Full => false,
+        NodeFault::NoSecond => false,
     }
 }
 

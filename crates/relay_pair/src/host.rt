@@ -1,26 +1,28 @@
 //! A node of a pair, which is up or down.
-ghost use Rattle.std.specs.Prelude.{◌≡◌, ◌↔◌, ℕ, List, [], ◌∷◌, false, true, None, IfErr, IfOk, vec_capacity, vec_len};
+ghost use Rattle.std.specs.Prelude.{◌≡◌, ◌↔◌, ◌≤◌, ℕ, List, [], ◌∷◌, false, true, None, IfErr, IfOk, vec_capacity, vec_len};
 ghost use Rattle.std.specs.List.{Contains};
 ghost use Rattle.relay_book.specs.declared.change.Change.{Change};
 ghost use Rattle.relay_book.specs.Marks.{Held};
-ghost use Rattle.relay_disk.specs.Device.{ImagesWithin};
+ghost use Rattle.relay_disk.specs.Disks.{ImagesWithin};
 ghost use Rattle.relay_pair.specs.Call.{HasAttempt, HasSession, HearsOrNot, IsToldLoss, LosesSession, ReadsOrNot};
-ghost use Rattle.relay_pair.specs.Crash.{CrashesInCall, Decided, StateCrashes, StateStops, IsCutShort, OpensOrNot, StaysSo, StopsAtRest, WasCutShort, is_up_now};
+ghost use Rattle.relay_pair.specs.Crash.{CrashesInCall, StateCrashes, StateStops, IsCutShort, OpensOrNot, StaysSo, StopsAtRest, WasCutShort, is_up_now};
+ghost use Rattle.relay_pair.specs.Compact.{KnowsNow, RewritesOrNot};
 ghost use Rattle.relay_pair.specs.FirstFault.{holds_up};
-ghost use Rattle.relay_pair.specs.Host.{OwesWithin, count_some, host_in, notes_of, notes_to_come};
+ghost use Rattle.relay_pair.specs.Host.{OwesWithin, count_some, host_in, notes_to_come};
 ghost use Rattle.relay_pair.specs.StopNow.{DownStops, StateStopsAgain, IsArmed};
-ghost use Rattle.relay_pair.specs.Work.{KeepsUp, KnowsIfUp, marks_in};
+ghost use Rattle.relay_pair.specs.Work.{HasChanges, KeepsUp, KnowsIfUp, marks_in};
 ghost use Rattle.relay_pair.specs.declared.host.HostState.TheVariants.{Down};
 
 use crate::calls::{Heard, Read, ToldLoss, hear_at, lose_at, read_at};
-use relay_disk::{Disk, Reboot};
+use crate::compact::{Compacted, compact_at};
+use crate::opened::decide;
+use relay_disk::{Disk, Disks, Reboot};
 use relay_node::{Node, NodeFault, Noted};
 use relay_octets::Octets;
 use relay_routes::Config;
 use relay_trace::Moment;
 use std::alloc::Global;
 use std::marker::Model;
-use std::mem;
 
 /// What a change came from.
 #[derive(Clone, Copy)]
@@ -51,11 +53,11 @@ impl Drop for Undecided {
     }
 }
 
-/// A node that is down: the configuration under which it will be opened, its disk, and the change that its opening
+/// A node that is down: the configuration under which it will be opened, its disks, and the change that its opening
 /// decides.
 pub(crate) struct DownNode<D: Disk> {
     pub(crate) config: Config,
-    pub(crate) disk: D,
+    pub(crate) disk: Disks<D>,
     pub(crate) undecided: Option<Undecided>,
 }
 
@@ -89,7 +91,7 @@ impl<D: Disk + Drop> Drop for HostState<D> {
 }
 
 /// A node of a pair, the records of its changes, how many more may be owed, for which there is room, and what a stop
-/// that waits for it leaves of its disk.
+/// that waits for it leaves of its disks.
 pub(crate) struct Host<D: Disk> {
     pub(crate) state: HostState<D>,
     pub(crate) records: Vec<Octets>,
@@ -204,7 +206,7 @@ impl<D: Disk> Host<D> {
 }
 
 impl<D: Reboot + Drop> Host<D> {
-    /// A node that is up stops between two calls. Where memory runs out, its disk is as it is.
+    /// A node that is up stops between two calls. Where memory runs out, its disks are as they are.
     pub(crate) fn stop(self, pick: u64) -> Self
         requires { holds_up self.state ≡ true }
         ensures { StopsAtRest D.Disk.honest D.Disk.words self result }
@@ -242,7 +244,7 @@ impl<D: Reboot + Drop> Host<D> {
         }
     }
 
-    /// A node that is down is opened, or stays down where its disk is refused, or memory runs out. Where it has the
+    /// A node that is down is opened, or stays down where its disks are refused, or memory runs out. Where it has the
     /// change that was undecided, that is answered, without its record.
     pub(crate) fn open(self, alloc: Global) -> (Self, Option<Undecided>)
         requires { holds_up self.state ≡ false }
@@ -362,7 +364,7 @@ impl<D: Reboot + Drop> DownNode<D> {
 }
 
 impl<D: Reboot + Drop> Host<D> {
-    /// A node that is down stops again. Where memory runs out, its disk is as it is.
+    /// A node that is down stops again. Where memory runs out, its disks are as they are.
     pub(crate) fn stop_again(self, pick: u64) -> Self
         requires { holds_up self.state ≡ false }
         ensures { StaysSo D.Disk.honest D.Disk.words self result None }
@@ -381,7 +383,7 @@ impl<D: Reboot + Drop> Host<D> {
         }
     }
 
-    /// A stop is set for a node that is up: so many calls of its disk pass, and the next fails.
+    /// A stop is set for a node that is up: so many calls of its disks pass, and the next fails.
     pub(crate) fn arm(&mut self, calls: u64, pick: u64)
         requires { holds_up self.old.state ≡ true }
         ensures { IsArmed D.Disk.honest D.Disk.words self.old self.new calls }
@@ -391,6 +393,46 @@ impl<D: Reboot + Drop> Host<D> {
         };
         node.fuse(calls);
         self.pick = pick;
+    }
+}
+
+impl<D: Reboot + Drop> Host<D> {
+    /// A node that is up writes its spool anew. Where it stops in that, it goes down.
+    pub(crate) fn compact(self) -> (Self, Compacted)
+        requires { HasChanges D.Disk.honest D.Disk.words self }
+        ensures { RewritesOrNot D.Disk.honest D.Disk.words self result.0 result.1 }
+    {
+        let Host {
+            state,
+            records,
+            owed,
+            pick,
+        } = self;
+        let (state, compacted) = state.compact(pick);
+        (
+            Host {
+                state,
+                records,
+                owed,
+                pick,
+            },
+            compacted,
+        )
+    }
+}
+
+impl<D: Reboot + Drop> HostState<D> {
+    /// A node that is up writes its spool anew. Where it stops in that, it goes down.
+    fn compact(self, pick: u64) -> (Self, Compacted)
+        requires { KnowsNow D.Disk.honest D.Disk.words self }
+        ensures rewrites { (records : List (List ℕ)) → RewritesOrNot D.Disk.honest D.Disk.words (host_in self records)
+            (host_in result.0 records) result.1 }
+        ensures notes { notes_to_come result.0 ≤ notes_to_come self }
+    {
+        match self {
+            HostState::Up(node) => compact_at(node, pick),
+            HostState::Down(_down) => unreachable!(),
+        }
     }
 }
 
@@ -425,63 +467,12 @@ impl<D: Reboot + Drop> DownNode<D> {
     }
 }
 
-/// What a stop leaves of a disk. Where memory runs out, it is the disk as it is.
-fn stopped<D: Reboot>(disk: D, pick: u64) -> D
+/// What a stop leaves of two disks. Where memory runs out, they are as they are, or the first alone has stopped.
+pub(crate) fn stopped<D: Reboot>(disk: Disks<D>, pick: u64) -> Disks<D>
     ensures { D.Disk.honest → ImagesWithin D.Disk.words disk result }
 {
     match disk.after_stop(pick) {
         Ok(stopped) => stopped,
         Err(refused) => refused.value,
     }
-}
-
-/// The host of a node that was opened: it has the change that was undecided exactly where its next number is above the
-/// change's own.
-fn decide<D: Disk>(
-    alloc: Global,
-    node: Node<D>,
-    undecided: Option<Undecided>,
-    records: Vec<Octets>,
-    owed: usize,
-    pick: u64,
-) -> (Host<D>, Option<Undecided>)
-    requires idle { notes_of node ≡ 0 }
-    requires room { OwesWithin (count_some (undecided ∷ [])) (vec_len records) (vec_capacity records) owed }
-    ensures { Decided node records.items undecided result.0 result.1 }
-{
-    let Some(undecided) = undecided else {
-        return (
-            Host {
-                state: HostState::Up(node),
-                records,
-                owed,
-                pick,
-            },
-            None,
-        );
-    };
-    if node.next_number() <= undecided.note.number {
-        return (
-            Host {
-                state: HostState::Up(node),
-                records,
-                owed,
-                pick,
-            },
-            None,
-        );
-    }
-    let mut undecided = undecided;
-    let mut records = records;
-    let octets = mem::replace(&mut undecided.note.octets, Octets::new(Vec::new(alloc)));
-    records.push(octets).unwrap();
-    (
-        Host {
-            state: HostState::Up(node),
-            records,
-            owed: owed - 1,
-            pick,
-        },
-        Some(undecided),
-    )
 }

@@ -15,7 +15,7 @@ use crate::lost::lost_replies;
 use crate::profile::{first_profile, second_profile};
 use crate::relays::Relays;
 use crate::seen::Seen;
-use relay_disk::{Disk, MemoryDisk, Reboot};
+use relay_disk::{Disk, Disks, MemoryDisk, Reboot};
 use relay_world::passing::{hop_links_at_first, once_at_first, promise_is_kept};
 use relay_world::{Attempt, Line, Link};
 use std::alloc::{AllocError, Global};
@@ -50,14 +50,22 @@ impl Pair<MemoryDisk> {
     pub fn new(alloc: Global) -> Result<Self, AllocError>
         ensures { IfOk result (HasBegun ⟦<MemoryDisk as Disk>⟧.honest ⟦<MemoryDisk as Disk>⟧.words) }
     {
-        Pair::begin(alloc, MemoryDisk::new(alloc), MemoryDisk::new(alloc))
+        let first = Disks {
+            first: MemoryDisk::new(alloc),
+            second: MemoryDisk::new(alloc),
+        };
+        let second = Disks {
+            first: MemoryDisk::new(alloc),
+            second: MemoryDisk::new(alloc),
+        };
+        Pair::begin(alloc, first, second)
     }
 }
 
 impl<D: Disk + Drop> Pair<D> {
-    /// The same two relays, on these disks, which are empty. It fails where memory runs out, and where a disk fails or
+    /// The same two relays, each on two disks, which are empty. It fails where memory runs out, and where a disk fails or
     /// isn't empty.
-    pub fn begin(alloc: Global, first: D, second: D) -> Result<Self, AllocError>
+    pub fn begin(alloc: Global, first: Disks<D>, second: Disks<D>) -> Result<Self, AllocError>
         ensures { IfOk result (HasBegun D.Disk.honest D.Disk.words) }
     {
         once_at_first::<D>();

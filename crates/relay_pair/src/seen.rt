@@ -28,6 +28,8 @@ pub enum Seen {
     Started(usize),
     /// A node has given up places of this message, in the change of this number.
     NoRoute(u64, u64),
+    /// A node has written its spool anew, which has this size now, in octets.
+    Compacted(usize, usize),
     /// A stop waits for a node.
     Armed,
     /// These nodes have stopped, in this order.

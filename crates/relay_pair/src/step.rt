@@ -26,6 +26,7 @@ impl<D: Reboot + Drop> Relays<D> {
             Event::Carry { link, node, count } => self.carry(*link, *node, *count),
             Event::Tick(now) => self.tick(*now),
             Event::Give(node) => self.give(*node),
+            Event::Compact(node) => self.compact(*node),
             Event::Break(link) => self.break_link(*link),
             Event::Send(link, octets) => self.send(*link, octets.as_slice()),
             Event::Stop { node, calls, pick } => self.stop(*node, *calls, *pick),

@@ -1,4 +1,4 @@
-//! A node stops between two calls, or a stop is set for a later call of its disk.
+//! A node stops between two calls, or a stop is set for a later call of its disks.
 ghost use Rattle.std.specs.Prelude.{◌≡◌, ◌<◌, vec_len};
 ghost use Rattle.relay_pair.specs.Promise.{HasHappened};
 ghost use Rattle.relay_pair.specs.Relays.{AreInOrder, world_of};
@@ -14,7 +14,7 @@ use relay_disk::Reboot;
 use relay_world::passing::{resting_crash_happens, runs_keep_all};
 
 impl<D: Reboot + Drop> Relays<D> {
-    /// A node stops: now, or at a later call of its disk.
+    /// A node stops: now, or at a later call of its disks.
     pub(crate) fn stop(&mut self, node: usize, calls: u64, pick: u64) -> Result<Seen, PairFault>
         requires honest { D.Disk.honest }
         requires order { AreInOrder D.Disk.honest D.Disk.words self.old }
@@ -69,7 +69,7 @@ impl<D: Reboot + Drop> Relays<D> {
         self.hosts.insert(node, host).unwrap();
     }
 
-    /// A stop is set for a node that is up: of the next calls of its disk the one of this number, from 1, fails.
+    /// A stop is set for a node that is up: of the next calls of its disks the one of this number, from 1, fails.
     fn arm(&mut self, node: usize, calls: u64, pick: u64) -> Result<Seen, PairFault>
         requires honest { D.Disk.honest }
         requires order { AreInOrder D.Disk.honest D.Disk.words self.old }

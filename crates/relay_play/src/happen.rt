@@ -28,6 +28,7 @@ fn event_of(said: Said) -> Event {
         Said::Break { link } => Event::Break(link as usize),
         Said::Tick { moment } => Event::Tick(moment),
         Said::Give { node } => Event::Give(node.index()),
+        Said::Compact { node } => Event::Compact(node.index()),
         Said::Stop { node, calls, pick } => Event::Stop {
             node: node.index(),
             calls,

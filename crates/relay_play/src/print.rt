@@ -43,6 +43,7 @@ pub(crate) fn print_seen<D: Disk>(
         (Seen::NoRoute(number, change), Event::Give(node)) => {
             writeln!(out, "noroute {} {number} change {change}", letter(*node))
         }
+        (Seen::Compacted(node, size), _) => writeln!(out, "compact {} size {size}", letter(*node)),
         (Seen::Armed, Event::Stop { node, .. }) => writeln!(out, "armed {}", letter(*node)),
         (Seen::Stopped(nodes), _) => print_stopped(nodes.as_slice(), out),
         // Nothing else is seen of another event.
@@ -74,6 +75,7 @@ fn name_of(fault: NodeFault) -> &'static str {
         NodeFault::Busy => "Busy",
         NodeFault::Open(_) => "Open",
         NodeFault::Full => "Full",
+        NodeFault::NoSecond => "NoSecond",
     }
 }
 

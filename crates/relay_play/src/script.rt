@@ -1,4 +1,7 @@
 //! A script, from its first line to its last.
+ghost use Rattle.std.specs.Prelude.{◌≡◌, ◌<◌, IfOk, IsTrue, OnOk, length};
+ghost use Rattle.std.specs.Io.KnownBytes.{IsAtEnd};
+
 use crate::fault::PlayFault;
 use crate::happen::happen;
 use crate::show::{show_copies, show_ledger, show_lost, show_marks};
@@ -27,13 +30,15 @@ struct Player {
 }
 
 /// Plays a script of two relays from `reader`, over disks in memory, and writes what is seen of each line to `writer`,
-/// before it reads on. A line ends at LF, and the last one where the input does. It ends with the script, or at the
-/// first line that isn't one; at its 2^40th read it ends as by a fault of the reader.
+/// before it reads on. A line ends at LF, and the last one where the input does. It ends well only with the whole
+/// script read; else it ends at the first line that isn't one, or at its 2^40th read as by a fault of the reader.
 pub fn play<R: Read, W: Write>(
     alloc: Global,
     reader: &mut R,
     writer: &mut W,
-) -> Result<(), PlayFault> {
+) -> Result<(), PlayFault>
+    ensures { OnOk result (IsAtEnd (R.remaining reader.new)) }
+{
     let mut player = Player {
         alloc,
         pair: Pair::new(alloc)?,
@@ -41,18 +46,52 @@ pub fn play<R: Read, W: Write>(
         begun: Vec::new(alloc),
     };
     let mut block = vec![in alloc; 0; BLOCK]?;
-    for _ in 0..READS {
-        match reader.read(block.as_mut_slice()) {
-            Ok(0) => return player.end(writer),
-            Ok(count) => player.go_on(&block[..count], writer)?,
-            Err(error) if error.kind() == ErrorKind::Interrupted => {}
-            Err(error) => return Err(PlayFault::of_input(&error)),
-        }
-    }
-    Err(PlayFault::Input)
+    player.play_blocks(block.as_mut_slice(), reader, writer)
 }
 
 impl Player {
+    /// Plays all that a reader gives, read into a block, over and over.
+    fn play_blocks<R: Read, W: Write>(
+        &mut self,
+        block: &mut [u8],
+        reader: &mut R,
+        writer: &mut W,
+    ) -> Result<(), PlayFault>
+        requires { 0 < length block.old }
+        ensures { OnOk result (IsAtEnd (R.remaining reader.new)) }
+    {
+        for _ in 0..READS {
+            if self.play_block(block, reader, writer)? {
+                return Ok(());
+            }
+        }
+        Err(PlayFault::Input)
+    }
+
+    /// Plays what one read gives, or, where the script has ended, its last line. Whether it has ended is answered.
+    fn play_block<R: Read, W: Write>(
+        &mut self,
+        block: &mut [u8],
+        reader: &mut R,
+        writer: &mut W,
+    ) -> Result<bool, PlayFault>
+        requires { 0 < length block.old }
+        ensures len { length block.new ≡ length block.old }
+        ensures end { IfOk result (λ ended. IsTrue ended → IsAtEnd (R.remaining reader.new)) }
+    {
+        let count = match reader.read(block) {
+            Ok(count) => count,
+            Err(error) if error.kind() == ErrorKind::Interrupted => return Ok(false),
+            Err(error) => return Err(PlayFault::of_input(&error)),
+        };
+        if count == 0 {
+            self.end(writer)?;
+            return Ok(true);
+        }
+        self.go_on(&block[..count], writer)?;
+        Ok(false)
+    }
+
     /// Plays the lines that have come to their ends with these octets.
     fn go_on<W: Write>(&mut self, octets: &[u8], writer: &mut W) -> Result<(), PlayFault> {
         let Some((whole, begun)) = octets.rsplit_once_str(b"\n") else {

@@ -80,6 +80,7 @@ fn outcome_of_event(alloc: Global, event: &Event) -> Result<String, AllocError> 
         Event::Break { link } => format!(in alloc; "break link {link}"),
         Event::Tick { moment } => format!(in alloc; "tick {}", moment.seconds()),
         Event::Give { node } => format!(in alloc; "give node {}", node.index()),
+        Event::Compact { node } => format!(in alloc; "compact node {}", node.index()),
         Event::Stop { node, calls, pick } => {
             format!(in alloc; "stop node {}, calls {calls}, pick {pick}", node.index())
         }

@@ -6,7 +6,7 @@ use Rattle.std.specs.List.{join_with_byte}
 use Rattle.relay_script.specs.Line.{Operand, IsOperand, SpellsWords, Spells, IsSkipped, TextTellsLine}
 use Rattle.relay_script.specs.Line.Operand.{Node, Number, Time, Text}
 use Rattle.relay_script.specs.Reading.{kind_of, SpellsOperands}
-use Rattle.relay_script.specs.declared.event.Event.TheVariants.{Connect, Send, Carry, Break, Tick, Give, Stop}
+use Rattle.relay_script.specs.declared.event.Event.TheVariants.{Connect, Send, Carry, Break, Tick, Give, Compact, Stop}
 use Rattle.relay_script.specs.declared.event.ScriptLine.{ScriptLine}
 use Rattle.relay_script.specs.declared.event.ScriptLine.TheVariants.{Skipped, Event as Happens, Ledger, Marks, Copies, Lost}
 use Rattle.relay_script.proofs.TextLemmas.{text_tells_octets}
@@ -23,6 +23,7 @@ keyword_of (Happens (Carry link node count)) = codes "carry"
 keyword_of (Happens (Break link)) = codes "break"
 keyword_of (Happens (Tick moment)) = codes "tick"
 keyword_of (Happens (Give node)) = codes "give"
+keyword_of (Happens (Compact node)) = codes "compact"
 keyword_of (Happens (Stop node calls pick)) = codes "stop"
 keyword_of Ledger = codes "ledger"
 keyword_of Marks = codes "marks"
@@ -38,6 +39,7 @@ operands_of (Happens (Carry link node count)) = Number link ∷ Node node ∷ Nu
 operands_of (Happens (Break link)) = Number link ∷ []
 operands_of (Happens (Tick moment)) = Time moment ∷ []
 operands_of (Happens (Give node)) = Node node ∷ []
+operands_of (Happens (Compact node)) = Node node ∷ []
 operands_of (Happens (Stop node calls pick)) = Node node ∷ Number calls ∷ Number pick ∷ []
 operands_of Ledger = []
 operands_of Marks = []
@@ -57,6 +59,7 @@ form_of text (Happens (Carry link node count)) is = Worded (omega arith) is
 form_of text (Happens (Break link)) is = Worded (omega arith) is
 form_of text (Happens (Tick moment)) is = Worded (omega arith) is
 form_of text (Happens (Give node)) is = Worded (omega arith) is
+form_of text (Happens (Compact node)) is = Worded (omega arith) is
 form_of text (Happens (Stop node calls pick)) is = Worded (omega arith) is
 form_of text Ledger is = Worded (omega arith) is
 form_of text Marks is = Worded (omega arith) is
@@ -97,6 +100,7 @@ line_of front operands =
     else if front == front_of (codes "break") then Happens (Break (number_in operands))
     else if front == front_of (codes "tick") then Happens (Tick (number_in operands))
     else if front == front_of (codes "give") then Happens (Give (number_in operands))
+    else if front == front_of (codes "compact") then Happens (Compact (number_in operands))
     else if front == front_of (codes "stop") then Happens (Stop (number_in operands) (number_in next) (number_in last))
     else if front == front_of (codes "ledger") then Ledger
     else if front == front_of (codes "marks") then Marks
@@ -113,6 +117,7 @@ line_is (Happens (Carry link node count)) = refl
 line_is (Happens (Break link)) = refl
 line_is (Happens (Tick moment)) = refl
 line_is (Happens (Give node)) = refl
+line_is (Happens (Compact node)) = refl
 line_is (Happens (Stop node calls pick)) = refl
 line_is Ledger = refl
 line_is Marks = refl
@@ -129,6 +134,7 @@ keyword_is (Happens (Carry link node count)) = refl
 keyword_is (Happens (Break link)) = refl
 keyword_is (Happens (Tick moment)) = refl
 keyword_is (Happens (Give node)) = refl
+keyword_is (Happens (Compact node)) = refl
 keyword_is (Happens (Stop node calls pick)) = refl
 keyword_is Ledger = refl
 keyword_is Marks = refl
@@ -145,6 +151,7 @@ kinds_are (Happens (Carry link node count)) = refl
 kinds_are (Happens (Break link)) = refl
 kinds_are (Happens (Tick moment)) = refl
 kinds_are (Happens (Give node)) = refl
+kinds_are (Happens (Compact node)) = refl
 kinds_are (Happens (Stop node calls pick)) = refl
 kinds_are Ledger = refl
 kinds_are Marks = refl
@@ -161,6 +168,7 @@ front_append (Happens (Carry link node count)) some tail = refl
 front_append (Happens (Break link)) some tail = refl
 front_append (Happens (Tick moment)) some tail = refl
 front_append (Happens (Give node)) some tail = refl
+front_append (Happens (Compact node)) some tail = refl
 front_append (Happens (Stop node calls pick)) some tail = refl
 front_append Ledger some tail = refl
 front_append Marks some tail = refl
@@ -181,6 +189,7 @@ line_has_words (Happens (Carry link node count)) = refl
 line_has_words (Happens (Break link)) = refl
 line_has_words (Happens (Tick moment)) = refl
 line_has_words (Happens (Give node)) = refl
+line_has_words (Happens (Compact node)) = refl
 line_has_words (Happens (Stop node calls pick)) = refl
 line_has_words Ledger = refl
 line_has_words Marks = refl

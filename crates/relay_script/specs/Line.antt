@@ -4,7 +4,7 @@ use Rattle.std.specs.List.{join_with_byte}
 use Rattle.relay_script.specs.Text.{SpellsOctets}
 use Rattle.relay_script.specs.Word.{IsMoment, IsNode, IsNumber}
 use Rattle.relay_script.specs.declared.event.Event.{Event}
-use Rattle.relay_script.specs.declared.event.Event.TheVariants.{Connect, Send, Carry, Break, Tick, Give, Stop}
+use Rattle.relay_script.specs.declared.event.Event.TheVariants.{Connect, Send, Carry, Break, Tick, Give, Compact, Stop}
 use Rattle.relay_script.specs.declared.event.ScriptLine.{ScriptLine}
 use Rattle.relay_script.specs.declared.event.ScriptLine.TheVariants.{Skipped, Event as Happens, Ledger, Marks, Copies, Lost}
 
@@ -44,6 +44,7 @@ SpellsEvent text (Carry link node count) =
 SpellsEvent text (Break link) = SpellsWords text (codes "break") (Number link ∷ [])
 SpellsEvent text (Tick moment) = SpellsWords text (codes "tick") (Time moment ∷ [])
 SpellsEvent text (Give node) = SpellsWords text (codes "give") (Node node ∷ [])
+SpellsEvent text (Compact node) = SpellsWords text (codes "compact") (Node node ∷ [])
 SpellsEvent text (Stop node calls pick) =
     SpellsWords text (codes "stop") (Node node ∷ Number calls ∷ Number pick ∷ [])
 

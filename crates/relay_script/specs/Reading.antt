@@ -93,6 +93,7 @@ pub record SpellsNoEvent (text : List ℕ) : Type 0 where
   pub break : LacksWords (codes "break") (NumberKind ∷ []) text
   pub tick : LacksWords (codes "tick") (TimeKind ∷ []) text
   pub give : LacksWords (codes "give") (NodeKind ∷ []) text
+  pub compact : LacksWords (codes "compact") (NodeKind ∷ []) text
   pub stop : LacksWords (codes "stop") (NodeKind ∷ NumberKind ∷ NumberKind ∷ []) text
 
 -- the text asks for nothing

@@ -32,6 +32,10 @@ pub enum Event {
     Give {
         node: NodeIndex,
     },
+    /// A node writes its spool anew.
+    Compact {
+        node: NodeIndex,
+    },
     /// A node stops and is opened again: at once where `calls` is 0, else where its `calls`-th device call from now on
     /// fails. `pick` chooses which image the stop leaves.
     Stop {

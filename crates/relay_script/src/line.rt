@@ -95,6 +95,9 @@ fn read_event(line: &[u8]) -> Option<Event>
     if let Some(node) = node_behind(b"give", line) {
         return Some(Event::Give { node });
     }
+    if let Some(node) = node_behind(b"compact", line) {
+        return Some(Event::Compact { node });
+    }
     let (node, calls, pick) = node_and_numbers_behind(b"stop", line)?;
     Some(Event::Stop { node, calls, pick })
 }

@@ -1,5 +1,5 @@
 use Rattle.std.proofs.Common.{refl, subst, sym, ap, ◌∙◌}
-use Rattle.relay_disk.specs.Device.{ImagesWithin}
+use Rattle.relay_disk.specs.Disks.{ImagesWithin}
 use Rattle.relay_node.specs.Node.{NodeState}
 use Rattle.relay_pair.proofs.StopLemmas.{state_crashes}
 use Rattle.relay_pair.proofs.host.HostState.crash.Goals as goal

@@ -1,5 +1,5 @@
 use Rattle.std.proofs.Common.{refl, subst}
-use Rattle.relay_disk.specs.Device.{ImagesWithin}
+use Rattle.relay_disk.specs.Disks.{ImagesWithin}
 use Rattle.relay_pair.proofs.StopLemmas.{state_stops}
 use Rattle.relay_pair.proofs.host.HostState.stop.Goals as goal
 

@@ -1,10 +1,10 @@
-use Rattle.std.proofs.Common.{◌≡◌, ◌<◌, ◌++◌, ◌∙◌, ap, sym, length, map, rules}
+use Rattle.std.proofs.Common.{◌≡◌, ◌<◌, ◌≤◌, ◌++◌, ◌∙◌, ap, sym, length, map, rules}
 use Rattle.std.proofs.lemmas.Option.{slice_get-get_or}
 use Rattle.std.specs.Prelude.{slice_get, slice_index_or, Some}
 use Rattle.relay_pair.specs.Marks.{mark_of}
 use Rattle.relay_pair.specs.Relays.{world_of}
 use Rattle.relay_pair.specs.Work.{marks_in}
-use Rattle.relay_pair.proofs.MarkLemmas.{knows_if_up, one_more}
+use Rattle.relay_pair.proofs.MarkLemmas.{all_marked, knows_if_up, one_more}
 use Rattle.relay_pair.proofs.relays.Relays.marks.Goals as goal
 
 pub marks-requires : goal.marks-requires
@@ -26,3 +26,8 @@ loop-node-preserved g c =
     = search rules in
     one_more c.args.self.now.hosts.items c.loop-node.node host c.loop-node.marks.items c.push_marks.new.marks.items
     c.in-Ok.held.items _ within there its added c.loop-node.invariant
+
+pub returns : goal.returns
+returns g c =
+    let past : length c.args.self.now.hosts.items ≤ c.loop-node.node = search rules in
+    all_marked c.args.self.now.hosts.items c.loop-node.node c.loop-node.marks.items _ past c.loop-node.invariant

@@ -1,0 +1,281 @@
+-- A node that writes its spool anew, refuses to, or stops in that.
+use Rattle.std.proofs.Common.{inl, inr, ◌≡◌, ◌≢◌, ◌⊎◌, ◌≤◌, ℕ, true, false, List, length, Option, None, Some, Ok, Err, refl, sym, subst, ap, ◌∙◌, arith}
+use Rattle.std.specs.Prelude.{◌↔◌, Result, slice_get, slice_set}
+use Rattle.std.proofs.lemmas.Bool.{true≢false}
+use Rattle.std.proofs.lemmas.List.{length-set}
+use Rattle.relay_disk.specs.Device.{DiskWords}
+use Rattle.relay_disk.specs.Disks.{ImagesWithin}
+use Rattle.relay_spool.specs.Pair.{IsTooMuch}
+use Rattle.relay_book.specs.declared.change.Change.{Change}
+use Rattle.relay_book.specs.Snapshot.{snapshot}
+use Rattle.relay_routes.specs.declared.config.Config.{Config}
+use Rattle.relay_records.specs.declared.fault.NodeFault.{NodeFault}
+use Rattle.relay_records.specs.declared.fault.NodeFault.TheVariants.{NoMemory, Stopped, Unknown, TooMany, NotDue, Busy, Open, Full, NoSecond}
+use Rattle.relay_records.specs.Records.{Compacts, Halted, Keeps, Kept}
+use Rattle.relay_attempts.specs.declared.runs.Run.{Run}
+use Rattle.relay_node.specs.Compaction.{LeavesUncompacted}
+use Rattle.relay_node.specs.Node.{NodeState}
+use Rattle.relay_world.specs.Crashes.{CrashesCompacting, let_go}
+use Rattle.relay_world.specs.CrashRuns.{RestingCrashHappens}
+use Rattle.relay_world.specs.Once.{GoesOn, RunsKeepAll}
+use Rattle.relay_world.specs.Steps.{IsPut}
+use Rattle.relay_world.specs.Stops.{HasCompacted, StaysUp}
+use Rattle.relay_world.specs.World as world
+use Rattle.relay_world.specs.World.{Host, World}
+use Rattle.relay_pair.specs.declared.compact.Compacted.TheVariants as compacted
+use Rattle.relay_pair.specs.declared.event.Event.TheVariants.{Compact}
+use Rattle.relay_pair.specs.declared.host.DownNode.{DownNode}
+use Rattle.relay_pair.specs.declared.host.HostState.{HostState}
+use Rattle.relay_pair.specs.declared.host.HostState.TheVariants.{Down, Up}
+use Rattle.relay_pair.specs.declared.seen.Seen.TheVariants as seen
+use Rattle.relay_pair.specs.Call.{is_stop}
+use Rattle.relay_pair.specs.Compact.{HaltsRewriting, IsCalledToCompact, IsWhyNotCompacted, KnowsNow, RewritesSpool}
+use Rattle.relay_pair.specs.FirstFault.{holds_up, unless_up}
+use Rattle.relay_pair.specs.Host.{count_some, host_in, host_of, notes_of}
+use Rattle.relay_pair.specs.Promise.{HasHappened}
+use Rattle.relay_pair.specs.Relays.{AreBound}
+use Rattle.relay_pair.specs.Restart.{IsDownAt}
+use Rattle.relay_pair.specs.Room.{HasRoom, lines_held, lines_left, lines_to_come}
+use Rattle.relay_pair.specs.Step.{CompactsSpool, Refuses, RefusesToCompact, Shows, Steps, fault_of}
+use Rattle.relay_pair.specs.Told.{IsToldOfBreaks, running_of}
+use Rattle.relay_pair.specs.Work.{HasChanges}
+use Rattle.relay_pair.proofs.CallLemmas.{owed_live, runs_on}
+use Rattle.relay_pair.proofs.GiveUpLemmas.{called_same}
+use Rattle.relay_pair.proofs.HungLemmas.{hung_lines, hung_running}
+use Rattle.relay_pair.proofs.PlaceLemmas.{value_put}
+use Rattle.relay_pair.proofs.ReopenLemmas.{held_put}
+use Rattle.relay_pair.proofs.RunLemmas.{one_happened, still_bound}
+use Rattle.relay_pair.proofs.StepLemmas.{told_already}
+use Rattle.relay_pair.proofs.StopLemmas.{same_down}
+
+module _ {D : Type 0} (honest : Type 0) (words : DiskWords D) (before after : NodeState D) (records : List (List ℕ)) where
+  -- a node that has written its spool anew
+  pub rewrote : (size : ℕ)
+      → (after.config ≡ before.config) × (after.seats ≡ before.seats) × (after.attempts ≡ before.attempts)
+      × (after.records.queue ≡ before.records.queue) × (after.records.noted ≡ before.records.noted)
+      → Compacts honest words before.records after.records
+      → ((changes : List Change) → Keeps honest words before.records changes → Keeps honest words after.records changes)
+      → size ≡ after.records.spool.size → RewritesSpool honest words (host_of before records) (host_of after records) size
+  rewrote size rest compacts keeps is = record {
+    before = before;
+    after = after;
+    runs = runs_on before after records rest.0;
+    compacts = compacts;
+    keeps = keeps;
+    queue = rest.3;
+    noted = rest.4;
+    seats = rest.1;
+    attempts = rest.2;
+    size_is = is;
+  }
+
+  -- one that has stopped in that, and gone down
+  pub halts_down : (down : DownNode D) → down.config ≡ before.config → down.undecided ≡ None
+      → ((changes : List Change) → Keeps honest words before.records changes
+      → Halted honest words after.records changes None)
+      → (honest → ImagesWithin words after.records.spool.disk down.disk)
+      → HaltsRewriting honest words (host_of before records) (host_in (Down down) records)
+  halts_down down config none halts left = record {
+    before = before;
+    up = refl;
+    stopped = after.records;
+    halts = halts;
+    disk = down.disk;
+    left = left;
+    new_is = same_down honest words before down records None config none;
+  }
+
+  -- a node that keeps changes, and keeps changes behind a call, owes no more than before
+  pub owes_no_more : before.records.spool.live ≡ true → after.records.spool.live ≡ true → after.attempts ≡ before.attempts
+      → notes_of after ≤ notes_of before
+  owes_no_more was is attempts =
+      let one = owed_live before was in
+      let other = owed_live after is in
+      let same = ap (λ (a : List (Option Run)). count_some a) attempts in
+      omega (arith, one, other, same)
+
+-- the parts of a host that keeps changes
+pub knows_now : {D : Type 0} (honest : Type 0) (words : DiskWords D) (state : HostState D) (records : List (List ℕ))
+    → HasChanges honest words (host_in state records) → KnowsNow honest words state
+knows_now honest words (Up node) records has = has
+knows_now honest words (Down down) records has = absurd has
+
+-- a node that refuses is as it was, unless it has stopped
+pub uncompacted_same : {D : Type 0} (words : DiskWords D) (before after : NodeState D) (fault : NodeFault)
+    → is_stop fault ≡ false → LeavesUncompacted words before after fault → after ≡ before
+uncompacted_same words before after NoMemory ok leaves = leaves
+uncompacted_same words before after Stopped ok leaves = absurd (true≢false ok)
+uncompacted_same words before after Unknown ok leaves = absurd leaves
+uncompacted_same words before after TooMany ok leaves = absurd leaves
+uncompacted_same words before after NotDue ok leaves = absurd leaves
+uncompacted_same words before after Busy ok leaves = absurd leaves
+uncompacted_same words before after (Open cause) ok leaves = absurd leaves
+uncompacted_same words before after Full ok leaves = leaves
+uncompacted_same words before after NoSecond ok leaves = leaves
+
+-- and it says why
+pub uncompacted_why : {D : Type 0} (words : DiskWords D) (before after : NodeState D) (records : List (List ℕ))
+    (fault : NodeFault) → is_stop fault ≡ false → LeavesUncompacted words before after fault
+    → ((fault ≡ NoSecond) → before.records.spool.taken.other ≡ None)
+    → ((fault ≡ Full) → IsTooMuch before.records.spool.taken (length (snapshot before.records.queue)))
+    → IsWhyNotCompacted (host_of before records) fault
+uncompacted_why words before after records NoMemory ok leaves second full = inl refl
+uncompacted_why words before after records Stopped ok leaves second full = absurd (true≢false ok)
+uncompacted_why words before after records Unknown ok leaves second full = absurd leaves
+uncompacted_why words before after records TooMany ok leaves second full = absurd leaves
+uncompacted_why words before after records NotDue ok leaves second full = absurd leaves
+uncompacted_why words before after records Busy ok leaves second full = absurd leaves
+uncompacted_why words before after records (Open cause) ok leaves second full = absurd leaves
+uncompacted_why words before after records Full ok leaves second full = inr (inr (refl, full refl))
+uncompacted_why words before after records NoSecond ok leaves second full = inr (inl (refl, second refl))
+
+module _ {D : Type 0} (honest : Type 0) (words : DiskWords D) (old called : World D) (node : ℕ) where
+  -- the spool is written anew
+  module _ (size : ℕ) (calls : IsCalledToCompact honest words old called node (compacted.Done size)) where
+    abbrev called_world : World D
+    called_world = record old { hosts = slice_set old.hosts node calls.now }
+
+    abbrev stays_up : StaysUp honest words old called_world node
+    stays_up = record {
+      host = calls.was;
+      host_at = calls.was_at;
+      before = calls.rewrites.before;
+      up = calls.rewrites.runs.up;
+      after = calls.rewrites.after;
+      noted = calls.rewrites.noted;
+      keeps = calls.rewrites.keeps;
+      config = calls.rewrites.runs.config;
+      seats = calls.rewrites.seats;
+      attempts = calls.rewrites.attempts;
+      hosts = subst (λ h. IsPut old.hosts (slice_set old.hosts node calls.now) node h) calls.rewrites.runs.new_is
+          (value_put old.hosts node calls.was calls.now calls.was_at);
+      rest = (refl, refl, refl, refl, length-set old.hosts node calls.now);
+    }
+
+    abbrev has_compacted : HasCompacted honest words old called_world node
+    has_compacted = record { stays = stays_up; compacts = calls.rewrites.compacts; queue = calls.rewrites.queue }
+
+    pub rewritten_steps : unless_up old node None ≡ None → IsToldOfBreaks old
+        → Steps honest words old (Compact node) called (Ok (seen.Compacted node size))
+    rewritten_steps none told =
+        subst (λ (w : World D). Steps honest words old (Compact node) w (Ok (seen.Compacted node size))) (sym calls.new_is)
+        (subst (λ (n : ℕ). Steps honest words old (Compact node) called_world (Ok (seen.Compacted node n)))
+        (sym calls.rewrites.size_is) (
+          none,
+          (
+            called_world,
+            (
+              Shows (seen.Compacted node calls.rewrites.after.records.spool.size),
+              CompactsSpool has_compacted,
+              (told_already honest words called_world told, refl),
+            ),
+          ),
+        ))
+
+    pub rewritten_happened : HasHappened honest words old called
+    rewritten_happened =
+        subst (λ (w : World D). HasHappened honest words old w) (sym calls.new_is)
+        (one_happened honest words old called_world (GoesOn node stays_up))
+
+    pub rewritten_bound : honest → RunsKeepAll honest words → AreBound honest words old → AreBound honest words called
+    rewritten_bound is_honest keeps bound =
+        still_bound honest words is_honest keeps old called bound rewritten_happened
+
+    pub rewritten_told : IsToldOfBreaks old → IsToldOfBreaks called
+    rewritten_told told = subst (λ (w : World D). IsToldOfBreaks w) (sym calls.new_is) told
+
+    pub rewritten_room : (free : ℕ) → HasRoom old free → HasRoom called free
+    rewritten_room free room =
+        let put = held_put old.hosts node 0 node calls.was calls.now (omega arith) calls.was_at in
+        let none : lines_held node calls.was.state ≡ 0 = ap (λ h. lines_held node h) calls.rewrites.runs.up in
+        let none_now : lines_held node calls.now.state ≡ 0 =
+        ap (λ (h : Host D). lines_held node h.state) calls.rewrites.runs.new_is in
+        subst (λ (w : World D). HasRoom w free) (sym calls.new_is) (omega (arith, room, put, none, none_now))
+
+  -- the node has refused
+  module _ (why : NodeFault) (calls : IsCalledToCompact honest words old called node (compacted.Refused why)) where
+    pub unwritten_same : called ≡ old
+    unwritten_same =
+        called_same honest words old called node 0 calls.was calls.now calls.was_at calls.rewrites.1 calls.new_is
+
+    pub unwritten_steps : unless_up old node None ≡ None → IsToldOfBreaks old
+        → Steps honest words old (Compact node) called (Err (fault_of why))
+    unwritten_steps none told =
+        inr (inr (
+          none,
+          (
+            called,
+            (
+              Refuses (fault_of why),
+              RefusesToCompact calls.was calls.was_at why calls.rewrites.0 unwritten_same,
+              (
+                told_already honest words called (subst (λ (w : World D). IsToldOfBreaks w) (sym unwritten_same) told),
+                refl,
+              ),
+            ),
+          ),
+        ))
+
+  -- the node has stopped, and lets go of its ends
+  module _ (calls : IsCalledToCompact honest words old called node compacted.Stopped) (down : World D)
+      (down_is : down ≡ let_go node called) where
+    all_is : down ≡ let_go node (record old { hosts = slice_set old.hosts node calls.now })
+    all_is = down_is ∙ ap (λ (w : World D). let_go node w) calls.new_is
+
+    put_there : IsPut old.hosts (slice_set old.hosts node calls.now) node
+        (record calls.was { state = world.Down calls.rewrites.disk None })
+    put_there =
+        subst (λ h. IsPut old.hosts (slice_set old.hosts node calls.now) node h) calls.rewrites.new_is
+        (value_put old.hosts node calls.was calls.now calls.was_at)
+
+    pub halted_crash : CrashesCompacting honest words old down node
+    halted_crash = record {
+      host = calls.was;
+      host_at = calls.was_at;
+      before = calls.rewrites.before;
+      up = calls.rewrites.up;
+      stopped = calls.rewrites.stopped;
+      halts = calls.rewrites.halts;
+      disk = calls.rewrites.disk;
+      left = calls.rewrites.left;
+      down = record {
+        hosts = slice_set old.hosts node calls.now;
+        put = put_there;
+        as_many = length-set old.hosts node calls.now;
+        new_is = all_is;
+      };
+    }
+
+    pub halted_happened : RestingCrashHappens honest words → HasHappened honest words old down
+    halted_happened happens = (2, (happens old down node 0).2 halted_crash)
+
+    pub halted_bound : honest → RunsKeepAll honest words → RestingCrashHappens honest words → AreBound honest words old
+        → AreBound honest words down
+    halted_bound is_honest keeps happens bound =
+        still_bound honest words is_honest keeps old down bound (halted_happened happens)
+
+    pub halted_down : IsDownAt down node
+    halted_down = record {
+      host = calls.now;
+      host_at =
+          ap (λ (w : World D). slice_get w.hosts node) all_is
+          ∙ (value_put old.hosts node calls.was calls.now calls.was_at).at;
+      down = ap (λ (h : Host D). holds_up h.state) calls.rewrites.new_is;
+    }
+
+    pub halted_room : (free : ℕ) → HasRoom old free → HasRoom down free
+    halted_room free room =
+        let put = held_put old.hosts node 0 node calls.was calls.now (omega arith) calls.was_at in
+        let none : lines_held node calls.was.state ≡ 0 = ap (λ h. lines_held node h) calls.rewrites.up in
+        let none_now : lines_held node calls.now.state ≡ 0 =
+        ap (λ (h : Host D). lines_held node h.state) calls.rewrites.new_is in
+        let attempts = ap (λ (w : World D). lines_to_come w.attempts) all_is in
+        let hosts = ap (λ (w : World D). lines_left 0 w.hosts) all_is in
+        let less = hung_lines node old.attempts in
+        omega (arith, room, put, none, none_now, attempts, hosts, less)
+
+    pub halted_running : running_of down.attempts ≤ running_of old.attempts
+    halted_running =
+        let attempts = ap (λ (w : World D). running_of w.attempts) all_is in
+        let less = hung_running node old.attempts in
+        omega (arith, attempts, less)
