@@ -20,6 +20,7 @@ test:
 	tests/want_of_descriptors.py build/relayd
 	tests/fault_lines.sh build/relayd
 	tests/two_relays.py build/relayd
+	tests/compaction.py build/relayd
 	tests/plays.py build/relayd
 	tests/plays_without_memory.py build/relayd
 	tests/random_plays.py build/relayd

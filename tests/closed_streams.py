@@ -41,7 +41,7 @@ class Field:
 
     def waiting(self):
         """A spool with a message of two recipients, one of which is due, since its hop comes back, and one of which waits."""
-        self.relay.spool.unlink(missing_ok=True)
+        self.relay.forget()
         self.relay.run("init")
         self.relay.environment["HELD"] = str(MOMENT - 3600)
         port = self.sink.port
@@ -97,7 +97,7 @@ def session(field, closed):
 
 
 def init(field, closed):
-    field.relay.spool.unlink(missing_ok=True)
+    field.relay.forget()
     same("the run", ended(field, closed, field.relay.words("init")), wanted(closed, 0, b""))
     same("the spool", field.relay.spool.read_bytes().hex(), b"RELAYQ01".hex() + "01" + "0000000000000001" + "00")
 
@@ -148,6 +148,16 @@ def logged(field, closed):
     return field.relay.spool.read_bytes()
 
 
+def compacted(field, closed):
+    spool = field.waiting()
+    found = ended(field, closed, field.relay.words("compact"))
+    second = field.relay.second.read_bytes()
+    line = b"%d %d\n" % (len(spool), len(second))
+    same("the run", found, wanted(closed, 1, b"", "output") if 1 in closed else wanted(closed, 0, line))
+    same("the first file", field.relay.spool.read_bytes(), spool)
+    return second
+
+
 def with_each_set(field, run):
     """Runs a subcommand with each set of streams closed. The spool that it leaves is that of all open; where standard output is
     closed, `serve` and `push` end behind their first work."""
@@ -167,13 +177,13 @@ def with_each_set(field, run):
 def main():
     with tempfile.TemporaryDirectory() as folder:
         field = Field(sys.argv[1], pathlib.Path(folder))
-        for run in [session, init, listed, push, serve, logged]:
+        for run in [session, init, listed, push, serve, logged, compacted]:
             try:
                 with_each_set(field, run)
             except (Difference, OSError, subprocess.SubprocessError) as difference:
                 sys.exit(f"closed_streams: {run.__name__}: {type(difference).__name__}: {difference}")
         field.close()
-    print(f"closed_streams: six runs with each of {len(SETS)} sets of streams closed, each as it has to be")
+    print(f"closed_streams: seven runs with each of {len(SETS)} sets of streams closed, each as it has to be")
 
 
 main()

@@ -47,6 +47,7 @@ class Relay:
         self.host, self.limits, self.port = host, limits, free_port()
         self.folder.mkdir(exist_ok=True)
         self.file, self.spool = self.folder / "relayd.toml", self.folder / "relay.spool"
+        self.second = self.folder / "relay.spool.2"
         self.environment = dict(os.environ)
         self.route(routes)
 
@@ -58,6 +59,11 @@ class Relay:
         for domain, (name, port) in routes.items():
             lines.append(f'"{domain}" = {{ name = "{name}", at = "127.0.0.1:{port}" }}')
         self.file.write_text("\n".join(lines) + "\n")
+
+    def forget(self):
+        """Takes the spool's files away."""
+        self.spool.unlink(missing_ok=True)
+        self.second.unlink(missing_ok=True)
 
     def words(self, *words):
         return [self.program, words[0], "--config", str(self.file), *words[1:]]

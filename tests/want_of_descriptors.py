@@ -19,8 +19,8 @@ from smtp_sink import Sink
 
 HERE = pathlib.Path(__file__).resolve().parent
 
-# The standard streams, the spool and the listener.
-HELD_BY_SERVE = 5
+# The standard streams, the spool's two files and the listener.
+HELD_BY_SERVE = 6
 
 # Behind 63 clients that were missed there is a wait, in milliseconds; the 64th ends the run.
 WAITS = [100, 200, 400, 800] + [1000] * 59
@@ -95,8 +95,8 @@ def a_push_puts_nothing_off(field):
         hand_in(relay)
     field.sink = Sink(port)
     before, held = relay.spool.read_bytes(), relay.held()
-    # The standard streams and the spool: no descriptor is left for a connection.
-    relay.environment.update(LATER="1900", DESCRIPTORS="4")
+    # The standard streams and the spool's two files: no descriptor is left for a connection.
+    relay.environment.update(LATER="1900", DESCRIPTORS="5")
     ended = relay.ended(PATIENCE, "push")
     same("the push", (ended.returncode, ended.stdout, ended.stderr), (1, b"", b"relayd: socket\n"))
     same("the spool", relay.spool.read_bytes(), before)

@@ -11,7 +11,7 @@ use Rattle.clap.specs.declared.builder.value_parser.ValueParser.TheVariants.{Uns
 use Rattle.clap.specs.declared.error.kind.ErrorKind.TheVariants.{DisplayHelp, MissingRequiredArgument}
 use Rattle.clap.specs.declared.error.kind.ErrorKind.TheVariants.{MissingSubcommand, UnknownArgument, ValueValidation}
 use Rattle.relay_arguments.specs.declared.words.Subcommand.{Subcommand}
-use Rattle.relay_arguments.specs.declared.words.Subcommand.TheVariants.{Session, Play, Init, List as ListHeld, Serve, Push}
+use Rattle.relay_arguments.specs.declared.words.Subcommand.TheVariants.{Session, Play, Init, List as ListHeld, Compact, Serve, Push}
 
 -- a program that wants a subcommand, and has none for help
 abbrev pub without_subcommands : App
@@ -49,14 +49,18 @@ abbrev pub without_files : App
 without_files =
     with_subcommand (with_subcommand without_subcommands (new_app (codes "session")).top) (new_app (codes "play")).top
 
--- and with those that need no socket
+-- and with those that make and list a spool
 abbrev pub over_files : App
 over_files =
     with_subcommand (with_subcommand without_files (configured (codes "init")).top) (configured (codes "list")).top
 
+-- and with the one that writes a spool anew
+abbrev pub with_compact : App
+with_compact = with_subcommand over_files (configured (codes "compact")).top
+
 -- the program and its subcommands
 abbrev pub relayd : App
-relayd = with_subcommand (with_subcommand over_files serving.top) pushing.top
+relayd = with_subcommand (with_subcommand with_compact serving.top) pushing.top
 
 -- the kinds of error that the words may have; none where they name a subcommand as it is to be named
 abbrev pub faults_in : List Text → Kinds
@@ -68,6 +72,7 @@ pub data Asked : Type 0 where
   AskedPlay : Asked
   AskedInit : Text → Asked
   AskedList : Text → Asked
+  AskedCompact : Text → Asked
   AskedServe : Text → ℕ → Bool → Asked
   AskedPush : Text → Bool → Asked
 
@@ -91,6 +96,7 @@ abbrev pub asked_by : Text → List Row → Asked
 asked_by name rows =
     if bytes_eq name (codes "init") then AskedInit (config_in rows)
     else if bytes_eq name (codes "list") then AskedList (config_in rows)
+    else if bytes_eq name (codes "compact") then AskedCompact (config_in rows)
     else if bytes_eq name (codes "serve") then AskedServe (config_in rows) (rounds_in rows) (is_logged_in rows)
     else if bytes_eq name (codes "push") then AskedPush (config_in rows) (is_logged_in rows)
     else if bytes_eq name (codes "play") then AskedPlay
@@ -111,6 +117,7 @@ asked Session = AskedSession
 asked Play = AskedPlay
 asked (Init file) = AskedInit file.now
 asked (ListHeld file) = AskedList file.now
+asked (Compact file) = AskedCompact file.now
 asked (Serve file rounds log) = AskedServe file.now rounds log
 asked (Push file log) = AskedPush file.now log
 
@@ -132,6 +139,13 @@ ServesAndPushes name =
     ≡ AskedServe (codes "c") 25 true)
     × (asked_in (words_of name (codes "push") []) ≡ AskedPush (codes "c") false)
 
+-- `compact` is taken with a file, and not without one
+abbrev pub Compacts : Text → Type 0
+Compacts name =
+    (faults_in (words_of name (codes "compact") []) ≡ [])
+    × (asked_in (words_of name (codes "compact") []) ≡ AskedCompact (codes "c"))
+    × (faults_in (name ∷ codes "compact" ∷ []) ≡ MissingRequiredArgument ∷ [])
+
 -- `session` and `play` alone are taken, and so are `init` and `list` with a file; without a subcommand, without the
 -- file and with a further word they aren't; `--help` asks for help
 abbrev pub WordsAreTaken : Type 0
@@ -150,6 +164,7 @@ WordsAreTaken =
     × (faults_in (name ∷ codes "play" ∷ codes "more" ∷ []) ≡ UnknownArgument ∷ [])
     × (asked_in (name ∷ codes "play" ∷ []) ≡ AskedPlay)
     × ServesAndPushes name
+    × Compacts name
 
 -- the argument reader finds no fault in the words, and they ask for a session
 abbrev pub AskForSession : List Text → Type 0

@@ -3,7 +3,7 @@ ghost use Rattle.clap.specs.Words.{FailsBy, app_of, found_of, new_app, rows_of, 
 ghost use Rattle.relay_arguments.specs.Arguments.{WordsAreTaken, asked, asked_by, asked_in, asked_of, config_in};
 ghost use Rattle.relay_arguments.specs.Arguments.{config_rule, configured, faults_in, is_logged_in, log_rule};
 ghost use Rattle.relay_arguments.specs.Arguments.{over_files, pushing, relayd, rounds_in, rounds_of, rounds_rule};
-ghost use Rattle.relay_arguments.specs.Arguments.{serving, without_files, without_subcommands};
+ghost use Rattle.relay_arguments.specs.Arguments.{serving, with_compact, without_files, without_subcommands};
 
 use clap::builder::ValueParser;
 use clap::{Arg, ArgAction, ArgMatches, Command, Error};
@@ -21,6 +21,8 @@ pub enum Subcommand<'a> {
     Init(&'a str),
     /// What is held in the spool is listed, by the configuration in this file.
     List(&'a str),
+    /// The spool is written anew, by the configuration in this file.
+    Compact(&'a str),
     /// Clients are served, and their mail is handed on.
     Serve {
         /// The file of the configuration.
@@ -71,6 +73,8 @@ fn named<'a>(name: &str, matches: &ArgMatches<'a>) -> Subcommand<'a>
         Subcommand::Init(config(matches))
     } else if name == "list" {
         Subcommand::List(config(matches))
+    } else if name == "compact" {
+        Subcommand::Compact(config(matches))
     } else if name == "serve" {
         Subcommand::Serve {
             file: config(matches),
@@ -139,14 +143,27 @@ fn program<'a>(alloc: Global) -> Result<Command<'a>, AllocError>
     ensures { IfOk result (λ command. app_of command ≡ relayd) }
 {
     // Each subcommand is made when it is added, so that few are at hand where memory runs out.
-    let with_files = over_files(alloc)?;
+    let with_compact = with_compact(alloc)?;
     let serve = serve(alloc)?;
-    let with_serve = with_files.subcommand(serve)?;
+    let with_serve = with_compact.subcommand(serve)?;
     let push = push(alloc)?;
     with_serve.subcommand(push)
 }
 
 /// The program with its subcommands that need no socket. It fails where memory runs out.
+fn with_compact<'a>(alloc: Global) -> Result<Command<'a>, AllocError>
+    ensures { IfOk result (λ command. app_of command ≡ with_compact) }
+{
+    let over_files = over_files(alloc)?;
+    let compact = with_file(
+        alloc,
+        "compact",
+        "Writes the spool anew: its size before and behind that",
+    )?;
+    over_files.subcommand(compact)
+}
+
+/// The program with its subcommands that make and list a spool. It fails where memory runs out.
 fn over_files<'a>(alloc: Global) -> Result<Command<'a>, AllocError>
     ensures { IfOk result (λ command. app_of command ≡ over_files) }
 {

@@ -151,6 +151,7 @@ module _ {D : Type 0} (honest : Type 0) (words : DiskWords D) where
         left_by node_fault.Busy refuses other = absurd refuses
         left_by (node_fault.Open cause) refuses other = absurd refuses
         left_by node_fault.Full refuses other = same refuses.1
+        left_by node_fault.NoSecond refuses other = absurd refuses
 
         stopped_by : RefusesToGiveUp words old.config.host old.config.routes number now old.records new.records node_fault.Stopped → new.records.spool.live ≡ false
         stopped_by refuses = elim refuses [ inl before ↦ absurd (true≢false (sym keeps.live ∙ before.0)) | inr here ↦ here.live ]

@@ -10,7 +10,7 @@ use Rattle.relay_records.specs.declared.fault.NodeFault.TheVariants as node_faul
 use Rattle.relay_links.specs.declared.fault.LinkFault.{LinkFault}
 use Rattle.relay_links.specs.declared.fault.LinkFault.TheVariants as link_fault
 use Rattle.relay_service.specs.declared.fault.Fault.{Fault}
-use Rattle.relay_service.specs.declared.fault.Fault.TheVariants.{Config, NotASpool, Damaged, NotEmpty, Full}
+use Rattle.relay_service.specs.declared.fault.Fault.TheVariants.{Config, NotASpool, Damaged, NotEmpty, Full, NoSecond}
 use Rattle.relay_service.specs.declared.fault.Fault.TheVariants.{BadRecord, Device, NoMemory, Input, Output}
 
 -- want of memory is one fault, wherever it comes
@@ -27,6 +27,7 @@ fault_of_spool (spool_fault.Damaged place) = Damaged place
 fault_of_spool spool_fault.NoMemory = NoMemory
 fault_of_spool spool_fault.NotEmpty = NotEmpty
 fault_of_spool spool_fault.Full = Full
+fault_of_spool spool_fault.NoSecond = NoSecond
 
 abbrev pub fault_of_cause : Cause → Fault
 fault_of_cause (Spool fault) = fault_of_spool fault
@@ -42,6 +43,7 @@ fault_of_node node_fault.NotDue = Device
 fault_of_node node_fault.Busy = Device
 fault_of_node (node_fault.Open cause) = fault_of_cause cause
 fault_of_node node_fault.Full = Full
+fault_of_node node_fault.NoSecond = NoSecond
 
 abbrev pub fault_of_link : LinkFault → Fault
 fault_of_link link_fault.Input = Input

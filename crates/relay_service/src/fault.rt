@@ -23,9 +23,13 @@ pub enum Fault {
     /// A spool is to be made where octets stand.
     #[error("spool NotEmpty")]
     NotEmpty,
-    /// The spool would pass 2^40 octets, or changes have no numbers any more.
+    /// The spool would pass 2^40 octets, or changes have no numbers any more; or what it holds is too much to be written
+    /// anew.
     #[error("spool Full")]
     Full,
+    /// The spool's second file is none to write it anew on: it was made before spools had two.
+    #[error("spool NoSecond")]
+    NoSecond,
     /// The body of this number, from 1, records no change that fits those before it.
     #[error("spool BadRecord {0}")]
     BadRecord(usize),
@@ -133,6 +137,7 @@ impl From<SpoolFault> for Fault {
             SpoolFault::NoMemory => Fault::NoMemory,
             SpoolFault::NotEmpty => Fault::NotEmpty,
             SpoolFault::Full => Fault::Full,
+            SpoolFault::NoSecond => Fault::NoSecond,
         }
     }
 }
@@ -147,6 +152,7 @@ impl From<NodeFault> for Fault {
         match fault {
             NodeFault::NoMemory => Fault::NoMemory,
             NodeFault::Full => Fault::Full,
+            NodeFault::NoSecond => Fault::NoSecond,
             NodeFault::Open(cause) => Fault::from(cause),
             NodeFault::Stopped => Fault::Device,
             // What is asked of a node here is there, and it has room.

@@ -2,6 +2,7 @@
 //! handed on, by a configuration file.
 #![tactic(auto)]
 
+mod compacting;
 mod fault;
 mod gathering;
 mod hops;
@@ -11,6 +12,7 @@ mod serving;
 mod settings;
 mod sockets;
 
+pub use compacting::compact;
 pub use fault::Fault;
 pub use listing::{init, list};
 pub use pushing::push;

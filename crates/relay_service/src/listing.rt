@@ -1,19 +1,19 @@
 //! The spool that a configuration names: made, and listed.
 use crate::fault::Fault;
 use crate::gathering::gathering;
-use crate::settings::{configuration, spool_file, spool_file_to_read};
-use relay_disk::{Disk, FileDisk};
+use crate::settings::{configuration, spool_files, spool_files_to_read};
+use relay_disk::{Disk, DiskFault, Disks, FileDisk};
 use relay_node::Node;
 use std::alloc::Global;
 use std::fs::File;
 use std::io::{self, Write};
 use std::rt::Files;
 
-/// Makes an empty spool in the file that the configuration names, which is to be empty or not there yet.
+/// Makes an empty spool in the files that the configuration names, which are to be empty or not there yet.
 pub fn init<F: Files<File = File>>(alloc: Global, files: &F, path: &str) -> Result<(), Fault> {
     let config = configuration(alloc, files, path)?;
-    let disk = spool_file(files, &config)?;
-    match Node::create(alloc, config, disk) {
+    let disks = spool_files(alloc, files, &config)?;
+    match Node::create(alloc, config, disks) {
         Ok(_) => Ok(()),
         Err(refused) => Err(Fault::from(refused.cause)),
     }
@@ -23,7 +23,7 @@ pub fn init<F: Files<File = File>>(alloc: Global, files: &F, path: &str) -> Resu
 const OPENINGS: u32 = 1_000;
 
 /// Writes a line for each recipient that the spool holds, in order: the number of its message, its
-/// place in that, its path, and the moment when it is due, in seconds from 1970. The spool's file is
+/// place in that, its path, and the moment when it is due, in seconds from 1970. The spool's files are
 /// opened for reading alone.
 pub fn list<F: Files<File = File>, W: Write>(
     alloc: Global,
@@ -32,34 +32,40 @@ pub fn list<F: Files<File = File>, W: Write>(
     writer: &mut W,
 ) -> Result<(), Fault> {
     for _ in 0..OPENINGS {
-        if let Some(node) = open_unless_it_grew(alloc, files, path)? {
+        if let Some(node) = open_unless_it_changed(alloc, files, path)? {
             return write_held(alloc, &node, &mut gathering(alloc, writer)?);
         }
     }
     Err(Fault::Device)
 }
 
-/// The node of the spool that the configuration names; none where the spool seemed damaged and has grown while it
-/// was read. A process that serves adds to the file beside this one, and what it adds then may pass the end that
-/// the file had before.
-fn open_unless_it_grew<F: Files<File = File>>(
+/// The node of the spool that the configuration names; none where the spool is refused, and a file of it has another
+/// size than before. A process that serves adds to the files beside this one, and what it adds then may pass the end
+/// that a file had before; or it has written the spool anew meanwhile.
+fn open_unless_it_changed<F: Files<File = File>>(
     alloc: Global,
     files: &F,
     path: &str,
 ) -> Result<Option<Node<FileDisk>>, Fault> {
     let config = configuration(alloc, files, path)?;
-    let mut disk = spool_file_to_read(files, &config)?;
-    let size = disk.size();
-    match Node::open(alloc, config, disk) {
+    let mut disks = spool_files_to_read(alloc, files, &config)?;
+    let sizes = sizes_of(&mut disks);
+    match Node::open(alloc, config, disks) {
         Ok(node) => Ok(Some(node)),
         Err(refused) => {
-            let mut disk = refused.disk;
-            match Fault::from(refused.cause) {
-                Fault::Damaged(_) if disk.size() != size => Ok(None),
-                fault => Err(fault),
+            let mut disks = refused.disk;
+            if sizes_of(&mut disks) == sizes {
+                Err(Fault::from(refused.cause))
+            } else {
+                Ok(None)
             }
         }
     }
+}
+
+/// How many octets each of two files has.
+fn sizes_of(disks: &mut Disks<FileDisk>) -> [Result<usize, DiskFault>; 2] {
+    [disks.first.size(), disks.second.size()]
 }
 
 /// Writes the line of each held recipient.

@@ -4,6 +4,7 @@ ghost use Rattle.relay_book.specs.declared.change.Change.{Change};
 ghost use Rattle.relay_links.specs.Link.{LinkHasEnded, start_at};
 ghost use Rattle.relay_records.specs.Records.{Keeps};
 
+use crate::compacting::compact_behind;
 use crate::fault::Fault;
 use crate::gathering::gathering;
 use crate::pushing::push_due;
@@ -25,8 +26,8 @@ use std::rt::{Clock, Files};
 const OCTET_LIMIT: u64 = u64::MAX;
 
 /// Serves so many connections one after another, each to its end, and behind each does the work that is
-/// due, once. What that work leads to waits for the next. The file of the spool is taken for this process
-/// alone, and a line for each work goes to `writer`; where it `logs`, a line for each thing that was done goes to
+/// due, once, and writes the spool anew where much of it has gone. What that work leads to waits for the next. The
+/// files of the spool are taken for this process alone, and a line for each work goes to `writer`; where it `logs`, a line for each thing that was done goes to
 /// `errors`. Faults are looked for in this order: the configuration file, its content, the spool, the listener. A
 /// connection that breaks ends alone. A client that can't be had counts as none; where 64 in a row can't, that is the
 /// fault of a socket.
@@ -52,8 +53,9 @@ pub fn serve<
     log.listens(at);
     for _ in 0..rounds {
         let (stream, peer) = next_client(rt, &listener)?;
-        serve_stream(alloc, rt, &mut node, stream, peer, &mut log)?;
+        let was_full = serve_stream(alloc, rt, &mut node, stream, peer, &mut log)?;
         push_behind(alloc, rt, &mut node, &mut lines, &mut log)?;
+        compact_behind(&mut node, was_full, &mut log)?;
     }
     Ok(())
 }
@@ -77,7 +79,8 @@ fn push_behind<R: Clock + Net<Stream = TcpStream>, W: Write, E: Write>(
     }
 }
 
-/// Serves a client on its stream, which is closed then. Only a fault of the device ends more than that.
+/// Serves a client on its stream, which is closed then: whether mail was refused because the spool is full. Only a fault
+/// of the device ends more than that.
 fn serve_stream<C: Clock, E: Write>(
     alloc: Global,
     clock: &C,
@@ -85,7 +88,7 @@ fn serve_stream<C: Clock, E: Write>(
     stream: TcpStream,
     peer: SocketAddrV4,
     log: &mut Log<'_, E>,
-) -> Result<(), Fault> {
+) -> Result<bool, Fault> {
     let first = node.next_number();
     let now = clock_moment(clock);
     let mut reader = (&stream).take(OCTET_LIMIT);
@@ -108,7 +111,7 @@ fn serve_stream<C: Clock, E: Write>(
     log.client(node, &connection);
     match end {
         Err(LinkFault::Device) => Err(Fault::Device),
-        _ => Ok(()),
+        _ => Ok(writer.was_full()),
     }
 }
 

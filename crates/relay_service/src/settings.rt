@@ -1,9 +1,9 @@
 //! What a configuration file says, and the spool that it names.
 use crate::fault::Fault;
-use relay_disk::FileDisk;
+use relay_disk::{Disks, FileDisk};
 use relay_node::Node;
 use relay_routes::Config;
-use std::alloc::Global;
+use std::alloc::{AllocError, Global};
 use std::fs::File;
 use std::io;
 use std::rt::Files;
@@ -24,47 +24,87 @@ fn text_of<F: Files<File = File>>(alloc: Global, files: &F, path: &str) -> io::R
     io::read_to_string(alloc, File::open(files, path)?)
 }
 
-/// The file of the spool that the configuration names.
-pub(crate) fn spool_file<F: Files<File = File>>(
+/// The two files of the spool that the configuration names. The second has the first's name, and `.2` behind it.
+pub(crate) fn spool_files<F: Files<File = File>>(
+    alloc: Global,
     files: &F,
     config: &Config,
-) -> Result<FileDisk, Fault> {
-    match FileDisk::open(files, config.spool.as_str()) {
+) -> Result<Disks<FileDisk>, Fault> {
+    let second = second_name(alloc, config)?;
+    Ok(Disks {
+        first: unless_device(FileDisk::open(files, config.spool.as_str()))?,
+        second: unless_device(FileDisk::open(files, second.as_str()))?,
+    })
+}
+
+/// Those files, for reading alone. The first has to be there. Where the second isn't, the first stands for both: of two
+/// heads that are equal the first file's is taken.
+pub(crate) fn spool_files_to_read<F: Files<File = File>>(
+    alloc: Global,
+    files: &F,
+    config: &Config,
+) -> Result<Disks<FileDisk>, Fault> {
+    let first = config.spool.as_str();
+    let second = second_name(alloc, config)?;
+    Ok(Disks {
+        first: unless_device(FileDisk::open_to_read(files, first))?,
+        second: unless_device(open_either(files, second.as_str(), first))?,
+    })
+}
+
+/// The file at this path, for reading alone, or the one at the other path where none is there.
+fn open_either<F: Files<File = File>>(files: &F, path: &str, other: &str) -> io::Result<FileDisk> {
+    match FileDisk::open_to_read(files, path) {
+        Err(error) if error.kind() == io::ErrorKind::NotFound => FileDisk::open_to_read(
+            files, other,
+        ),
+        opened => opened,
+    }
+}
+
+/// The name of the second file.
+fn second_name(alloc: Global, config: &Config) -> Result<String, AllocError> {
+    format!(in alloc; "{}.2", config.spool.as_str())
+}
+
+/// The file, or the fault of one that can't be opened.
+fn unless_device(disk: io::Result<FileDisk>) -> Result<FileDisk, Fault> {
+    match disk {
         Ok(disk) => Ok(disk),
         Err(error) => Err(Fault::of_device(&error)),
     }
 }
 
-/// That file, for reading alone: it has to be there.
-pub(crate) fn spool_file_to_read<F: Files<File = File>>(
+/// The files of the spool, both taken for this process alone. Where another process has taken one, that is as if it
+/// couldn't be opened.
+fn locked_spool_files<F: Files<File = File>>(
+    alloc: Global,
     files: &F,
     config: &Config,
-) -> Result<FileDisk, Fault> {
-    match FileDisk::open_to_read(files, config.spool.as_str()) {
-        Ok(disk) => Ok(disk),
-        Err(error) => Err(Fault::of_device(&error)),
-    }
+) -> Result<Disks<FileDisk>, Fault> {
+    let disks = spool_files(alloc, files, config)?;
+    lock(&disks.first)?;
+    lock(&disks.second)?;
+    Ok(disks)
 }
 
-/// The file of the spool, taken for this process alone. One that another process has taken is as one that can't be
-/// opened.
-fn locked_spool_file<F: Files<File = File>>(files: &F, config: &Config) -> Result<FileDisk, Fault> {
-    let disk = spool_file(files, config)?;
+/// Takes a file for this process alone.
+fn lock(disk: &FileDisk) -> Result<(), Fault> {
     match disk.try_lock() {
-        Ok(true) => Ok(disk),
+        Ok(true) => Ok(()),
         Ok(false) => Err(Fault::Device),
         Err(error) => Err(Fault::of_device(&error)),
     }
 }
 
-/// The node of the spool that the configuration names, whose file is taken for this process alone.
+/// The node of the spool that the configuration names, whose files are taken for this process alone.
 pub(crate) fn locked_node<F: Files<File = File>>(
     alloc: Global,
     files: &F,
     config: Config,
 ) -> Result<Node<FileDisk>, Fault> {
-    let disk = locked_spool_file(files, &config)?;
-    match Node::open(alloc, config, disk) {
+    let disks = locked_spool_files(alloc, files, &config)?;
+    match Node::open(alloc, config, disks) {
         Ok(node) => Ok(node),
         Err(refused) => Err(Fault::from(refused.cause)),
     }

@@ -8,7 +8,7 @@ use clap::Error;
 use clap::error::ErrorKind;
 use relay_arguments::{Subcommand, arguments};
 use relay_play::play;
-use relay_service::{init, list, push, serve};
+use relay_service::{compact, init, list, push, serve};
 use std::alloc::Global;
 use std::convert::AsStr;
 use std::fmt::Display;
@@ -52,6 +52,7 @@ pub fn command<
         Ok(Subcommand::Play) => ended(play(alloc, reader, writer), errors),
         Ok(Subcommand::Init(file)) => ended(init(alloc, system, file), errors),
         Ok(Subcommand::List(file)) => ended(list(alloc, system, file, writer), errors),
+        Ok(Subcommand::Compact(file)) => ended(compact(alloc, system, file, writer), errors),
         Ok(Subcommand::Serve { file, rounds, log }) => {
             let end = serve(alloc, system, file, rounds, writer, errors, log);
             ended(end, errors)

@@ -5,7 +5,7 @@ ghost use Rattle.relayd.specs.Session.{IsBegun, IsOpened, IsServed};
 ghost use Rattle.relayd.specs.Setup.{IsProfile};
 
 use crate::setup::{ADDRESS, configuration, moment};
-use relay_disk::MemoryDisk;
+use relay_disk::{Disks, MemoryDisk};
 use relay_links::serve_link;
 use relay_node::{Connected, Node};
 use relay_service::Fault;
@@ -38,7 +38,11 @@ fn open_session(alloc: Global) -> Result<(Node<MemoryDisk>, Connected), Fault>
     ensures { IfOk result (λ opened. IsOpened opened.0 opened.1) }
 {
     let config = configuration(alloc)?;
-    match Node::create(alloc, config, MemoryDisk::new(alloc)) {
+    let disks = Disks {
+        first: MemoryDisk::new(alloc),
+        second: MemoryDisk::new(alloc),
+    };
+    match Node::create(alloc, config, disks) {
         Ok(node) => connect(node),
         Err(refused) => Err(Fault::from(refused.cause)),
     }

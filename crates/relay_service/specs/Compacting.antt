@@ -1,0 +1,35 @@
+-- A spool that is written anew while clients are served: when, and what that leaves.
+use Rattle.std.specs.Prelude.{◌≡◌, ◌⊎◌, ℕ, ◌+◌, ◌*◌, ◌/◌, ◌-◌, ◌^◌, ◌<◌, ◌≤◌, min, Bool, true, length, Result, OnOk}
+use Rattle.relay_disk.specs.Device.{DiskWords}
+use Rattle.relay_book.specs.Snapshot.{snapshot}
+use Rattle.relay_records.specs.Records.{Compacts}
+use Rattle.relay_service.specs.declared.fault.Fault.{Fault}
+use Rattle.relay_node.specs.Node.{NodeState}
+
+-- A spool of this size, which would take so many octets if it were written anew, passes the lesser of 16 MiB and half of
+-- its limit, and is more than twice as large.
+abbrev pub HasHalved : ℕ → ℕ → ℕ → Type 0
+HasHalved size compacted limit = (min (2 ^ 24) (limit / 2) < size) × (2 * compacted < size)
+
+-- So it is; or mail was refused because it was full, and a sixteenth of it would go.
+abbrev pub IsWorthIt : ℕ → ℕ → ℕ → Bool → Type 0
+IsWorthIt size compacted limit was_full =
+    HasHalved size compacted limit ⊎ ((was_full ≡ true) × (compacted + size / 16 ≤ size))
+
+-- the same of a node's spool
+abbrev pub MayShrink : {D : Type 0} → NodeState D → Bool → Type 0
+MayShrink node was_full =
+    IsWorthIt node.records.spool.size (min (23 + length (snapshot node.records.queue)) (2 ^ 64 - 1))
+    node.config.spool_limit was_full
+
+-- The spool of a node was written anew, or nothing was done; and nothing was where it isn't worth it. The queue, the note,
+-- the configuration, the sessions and the attempts are the same.
+pub record Shrinks {D : Type 0} (words : DiskWords D) (old new : NodeState D) (was_full : Bool)
+    (result : Result (Unit {0}) Fault) : Type 0 where
+  pub stays : (MayShrink old was_full → ⊥) → new ≡ old
+  pub shrinks : OnOk result ((new ≡ old) ⊎ Compacts ⊥ words old.records new.records)
+  pub queue : new.records.queue ≡ old.records.queue
+  pub noted : new.records.noted ≡ old.records.noted
+  pub config : new.config ≡ old.config
+  pub seats : new.seats ≡ old.seats
+  pub attempts : new.attempts ≡ old.attempts
