@@ -7,6 +7,7 @@ mod attempts;
 mod blocks;
 mod books;
 mod commands;
+mod disks;
 mod header;
 mod mail;
 mod memory;
@@ -21,17 +22,20 @@ mod texts;
 use attempts::{hand_texts_on, hold_attempts, hold_conversations};
 use books::{ask_what_is_due, decode_record, drain_book, fill_book, hold_book};
 use commands::count_commands;
+use disks::forget;
 use header::look_through_header;
-use nodes::{accept_messages, open_node, open_node_and_measure};
+use nodes::{
+    accept_messages, compact_node, compact_node_and_measure, open_node, open_node_and_measure,
+};
 use passing::{ask_for_works, begin_attempts, deliver_messages};
 use replies::count_replies;
 use reports::make_reports;
 use routes::look_up;
 use spools::{append_bodies, open_spool, sync_twice};
 use std::alloc::Global;
+use std::env;
 use std::io::Read;
 use std::test::Fail;
-use std::{env, fs};
 use texts::{count_plain, count_texts, write_texts};
 
 /// Two commands and a fault for the run without a word.
@@ -86,7 +90,7 @@ const IN_MEMORY: [(&str, u64); 9] = [
 /// The measurements of a file that are run without a word, in the order in which each finds what it needs.
 const ON_SPOOL: [&str; 2] = ["append", "open"];
 
-const ON_NODE: [&str; 3] = ["accepts", "node", "deliver"];
+const ON_NODE: [&str; 5] = ["accepts", "node", "compact", "deliver", "compact"];
 
 fn main(rt: HostRuntime) -> Result<(), Fail> {
     let words: Vec<String> = env::args(&rt)?.collect(rt.alloc())?;
@@ -119,15 +123,14 @@ fn say_all(rt: &HostRuntime) -> Result<(), Fail> {
     say_file(rt, "relay_bench_node", &ON_NODE)
 }
 
-/// Runs these measurements on a file, which is gone then.
+/// Runs these measurements on the files of a spool, which are gone then.
 fn say_file(rt: &HostRuntime, path: &str, names: &[&str]) -> Result<(), Fail> {
-    // A run that was cut off may have left it.
-    let _ = fs::remove_file(rt, path);
+    // A run that was cut off may have left them.
+    forget(rt, path)?;
     for name in names {
         say(rt, measure_file(rt, *name, path, 3, 128))?;
     }
-    fs::remove_file(rt, path)?;
-    Ok(())
+    forget(rt, path)
 }
 
 /// Runs the measurement of this name on what the other words say.
@@ -204,8 +207,19 @@ fn measure_file(
     } else if name == "deliver" {
         deliver_messages(rt, path)
     } else {
+        measure_compaction(rt, name, path)
+    }
+}
+
+/// The same of those that write a spool anew.
+fn measure_compaction(rt: &HostRuntime, name: &str, path: &str) -> Result<String, Fail> {
+    if name == "compact" {
+        compact_node(rt, path)
+    } else if name == "compact-peak" {
+        compact_node_and_measure(rt, path)
+    } else {
         Err(Fail::new(
-            "the measurements of a file are: open, append, syncs, accepts, node, peak, deliver",
+            "the measurements of a file are: open, append, syncs, accepts, node, peak, deliver, compact, compact-peak",
         ))
     }
 }

@@ -1,6 +1,7 @@
+use crate::disks::files;
 use crate::mail::moment_of;
 use crate::memory::memory_line;
-use relay_disk::{Disk, FileDisk};
+use relay_disk::{Disk, Disks, FileDisk};
 use relay_node::Node;
 use relay_routes::Config;
 use relay_trace::Moment;
@@ -34,10 +35,10 @@ pub fn accept_messages(
     octets: u64,
 ) -> Result<String, Fail> {
     let alloc = rt.alloc();
-    let mut node = created(alloc, FileDisk::open(rt, path)?)?;
+    let mut node = created(alloc, files(rt, path)?)?;
     let session = greeted(&mut node)?;
     let queued = accept(alloc, &mut node, session, moment_of(0)?, count, octets)?;
-    let size = size_of(node)?;
+    let size = node.size();
     Ok(format!(in alloc; "accepts: {queued} messages, {size} octets")?)
 }
 
@@ -47,35 +48,43 @@ pub fn open_node(rt: &HostRuntime, path: &str) -> Result<String, Fail> {
     Ok(format!(in rt.alloc(); "node: next number {next}")?)
 }
 
+/// Opens the node in this file, and writes its spool anew.
+pub fn compact_node(rt: &HostRuntime, path: &str) -> Result<String, Fail> {
+    let mut node = opened(rt, path)?;
+    let Ok((before, behind)) = node.compact() else {
+        return Err(Fail::new("the spool isn't written anew"));
+    };
+    Ok(format!(in rt.alloc(); "compact: {before} octets, {behind} octets")?)
+}
+
 /// The same, and how much memory it took at most.
+pub fn compact_node_and_measure(rt: &HostRuntime, path: &str) -> Result<String, Fail> {
+    let line = compact_node(rt, path)?;
+    let peak = memory_line(rt, "VmHWM:")?;
+    Ok(format!(in rt.alloc(); "{line}, {peak}")?)
+}
+
+/// Opens the node, and tells the number of its next change, and how much memory it took at most.
 pub fn open_node_and_measure(rt: &HostRuntime, path: &str) -> Result<String, Fail> {
     let next = opened(rt, path)?.next_number();
     let peak = memory_line(rt, "VmHWM:")?;
     Ok(format!(in rt.alloc(); "peak: next number {next}, {peak}")?)
 }
 
-/// A node without mail, on a disk that is to be empty.
-pub fn created<D: Disk + Drop>(alloc: Global, disk: D) -> Result<Node<D>, Fail> {
-    match Node::create(alloc, config(alloc)?, disk) {
+/// A node without mail, on disks that are to be empty.
+pub fn created<D: Disk + Drop>(alloc: Global, disks: Disks<D>) -> Result<Node<D>, Fail> {
+    match Node::create(alloc, config(alloc)?, disks) {
         Ok(node) => Ok(node),
         Err(_) => Err(Fail::new("the node was refused")),
     }
 }
 
-/// The node in this file.
+/// The node in the files of this path.
 pub fn opened(rt: &HostRuntime, path: &str) -> Result<Node<FileDisk>, Fail> {
     let alloc = rt.alloc();
-    match Node::open(alloc, config(alloc)?, FileDisk::open(rt, path)?) {
+    match Node::open(alloc, config(alloc)?, files(rt, path)?) {
         Ok(node) => Ok(node),
         Err(_) => Err(Fail::new("the node was refused")),
-    }
-}
-
-/// How many octets the file of a node has.
-pub fn size_of(node: Node<FileDisk>) -> Result<usize, Fail> {
-    match node.into_disk().size() {
-        Ok(size) => Ok(size),
-        Err(_) => Err(Fail::new("the file has no size")),
     }
 }
 

@@ -1,6 +1,7 @@
+use crate::disks::in_memory;
 use crate::mail::moment_of;
-use crate::nodes::{accept, created, greeted, opened, size_of};
-use relay_disk::{Disk, MemoryDisk};
+use crate::nodes::{accept, created, greeted, opened};
+use relay_disk::Disk;
 use relay_node::{Node, Work};
 use relay_routes::HostName;
 use relay_trace::Moment;
@@ -29,7 +30,7 @@ const REPLIES: [&[u8]; 4] = [
 
 /// Asks a node of so many messages, of which ten are due, so many times what there is to do.
 pub fn ask_for_works(alloc: Global, count: u64, times: u64) -> Result<String, Fail> {
-    let mut node = created(alloc, MemoryDisk::new(alloc))?;
+    let mut node = created(alloc, in_memory(alloc))?;
     fill(alloc, &mut node, count)?;
     let works = count_works(alloc, &node, times)?;
     Ok(format!(in alloc; "works: {works} in {times} times")?)
@@ -37,7 +38,7 @@ pub fn ask_for_works(alloc: Global, count: u64, times: u64) -> Result<String, Fa
 
 /// Begins an attempt for each of the ten messages that are due among so many, and loses it, so many times.
 pub fn begin_attempts(alloc: Global, count: u64, times: u64) -> Result<String, Fail> {
-    let mut node = created(alloc, MemoryDisk::new(alloc))?;
+    let mut node = created(alloc, in_memory(alloc))?;
     fill(alloc, &mut node, count)?;
     let begun = begin_and_lose(alloc, &mut node, times)?;
     Ok(format!(in alloc; "begins: {begun} attempts in {times} times")?)
@@ -48,7 +49,7 @@ pub fn begin_attempts(alloc: Global, count: u64, times: u64) -> Result<String, F
 pub fn deliver_messages(rt: &HostRuntime, path: &str) -> Result<String, Fail> {
     let mut node = opened(rt, path)?;
     let delivered = deliver(rt.alloc(), &mut node)?;
-    let size = size_of(node)?;
+    let size = node.size();
     Ok(format!(in rt.alloc(); "deliver: {delivered} messages, {size} octets")?)
 }
 

@@ -1,4 +1,4 @@
-use relay_disk::FileDisk;
+use crate::disks::files;
 use relay_spool::{Opened, Spool};
 use std::alloc::Global;
 use std::fs::{File, OpenOptions};
@@ -11,8 +11,7 @@ const BODY: usize = 4_096;
 
 /// Opens the spool in this file, and counts its bodies and their octets.
 pub fn open_spool(rt: &HostRuntime, path: &str) -> Result<String, Fail> {
-    let disk = FileDisk::open(rt, path)?;
-    let Ok(Opened { spool, bodies }) = Spool::open(rt.alloc(), disk) else {
+    let Ok(Opened { spool, bodies }) = Spool::open(rt.alloc(), files(rt, path)?) else {
         return Err(Fail::new("the spool was refused"));
     };
     let size = spool.size();
@@ -23,7 +22,7 @@ pub fn open_spool(rt: &HostRuntime, path: &str) -> Result<String, Fail> {
 /// Makes a spool in this file, which is to be empty, and appends so many bodies.
 pub fn append_bodies(rt: &HostRuntime, path: &str, count: u64) -> Result<String, Fail> {
     let body: Vec<u8> = vec![in rt.alloc(); 7; BODY]?;
-    let Ok(mut spool) = Spool::create(rt.alloc(), FileDisk::open(rt, path)?) else {
+    let Ok(mut spool) = Spool::create(rt.alloc(), files(rt, path)?) else {
         return Err(Fail::new("the spool was refused"));
     };
     for _ in 0..count {
