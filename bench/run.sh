@@ -202,7 +202,7 @@ spools() {
     rm "$room/spool"
     # A device's syncs take from one to ten times their least: many short runs.
     runs=31 compare "library: appends to a spool on a file" appends 500 \
-        "rm -f $disk/a; $bench append $disk/a 500" "rm -f $disk/b; $bench syncs $disk/b 500 4101" "two bare syncs"
+        "rm -f $disk/a $disk/a.2; $bench append $disk/a 500" "rm -f $disk/b; $bench syncs $disk/b 500 4101" "two bare syncs"
 }
 
 books() {
@@ -222,19 +222,32 @@ books() {
 # A node on a file: what it accepts, and opening it with 10,000 messages of 1 KiB.
 nodes() {
     runs=11 compare "node: messages of 1 MiB on one session, on a file" octets 62914560 \
-        "rm -f $disk/a; $bench accepts $disk/a 60 1048576" \
+        "rm -f $disk/a $disk/a.2; $bench accepts $disk/a 60 1048576" \
         "rm -f $disk/b; dd if=/dev/zero of=$disk/b bs=1048576 count=60 oflag=dsync status=none" "dd with a sync for each"
     runs=11 compare "node: the same, beside the syncs that they need" octets 62914560 \
-        "rm -f $disk/a; $bench accepts $disk/a 60 1048576" \
+        "rm -f $disk/a $disk/a.2; $bench accepts $disk/a 60 1048576" \
         "rm -f $disk/b; $bench syncs $disk/b 60 1048748" "two bare syncs"
     full_node
     compare "node: 10,000 messages of 1 KiB that are opened" octets "$(file_size "$room/node")" \
         "$bench node $room/node" "$bench open $room/node" "opening the spool alone"
     awk -v octets="$("$bench" peak "$room/node" | awk '{ print $(NF - 1) * 1024 }')" -v file="$(file_size "$room/node")" 'BEGIN {
         printf "%-52s %12.0f octets at its peak, %.2f of the file\n", "node: the memory of that", octets, octets / file }'
+    compactions
     # A message of 1,024 octets adds 1,196 to the file: the time stamp line, envelope, length and gate.
     runs=31 compare "node: messages of 1 KiB on one session, on a file" messages 500 \
-        "rm -f $disk/a; $bench accepts $disk/a 500 1024" "rm -f $disk/b; $bench syncs $disk/b 500 1196" "two bare syncs"
+        "rm -f $disk/a $disk/a.2; $bench accepts $disk/a 500 1024" "rm -f $disk/b; $bench syncs $disk/b 500 1196" "two bare syncs"
+}
+
+# The full file written anew, and opened again then. The program opens it first, which is taken off by the figure above.
+compactions() {
+    local size
+    fresh_copy
+    "$bench" compact "$disk/a" > "$room/out"
+    size=$(file_size "$disk/a.2")
+    before=fresh_copy compare "node: 10,000 messages of 1 KiB that are compacted" octets "$size" "$bench compact $disk/a" \
+        "rm -f $disk/b; dd if=$disk/a.2 of=$disk/b bs=1048576 conv=fsync status=none" "dd with one sync"
+    compare "node: a compacted spool that is opened" octets "$size" "$bench node $disk/a" "$bench node $room/node" \
+        "opening the chain of the same"
 }
 
 # A file with 10,000 messages of 1 KiB, where it isn't made yet.
@@ -255,7 +268,8 @@ queues() {
 
 fresh_copy() {
     cp "$room/node" "$disk/a"
-    sync "$disk/a"
+    cp "$room/node.2" "$disk/a.2"
+    sync "$disk/a" "$disk/a.2"
 }
 
 groups=(sessions lines attempts reports spools books nodes queues)
