@@ -9,6 +9,7 @@ mod files;
 mod held;
 mod mount;
 mod octets;
+mod once;
 mod row;
 
 use files::{

@@ -7,11 +7,13 @@
 //! - `stop PICK`: what a stop leaves of the disk, or of both, by the pick;
 //! - `create`, `open`: a spool on the disks in hand, which answers how many bodies and octets it has;
 //! - `bodiless`: nothing of the disks in hand, which answers whether they hold no spool, or one without a body;
+//! - `once CALLS CALL`: nothing of the disks in hand, of which one call fails in a call of a spool (once.rt);
 //! - `unmount`: the disks of the spool.
 use crate::answer::{of_fault, of_question, word};
 use crate::device::{ask_disk, ask_disks, ask_spool, number_of};
 use crate::held::{Held, Mounted};
 use crate::octets::octets_of;
+use crate::once::fail_once;
 use relay_disk::{Disks, MemoryDisk, Reboot};
 use relay_spool::{Opened, Refused, Spool, SpoolFault};
 use std::alloc::{AllocError, Global};
@@ -83,6 +85,11 @@ fn take_step_on_disks(
             Held::Nothing,
             of_question(alloc, is_bodiless(alloc, disks))?,
         )),
+        "once" => {
+            let (calls, call) = text.split_once(' ').unwrap_or((text, ""));
+            let answer = fail_once(alloc, disks, number_of(calls, number), call)?;
+            Ok((Held::Nothing, answer))
+        }
         _ => {
             let mut disks = disks;
             let answer = ask_disks(alloc, &mut disks, name, text, number)?;
