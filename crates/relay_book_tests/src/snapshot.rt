@@ -18,13 +18,13 @@ pub fn snapshot_text(alloc: Global, row: &str) -> Result<String, RowsFault> {
 
 fn of_one(alloc: Global, first: Vec<u8>) -> Result<Vec<u8>, BookFault> {
     let book = Book::read_first(alloc, first)?;
-    Ok(book.encode_snapshot(alloc)?)
+    Ok(book.encode_snapshot(alloc, 0)?)
 }
 
 fn of_two(alloc: Global, first: Vec<u8>, second: Vec<u8>) -> Result<Vec<u8>, BookFault> {
     let mut book = Book::read_first(alloc, first)?;
     book.read_next(alloc, second)?;
-    Ok(book.encode_snapshot(alloc)?)
+    Ok(book.encode_snapshot(alloc, 0)?)
 }
 
 /// How many octets there are, and each in hexadecimal.
@@ -39,7 +39,7 @@ fn hex_text(alloc: Global, octets: &[u8]) -> Result<String, AllocError> {
 /// The book of a snapshot, and whether it is written as these octets again.
 pub fn book_of(alloc: Global, octets: &[u8]) -> Result<(Book, bool), BookFault> {
     let book = Book::decode_snapshot(alloc, octets)?;
-    let again = book.encode_snapshot(alloc)?;
+    let again = book.encode_snapshot(alloc, 0)?;
     let same = again.as_slice() == octets;
     Ok((book, same))
 }

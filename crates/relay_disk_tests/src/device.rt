@@ -149,11 +149,7 @@ pub fn ask_spool(
             &mut mounted.spool,
             octets_of(alloc, text)?.as_slice(),
         ),
-        "compact" => compact(
-            alloc,
-            &mut mounted.spool,
-            octets_of(alloc, text)?.as_slice(),
-        ),
+        "compact" => compact(alloc, &mut mounted.spool, octets_of(alloc, text)?),
         "body" => is_body(alloc, mounted.bodies.as_slice(), text),
         _ => word(alloc, "no step"),
     }
@@ -169,7 +165,7 @@ fn append(alloc: Global, spool: &mut Spool<MemoryDisk>, body: &[u8]) -> Result<S
 fn compact(
     alloc: Global,
     spool: &mut Spool<MemoryDisk>,
-    body: &[u8],
+    body: Vec<u8>,
 ) -> Result<String, AllocError> {
     if !spool.is_live() {
         return word(alloc, "spent");

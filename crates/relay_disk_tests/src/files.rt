@@ -136,7 +136,10 @@ fn compacts(alloc: Global, disks: Disks<FileDisk>) -> bool {
     match Spool::open(alloc, disks) {
         Ok(Opened { spool, bodies: _ }) => {
             let mut spool = spool;
-            spool.is_live() && spool.compact(b"one") == Ok(()) && spool.size() == 26
+            let Ok(body) = Vec::from_array(alloc, *b"one") else {
+                return false;
+            };
+            spool.is_live() && spool.compact(body) == Ok(()) && spool.size() == 26
         }
         Err(_) => false,
     }

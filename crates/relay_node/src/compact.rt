@@ -33,7 +33,7 @@ impl<D: Disk> Node<D> {
     /// the configuration stay, whatever is answered. `NoSecond` (the other disk has no head of a spool), `Full`
     /// (what is held passes 4,294,967,295 octets, or no generation is left) and `NoMemory` change nothing, and
     /// are looked for in this order; at `Stopped` a stop leaves the changes as they were. It needs memory for
-    /// the record, and for one copy of it.
+    /// one copy of the record.
     pub fn compact(&mut self) -> Result<(usize, usize), NodeFault>
         ensures kept { (changes : List Change) → Keeps D.honest D.words self.old.records changes
             → OnOk result (Keeps D.honest D.words self.new.records changes) }

@@ -1,5 +1,6 @@
 -- What a compaction does to records and to their list.
-use Rattle.std.proofs.Common.{◌≡◌, ◌<◌, ◌^◌, ◌-◌, min, arith, inl, inr, ℕ, false, List, [], ◌∷◌, length, None, sym, ap, ◌∙◌, subst}
+use Rattle.std.proofs.Common.{◌≡◌, ◌<◌, ◌^◌, ◌-◌, min, arith, inl, inr, ℕ, false, List, [], ◌∷◌, length, None, Ok, Err, sym, ap, ◌∙◌, subst}
+use Rattle.std.specs.Prelude.{Result}
 use Rattle.relay_disk.specs.declared.disks.Disks.{Disks}
 use Rattle.relay_disk.specs.Device.{DiskWords}
 use Rattle.relay_disk.specs.Disks.{Images}
@@ -10,6 +11,8 @@ use Rattle.relay_book.specs.Queue.{Queue, queue_of}
 use Rattle.relay_book.specs.Snapshot.{snapshot}
 use Rattle.relay_book.specs.StandsFor.{StandsFor}
 use Rattle.relay_book.proofs.Theorems.{snapshot_stands}
+use Rattle.relay_records.specs.declared.fault.NodeFault.{NodeFault}
+use Rattle.relay_records.specs.declared.fault.NodeFault.TheVariants.{Stopped}
 use Rattle.relay_records.specs.Records.{Halted, Keeps, Kept}
 use Rattle.relay_records.proofs.ListLemmas.{next_is_one_more}
 
@@ -72,3 +75,13 @@ module _ {D : Type 0} (honest : Type 0) (words : DiskWords D) (seen old : Kept D
 -- a snapshot of which so many octets may be put in place of all is short enough to be a body
 pub short_body : (octets whole : List ℕ) (found : ℕ) → octets ≡ whole → found ≡ min (length whole) (2 ^ 64 - 1) → found < 2 ^ 32 → length octets < 2 ^ 32
 short_body octets whole found is found_is few = let same = ap length is in omega (arith, same, found_is, few)
+
+-- the answer is that the device failed
+abbrev pub SaysStopped : Result (Unit {0}) NodeFault → Type 0
+SaysStopped (Ok _) = ⊥
+SaysStopped (Err Stopped) = Unit {0}
+SaysStopped (Err other) = ⊥
+
+-- so no other is
+pub not_stopped : (result other : Result (Unit {0}) NodeFault) → result ≡ other → result ≡ Err Stopped → SaysStopped other
+not_stopped result other is stopped = subst SaysStopped (sym stopped ∙ is) tt

@@ -10,7 +10,7 @@ ghost use Rattle.relay_records.specs.Records.{Compacts, Halted, Keeps, RefusesTo
 use crate::fault::NodeFault;
 use crate::records::Records;
 use relay_disk::Disk;
-use relay_spool::SpoolFault;
+use relay_spool::{RENEWAL_OVERHEAD, SpoolFault};
 use std::alloc::Global;
 
 /// The octets of a spool around its one body: its head, and the body's gates and length.
@@ -29,7 +29,7 @@ impl<D: Disk> Records<D> {
     /// Puts the snapshot of the queue in place of all bodies. The changes stay as they are, and so does the
     /// note, whatever is answered. `NoSecond`, `Full` and `NoMemory` leave everything as it was, and are
     /// looked for in this order. At `Stopped` the device failed: a stop leaves the changes as they were. It
-    /// needs memory for the snapshot, and for two copies of it.
+    /// needs memory for one copy of the snapshot.
     pub fn compact(&mut self, alloc: Global) -> Result<(), NodeFault>
         requires { IsTrue self.old.spool.live }
         ensures kept { (changes : List Change) → Keeps D.honest D.words self.old changes
@@ -52,8 +52,8 @@ impl<D: Disk> Records<D> {
             Err(SpoolFault::NoSecond) => return Err(NodeFault::NoSecond),
             Err(_) => return Err(NodeFault::Full),
         }
-        let octets = self.book.encode_snapshot(alloc)?;
-        match self.spool.compact(octets.as_slice()) {
+        let octets = self.book.encode_snapshot(alloc, RENEWAL_OVERHEAD)?;
+        match self.spool.compact(octets) {
             Ok(()) => Ok(()),
             Err(SpoolFault::Device) => Err(NodeFault::Stopped),
             Err(_) => Err(NodeFault::NoMemory),

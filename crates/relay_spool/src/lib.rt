@@ -20,4 +20,5 @@ mod taken;
 pub use chain::SIZE_LIMIT;
 pub use fault::{Refused, SpoolFault};
 pub use link::BODY_OVERHEAD;
+pub use renewal::RENEWAL_OVERHEAD;
 pub use spool::{Opened, Spool};

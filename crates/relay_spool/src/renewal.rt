@@ -1,5 +1,5 @@
 // A spool's body written anew, on the disk that isn't taken.
-ghost use Rattle.std.specs.Prelude.{◌≡◌, ◌≢◌, ◌+◌, ◌<◌, ◌^◌, [], ◌∷◌, ℕ, List, length, slice_index, Some, IfOk, OnOk};
+ghost use Rattle.std.specs.Prelude.{◌≡◌, ◌≢◌, ◌+◌, ◌<◌, ◌≤◌, ◌^◌, [], ◌∷◌, ℕ, List, length, slice_index, vec_capacity, Some, IfOk, IsOk, OnOk};
 ghost use Rattle.relay_disk.specs.Device.{CountsFailure as CountsDiskFailure, IsSettled};
 ghost use Rattle.relay_disk.specs.Disks.{CountsFailure, other};
 ghost use Rattle.relay_spool.specs.Head.{HasHeadGate, IsClosedOr, IsFilled, IsGateOf, IsNotOpen, IsOldOrNew, IsRenewal, renewal_calls, renewed};
@@ -7,22 +7,33 @@ ghost use Rattle.relay_spool.specs.Pair.{HasBodies, renewed_taken};
 ghost use Rattle.relay_spool.specs.Run.{AtEachMoment as AtEachDiskMoment, Makes as DiskMakes};
 ghost use Rattle.relay_spool.specs.Spool.{AtEachMoment, IsBeforeOrOne, Makes, Rests};
 
-use crate::gate::{CLOSED, open_gate, write_through};
+use crate::gate::{CLOSED, OPEN, open_gate, write_through};
 use crate::head::{GENERATION, HEAD_GATE};
-use crate::link::{BODY_OVERHEAD, push_link};
 use crate::taken::{HeadGate, Taken};
 use relay_disk::laws::writes_leave_the_rest;
 use relay_disk::{Disk, DiskFault, Disks};
-use std::alloc::{AllocError, Global};
+use std::alloc::AllocError;
 
-/// What stands behind the head gate of a spool of this generation with this body alone.
-pub(crate) fn renewal_of(alloc: Global, generation: u64, body: &[u8]) -> Result<Vec<u8>, AllocError>
-    requires { length body.now < 2 ^ 32 }
-    ensures { IfOk result (λ octets. IsRenewal octets.items generation body.now) }
+/// How many octets of those around the body stand in front of it: the generation, an open gate and the length.
+const FRONT: usize = 13;
+
+/// How many octets `Spool::compact` puts around the body that it is given, in the memory of that body.
+pub const RENEWAL_OVERHEAD: usize = FRONT + 1;
+
+/// What stands behind the head gate of a spool of this generation with this body alone. It is made in the
+/// memory of the body, and fails only where that has no room for these octets and can't be given any.
+pub(crate) fn renewal_of(generation: u64, body: Vec<u8>) -> Result<Vec<u8>, AllocError>
+    requires { length body.items < 2 ^ 32 }
+    ensures renewal { IfOk result (λ octets. IsRenewal octets.items generation body.items) }
+    ensures room { length body.items + 14 ≤ vec_capacity body → IsOk result }
 {
-    let mut octets = Vec::with_capacity(alloc, 9 + BODY_OVERHEAD + body.len())?;
+    let size = (body.len() as u32).to_be_bytes();
+    let mut octets = body;
+    octets.push(CLOSED)?;
     octets.extend_from_slice(&generation.to_be_bytes())?;
-    push_link(&mut octets, body)?;
+    octets.push(OPEN)?;
+    octets.extend_from_slice(&size)?;
+    octets.rotate_right(FRONT);
     Ok(octets)
 }
 

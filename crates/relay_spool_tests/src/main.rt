@@ -72,7 +72,11 @@ fn change(rt: &HostRuntime, spool: Spool<FileDisk>, step: &str, text: &str) -> R
     } else if step == "append" {
         append(rt, &mut spool, text.as_bytes())?;
     } else if step == "compact" {
-        compact(rt, &mut spool, text.as_bytes())?;
+        compact(
+            rt,
+            &mut spool,
+            Vec::from_slice(rt.alloc(), text.as_bytes())?,
+        )?;
     } else {
         return Err(Fail::new(
             "the steps are: remove, create, open, again, append TEXT, compact TEXT",
@@ -128,7 +132,7 @@ fn append(rt: &HostRuntime, spool: &mut Spool<FileDisk>, body: &[u8]) -> Result<
     Ok(())
 }
 
-fn compact(rt: &HostRuntime, spool: &mut Spool<FileDisk>, body: &[u8]) -> Result<(), Fail>
+fn compact(rt: &HostRuntime, spool: &mut Spool<FileDisk>, body: Vec<u8>) -> Result<(), Fail>
     requires { IsTrue spool.old.live }
 {
     match spool.compact(body) {

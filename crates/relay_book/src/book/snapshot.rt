@@ -21,13 +21,13 @@ use std::alloc::{AllocError, Global};
 const HEAD_LENGTH: usize = 13;
 
 impl Book {
-    /// The snapshot of the queue, from which `decode_snapshot` makes the same queue. It fails where memory runs out,
-    /// and counts 2^32 messages and more as that.
-    pub fn encode_snapshot(&self, alloc: Global) -> Result<Vec<u8>, AllocError>
+    /// The snapshot of the queue, from which `decode_snapshot` makes the same queue, with room for so many octets
+    /// more behind it. It fails where memory runs out, and counts 2^32 messages and more as that.
+    pub fn encode_snapshot(&self, alloc: Global, more: usize) -> Result<Vec<u8>, AllocError>
         requires { IsQueue self.now.queue }
         ensures { IfOk result (λ octets. octets.items ≡ snapshot self.now.queue) }
     {
-        write_snapshot(alloc, self.next, &self.messages)
+        write_snapshot(alloc, self.next, &self.messages, more)
     }
 
     /// How many octets the snapshot takes. It takes no memory, and 2^64 - 1 octets stand for as many and more.
@@ -123,11 +123,12 @@ fn read_counts(text: &[u8]) -> Option<(u64, u32, &[u8])>
     Some((next, count, rest))
 }
 
-/// Writes the snapshot of a map's messages and a next number.
+/// Writes the snapshot of a map's messages and a next number, with room for so many octets more.
 fn write_snapshot(
     alloc: Global,
     next: u64,
     messages: &IndexMap<u64, Option<Message>>,
+    more: usize,
 ) -> Result<Vec<u8>, AllocError>
     requires { AllByRecursion IsQueued (live messages.now.entries) }
     ensures { IfOk result (λ octets.
@@ -137,7 +138,7 @@ fn write_snapshot(
     let Ok(count) = u32::try_from(count) else {
         return Err(AllocError);
     };
-    let mut out = Vec::with_capacity(alloc, length_of(messages))?;
+    let mut out = Vec::with_capacity(alloc, length_of(messages).saturating_add(more))?;
     push_1(&mut out, 3)?;
     push_8(&mut out, next)?;
     push_4(&mut out, count)?;
