@@ -2,6 +2,7 @@
 use Rattle.std.specs.Prelude.{◌≡◌, ◌⊎◌, ℕ, ◌+◌, true, false, List, [], ◌∷◌, ◌++◌, length, Option, Some}
 use Rattle.relay_disk.specs.Device.{DiskWords}
 use Rattle.relay_disk.specs.Disks.{Fails, FailsNot}
+use Rattle.relay_spool.specs.Pair.{renewed_taken}
 use Rattle.relay_spool.specs.Spool.{EveryImageHas, Stored}
 use Rattle.relay_book.specs.declared.change.Change.{Change}
 use Rattle.relay_book.specs.Record.{encode}
@@ -81,11 +82,13 @@ RefusesToAdd words old new Stopped = IsStopped words old new
 RefusesToAdd words old new Full = new ≡ old
 RefusesToAdd words old new other = ⊥
 
--- what a compaction did to the records, whatever list they keep: the spool has one body, the snapshot of the queue
+-- what a compaction did to the records, whatever list they keep: the spool has one body, the snapshot of the queue, on
+-- the disk that wasn't taken and is now
 pub record Compacts {D : Type 0} (honest : Type 0) (words : DiskWords D) (old new : Kept D) : Type 0 where
   pub bodies_are : honest → new.spool.bodies ≡ snapshot old.queue ∷ []
   pub size : new.spool.size ≡ 23 + length (snapshot old.queue)
   pub live : new.spool.live ≡ true
+  pub taken : new.spool.taken ≡ renewed_taken old.spool.taken
   pub failures : FailsNot words old.spool.disk new.spool.disk
 
 -- what a compaction leaves that wasn't made
