@@ -110,7 +110,7 @@ fn compact(
     octets: Vec<u8>,
 ) -> (FailingDisks, Result<(), SpoolFault>) {
     let answer = if spool.is_live() {
-        spool.compact(octets.as_slice())
+        spool.compact(octets)
     } else {
         Err(SpoolFault::Full)
     };
