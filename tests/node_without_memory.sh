@@ -1,6 +1,6 @@
 #!/usr/bin/env bash
-# Runs a node once for each allocation of the program, which is refused: with two sessions, and with an attempt whose
-# three places go three ways in one change with a report. Either the program says that it couldn't begin, and ends with
+# Runs a node once for each allocation of the program, which is refused: with two sessions, with an attempt whose
+# three places go three ways in one change with a report, and with a spool that is written anew. Either the program says that it couldn't begin, and ends with
 # status 1; or the call that met the refusal is answered so, its session or attempt is gone, no change was made for it,
 # and what is done behind it comes as if nothing had been; or the disk couldn't grow, which counts as a device that
 # failed, and the node is stopped.
@@ -109,3 +109,31 @@ refuse_each report none due start reply held last device
 echo "node_without_memory: $total allocations refused in turn: ${met[begin]} before the message was there;" \
     "${met[due]} of what is due, ${met[start]} of a start and ${met[reply]} of an attempt that ends, behind each of which" \
     "the next attempt led to the same change; ${met[device]} of the disk, and the node stopped"
+
+# A spool that is written anew twice behind a message, and the session that goes on behind that.
+read -r _ before after < <("$program" compactions)
+# The one body has a next number and a count, and a message its number, where its record has none; and its place is held.
+[ "$after" -eq $((before + 12 + 8 + 10)) ]
+anew() { echo "compact: $before $after"; }
+again() { echo "compact: $after $after"; }
+unwritten() { echo "compact: no memory"; }
+spent() { echo "compact: stopped"; }
+goes_on() { mail 0 2; quit 0; next 3; }
+
+{ anew; again; goes_on; } > "$room/none"
+"$program" compactions | cmp - "$room/none"
+# What wasn't written anew stands as it was, and is written by the next call.
+{ unwritten; anew; goes_on; } > "$room/first"
+{ anew; unwritten; goes_on; } > "$room/second"
+{ anew; again; refused 0; gone 0; next 2; } > "$room/third"
+{ anew; again; mail 0 2; refused 0; next 3; } > "$room/fourth"
+# And where the disk couldn't grow for the one body, or for the message behind it.
+{ spent; spent; stopped 0; stopped 0; next 2; } > "$room/device"
+{ anew; spent; stopped 0; stopped 0; next 2; } > "$room/device_again"
+{ anew; again; stopped 0; stopped 0; next 2; } > "$room/later"
+
+refuse_each compactions none first second third fourth device device_again later
+echo "node_without_memory: $total allocations refused in turn: ${met[begin]} before the message was there;" \
+    "$((met[first] + met[second])) of a spool that is written anew, which stood as it was;" \
+    "$((met[third] + met[fourth])) of the session behind it; $((met[device] + met[device_again] + met[later])) of the disk," \
+    "and the node stopped"

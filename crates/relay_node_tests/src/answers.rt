@@ -11,11 +11,15 @@ use relay_routes::HostName;
 impl Scene {
     /// Opens so many sessions, and tells the number of each, and what the last client is greeted with.
     pub fn connect(&mut self, node: &mut MemoryNode, count: u64) {
+        self.empty(node);
         for number in 0..count {
             match connect(node) {
                 Ok(connected) => self.tell_session(&connected, number.saturating_add(1) == count),
                 Err(fault) => self.tell_fault(fault),
             }
+        }
+        if self.course.is_crowded {
+            self.crowd(node);
         }
     }
 

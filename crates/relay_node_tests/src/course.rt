@@ -13,6 +13,8 @@ pub struct Course {
     pub calls: u64,
     /// What a stop leaves.
     pub pick: u64,
+    /// Other clients have all places that the scenario's don't take.
+    pub is_crowded: bool,
 }
 
 impl Cutting {

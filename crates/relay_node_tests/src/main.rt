@@ -1,12 +1,14 @@
 //! Plays each scenario of data/ on a node over memory: in one piece, with what the other sides say cut in
-//! two at each octet, and octet by octet; or, where a device fails, for each call and each stop. What comes
-//! of each event is compared with what is written down. By the word `sessions` or `report` it plays what
-//! tests/node_without_memory.sh refuses each allocation of in turn.
+//! two at each octet, octet by octet, and in one piece among so many other clients that 64 are there; or, where
+//! a device fails, for each call and each stop. What comes of each event is compared with what is written down. By
+//! the word `sessions`, `report` or `compactions` it plays what tests/node_without_memory.sh refuses each
+//! allocation of in turn.
 #![tactic(auto)]
 
 mod answers;
 mod calls;
 mod course;
+mod crowd;
 mod escape;
 mod pushed;
 mod refused;
@@ -18,7 +20,7 @@ mod talk;
 mod trial;
 mod words;
 
-use refused::{report, sessions};
+use refused::{compactions, report, sessions};
 use scenario::Scenario;
 use std::test::Fail;
 use std::{env, fs};
@@ -38,7 +40,7 @@ const FILES: [&str; 10] = [
     "wrong",
 ];
 
-/// A word that is neither of the two is the folder of the scenarios. Without one they lie where the program
+/// A word that is none of the three is the folder of the scenarios. Without one they lie where the program
 /// runs.
 fn main(rt: HostRuntime) -> Result<(), Fail> {
     let words: Vec<String> = env::args(&rt)?.collect(rt.alloc())?;
@@ -49,6 +51,7 @@ fn main(rt: HostRuntime) -> Result<(), Fail> {
     match word {
         "sessions" => sessions(&rt),
         "report" => report(&rt),
+        "compactions" => compactions(&rt),
         folder => play_files(&rt, folder),
     }
 }

@@ -1,6 +1,8 @@
 //! What tests/node_without_memory.sh refuses each allocation of in turn. From the first line that is printed
 //! on, nothing here takes memory but the node.
-use crate::calls::{Handed, MemoryNode, configuration, connect, create, next_number, receive};
+use crate::calls::{
+    Handed, MemoryNode, compact, configuration, connect, create, next_number, receive,
+};
 use crate::pushed::push;
 use relay_node::NodeFault;
 use relay_trace::Moment;
@@ -41,6 +43,31 @@ pub fn report(rt: &HostRuntime) -> Result<(), Fail> {
         Ok(_) => push(rt, &mut node, Moment::new(1000)?),
         Err(_) => Err(Fail::new("no mail")),
     }
+}
+
+/// A spool that is written anew twice behind a message, and a session that gives another behind that. It prints what came of
+/// each call but the first message's.
+pub fn compactions(rt: &HostRuntime) -> Result<(), Fail> {
+    let mut node = node(rt.alloc())?;
+    let session = session(&mut node)?;
+    if receive(&mut node, session, MAIL, Moment::new(0)?).is_err() {
+        return Err(Fail::new("no mail"));
+    }
+    write_anew(rt, &mut node)?;
+    write_anew(rt, &mut node)?;
+    give(rt, &mut node, session, MAIL)?;
+    give(rt, &mut node, session, QUIT)?;
+    println!(rt; "the next change is {}", next_number(&node))?;
+    Ok(())
+}
+
+/// Writes the spool anew, and prints its sizes before and behind that.
+fn write_anew(rt: &HostRuntime, node: &mut MemoryNode) -> Result<(), Fail> {
+    match compact(node) {
+        Ok((before, after)) => println!(rt; "compact: {before} {after}")?,
+        Err(fault) => println!(rt; "compact: {fault}")?,
+    }
+    Ok(())
 }
 
 /// A node without changes, on disks in memory.

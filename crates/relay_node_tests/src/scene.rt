@@ -17,6 +17,8 @@ pub struct Scene {
     pub used: usize,
     /// Lines, each with its CR LF.
     pub came: Vec<u8>,
+    /// The sessions of other clients.
+    pub crowd: Vec<usize>,
     /// Something didn't come, for want of memory.
     pub is_short: bool,
 }
@@ -31,6 +33,7 @@ impl Drop for Scene {
             record: _record,
             used: _,
             came: _came,
+            crowd: _crowd,
             is_short: _,
         } = self;
     }

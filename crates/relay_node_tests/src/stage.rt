@@ -54,6 +54,7 @@ impl<'a> Stage<'a> {
                 record: Vec::new(alloc),
                 used: 0,
                 came: Vec::new(alloc),
+                crowd: Vec::new(alloc),
                 is_short: false,
             },
         }

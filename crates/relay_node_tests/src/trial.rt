@@ -27,6 +27,7 @@ fn difference_at_stops(
                 cutting: Cutting::WHOLE,
                 calls,
                 pick,
+                is_crowded: false,
             };
             let difference = play(alloc, scenario, course, &mut Vec::new(alloc))?;
             if difference.is_some() {
@@ -37,7 +38,7 @@ fn difference_at_stops(
     Ok(None)
 }
 
-/// Plays a scenario whole, and for each cutting, after which the disks hold the same.
+/// Plays a scenario whole, for each cutting, and among other clients, after which the disks hold the same.
 fn difference_by_cutting(
     alloc: Global,
     scenario: &Scenario<'_>,
@@ -49,13 +50,20 @@ fn difference_by_cutting(
             cutting: Cutting::of_number(number, length),
             calls: 0,
             pick: 0,
+            is_crowded: false,
         };
         let difference = play(alloc, scenario, course, &mut images)?;
         if difference.is_some() {
             return Ok(difference);
         }
     }
-    Ok(None)
+    let course = Course {
+        cutting: Cutting::WHOLE,
+        calls: 0,
+        pick: 0,
+        is_crowded: true,
+    };
+    play(alloc, scenario, course, &mut images)
 }
 
 /// Plays a scenario in one course, and says what came first that isn't written down, or that the disks hold
@@ -105,10 +113,11 @@ fn told(scene: &Scene, event: &str) -> Result<String, AllocError> {
         cutting,
         calls,
         pick,
+        is_crowded,
     } = scene.course;
     let first = cutting.first;
     let mut text = format!(in scene.alloc;
-        "{event}, of {calls} calls, pick {pick}, cut at {first}: "
+        "{event}, of {calls} calls, pick {pick}, cut at {first}, crowded {is_crowded}: "
     )?;
     push_escaped(&mut text, scene.came.as_slice())?;
     Ok(text)
