@@ -188,6 +188,57 @@ def a_file_that_takes_no_more_loses_nothing(field):
     same("list", field.relay.held(), held)
 
 
+def each_allocation_that_is_refused_loses_nothing(field):
+    """`compact` without memory leaves the files as they are, and says so."""
+    field.hold("l@example.org")
+    held, refuse, mark = field.relay.held(), field.folder / "refuse.so", field.folder / "refused"
+    subprocess.run(["cc", "-shared", "-fPIC", "-O1", "-o", refuse, HERE / "refuse_memory.c"], check=True)
+    for number in range(1, 10000):
+        mark.unlink(missing_ok=True)
+        before = field.files()
+        environment = {**os.environ, "REFUSE": str(number), "REFUSED": str(mark), "LD_PRELOAD": str(refuse)}
+        ended = subprocess.run(field.relay.words("compact"), capture_output=True, env=environment)
+        if not mark.exists():
+            same("compact with all its memory", ended.returncode, 0)
+            break
+        if ended.returncode != 0:
+            same(f"compact without allocation {number}", (ended.returncode, ended.stdout, ended.stderr),
+                 (1, b"", b"relayd: no memory\n"))
+            same(f"the files without allocation {number}", field.files(), before)
+        same(f"list without allocation {number}", field.relay.held(), held)
+    if number < 20:
+        raise Difference(f"only {number - 1} allocations")
+
+
+def list_beside_a_serve_that_compacts(field):
+    """`list`, which asks for no lock, is answered by what stands in the files, and touches none of them."""
+    field.relay = field.new_relay("listed", spool_limit=20000)
+    process, done = field.relay.start("--rounds", "120"), threading.Event()
+    answers = []
+
+    def ask():
+        while not done.is_set():
+            answers.append(field.relay.ended(20, "list"))
+
+    thread = threading.Thread(target=ask)
+    thread.start()
+    try:
+        for _ in range(120):
+            same("refused", hand_in(field.relay, b"x" * 3000 + b"\r\n"), {})
+    finally:
+        done.set()
+        thread.join()
+        process.communicate(timeout=20)
+    same("messages at the sink", len(field.sink.take_all()), 120)
+    generation = max(head[1] for head in map(head_of, field.files()) if head)
+    wrong = {answer.stderr for answer in answers if answer.returncode != 0}
+    same("the faults of list", [it for it in wrong if not it.startswith(b"relayd: spool ")], [])
+    listed = sum(answer.returncode == 0 for answer in answers)
+    if generation < 10 or listed < len(answers) // 2 or len(answers) < 20:
+        raise Difference(f"{listed} of {len(answers)} calls of list listed, beside {generation - 1} compactions")
+    same("list", field.relay.run("list"), [])
+
+
 def serve_writes_its_spool_anew(field):
     """Of mail that goes on at once a spool with a limit of 100,000 octets never keeps half."""
     field.relay = field.new_relay("bounded", spool_limit=100000)
@@ -290,7 +341,8 @@ def feed(relay, answered, number):
 ROWS = [init_makes_both_files, an_empty_spool_is_written_anew_and_anew, what_is_held_stays,
         a_drained_spool_is_as_small_as_one_body, a_spool_of_one_file_goes_on_without,
         the_newer_file_with_an_open_head_is_read, a_snapshot_that_is_cut_is_refused, both_files_are_taken_by_serve,
-        a_file_that_takes_no_more_loses_nothing, serve_writes_its_spool_anew, a_full_spool_makes_room_at_once,
+        a_file_that_takes_no_more_loses_nothing, each_allocation_that_is_refused_loses_nothing,
+        list_beside_a_serve_that_compacts, serve_writes_its_spool_anew, a_full_spool_makes_room_at_once,
         a_kill_in_compact_loses_nothing, a_kill_in_serve_loses_nothing]
 
 

@@ -2,7 +2,9 @@
 """Plays the scripts of docs/plays/ once for each allocation of the program, which is refused. The play goes on behind it or
 says that there was no memory; and each recipient that a node acknowledged is held in the end, or was handed on, or has ended,
 once both nodes were stopped and opened again. Then a node that can't be opened, for want of memory: each event that it
-refuses, in its order, and what it says once it is opened. It ends at the first difference.
+refuses, in its order, and what it says once it is opened. And a carry for which there is no memory: before the node's call
+nothing changes, and in it or behind it, where what the node wrote can't be put on the link, that link breaks, and what the
+node recorded stands in the ledger. It ends at the first difference.
 
     tests/plays_without_memory.py build/relayd
 """
@@ -98,6 +100,32 @@ def a_node_that_is_down(program, shim, mark):
     print(f"ok: a node that is down, by {found} allocations of {number - 1}")
 
 
+def a_carry_without_memory(program, shim, mark):
+    """Refuses each allocation in turn, and holds the plays in which a carry of a whole message met it to what may come."""
+    lines = [*(line for line, _ in BEFORE[:2]), "carry 1 b 1000", "marks", "ledger", "carry 1 b 1000", "connect b"]
+    script, opened, greeted = "".join(f"{line}\n" for line in lines).encode(), seen(BEFORE[:2]), GREETED.format(2, "b")
+    whole, none = BEFORE[2][1], "refused NoLink"
+    ways = {
+        "before the call": f"{whole}\n{greeted}\n",
+        "in the call": f"{none}\n{greeted}\n",
+        "behind the call": f"b 1 0\naccept b 1 1 link 1\n{none}\n{greeted}\n",
+    }
+    found = dict.fromkeys(ways, 0)
+    for number in range(1, 100_000):
+        mark.unlink(missing_ok=True)
+        status, out, errors = play(program, script, number, shim, mark)
+        if not mark.exists():
+            break
+        refused = f"{opened}refused NoMemory\n"
+        if out.startswith(refused):
+            way = [it for it, behind in ways.items() if out == refused + behind]
+            if (status, errors, len(way)) != (0, "", 1):
+                raise Difference(f"a carry without allocation {number}: {out}")
+            found[way[0]] += 1
+    same("the ways that were met", [it for it in ways if found[it] == 0], [])
+    print(f"ok: a carry without memory: {', '.join(f'{count} {way}' for way, count in found.items())}")
+
+
 def main(program):
     program = str(pathlib.Path(program).resolve())
     with tempfile.TemporaryDirectory() as folder:
@@ -114,6 +142,7 @@ def main(program):
             same(f"{script.name}: whether allocations were refused", number > 100, True)
             print(f"ok: {script.name} without memory: {number - 1} allocations refused in turn")
         a_node_that_is_down(program, shim, mark)
+        a_carry_without_memory(program, shim, mark)
 
 
 if __name__ == "__main__":

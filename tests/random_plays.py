@@ -30,7 +30,7 @@ LEFT = re.compile(r"(transfer|end) ([ab]) (\d+) (\d+) (?:failed )?link (\d+) rep
 # What an event may print.
 PRINTED = re.compile(
     r"link \d+ out .*|ok|node [ab] link \d+ used \d+ out .*?( change \d+)?( end)?|start [ab] \d+ \S+ link \d+"
-    r"|noroute [ab] \d+ change \d+|broken \d+|now \d+|stopped [ab]|armed [ab]|refused [A-Z][A-Za-z]+")
+    r"|noroute [ab] \d+ change \d+|compact [ab] size \d+|broken \d+|now \d+|stopped [ab]|armed [ab]|refused [A-Z][A-Za-z]+")
 
 
 def escaped(octets):
@@ -198,12 +198,15 @@ class Driver:
     """Chooses events by chance: most of them go on on the last link, so that mail gets on, and the others are any."""
 
     def __init__(self, seed):
-        self.chance, self.clock, self.turn = random.Random(seed), 0, 0
+        self.chance, self.clock, self.turn, self.armed = random.Random(seed), 0, 0, []
 
     def choose(self, links):
+        if self.armed:
+            return self.compact(links)
         if links and self.chance.random() < 0.85:
             return self.go_on(links, max(links))
-        kinds = {"connect": 1, "write": 2, "carry": 4, "reply": 2, "give": 2, "break_off": 1, "tick": 3, "stop": 0.5, "arm": 2}
+        kinds = {"connect": 1, "write": 2, "carry": 4, "reply": 2, "give": 2, "break_off": 1, "tick": 3, "stop": 0.5, "arm": 2,
+                 "compact": 2, "arm_compact": 1}
         return getattr(self, self.chance.choices([*kinds], [*kinds.values()])[0])(links)
 
     def go_on(self, links, number):
@@ -299,6 +302,14 @@ class Driver:
 
     def arm(self, links):
         return f"stop {self.node()} {self.chance.randint(1, 6)} {self.pick()}"
+
+    def compact(self, links):
+        return f"compact {self.armed.pop() if self.armed else self.node()}"
+
+    def arm_compact(self, links):
+        """A stop at one of the seven device calls of a compaction, which is the next event."""
+        self.armed = [self.node()]
+        return f"stop {self.armed[0]} {self.chance.randint(1, 7)} {self.pick()}"
 
 
 def made(program, seed):

@@ -1,6 +1,7 @@
 #!/usr/bin/env python3
 """Plays a script of docs/plays/ with a stop put in before each of its events in turn: of either node, at its first device
-call behind it, its second, and so on until no stop is met any more. Each such play is judged by what it prints, as
+call behind it, its second, and so on until no stop is met any more; and the same with a compaction of that node behind the
+stop. Each such play is judged by what it prints, as
 tests/random_plays.py judges: no acknowledged mail is lost, and there are no more copies than lost replies allow.
 
     tests/stops_in_plays.py build/relayd [all]
@@ -32,10 +33,10 @@ def is_met(program, events):
     return any(line.startswith("stopped") for lines in printed[:-2] for line in lines)
 
 
-def stops_before(program, events, at, node, pick):
-    """How many plays have a stop of this node before this event."""
+def stops_before(program, events, at, node, pick, *behind):
+    """How many plays have a stop of this node before this event, and these events behind the stop."""
     for call in range(1, 100):
-        changed = [*events[:at], f"stop {node} {call} {pick}", *events[at:]]
+        changed = [*events[:at], f"stop {node} {call} {pick}", *behind, *events[at:]]
         try:
             if not is_met(program, changed):
                 return call - 1
@@ -52,6 +53,7 @@ def main(program, picks=""):
             for node in "ab":
                 for pick in ALL_PICKS if picks == "all" else PICKS:
                     count += stops_before(program, events, at, node, pick)
+                    count += stops_before(program, events, at, node, pick, f"compact {node}")
         same(f"{script.name}: whether a node stopped", count > 0, True)
         print(f"ok: {script.name} with a stop before each event: {count} plays in which a node stopped")
 
