@@ -315,12 +315,12 @@ def a_log_says_what_was_done_and_nothing_of_a_content(field):
     same("the log", log, [
         f"relayd: listening on 127.0.0.1:{field.relay.port}",
         f"relayd: client 127.0.0.1:{peer} ended, 154 octets, 0 refused, message 1 for 3 recipients",
-        "relayd: message 1 next.example ended, 0 transferred, 1 refused 550, 2 deferred, report queued as 2;"
+        "relayd: message 1 next.example ended, place 0 transferred, place 1 refused 550, place 2 deferred, report queued as 2;"
         " deferred by 450 later"])
     # A report that is refused is dropped, and none is made of it.
     field.sink.manners = Manners(content_reply="554 no")
     same("push", field.relay.logged("push"),
-         (["2 next.example ended"], ["relayd: message 2 next.example ended, 0 refused 554"]))
+         (["2 next.example ended"], ["relayd: message 2 next.example ended, place 0 refused 554"]))
     same("push with nothing due", field.relay.logged("push"), ([], []))
 
 
@@ -369,17 +369,17 @@ def a_log_says_why_a_place_has_left(field):
         parts = [b"EHLO x\r\n", b"MAIL FROM:<a@example.org>\r\n", b"RCPT TO:<b@example.org>\r\n"]
         converse(field.relay, *parts, b"BDAT 3 LAST\r\nend")
     same("the line of the attempt", log[2:],
-         ["relayd: message 1 next.example ended, 0 unsendable, report queued as 2"])
+         ["relayd: message 1 next.example ended, place 0 unsendable, report queued as 2"])
     same("push", field.relay.run("push"), ["2 next.example ended"])
     # Where no connection can be made, and then without a route.
     field.relay.route({"example.org": ("next.example", free_port())})
     log = []
     with field.relay.serving(log=log):
         hand_in(field.relay, recipients=["b@example.org", "c@example.org"])
-    same("the line of the attempt", log[2:], ["relayd: message 4 next.example lost: refused to connect, 0 deferred, 1 deferred"])
+    same("the line of the attempt", log[2:], ["relayd: message 4 next.example lost: refused to connect, place 0 deferred, place 1 deferred"])
     field.relay.route({"example.com": ("next.example", field.sink.port)})
     same("push", field.relay.logged("push"), (
-        ["4 noroute"], ["relayd: message 4 noroute, 0 unroutable, 1 unroutable, report queued as 6"]))
+        ["4 noroute"], ["relayd: message 4 noroute, place 0 unroutable, place 1 unroutable, report queued as 6"]))
 
 
 def a_log_says_which_places_have_expired(field):
@@ -387,13 +387,13 @@ def a_log_says_which_places_have_expired(field):
     log = []
     with field.relay.serving(log=log):
         hand_in(field.relay, recipients=["b@example.org", "c@example.org"])
-    same("the line of the attempt", log[2:], ["relayd: message 1 next.example ended, 0 deferred, 1 deferred; deferred by 450 later"])
+    same("the line of the attempt", log[2:], ["relayd: message 1 next.example ended, place 0 deferred, place 1 deferred; deferred by 450 later"])
     # Five days after its acceptance a message is tried for the last time.
     field.later(field.relay, 5 * 86400 + 60)
     field.sink.manners = Manners(refusals={"<b@example.org>": "450 later"})
     same("push", field.relay.logged("push"), (
         ["1 next.example ended"],
-        ["relayd: message 1 next.example ended, 0 expired, 1 transferred, report queued as 3; deferred by 450 later"]))
+        ["relayd: message 1 next.example ended, place 0 expired, place 1 transferred, report queued as 3; deferred by 450 later"]))
 
 
 def a_silent_peer_is_given_up(field):
@@ -426,15 +426,15 @@ def a_hop_that_is_silent_is_tried_once_a_push(field):
         hand_in(field.relay)
     same("the lines of serve", lines, ["1 next.example lost", "3 next.example lost"])
     same("the lines of attempts", [line for line in log if " message " in line and "client" not in line], [
-        "relayd: message 1 next.example lost: refused to connect, 0 deferred",
-        "relayd: message 3 next.example lost: refused to connect, 0 deferred"])
+        "relayd: message 1 next.example lost: refused to connect, place 0 deferred",
+        "relayd: message 3 next.example lost: refused to connect, place 0 deferred"])
     # A next hop that takes connections and doesn't greet is waited for once, and the other message isn't tried.
     with socket.create_server(("127.0.0.1", port)) as silent:
         field.preload(field.relay, "shorter_waits", LATER="1900")
         same("push", field.relay.logged("push"), (
             ["1 next.example lost", "3 next.example lost"],
-            ["relayd: message 1 next.example lost: silent, 0 deferred",
-             "relayd: message 3 next.example lost: silent, 0 deferred"]))
+            ["relayd: message 1 next.example lost: silent, place 0 deferred",
+             "relayd: message 3 next.example lost: silent, place 0 deferred"]))
         silent.settimeout(0)
         silent.accept()[0].close()
         try:
@@ -449,13 +449,13 @@ def a_hop_that_cuts_a_connection_is_tried_again(field):
     field.sink.manners, log = Manners(hangs_up_at="MAIL"), []
     with field.relay.serving(log=log):
         hand_in(field.relay)
-    same("the line of the attempt", log[2:], ["relayd: message 1 next.example lost: cut, 0 deferred"])
+    same("the line of the attempt", log[2:], ["relayd: message 1 next.example lost: cut, place 0 deferred"])
     # What a reply says is shown in printable octets, 200 of them at most.
     field.sink.manners, log = Manners(content_reply="451 \x1b" + "x" * 300), []
     with field.relay.serving(log=log):
         hand_in(field.relay)
     same("the line of the attempt", log[2:],
-         ["relayd: message 3 next.example ended, 0 deferred; deferred by 451 ?" + "x" * 199])
+         ["relayd: message 3 next.example ended, place 0 deferred; deferred by 451 ?" + "x" * 199])
 
 
 def faults_come_in_their_order(field):

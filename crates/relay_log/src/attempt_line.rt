@@ -85,7 +85,7 @@ fn write_rulings(text: &mut Vec<u8>, rulings: &[Ruling], noted: &Noted) -> io::R
 
 /// Writes what was said of a place.
 fn write_ruling(text: &mut Vec<u8>, ruling: &Ruling, none_waits: bool) -> io::Result<()> {
-    write!(text, ", {} ", ruling.place)?;
+    write!(text, ", place {} ", ruling.place)?;
     match &ruling.verdict {
         Verdict::Taken { .. } => write!(text, "transferred"),
         Verdict::Refused { code, .. } => write!(text, "refused {code}"),
