@@ -4,9 +4,9 @@ in the same runs, and beside Postfix where tests/interop.sh has unpacked it.
 
     bench/load.py build/relayd [FIGURE ..]
 
-The figures are kept, connections, large and push; all where none is given.
+The figures are kept, connections, large, push and bounded; all where none is given.
 DISK (build) is the folder whose device is measured, RUNS (5) how many runs a median is of, QUEUE (10000) how many
-messages a push sends, PACKAGES (build/interop) where Postfix is looked for. The client is bench/client.c and the next
+messages a push sends, MANY (100000) how many messages go through one spool for the figure bounded, PACKAGES (build/interop) where Postfix is looked for. The client is bench/client.c and the next
 hop bench/sink.c; what they take counts. With FLOOR=1 the same is measured of bench/floor.c, a relay that does the least:
 what it doesn't reach, no relay does on this machine. With SYNC_WAIT each sync takes so many microseconds more, the bare
 ones too: many a machine's disk answers a sync from a cache, which no disk does that keeps what it has synced.
@@ -18,6 +18,7 @@ import statistics
 import subprocess
 import sys
 import tempfile
+import threading
 import time
 
 HERE = pathlib.Path(__file__).resolve().parent
@@ -29,6 +30,9 @@ from relay_program import Difference, Relay, same
 
 RUNS = int(os.environ.get("RUNS", 5))
 QUEUE = int(os.environ.get("QUEUE", 10000))
+MANY = int(os.environ.get("MANY", 100000))
+# How many of those come at one connection.
+AT_ONCE = 1000
 # What a message of 1,024 octets adds to the spool, and what an outcome of one place does.
 ACCEPT, OUTCOME = 1196, 43
 
@@ -177,6 +181,35 @@ class Bench:
         same("lines of push", len(lines), count)
         return ended - begun
 
+    def bounded(self, size):
+        """Seconds of MANY messages that come AT_ONCE at a connection and are handed on behind it, and the most octets that
+        both files of the spool had meanwhile."""
+        sink = Sink(self.folder, MANY)
+        relay, rounds, most, ended = self.new_relay(sink.port), MANY // AT_ONCE, 0, threading.Event()
+
+        def watch():
+            nonlocal most
+            while not ended.wait(0.005):
+                most = max(most, relay.spool.stat().st_size + relay.second.stat().st_size)
+
+        watcher = threading.Thread(target=watch)
+        process, begun = relay.start("--rounds", str(rounds)), time.perf_counter()
+        watcher.start()
+        reader = threading.Thread(target=process.stdout.read)
+        reader.start()
+        for _ in range(rounds):
+            client = Client(self.folder, relay.port, AT_ONCE, size, "kept")
+            client.seconds()
+            client.close()
+        same("the end of serve", process.wait(600), 0)
+        seconds = time.perf_counter() - begun
+        ended.set()
+        watcher.join()
+        reader.join()
+        sink.wait()
+        same("what is held", relay.run("list"), [])
+        return seconds, most
+
     def postfix_spool(self):
         """A folder for a queue of Postfix."""
         self.count += 1
@@ -266,11 +299,19 @@ def tell_push(bench, packages):
                 "two bare syncs", postfix if packages else None)
 
 
+def tell_bounded(bench, _packages):
+    """One run: what counts is how large the files get."""
+    seconds, most = bench.bounded(100)
+    tell(f"serve: {MANY:,} messages of 100 octets, sent on", MANY / seconds, "messages/s")
+    print(f"  the most octets of both files of the spool meanwhile {most:12d} octets", flush=True)
+
+
 FIGURES = {
     "kept": tell_kept,
     "connections": tell_one_a_connection,
     "large": tell_large,
     "push": tell_push,
+    "bounded": tell_bounded,
 }
 
 
