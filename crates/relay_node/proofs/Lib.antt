@@ -6,4 +6,5 @@ mod NodeLemmas
 mod AttemptLemmas
 mod CompactionLemmas
 mod ReplyLemmas
+mod AdmitLemmas
 pub mod Theorems

@@ -5,6 +5,8 @@ use Rattle.relay_trace.specs.TimeStamp.{Stamp, IsPassed}
 use Rattle.relay_routes.specs.declared.config.Config.{Config}
 use Rattle.relay_server.specs.declared.client.Client.{Client}
 use Rattle.relay_server.specs.Dialogue.{Offered}
+use Rattle.relay_server.specs.DialogueLaws.{MayBeStored}
+use Rattle.relay_server.specs.Setup.{setup_of_config}
 use Rattle.relay_book.specs.declared.change.Accept.{Accept}
 
 -- by which host, from which address, under which number and when a message is accepted
@@ -34,3 +36,7 @@ pub record IsAcceptOf (acceptance : Acceptance) (offer : Offered) (accept : Acce
   pub at : accept.at ≡ acceptance.at
   pub envelope : accept.envelope ≡ offer.envelope
   pub passed : IsPassed (stamp_at acceptance offer.client) offer.content accept.stored_text
+
+-- under some configuration a session may offer this
+abbrev pub IsStorable : Offered → Type 0
+IsStorable offer = (config : Config) × MayBeStored (setup_of_config config) offer

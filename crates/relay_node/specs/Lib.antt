@@ -3,5 +3,6 @@ pub mod Room
 pub mod Queued
 pub mod Listening
 pub mod Node
+pub mod Admission
 pub mod Attempts
 pub mod Compaction

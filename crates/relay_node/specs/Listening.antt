@@ -31,12 +31,14 @@ pub record IsTaken (intake : Intake) (offer : Offered) (taken : Taken) : Type 0 
   pub valid : IsAccept accept
   pub octets_are : taken.octets ≡ encode taken.change
 
--- the open offer is taken, or there is no room for it
+-- the offer is taken, or there is no room for it
+abbrev pub Weighs : Intake → Offered → Option Taken → Type 0
+Weighs intake offer None = HasNoRoom intake offer
+Weighs intake offer (Some taken) = IsTaken intake offer taken
+
+-- so is the offer that is open
 abbrev pub Considers : Intake → Session → Option Taken → Type 0
-Considers intake session None =
-    (offer : Offered) × (open_offers session ≡ offer ∷ []) × HasNoRoom intake offer
-Considers intake session (Some taken) =
-    (offer : Offered) × (open_offers session ≡ offer ∷ []) × IsTaken intake offer taken
+Considers intake session taken = (offer : Offered) × (open_offers session ≡ offer ∷ []) × Weighs intake offer taken
 
 -- behind what was said these octets were read, and offers refused; what was written is this
 pub record HasListened (intake : Intake) (said : Said) (session : Session)

@@ -1,8 +1,9 @@
 ghost use Rattle.std.specs.Prelude.{◌≡◌, ◌↔◌, ◌<◌, ◌^◌, IfOk, IfErr, Err, ◌⊎◌, ◌∷◌, []};
-ghost use Rattle.relay_node.specs.Listening.{Considers};
+ghost use Rattle.relay_node.specs.Acceptance.{IsStorable};
+ghost use Rattle.relay_node.specs.Listening.{Considers, Weighs};
 ghost use Rattle.relay_server.specs.Dialogue.{Offered};
 ghost use Rattle.relay_server.specs.DialogueLaws.{MayBeStored};
-ghost use Rattle.relay_server.specs.Session.{HasOffer, open_offers};
+ghost use Rattle.relay_server.specs.Session.{HasOffer, offered, open_offers};
 ghost use Rattle.relay_server.specs.Setup.{setup_of_config};
 
 use crate::accept::accept_of;
@@ -10,7 +11,7 @@ use relay_book::{Change, LAST_NUMBER, encode_change};
 use relay_octets::Octets;
 use relay_records::NodeFault;
 use relay_routes::Config;
-use relay_server::Session;
+use relay_server::{Offer, Session};
 use relay_spool::BODY_OVERHEAD;
 use relay_trace::Moment;
 use std::alloc::Global;
@@ -52,13 +53,24 @@ impl Intake<'_> {
         ensures full { (result ≡ Err NodeFault.Full) ↔ (2 ^ 62 < self.now.number) }
         ensures refused { IfErr result (λ fault. (fault ≡ NodeFault.NoMemory) ⊎ (fault ≡ NodeFault.Full)) }
     {
-        if self.number > LAST_NUMBER {
-            return Err(NodeFault::Full);
-        }
         let Some(offer) = session.offer() else {
             unreachable!()
         };
-        let accept = accept_of(alloc, self.config, self.peer, self.number, self.at, &offer)?;
+        self.weigh(alloc, &offer)
+    }
+
+    /// The accept of an offer, and none where its record would bring the spool past its limit. It answers
+    /// `Full` exactly where changes have no numbers any more, and else fails where memory runs out.
+    pub(crate) fn weigh(&self, alloc: Global, offer: &Offer<'_>) -> Result<Option<Taken>, NodeFault>
+        requires { IsStorable (offered offer.now) }
+        ensures weighs { IfOk result (Weighs self.now (offered offer.now)) }
+        ensures full { (result ≡ Err NodeFault.Full) ↔ (2 ^ 62 < self.now.number) }
+        ensures refused { IfErr result (λ fault. (fault ≡ NodeFault.NoMemory) ⊎ (fault ≡ NodeFault.Full)) }
+    {
+        if self.number > LAST_NUMBER {
+            return Err(NodeFault::Full);
+        }
+        let accept = accept_of(alloc, self.config, self.peer, self.number, self.at, offer)?;
         let change = Change::Accept(accept);
         let octets = Octets::new(encode_change(alloc, &change)?);
         let room = self.config.spool_limit.saturating_sub(self.size as u64);

@@ -3,6 +3,7 @@
 #![tactic(auto)]
 
 mod accept;
+mod admit;
 mod again;
 mod attempts;
 mod compact;
