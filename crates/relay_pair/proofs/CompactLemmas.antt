@@ -11,7 +11,7 @@ use Rattle.relay_book.specs.Snapshot.{snapshot}
 use Rattle.relay_routes.specs.declared.config.Config.{Config}
 use Rattle.relay_records.specs.declared.fault.NodeFault.{NodeFault}
 use Rattle.relay_records.specs.declared.fault.NodeFault.TheVariants.{NoMemory, Stopped, Unknown, TooMany, NotDue, Busy, Open, Full, NoSecond}
-use Rattle.relay_records.specs.Records.{Compacts, Halted, Keeps, Kept}
+use Rattle.relay_records.specs.Records.{Compacts, Halted, IsStopped, Keeps, Kept}
 use Rattle.relay_attempts.specs.declared.runs.Run.{Run}
 use Rattle.relay_node.specs.Compaction.{LeavesUncompacted}
 use Rattle.relay_node.specs.Node.{NodeState}
@@ -71,14 +71,16 @@ module _ {D : Type 0} (honest : Type 0) (words : DiskWords D) (before after : No
 
   -- one that has stopped in that, and gone down
   pub halts_down : (down : DownNode D) → down.config ≡ before.config → down.undecided ≡ None
+      → IsStopped words before.records after.records
       → ((changes : List Change) → Keeps honest words before.records changes
       → Halted honest words after.records changes None)
       → (honest → ImagesWithin words after.records.spool.disk down.disk)
       → HaltsRewriting honest words (host_of before records) (host_in (Down down) records)
-  halts_down down config none halts left = record {
+  halts_down down config none failed halts left = record {
     before = before;
     up = refl;
     stopped = after.records;
+    failed = failed;
     halts = halts;
     disk = down.disk;
     left = left;
@@ -235,6 +237,7 @@ module _ {D : Type 0} (honest : Type 0) (words : DiskWords D) (old called : Worl
       before = calls.rewrites.before;
       up = calls.rewrites.up;
       stopped = calls.rewrites.stopped;
+      failed = calls.rewrites.failed;
       halts = calls.rewrites.halts;
       disk = calls.rewrites.disk;
       left = calls.rewrites.left;

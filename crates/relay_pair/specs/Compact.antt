@@ -7,7 +7,7 @@ use Rattle.relay_book.specs.declared.change.Change.{Change}
 use Rattle.relay_book.specs.Snapshot.{snapshot}
 use Rattle.relay_records.specs.declared.fault.NodeFault.{NodeFault}
 use Rattle.relay_records.specs.declared.fault.NodeFault.TheVariants as node_fault
-use Rattle.relay_records.specs.Records.{Compacts, Halted, Keeps, Kept}
+use Rattle.relay_records.specs.Records.{Compacts, Halted, IsStopped, Keeps, Kept}
 use Rattle.relay_node.specs.Node.{NodeState}
 use Rattle.relay_world.specs.Stops.{IsLeftBy}
 use Rattle.relay_world.specs.World.{Down, HostState, Host, Up, World}
@@ -55,11 +55,12 @@ module _ {D : Type 0} (honest : Type 0) (words : DiskWords D) where
     pub attempts : after.attempts ≡ before.attempts
     pub size_is : size ≡ after.records.spool.size
 
-  -- A host has stopped in that call, and gone down. A stop leaves the changes that it kept.
+  -- The device of a host has failed in that call, and the host has gone down. A stop leaves the changes that it kept.
   pub record HaltsRewriting (old new : Host D) : Type 0 where
     pub before : NodeState D
     pub up : old.state ≡ Up before
     pub stopped : Kept D
+    pub failed : IsStopped words before.records stopped
     pub halts : (changes : List Change) → Keeps honest words before.records changes
         → Halted honest words stopped changes None
     pub disk : Disks D

@@ -6,7 +6,7 @@ use Rattle.relay_disk.specs.declared.disks.Disks.{Disks}
 use Rattle.relay_server.specs.Dialogue.{Said}
 use Rattle.relay_book.specs.declared.change.Change.{Change}
 use Rattle.relay_records.specs.declared.noted.Noted.{Noted}
-use Rattle.relay_records.specs.Records.{Halted, Keeps, Kept}
+use Rattle.relay_records.specs.Records.{Halted, IsStopped, Keeps, Kept}
 use Rattle.relay_attempts.specs.Outcomes.{CutsUnroutable}
 use Rattle.relay_attempts.specs.Reply.{CutsLoss, CutsReply, Told}
 use Rattle.relay_node.specs.Attempts.{Tells}
@@ -69,7 +69,7 @@ pub record CrashesAtRest {D : Type 0} (honest : Type 0) (words : DiskWords D) (o
   pub left : IsLeftBy honest words before.records disk
   pub down : GoesDown old new node host disk None
 
--- A node crashed in a call that adds no change: while its spool was written anew.
+-- A node crashed in a call that adds no change: its device failed while its spool was written anew.
 pub record CrashesCompacting {D : Type 0} (honest : Type 0) (words : DiskWords D) (old new : World D) (node : ℕ)
     : Type 0 where
   pub host : Host D
@@ -77,6 +77,7 @@ pub record CrashesCompacting {D : Type 0} (honest : Type 0) (words : DiskWords D
   pub before : NodeState D
   pub up : host.state ≡ Up before
   pub stopped : Kept D
+  pub failed : IsStopped words before.records stopped
   pub halts : (changes : List Change) → Keeps honest words before.records changes
       → Halted honest words stopped changes None
   pub disk : Disks D

@@ -1,5 +1,6 @@
 use Rattle.std.proofs.Common.{◌≡◌, ◌≤◌, true, false, [], Err, refl, subst, ap, ◌∙◌, arith, rules}
 use Rattle.relay_disk.specs.Disks.{ImagesWithin}
+use Rattle.relay_node.specs.Compaction.{LeavesUncompacted}
 use Rattle.relay_node.specs.Node.{NodeState}
 use Rattle.relay_pair.specs.Call.{is_stop}
 use Rattle.relay_pair.specs.Host.{notes_of}
@@ -23,6 +24,8 @@ returns-then-is_stop-clause-rewrites g c =
     let stop : is_stop c.in-Err.fault ≡ true = search rules in
     λ records. halts_down g.D.Disk.honest g.D.Disk.words c.args.node c.compact.new.self records _
     (c.into_parts-config.ensures.config ∙ c.in-Err.ensures.rest.0) refl
+    (subst (λ f. LeavesUncompacted g.D.Disk.words c.args.node c.compact.new.self f) (stop_is c.in-Err.fault stop)
+    (c.in-Err.ensures.refused.refused c.requires.keeps.live))
     (λ changes keeps. c.in-Err.ensures.cut changes keeps (ap (λ f. Err f) (stop_is c.in-Err.fault stop)))
     (λ honest. subst (λ disk. ImagesWithin g.D.Disk.words disk c.stopped-disk.result) c.into_parts-config.ensures.disk
     (c.stopped-disk.ensures honest))
