@@ -1,4 +1,4 @@
-use Rattle.std.proofs.Common.{◌≡◌, ◌≤◌, true, false, [], Err, refl, subst, ap, ◌∙◌, arith, rules}
+use Rattle.std.proofs.Common.{◌≡◌, true, false, [], Err, refl, subst, ap, ◌∙◌, arith, rules}
 use Rattle.relay_disk.specs.Disks.{ImagesWithin}
 use Rattle.relay_node.specs.Compaction.{LeavesUncompacted}
 use Rattle.relay_node.specs.Node.{NodeState}

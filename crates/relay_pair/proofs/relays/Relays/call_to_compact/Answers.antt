@@ -1,7 +1,6 @@
-use Rattle.std.proofs.Common.{◌≡◌, ◌<◌, length, Some, refl, subst, sym, ap, ◌∙◌, arith, rules}
+use Rattle.std.proofs.Common.{◌≡◌, length, Some, subst, sym, ap, ◌∙◌, arith, rules}
 use Rattle.std.specs.Prelude.{slice_get, slice_index_or, vec_len}
 use Rattle.std.specs.List.{insert, remove}
-use Rattle.relay_world.specs.World.{Host}
 use Rattle.relay_pair.specs.Relays.{world_of}
 use Rattle.relay_pair.specs.Work.{HasChanges}
 use Rattle.relay_pair.proofs.BoundLemmas.{keeps_changes}
