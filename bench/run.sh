@@ -241,6 +241,7 @@ nodes() {
 # The full file written anew, and opened again then. The program opens it first, which is taken off by the figure above.
 compactions() {
     local size
+    full_node
     fresh_copy
     "$bench" compact "$disk/a" > "$room/out"
     size=$(file_size "$disk/a.2")
