@@ -111,7 +111,8 @@ echo "node_without_memory: $total allocations refused in turn: ${met[begin]} bef
     "the next attempt led to the same change; ${met[device]} of the disk, and the node stopped"
 
 # A spool that is written anew twice behind a message, and the session that goes on behind that.
-read -r _ before after < <("$program" compactions)
+"$program" compactions > "$room/whole"
+read -r _ before after < "$room/whole"
 # The one body has a next number and a count, and a message its number, where its record has none; and its place is held.
 [ "$after" -eq $((before + 12 + 8 + 10)) ]
 anew() { echo "compact: $before $after"; }
@@ -121,7 +122,7 @@ spent() { echo "compact: stopped"; }
 goes_on() { mail 0 2; quit 0; next 3; }
 
 { anew; again; goes_on; } > "$room/none"
-"$program" compactions | cmp - "$room/none"
+cmp "$room/whole" "$room/none"
 # What wasn't written anew stands as it was, and is written by the next call.
 { unwritten; anew; goes_on; } > "$room/first"
 { anew; unwritten; goes_on; } > "$room/second"
