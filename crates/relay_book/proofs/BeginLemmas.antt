@@ -2,8 +2,9 @@
 use Rattle.std.proofs.Common.{◌≡◌, inl, inr, ℕ, ◌≤◌, ◌<◌, ◌^◌, List, ◌∷◌, ◌++◌, length, refl, arith}
 use Rattle.relay_envelope.specs.declared.envelope.Envelope.{Envelope}
 use Rattle.relay_envelope.specs.declared.envelope.Recipient.{Recipient}
+use Rattle.relay_book.specs.declared.version.Version.{Version}
 use Rattle.relay_book.specs.declared.change.Ruling.{Ruling}
-use Rattle.relay_book.specs.Record.{octets_8, written}
+use Rattle.relay_book.specs.Record.{octets_8, outcome_kind, written}
 use Rattle.relay_book.specs.Fields.{BeginsAccept, BeginsWithHop, BeginsWithMail, HasCount}
 use Rattle.relay_book.specs.Fields.{MayBeRecord, SpellsAccept, SpellsFields, SpellsHead}
 use Rattle.relay_book.specs.Fields.{SpellsOutcome}
@@ -87,7 +88,7 @@ pub may_be_accept : (text fields : List ℕ) → text ≡ 1 ∷ fields → Begin
 may_be_accept text fields is begins =
     record { begins = inl (record { fields = fields; text_is = is; begins = begins }) }
 
-pub may_be_outcome : (text fields : List ℕ) → text ≡ 2 ∷ fields → BeginsWithHop fields
-    → MayBeRecord text
-may_be_outcome text fields is begins =
-    record { begins = inr (record { fields = fields; text_is = is; begins = begins }) }
+pub may_be_outcome : (version : Version) (text fields : List ℕ) → text ≡ outcome_kind version ∷ fields
+    → BeginsWithHop fields → MayBeRecord text
+may_be_outcome version text fields is begins =
+    record { begins = inr (version, record { fields = fields; text_is = is; begins = begins }) }

@@ -1,16 +1,18 @@
 -- What the fold tells of each place, change by change.
-use Rattle.std.proofs.Common.{◌≡◌, ◌⊎◌, inl, inr, ℕ, zero, suc, ◌+◌, ◌<◌, Bool, true, false, ◌&&◌, ◌||◌, if◌then◌else◌, List, [], ◌∷◌, ◌++◌, map, length, slice_get, Option, None, Some, MatchOption, refl, sym, subst, ap, ◌∙◌, arith, Contains, option_and_then, append-nil}
+use Rattle.std.proofs.Common.{◌≡◌, ◌⊎◌, inl, inr, ℕ, zero, suc, ◌+◌, ◌<◌, Bool, true, false, ◌&&◌, ◌||◌, if◌then◌else◌, List, [], ◌∷◌, ◌++◌, map, length, slice_get, Option, None, Some, is_some, MatchOption, refl, sym, subst, ap, ◌∙◌, arith, Contains, option_and_then, append-nil}
 use Rattle.std.specs.Option.{option_map_or}
 use Rattle.std.specs.List.{list_any}
 use Rattle.std.proofs.lemmas.Bool.{cases_eq, false≢true, and_parts, and_cases}
 use Rattle.relay_envelope.specs.declared.envelope.Recipient.{Recipient}
+use Rattle.relay_book.specs.declared.version.Version.{Version}
+use Rattle.relay_book.specs.declared.message.Place.{Place}
 use Rattle.relay_book.specs.declared.change.Accept.{Accept as AcceptFields}
 use Rattle.relay_book.specs.declared.change.Outcome.{Outcome as OutcomeFields}
 use Rattle.relay_book.specs.declared.change.Ruling.{Ruling}
 use Rattle.relay_book.specs.declared.change.Change.{Change}
 use Rattle.relay_book.specs.declared.change.Change.TheVariants.{Accept, Outcome}
 use Rattle.relay_book.specs.declared.message.Message.{Message}
-use Rattle.relay_book.specs.DueReport.{way_of, fate_of, due_report_of, report_of_fate}
+use Rattle.relay_book.specs.DueReport.{way_of, fate_of, due_for, due_report_of, report_of_fate}
 use Rattle.relay_book.specs.Record.{is_null}
 use Rattle.relay_book.specs.Queue.{Queue, FitsQueue, FitsMessage, step, held_place, holds_at, message_after, message_of, reported, report_of, reports_at, ruled, accepted}
 use Rattle.relay_book.specs.declared.fate.Way.{Way}
@@ -115,12 +117,12 @@ one_outcome : (outcome other : OutcomeFields) → Some (Outcome outcome) ≡ Som
 unfolding outcome_or
 one_outcome outcome other e = ap (outcome_or outcome) (some_is (Outcome outcome) (Outcome other) e)
 
-all_held : (at : ℕ) (recipients : List Recipient) (place : ℕ) → place < length recipients → holds_at (map (λ recipient. held_place 0 at) recipients) place ≡ true
+all_held : (at : ℕ) (recipients : List Recipient) (place : ℕ) → place < length recipients → holds_at (map (λ recipient. held_place 0 false at) recipients) place ≡ true
 all_held at [] place below = absurd (omega (arith, below))
 all_held at (recipient ∷ recipients) zero below = refl
 all_held at (recipient ∷ recipients) (suc place) below = all_held at recipients place (omega (arith, below))
 
-all_placed : (at : ℕ) (recipients : List Recipient) → length (map (λ recipient. held_place 0 at) recipients) ≡ length recipients
+all_placed : (at : ℕ) (recipients : List Recipient) → length (map (λ recipient. held_place 0 false at) recipients) ≡ length recipients
 all_placed at [] = refl
 all_placed at (recipient ∷ recipients) = ap suc (all_placed at recipients)
 
@@ -211,16 +213,22 @@ report_or_not P next outcome [] message none some = none refl
 report_or_not P next outcome (octet ∷ rest) message none some = some octet rest refl
 
 -- no report is due for the null reverse path
-null_reports : (message : Message) (at : ℕ) (rulings : List Ruling) → is_null message.accept.envelope.reverse_path ≡ true → list_any (reports_at message at) rulings ≡ false
-null_reports message at [] null = refl
-null_reports message at (ruling ∷ rulings) null =
-    (λ i. first (slice_get message.accept.envelope.recipients ruling.place) i || list_any (reports_at message at) rulings) ∙ null_reports message at rulings null
+null_reports : (version : Version) (message : Message) (at : ℕ) (rulings : List Ruling) → is_null message.accept.envelope.reverse_path ≡ true
+    → list_any (reports_at version message at) rulings ≡ false
+null_reports version message at [] null = refl
+null_reports version message at (ruling ∷ rulings) null =
+    (λ i. first (slice_get message.places ruling.place) i || list_any (reports_at version message at) rulings) ∙ null_reports version message at rulings null
   where
-    first : (o : Option Recipient)
-        → option_map_or (λ recipient. option_map_or (λ _. true) (due_report_of message.accept.envelope.reverse_path recipient.notify (fate_of message.accept.at at ruling.verdict)) false) o false
+    of_recipient : (place : Place) (o : Option Recipient)
+        → is_some (option_and_then (λ recipient. due_report_of version message.accept.envelope.reverse_path recipient.notify place (fate_of message.accept.at at ruling.verdict)) o)
         ≡ false
+    of_recipient place None = refl
+    of_recipient place (Some recipient) =
+        ap (λ (test : Bool). is_some (if test then None else report_of_fate version recipient.notify place (fate_of message.accept.at at ruling.verdict))) null
+
+    first : (o : Option Place) → is_some (option_and_then (λ place. due_for version message.accept at place ruling) o) ≡ false
     first None = refl
-    first (Some recipient) = ap (λ (test : Bool). option_map_or (λ _. true) (if test then None else report_of_fate recipient.notify (fate_of message.accept.at at ruling.verdict)) false) null
+    first (Some place) = of_recipient place (slice_get message.accept.envelope.recipients ruling.place)
 
 cons_is_some : (octet : ℕ) (rest : List ℕ) → octet ∷ rest ≡ [] → ⊥
 cons_is_some octet rest e = let one : length (octet ∷ rest) ≡ 0 = ap length e in omega (arith, one)
@@ -229,7 +237,7 @@ pub not_null : (message : Message) (outcome : OutcomeFields) (octet : ℕ) (rest
 not_null message outcome octet rest fits is = by (is_null message.accept.envelope.reverse_path) refl
   where
     by : (test : Bool) → is_null message.accept.envelope.reverse_path ≡ test → is_null message.accept.envelope.reverse_path ≡ false
-    by true e = absurd (cons_is_some octet rest (sym is ∙ fits.report.1 (null_reports message outcome.at outcome.rulings e)))
+    by true e = absurd (cons_is_some octet rest (sym is ∙ fits.report.1 (null_reports outcome.version message outcome.at outcome.rulings e)))
     by false e = e
 
 its_number : (changes : List Change) (outcome : OutcomeFields) (queue : Queue) (message : Message) → Meets changes outcome queue message → outcome.message < last changes
@@ -313,7 +321,7 @@ is_held_now changes outcome queue message place meets =
     behind_other outcome queue message outcome.message place (λ e. omega (arith, e, below, next))
     ∙ ruled_same outcome 0 queue.next queue.messages place meets.knows.rise
     ∙ ap (λ (o : Option Message). option_map_or (λ message. holds_at (message_after outcome message).places place) o false) meets.is
-    ∙ ruled_holds message.accept outcome.at message.places 0 outcome.rulings place meets.fits.rulings
+    ∙ ruled_holds outcome.version message.accept outcome.at message.places 0 outcome.rulings place meets.fits.rulings
 
 is_held_elsewhere : (outcome : OutcomeFields) (queue : Queue) (message : Message) (number place : ℕ) → (queue.next ≡ number → ⊥) → (outcome.message ≡ number → ⊥)
     → holds (behind outcome queue message) number place ≡ holds queue.messages number place

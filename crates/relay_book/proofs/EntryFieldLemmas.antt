@@ -7,162 +7,19 @@ use Rattle.relay_trace.specs.declared.moment.TheConstants.{LAST_SECOND}
 use Rattle.relay_envelope.specs.declared.envelope.Envelope.{Envelope}
 use Rattle.relay_envelope.specs.declared.envelope.Recipient.{Recipient}
 use Rattle.relay_envelope.specs.Envelope.{IsRecipient}
+use Rattle.relay_book.specs.declared.version.Version.{Version}
 use Rattle.relay_book.specs.declared.message.Place.{Place}
 use Rattle.relay_book.specs.declared.message.Message.{Message}
 use Rattle.relay_book.specs.Fields.{HasMailFields, HasNoCounted, HasNoFields, HasNone, IsMail, IsNoMail, SpellsFields}
 use Rattle.relay_book.specs.Queue.{is_held}
 use Rattle.relay_book.specs.Record.{counted, octets_8, ret_number, sized_2, sized_4, text_limit, written}
-use Rattle.relay_book.specs.Snapshot.{IsPlace, IsQueued, entry_octets, placed_octets}
-use Rattle.relay_book.specs.SnapshotFields.{HasNoLong, IsPlaced, IsQueuedIn, ReadsPlaced, SpellsEntry, numbered}
+use Rattle.relay_book.specs.Snapshot.{IsPlace, IsPlaceBy, IsQueuedBy, entry_octets, placed_octets}
+use Rattle.relay_book.specs.SnapshotFields.{HasNoLong, IsPlacedBy, IsQueuedIn, ReadsPlaced, SpellsEntry, numbered}
 use Rattle.relay_book.proofs.AcceptLemmas.{long_8}
 use Rattle.relay_book.proofs.CodeLemmas.{code_8}
 use Rattle.relay_book.proofs.FieldLemmas.{fields_are_one}
 use Rattle.relay_book.proofs.RowLemmas.{counted_are_one}
 use Rattle.relay_book.proofs.SnapshotLemmas.{code_entry, code_placed, same_entry, spelled_entry, spells_entry}
-
--- what stands behind a message's moment
-abbrev behind_moment : ℕ × Message → List ℕ → List ℕ
-behind_moment entry rest =
-    sized_2 entry.1.accept.envelope.reverse_path
-    ++ (ret_number entry.1.accept.envelope.ret
-    ∷ (sized_2 (written entry.1.accept.envelope.envid)
-    ++ (counted placed_octets (zip entry.1.accept.envelope.recipients entry.1.places) ++ (sized_4 entry.1.accept.stored_text ++ rest))))
-
-after_number : (text : List ℕ) (number : ℕ) (behind : List ℕ) (entry : ℕ × Message) (rest : List ℕ) → text ≡ octets_8 number ++ behind → number < 2 ^ 64
-    → IsQueued entry → text ≡ entry_octets entry ++ rest → behind ≡ octets_8 entry.1.accept.at ++ behind_moment entry rest
-after_number text number behind entry rest is small valid e =
-    let spelled = spells_entry text rest entry valid e in
-    (code_8 number entry.0 behind _ small valid.number_fits (sym is ∙ spelled.text_is)).1
-
-after_moment : (behind : List ℕ) (at : ℕ) (more : List ℕ) (entry : ℕ × Message) (rest : List ℕ) → behind ≡ octets_8 at ++ more → at < 2 ^ 64
-    → IsQueued entry → behind ≡ octets_8 entry.1.accept.at ++ behind_moment entry rest → more ≡ behind_moment entry rest
-after_moment behind at more entry rest is small valid e =
-    let moment = valid.accept.moment in
-    (code_8 at entry.1.accept.at more _ small (omega (arith, moment)) (sym is ∙ e)).1
-
--- a message's fields of MAIL
-mail_fields : (more : List ℕ) (entry : ℕ × Message) (rest text : List ℕ) → IsQueued entry → text ≡ entry_octets entry ++ rest → more ≡ behind_moment entry rest
-    → SpellsFields more entry.1.accept.envelope.reverse_path (ret_number entry.1.accept.envelope.ret) (written entry.1.accept.envelope.envid)
-    (counted placed_octets (zip entry.1.accept.envelope.recipients entry.1.places) ++ (sized_4 entry.1.accept.stored_text ++ rest))
-mail_fields more entry rest text valid e is =
-    let spelled = spells_entry text rest entry valid e in
-    record { text_is = is; first_fits = spelled.path_fits; second_fits = spelled.envid_fits }
-
--- where a field is missing
-pub no_number : (text : List ℕ) → length text < 8 → HasNone IsQueued entry_octets text
-no_number text short = record {
-  none = λ entry rest valid e.
-      let spelled = spells_entry text rest entry valid e in
-      let long = long_8 text entry.0 _ spelled.text_is in
-      omega (arith, short, long);
-}
-
-pub no_moment : (text : List ℕ) (number : ℕ) (behind : List ℕ) → text ≡ octets_8 number ++ behind → number < 2 ^ 64 → length behind < 8
-    → HasNone IsQueued entry_octets text
-no_moment text number behind is small short = record {
-  none = λ entry rest valid e.
-      let long = long_8 behind entry.1.accept.at _ (after_number text number behind entry rest is small valid e) in
-      omega (arith, short, long);
-}
-
-pub no_mail_fields : (text : List ℕ) (number : ℕ) (behind : List ℕ) (at : ℕ) (more : List ℕ) → text ≡ octets_8 number ++ behind → number < 2 ^ 64
-    → behind ≡ octets_8 at ++ more → at < 2 ^ 64 → HasNoFields more → HasNone IsQueued entry_octets text
-no_mail_fields text number behind at more is small then less out = record {
-  none = λ entry rest valid e.
-      out.none _ _ _ _
-      (mail_fields more entry rest text valid e (after_moment behind at more entry rest then less valid (after_number text number behind entry rest is small valid e)));
-}
-
-after_mail : (text : List ℕ) (number : ℕ) (behind : List ℕ) (at : ℕ) (more path : List ℕ) (ret : ℕ) (envid last : List ℕ) (entry : ℕ × Message) (rest : List ℕ)
-    → text ≡ octets_8 number ++ behind → number < 2 ^ 64 → behind ≡ octets_8 at ++ more → at < 2 ^ 64 → SpellsFields more path ret envid last
-    → IsQueued entry → text ≡ entry_octets entry ++ rest
-    → last ≡ counted placed_octets (zip entry.1.accept.envelope.recipients entry.1.places) ++ (sized_4 entry.1.accept.stored_text ++ rest)
-after_mail text number behind at more path ret envid last entry rest is small then less fields valid e =
-    (fields_are_one more path ret envid last entry.1.accept.envelope.reverse_path (ret_number entry.1.accept.envelope.ret) (written entry.1.accept.envelope.envid) _ fields
-    (mail_fields more entry rest text valid e (after_moment behind at more entry rest then less valid (after_number text number behind entry rest is small valid e)))).3
-
-pub no_placed : (text : List ℕ) (number : ℕ) (behind : List ℕ) (at : ℕ) (more path : List ℕ) (ret : ℕ) (envid last : List ℕ)
-    → text ≡ octets_8 number ++ behind → number < 2 ^ 64 → behind ≡ octets_8 at ++ more → at < 2 ^ 64 → SpellsFields more path ret envid last
-    → HasNoCounted IsPlaced placed_octets last → HasNone IsQueued entry_octets text
-no_placed text number behind at more path ret envid last is small then less fields out = record {
-  none = λ entry rest valid e.
-      out.none _ _ (spells_entry text rest entry valid e).are_placed (after_mail text number behind at more path ret envid last entry rest is small then less fields valid e);
-}
-
-pub no_stored_text : (text : List ℕ) (number : ℕ) (behind : List ℕ) (at : ℕ) (more path : List ℕ) (ret : ℕ) (envid last : List ℕ) (recipients : List Recipient) (places : List Place) (end : List ℕ)
-    → text ≡ octets_8 number ++ behind → number < 2 ^ 64 → behind ≡ octets_8 at ++ more → at < 2 ^ 64 → SpellsFields more path ret envid last
-    → ReadsPlaced last recipients places end → HasNoLong end → HasNone IsQueued entry_octets text
-no_stored_text text number behind at more path ret envid last recipients places end is small then less fields reads out = record {
-  none = λ entry rest valid e.
-      let spelled = spells_entry text rest entry valid e in
-      let same = counted_are_one IsPlaced placed_octets code_placed (zip recipients places) (zip entry.1.accept.envelope.recipients entry.1.places) end _
-      reads.are spelled.are_placed (sym reads.text_is ∙ after_mail text number behind at more path ret envid last entry rest is small then less fields valid e) in
-      out.none _ _ spelled.stored_fits same.1;
-}
-
-pub entry_spelled : (text : List ℕ) (number : ℕ) (behind : List ℕ) (at : ℕ) (more path : List ℕ) (ret : ℕ) (envid last : List ℕ) (recipients : List Recipient) (places : List Place)
-    (end stored rest : List ℕ) → text ≡ octets_8 number ++ behind → number < 2 ^ 64 → behind ≡ octets_8 at ++ more → at < 2 ^ 64 → SpellsFields more path ret envid last
-    → ReadsPlaced last recipients places end → end ≡ sized_4 stored ++ rest → length stored < 2 ^ 32
-    → SpellsEntry text number at path ret envid recipients places stored rest
-entry_spelled text number behind at more path ret envid last recipients places end stored rest is small then less fields reads ends fits = record {
-  text_is = is ∙ ap (λ (l : List ℕ). octets_8 number ++ l) (then ∙ ap (λ (l : List ℕ). octets_8 at ++ l) fields.text_is)
-      ∙ ap (λ (l : List ℕ). octets_8 number ++ (octets_8 at ++ (sized_2 path ++ (ret ∷ (sized_2 envid ++ l)))))
-      (reads.text_is ∙ ap (λ (l : List ℕ). counted placed_octets (zip recipients places) ++ l) ends);
-  number_fits = small;
-  at_fits = less;
-  path_fits = fields.first_fits;
-  envid_fits = fields.second_fits;
-  as_many = reads.as_many;
-  are_placed = reads.are;
-  stored_fits = fits;
-}
-
--- where a field is not as it may be
-pub bad_mail : (text : List ℕ) (number at : ℕ) (path : List ℕ) (ret : ℕ) (envid : List ℕ) (recipients : List Recipient) (places : List Place) (stored behind : List ℕ)
-    → SpellsEntry text number at path ret envid recipients places stored behind → IsNoMail path ret envid → HasNone IsQueued entry_octets text
-bad_mail text number at path ret envid recipients places stored behind spelled out = record {
-  none = λ entry rest valid e.
-      let same = same_entry text number at path ret envid recipients places stored behind entry rest spelled valid e in
-      out.none entry.1.accept.envelope (record { reverse_path = valid.accept.envelope.reverse_path; envid = valid.accept.envelope.envid })
-      (record { path_is = same.path_is; ret_is = same.ret_is; envid_is = same.envid_is });
-}
-
-pub bad_moment : (text : List ℕ) (number at : ℕ) (path : List ℕ) (ret : ℕ) (envid : List ℕ) (recipients : List Recipient) (places : List Place) (stored behind : List ℕ)
-    → SpellsEntry text number at path ret envid recipients places stored behind → LAST_SECOND < at → HasNone IsQueued entry_octets text
-bad_moment text number at path ret envid recipients places stored behind spelled late = record {
-  none = λ entry rest valid e.
-      let same = (same_entry text number at path ret envid recipients places stored behind entry rest spelled valid e).at_is in
-      let moment = valid.accept.moment in
-      omega (arith, same, moment, late);
-}
-
-pub bad_text : (text : List ℕ) (number at : ℕ) (path : List ℕ) (ret : ℕ) (envid : List ℕ) (recipients : List Recipient) (places : List Place) (stored behind : List ℕ)
-    → SpellsEntry text number at path ret envid recipients places stored behind → text_limit path < length stored → HasNone IsQueued entry_octets text
-bad_text text number at path ret envid recipients places stored behind spelled long = record {
-  none = λ entry rest valid e.
-      let same = same_entry text number at path ret envid recipients places stored behind entry rest spelled valid e in
-      let length_is = ap length same.stored_is in
-      let limit_is = ap text_limit same.path_is in
-      let within = valid.accept.text in
-      omega (arith, length_is, limit_is, within, long);
-}
-
-pub bad_places : (text : List ℕ) (number at : ℕ) (path : List ℕ) (ret : ℕ) (envid : List ℕ) (recipients : List Recipient) (places : List Place) (stored behind : List ℕ)
-    → SpellsEntry text number at path ret envid recipients places stored behind → list_any is_held places ≡ false → HasNone IsQueued entry_octets text
-bad_places text number at path ret envid recipients places stored behind spelled none_held = record {
-  none = λ entry rest valid e.
-      let same = same_entry text number at path ret envid recipients places stored behind entry rest spelled valid e in
-      false≢true (sym none_held ∙ ap (list_any is_held) same.places_are ∙ valid.some);
-}
-
--- recipients and places of a row that may be stored
-firsts_valid : (placed : List (Recipient × Place)) → AllByRecursion IsPlaced placed → AllByRecursion IsRecipient (map (λ (p : Recipient × Place). p.0) placed)
-firsts_valid [] all = tt
-firsts_valid (one ∷ placed) all = (all.0.recipient, firsts_valid placed all.1)
-
-seconds_valid : (placed : List (Recipient × Place)) → AllByRecursion IsPlaced placed → AllByRecursion IsPlace (map (λ (p : Recipient × Place). p.1) placed)
-seconds_valid [] all = tt
-seconds_valid (one ∷ placed) all = (all.0.place, seconds_valid placed all.1)
 
 -- the message of these fields
 abbrev pub message_from : ℕ → ℕ → Envelope → List Recipient → List ℕ → List Place → Message
@@ -172,80 +29,234 @@ message_from number at envelope recipients stored places = record {
   places = places;
 }
 
-pub is_queued : (text : List ℕ) (number at : ℕ) (path : List ℕ) (ret : ℕ) (envid : List ℕ) (recipients : List Recipient) (places : List Place) (stored behind : List ℕ)
-    (envelope : Envelope) → SpellsEntry text number at path ret envid recipients places stored behind → IsMail envelope → HasMailFields envelope path ret envid
-    → at ≤ LAST_SECOND → length stored ≤ text_limit path → list_any is_held places ≡ true
-    → IsQueued (numbered (message_from number at envelope recipients stored places))
-is_queued text number at path ret envid recipients places stored behind envelope spelled mail has moment short some =
-    let zipped = length-zip recipients places in
-    let many = spelled.as_many in
-    let least = spelled.are_placed.some in
-    let most = spelled.are_placed.within in
-    record {
-      number_is = refl;
-      number_fits = spelled.number_fits;
-      accept = record {
-        moment = moment;
-        envelope = record {
-          reverse_path = mail.reverse_path;
-          envid = mail.envid;
-          some = omega (arith, zipped, many, least);
-          within = omega (arith, zipped, many, most);
-          recipients = subst (AllByRecursion IsRecipient) (firsts-zip recipients places spelled.as_many) (firsts_valid (zip recipients places) spelled.are_placed.valid);
+module _ (version : Version) where
+  -- what stands behind a message's moment
+  abbrev behind_moment : ℕ × Message → List ℕ → List ℕ
+  behind_moment entry rest =
+      sized_2 entry.1.accept.envelope.reverse_path
+      ++ (ret_number entry.1.accept.envelope.ret
+      ∷ (sized_2 (written entry.1.accept.envelope.envid)
+      ++ (counted (placed_octets version) (zip entry.1.accept.envelope.recipients entry.1.places) ++ (sized_4 entry.1.accept.stored_text ++ rest))))
+
+  after_number : (text : List ℕ) (number : ℕ) (behind : List ℕ) (entry : ℕ × Message) (rest : List ℕ) → text ≡ octets_8 number ++ behind → number < 2 ^ 64
+      → IsQueuedBy version entry → text ≡ entry_octets version entry ++ rest → behind ≡ octets_8 entry.1.accept.at ++ behind_moment entry rest
+  after_number text number behind entry rest is small valid e =
+      let spelled = spells_entry version text rest entry valid e in
+      (code_8 number entry.0 behind _ small valid.is.number_fits (sym is ∙ spelled.text_is)).1
+
+  after_moment : (behind : List ℕ) (at : ℕ) (more : List ℕ) (entry : ℕ × Message) (rest : List ℕ) → behind ≡ octets_8 at ++ more → at < 2 ^ 64
+      → IsQueuedBy version entry → behind ≡ octets_8 entry.1.accept.at ++ behind_moment entry rest → more ≡ behind_moment entry rest
+  after_moment behind at more entry rest is small valid e =
+      let moment = valid.is.accept.moment in
+      (code_8 at entry.1.accept.at more _ small (omega (arith, moment)) (sym is ∙ e)).1
+
+  -- a message's fields of MAIL
+  mail_fields : (more : List ℕ) (entry : ℕ × Message) (rest text : List ℕ) → IsQueuedBy version entry → text ≡ entry_octets version entry ++ rest → more ≡ behind_moment entry rest
+      → SpellsFields more entry.1.accept.envelope.reverse_path (ret_number entry.1.accept.envelope.ret) (written entry.1.accept.envelope.envid)
+      (counted (placed_octets version) (zip entry.1.accept.envelope.recipients entry.1.places) ++ (sized_4 entry.1.accept.stored_text ++ rest))
+  mail_fields more entry rest text valid e is =
+      let spelled = spells_entry version text rest entry valid e in
+      record { text_is = is; first_fits = spelled.path_fits; second_fits = spelled.envid_fits }
+
+  -- where a field is missing
+  pub no_number : (text : List ℕ) → length text < 8 → HasNone (IsQueuedBy version) (entry_octets version) text
+  no_number text short = record {
+    none = λ entry rest valid e.
+        let spelled = spells_entry version text rest entry valid e in
+        let long = long_8 text entry.0 _ spelled.text_is in
+        omega (arith, short, long);
+  }
+
+  pub no_moment : (text : List ℕ) (number : ℕ) (behind : List ℕ) → text ≡ octets_8 number ++ behind → number < 2 ^ 64 → length behind < 8
+      → HasNone (IsQueuedBy version) (entry_octets version) text
+  no_moment text number behind is small short = record {
+    none = λ entry rest valid e.
+        let long = long_8 behind entry.1.accept.at _ (after_number text number behind entry rest is small valid e) in
+        omega (arith, short, long);
+  }
+
+  pub no_mail_fields : (text : List ℕ) (number : ℕ) (behind : List ℕ) (at : ℕ) (more : List ℕ) → text ≡ octets_8 number ++ behind → number < 2 ^ 64
+      → behind ≡ octets_8 at ++ more → at < 2 ^ 64 → HasNoFields more → HasNone (IsQueuedBy version) (entry_octets version) text
+  no_mail_fields text number behind at more is small then less out = record {
+    none = λ entry rest valid e.
+        out.none _ _ _ _
+        (mail_fields more entry rest text valid e (after_moment behind at more entry rest then less valid (after_number text number behind entry rest is small valid e)));
+  }
+
+  after_mail : (text : List ℕ) (number : ℕ) (behind : List ℕ) (at : ℕ) (more path : List ℕ) (ret : ℕ) (envid last : List ℕ) (entry : ℕ × Message) (rest : List ℕ)
+      → text ≡ octets_8 number ++ behind → number < 2 ^ 64 → behind ≡ octets_8 at ++ more → at < 2 ^ 64 → SpellsFields more path ret envid last
+      → IsQueuedBy version entry → text ≡ entry_octets version entry ++ rest
+      → last ≡ counted (placed_octets version) (zip entry.1.accept.envelope.recipients entry.1.places) ++ (sized_4 entry.1.accept.stored_text ++ rest)
+  after_mail text number behind at more path ret envid last entry rest is small then less fields valid e =
+      (fields_are_one more path ret envid last entry.1.accept.envelope.reverse_path (ret_number entry.1.accept.envelope.ret) (written entry.1.accept.envelope.envid) _ fields
+      (mail_fields more entry rest text valid e (after_moment behind at more entry rest then less valid (after_number text number behind entry rest is small valid e)))).3
+
+  pub no_placed : (text : List ℕ) (number : ℕ) (behind : List ℕ) (at : ℕ) (more path : List ℕ) (ret : ℕ) (envid last : List ℕ)
+      → text ≡ octets_8 number ++ behind → number < 2 ^ 64 → behind ≡ octets_8 at ++ more → at < 2 ^ 64 → SpellsFields more path ret envid last
+      → HasNoCounted (IsPlacedBy version) (placed_octets version) last → HasNone (IsQueuedBy version) (entry_octets version) text
+  no_placed text number behind at more path ret envid last is small then less fields out = record {
+    none = λ entry rest valid e.
+        out.none _ _ (spells_entry version text rest entry valid e).are_placed (after_mail text number behind at more path ret envid last entry rest is small then less fields valid e);
+  }
+
+  pub no_stored_text : (text : List ℕ) (number : ℕ) (behind : List ℕ) (at : ℕ) (more path : List ℕ) (ret : ℕ) (envid last : List ℕ) (recipients : List Recipient) (places : List Place) (end : List ℕ)
+      → text ≡ octets_8 number ++ behind → number < 2 ^ 64 → behind ≡ octets_8 at ++ more → at < 2 ^ 64 → SpellsFields more path ret envid last
+      → ReadsPlaced version last recipients places end → HasNoLong end → HasNone (IsQueuedBy version) (entry_octets version) text
+  no_stored_text text number behind at more path ret envid last recipients places end is small then less fields reads out = record {
+    none = λ entry rest valid e.
+        let spelled = spells_entry version text rest entry valid e in
+        let same = counted_are_one (IsPlacedBy version) (placed_octets version) (code_placed version) (zip recipients places) (zip entry.1.accept.envelope.recipients entry.1.places) end _
+        reads.are spelled.are_placed (sym reads.text_is ∙ after_mail text number behind at more path ret envid last entry rest is small then less fields valid e) in
+        out.none _ _ spelled.stored_fits same.1;
+  }
+
+  pub entry_spelled : (text : List ℕ) (number : ℕ) (behind : List ℕ) (at : ℕ) (more path : List ℕ) (ret : ℕ) (envid last : List ℕ) (recipients : List Recipient) (places : List Place)
+      (end stored rest : List ℕ) → text ≡ octets_8 number ++ behind → number < 2 ^ 64 → behind ≡ octets_8 at ++ more → at < 2 ^ 64 → SpellsFields more path ret envid last
+      → ReadsPlaced version last recipients places end → end ≡ sized_4 stored ++ rest → length stored < 2 ^ 32
+      → SpellsEntry version text number at path ret envid recipients places stored rest
+  entry_spelled text number behind at more path ret envid last recipients places end stored rest is small then less fields reads ends fits = record {
+    text_is = is ∙ ap (λ (l : List ℕ). octets_8 number ++ l) (then ∙ ap (λ (l : List ℕ). octets_8 at ++ l) fields.text_is)
+        ∙ ap (λ (l : List ℕ). octets_8 number ++ (octets_8 at ++ (sized_2 path ++ (ret ∷ (sized_2 envid ++ l)))))
+        (reads.text_is ∙ ap (λ (l : List ℕ). counted (placed_octets version) (zip recipients places) ++ l) ends);
+    number_fits = small;
+    at_fits = less;
+    path_fits = fields.first_fits;
+    envid_fits = fields.second_fits;
+    as_many = reads.as_many;
+    are_placed = reads.are;
+    stored_fits = fits;
+  }
+
+  -- where a field is not as it may be
+  pub bad_mail : (text : List ℕ) (number at : ℕ) (path : List ℕ) (ret : ℕ) (envid : List ℕ) (recipients : List Recipient) (places : List Place) (stored behind : List ℕ)
+      → SpellsEntry version text number at path ret envid recipients places stored behind → IsNoMail path ret envid → HasNone (IsQueuedBy version) (entry_octets version) text
+  bad_mail text number at path ret envid recipients places stored behind spelled out = record {
+    none = λ entry rest valid e.
+        let same = same_entry version text number at path ret envid recipients places stored behind entry rest spelled valid e in
+        out.none entry.1.accept.envelope (record { reverse_path = valid.is.accept.envelope.reverse_path; envid = valid.is.accept.envelope.envid })
+        (record { path_is = same.path_is; ret_is = same.ret_is; envid_is = same.envid_is });
+  }
+
+  pub bad_moment : (text : List ℕ) (number at : ℕ) (path : List ℕ) (ret : ℕ) (envid : List ℕ) (recipients : List Recipient) (places : List Place) (stored behind : List ℕ)
+      → SpellsEntry version text number at path ret envid recipients places stored behind → LAST_SECOND < at → HasNone (IsQueuedBy version) (entry_octets version) text
+  bad_moment text number at path ret envid recipients places stored behind spelled late = record {
+    none = λ entry rest valid e.
+        let same = (same_entry version text number at path ret envid recipients places stored behind entry rest spelled valid e).at_is in
+        let moment = valid.is.accept.moment in
+        omega (arith, same, moment, late);
+  }
+
+  pub bad_text : (text : List ℕ) (number at : ℕ) (path : List ℕ) (ret : ℕ) (envid : List ℕ) (recipients : List Recipient) (places : List Place) (stored behind : List ℕ)
+      → SpellsEntry version text number at path ret envid recipients places stored behind → text_limit path < length stored → HasNone (IsQueuedBy version) (entry_octets version) text
+  bad_text text number at path ret envid recipients places stored behind spelled long = record {
+    none = λ entry rest valid e.
+        let same = same_entry version text number at path ret envid recipients places stored behind entry rest spelled valid e in
+        let length_is = ap length same.stored_is in
+        let limit_is = ap text_limit same.path_is in
+        let within = valid.is.accept.text in
+        omega (arith, length_is, limit_is, within, long);
+  }
+
+  pub bad_places : (text : List ℕ) (number at : ℕ) (path : List ℕ) (ret : ℕ) (envid : List ℕ) (recipients : List Recipient) (places : List Place) (stored behind : List ℕ)
+      → SpellsEntry version text number at path ret envid recipients places stored behind → list_any is_held places ≡ false → HasNone (IsQueuedBy version) (entry_octets version) text
+  bad_places text number at path ret envid recipients places stored behind spelled none_held = record {
+    none = λ entry rest valid e.
+        let same = same_entry version text number at path ret envid recipients places stored behind entry rest spelled valid e in
+        false≢true (sym none_held ∙ ap (list_any is_held) same.places_are ∙ valid.is.some);
+  }
+
+  -- recipients and places of a row that may be stored
+  firsts_valid : (placed : List (Recipient × Place)) → AllByRecursion (IsPlacedBy version) placed → AllByRecursion IsRecipient (map (λ (p : Recipient × Place). p.0) placed)
+  firsts_valid [] all = tt
+  firsts_valid (one ∷ placed) all = (all.0.recipient, firsts_valid placed all.1)
+
+  seconds_valid : (placed : List (Recipient × Place)) → AllByRecursion (IsPlacedBy version) placed → AllByRecursion (IsPlaceBy version) (map (λ (p : Recipient × Place). p.1) placed)
+  seconds_valid [] all = tt
+  seconds_valid (one ∷ placed) all = (all.0.place, seconds_valid placed all.1)
+
+  -- places that may be stored by a version may be stored
+  are_places : (places : List Place) → AllByRecursion (IsPlaceBy version) places → AllByRecursion IsPlace places
+  are_places [] all = tt
+  are_places (place ∷ places) all = (all.0.is, are_places places all.1)
+
+  pub is_queued : (text : List ℕ) (number at : ℕ) (path : List ℕ) (ret : ℕ) (envid : List ℕ) (recipients : List Recipient) (places : List Place) (stored behind : List ℕ)
+      (envelope : Envelope) → SpellsEntry version text number at path ret envid recipients places stored behind → IsMail envelope → HasMailFields envelope path ret envid
+      → at ≤ LAST_SECOND → length stored ≤ text_limit path → list_any is_held places ≡ true
+      → IsQueuedBy version (numbered (message_from number at envelope recipients stored places))
+  is_queued text number at path ret envid recipients places stored behind envelope spelled mail has moment short some =
+      let zipped = length-zip recipients places in
+      let many = spelled.as_many in
+      let least = spelled.are_placed.some in
+      let most = spelled.are_placed.within in
+      let may = subst (AllByRecursion (IsPlaceBy version)) (seconds-zip recipients places spelled.as_many) (seconds_valid (zip recipients places) spelled.are_placed.valid) in
+      record {
+        is = record {
+          number_is = refl;
+          number_fits = spelled.number_fits;
+          accept = record {
+            moment = moment;
+            envelope = record {
+              reverse_path = mail.reverse_path;
+              envid = mail.envid;
+              some = omega (arith, zipped, many, least);
+              within = omega (arith, zipped, many, most);
+              recipients = subst (AllByRecursion IsRecipient) (firsts-zip recipients places spelled.as_many) (firsts_valid (zip recipients places) spelled.are_placed.valid);
+            };
+            text = let limit_is = ap text_limit has.path_is in omega (arith, limit_is, short);
+          };
+          as_many = spelled.as_many;
+          places = are_places places may;
+          some = some;
         };
-        text = let limit_is = ap text_limit has.path_is in omega (arith, limit_is, short);
-      };
-      as_many = spelled.as_many;
-      places = subst (AllByRecursion IsPlace) (seconds-zip recipients places spelled.as_many) (seconds_valid (zip recipients places) spelled.are_placed.valid);
-      some = some;
-    }
+        places = may;
+      }
 
-pub entry_is : (text : List ℕ) (number at : ℕ) (path : List ℕ) (ret : ℕ) (envid : List ℕ) (recipients : List Recipient) (places : List Place) (stored behind : List ℕ)
-    (envelope : Envelope) → SpellsEntry text number at path ret envid recipients places stored behind → HasMailFields envelope path ret envid
-    → text ≡ entry_octets (numbered (message_from number at envelope recipients stored places)) ++ behind
-entry_is text number at path ret envid recipients places stored behind envelope spelled has =
-    spelled_entry text behind (numbered (message_from number at envelope recipients stored places)) (record {
-      text_is = spelled.text_is
-          ∙ (λ i. octets_8 number
-          ++ (octets_8 at
-          ++ (sized_2 (has.path_is i)
-          ++ (has.ret_is i ∷ (sized_2 (has.envid_is i) ++ (counted placed_octets (zip recipients places) ++ (sized_4 stored ++ behind)))))));
-      number_fits = spelled.number_fits;
-      at_fits = spelled.at_fits;
-      path_fits = let same = ap length has.path_is in let fits = spelled.path_fits in omega (arith, same, fits);
-      envid_fits = let same = ap length has.envid_is in let fits = spelled.envid_fits in omega (arith, same, fits);
-      as_many = spelled.as_many;
-      are_placed = spelled.are_placed;
-      stored_fits = spelled.stored_fits;
-    })
+  pub entry_is : (text : List ℕ) (number at : ℕ) (path : List ℕ) (ret : ℕ) (envid : List ℕ) (recipients : List Recipient) (places : List Place) (stored behind : List ℕ)
+      (envelope : Envelope) → SpellsEntry version text number at path ret envid recipients places stored behind → HasMailFields envelope path ret envid
+      → text ≡ entry_octets version (numbered (message_from number at envelope recipients stored places)) ++ behind
+  entry_is text number at path ret envid recipients places stored behind envelope spelled has =
+      spelled_entry version text behind (numbered (message_from number at envelope recipients stored places)) (record {
+        text_is = spelled.text_is
+            ∙ (λ i. octets_8 number
+            ++ (octets_8 at
+            ++ (sized_2 (has.path_is i)
+            ++ (has.ret_is i ∷ (sized_2 (has.envid_is i) ++ (counted (placed_octets version) (zip recipients places) ++ (sized_4 stored ++ behind)))))));
+        number_fits = spelled.number_fits;
+        at_fits = spelled.at_fits;
+        path_fits = let same = ap length has.path_is in let fits = spelled.path_fits in omega (arith, same, fits);
+        envid_fits = let same = ap length has.envid_is in let fits = spelled.envid_fits in omega (arith, same, fits);
+        as_many = spelled.as_many;
+        are_placed = spelled.are_placed;
+        stored_fits = spelled.stored_fits;
+      })
 
--- the message that was made of the fields
-pub entry_found : (text : List ℕ) (number at : ℕ) (path : List ℕ) (ret : ℕ) (envid : List ℕ) (recipients : List Recipient) (places : List Place) (stored behind : List ℕ)
-    (given envelope : Envelope) (moment : ℕ) (copy : List ℕ) → SpellsEntry text number at path ret envid recipients places stored behind
-    → IsMail given → HasMailFields given path ret envid → moment ≡ at → moment ≤ LAST_SECOND → length stored ≤ text_limit path → list_any is_held places ≡ true
-    → envelope ≡ given → copy ≡ stored
-    → IsQueued (numbered (message_from number moment envelope recipients copy places))
-    × (text ≡ entry_octets (numbered (message_from number moment envelope recipients copy places)) ++ behind)
-entry_found text number at path ret envid recipients places stored behind given envelope moment copy spelled mail has moment_is late short some envelope_is copy_is =
-    let made : message_from number at given recipients stored places ≡ message_from number moment envelope recipients copy places =
-    (λ i. message_from number (sym moment_is i) (sym envelope_is i) recipients (sym copy_is i) places) in (
-      subst (λ (m : Message). IsQueued (numbered m)) made
-          (is_queued text number at path ret envid recipients places stored behind given spelled mail has (omega (arith, moment_is, late)) short some),
-      subst (λ (m : Message). text ≡ entry_octets (numbered m) ++ behind) made
-          (entry_is text number at path ret envid recipients places stored behind given spelled has),
-    )
+  -- the message that was made of the fields
+  pub entry_found : (text : List ℕ) (number at : ℕ) (path : List ℕ) (ret : ℕ) (envid : List ℕ) (recipients : List Recipient) (places : List Place) (stored behind : List ℕ)
+      (given envelope : Envelope) (moment : ℕ) (copy : List ℕ) → SpellsEntry version text number at path ret envid recipients places stored behind
+      → IsMail given → HasMailFields given path ret envid → moment ≡ at → moment ≤ LAST_SECOND → length stored ≤ text_limit path → list_any is_held places ≡ true
+      → envelope ≡ given → copy ≡ stored
+      → IsQueuedBy version (numbered (message_from number moment envelope recipients copy places))
+      × (text ≡ entry_octets version (numbered (message_from number moment envelope recipients copy places)) ++ behind)
+  entry_found text number at path ret envid recipients places stored behind given envelope moment copy spelled mail has moment_is late short some envelope_is copy_is =
+      let made : message_from number at given recipients stored places ≡ message_from number moment envelope recipients copy places =
+      (λ i. message_from number (sym moment_is i) (sym envelope_is i) recipients (sym copy_is i) places) in (
+        subst (λ (m : Message). IsQueuedBy version (numbered m)) made
+            (is_queued text number at path ret envid recipients places stored behind given spelled mail has (omega (arith, moment_is, late)) short some),
+        subst (λ (m : Message). text ≡ entry_octets version (numbered m) ++ behind) made
+            (entry_is text number at path ret envid recipients places stored behind given spelled has),
+      )
 
--- a message out of a row's numbers
-pub none_in : (text : List ℕ) (least next : ℕ) → HasNone IsQueued entry_octets text → HasNone (IsQueuedIn least next) entry_octets text
-none_in text least next out = record { none = λ entry rest valid e. out.none entry rest valid.queued e }
+  -- a message out of a row's numbers
+  pub none_in : (text : List ℕ) (least next : ℕ) → HasNone (IsQueuedBy version) (entry_octets version) text → HasNone (IsQueuedIn version least next) (entry_octets version) text
+  none_in text least next out = record { none = λ entry rest valid e. out.none entry rest valid.queued e }
 
-pub out_of_row : (text : List ℕ) (least next : ℕ) (message : Message) (behind : List ℕ) → IsQueued (numbered message) → text ≡ entry_octets (numbered message) ++ behind
-    → (least ≤ message.number → message.number < next → ⊥) → HasNone (IsQueuedIn least next) entry_octets text
-out_of_row text least next message behind valid is out = record {
-  none = λ entry rest also e.
-      let same = code_entry (numbered message) entry behind rest valid also.queued (sym is ∙ e) in
-      let number_is = ap (λ (n : ℕ × Message). n.0) same.0 in
-      let low = also.low in
-      let high = also.high in
-      out (omega (arith, number_is, low)) (omega (arith, number_is, high));
-}
+  pub out_of_row : (text : List ℕ) (least next : ℕ) (message : Message) (behind : List ℕ) → IsQueuedBy version (numbered message) → text ≡ entry_octets version (numbered message) ++ behind
+      → (least ≤ message.number → message.number < next → ⊥) → HasNone (IsQueuedIn version least next) (entry_octets version) text
+  out_of_row text least next message behind valid is out = record {
+    none = λ entry rest also e.
+        let same = code_entry version (numbered message) entry behind rest valid also.queued (sym is ∙ e) in
+        let number_is = ap (λ (n : ℕ × Message). n.0) same.0 in
+        let low = also.low in
+        let high = also.high in
+        out (omega (arith, number_is, low)) (omega (arith, number_is, high));
+  }

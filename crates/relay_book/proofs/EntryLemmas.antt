@@ -297,7 +297,7 @@ ruled_comes outcome least next (entry ∷ entries) number message rise is =
         → (entry.0 ≡ outcome.message) ⊎ (entry.0 ≡ outcome.message → ⊥) → Comes (entry ∷ entries) number message
     by more (inl same) =
         kept_or_not (λ l. message_of l number ≡ Some message → Comes (entry ∷ entries) number message) entry.0 (message_after outcome entry.1) entries
-        (λ _ is. front (message_after outcome entry.1) entries refl (ruled_length entry.1.accept outcome.at entry.1.places outcome.rulings) refl
+        (λ _ is. front (message_after outcome entry.1) entries refl (ruled_length outcome.version entry.1.accept outcome.at entry.1.places outcome.rulings) refl
         (λ there _. comes_same entries number message there) is (cases_eq entry.0 number))
         (λ _ there. skip
         (λ here. none_some message (sym (none_before (suc entry.0) next entries number rise.1 (omega (arith, here))) ∙ there))

@@ -1,23 +1,39 @@
 -- A first body is a snapshot or the record of a first change, and never both.
-use Rattle.std.proofs.Common.{◌≡◌, inl, inr, ℕ, List, Result, Ok, Err, OnOk, refl, sym, ◌∙◌, subst, arith}
+use Rattle.std.proofs.Common.{◌≡◌, ◌⊎◌, ◌==◌, ◌||◌, inl, inr, ℕ, Bool, true, false, List, [], ◌∷◌, Result, Ok, Err, OnOk, refl, sym, ap, ◌∙◌, subst, arith}
+use Rattle.std.proofs.lemmas.Bool.{cases_Bool, eqb-true, false≢true}
+use Rattle.relay_book.specs.declared.version.Version.{Version}
+use Rattle.relay_book.specs.declared.version.Version.TheVariants.{WithoutDelay, WithDelay}
 use Rattle.relay_book.specs.declared.change.Change.{Change}
-use Rattle.relay_book.specs.declared.change.Change.TheVariants.{Accept, Outcome}
 use Rattle.relay_book.specs.Record.{IsChange, IsNoRecord, encode}
 use Rattle.relay_book.specs.Queue.{Queue, FitsQueue, empty_queue, step}
-use Rattle.relay_book.specs.Snapshot.{IsNoSnapshot, IsQueue, IsSnapshotOf, snapshot}
-use Rattle.relay_book.specs.SnapshotFields.{IsOfSnapshot}
+use Rattle.relay_book.specs.Snapshot.{IsNoSnapshot, IsQueue, IsSnapshotOf, snapshot_kind}
+use Rattle.relay_book.specs.SnapshotFields.{is_of_snapshot}
 use Rattle.relay_book.specs.StandsFor.{ReadsBody, ReadsFirst, ReadsNoBody, ReadsNoFirst}
 use Rattle.relay_book.proofs.ChangeFieldLemmas.{encoding_is_one}
+use Rattle.relay_book.proofs.CodeLemmas.{first_of}
+use Rattle.relay_book.proofs.SnapshotLemmas.{kind_of}
 use Rattle.relay_book.proofs.QueueLemmas.{step_is_queue}
-use Rattle.relay_book.proofs.StandLemmas.{fits_is_change}
+use Rattle.relay_book.proofs.StandLemmas.{fits_is_change, other_kinds}
 
-is_of_snapshot : (octets : List ℕ) (queue : Queue) → IsSnapshotOf octets queue → IsOfSnapshot octets
-unfolding snapshot
-is_of_snapshot octets queue is = subst IsOfSnapshot (sym is.octets_are) refl
+kind_is_of_snapshot : (octets : List ℕ) (version : Version) → first_of octets ≡ snapshot_kind version → is_of_snapshot octets ≡ true
+kind_is_of_snapshot [] WithoutDelay e = absurd (omega (arith, e))
+kind_is_of_snapshot [] WithDelay e = absurd (omega (arith, e))
+kind_is_of_snapshot (octet ∷ octets) WithoutDelay e = ap (λ n. n == 3 || n == 5) e
+kind_is_of_snapshot (octet ∷ octets) WithDelay e = ap (λ n. n == 3 || n == 5) e
 
-of_no_record : (octets : List ℕ) (change : Change) → octets ≡ encode change → IsOfSnapshot octets → ⊥
-of_no_record octets (Accept accept) is of = let same = subst IsOfSnapshot is of in omega (arith, same)
-of_no_record octets (Outcome outcome) is of = let same = subst IsOfSnapshot is of in omega (arith, same)
+snapshot_is_of_snapshot : (octets : List ℕ) (queue : Queue) → IsSnapshotOf octets queue → is_of_snapshot octets ≡ true
+snapshot_is_of_snapshot octets queue is = kind_is_of_snapshot octets is.0 (kind_of is.0 octets queue is.1)
+
+of_version : (octets : List ℕ) → is_of_snapshot octets ≡ true → (version : Version) × (snapshot_kind version ≡ first_of octets)
+of_version [] of = absurd (false≢true of)
+of_version (octet ∷ octets) of = by (cases_Bool (octet == 3))
+  where
+    by : ((octet == 3) ≡ true) ⊎ ((octet == 3) ≡ false) → (version : Version) × (snapshot_kind version ≡ octet)
+    by (inl first) = (WithoutDelay, sym (eqb-true octet 3 first))
+    by (inr other) = (WithDelay, sym (eqb-true octet 5 (sym (ap (λ (b : Bool). b || octet == 5) other) ∙ of)))
+
+of_no_record : (octets : List ℕ) (change : Change) → octets ≡ encode change → is_of_snapshot octets ≡ true → ⊥
+of_no_record octets change is of = let version = of_version octets of in other_kinds version.0 change (version.1 ∙ ap first_of is)
 
 pub snapshot_first : (body : List ℕ) (left : Queue) → IsSnapshotOf body left → ReadsFirst body left
 snapshot_first body left is = inl is
@@ -25,18 +41,18 @@ snapshot_first body left is = inl is
 pub change_first : (body : List ℕ) (queue left : Queue) → queue ≡ empty_queue → ReadsBody queue body left → ReadsFirst body left
 change_first body queue left is reads = inr (subst (λ (q : Queue). ReadsBody q body left) is reads)
 
-pub no_snapshot_first : (body : List ℕ) → IsOfSnapshot body → IsNoSnapshot body → ReadsNoFirst body
+pub no_snapshot_first : (body : List ℕ) → is_of_snapshot body ≡ true → IsNoSnapshot body → ReadsNoFirst body
 no_snapshot_first body of out = record { none = by }
   where
     by : (left : Queue) → ReadsFirst body left → ⊥
     by left (inl snapshot) = out.none left snapshot
     by left (inr reads) = of_no_record body reads.change reads.body_is of
 
-pub no_change_first : (body : List ℕ) (queue : Queue) → queue ≡ empty_queue → (IsOfSnapshot body → ⊥) → ReadsNoBody queue body → ReadsNoFirst body
+pub no_change_first : (body : List ℕ) (queue : Queue) → queue ≡ empty_queue → is_of_snapshot body ≡ false → ReadsNoBody queue body → ReadsNoFirst body
 no_change_first body queue is other out = record { none = by }
   where
     by : (left : Queue) → ReadsFirst body left → ⊥
-    by left (inl snapshot) = other (is_of_snapshot body left snapshot)
+    by left (inl snapshot) = false≢true (sym other ∙ snapshot_is_of_snapshot body left snapshot)
     by left (inr reads) = out.none left (subst (λ (q : Queue). ReadsBody q body left) (sym is) reads)
 
 -- where a body records no change that fits

@@ -1,5 +1,5 @@
 -- What leaves by a change, place by place.
-use Rattle.std.proofs.Common.{◌≡◌, ◌⊎◌, inl, inr, ℕ, List, [], ◌∷◌, ◌++◌, Option, None, Some, MatchOption, refl, sym, subst, ap, ◌∙◌, arith, Contains}
+use Rattle.std.proofs.Common.{◌≡◌, ◌⊎◌, inl, inr, ℕ, Bool, true, false, if◌then◌else◌, append_assoc, List, [], ◌∷◌, ◌++◌, Option, None, Some, MatchOption, refl, sym, subst, ap, ◌∙◌, arith, Contains}
 use Rattle.std.specs.Option.{option_map_or}
 use Rattle.std.proofs.lemmas.List.Elements.{Contains-append_cases, Contains-append_left, Contains-append_right}
 use Rattle.relay_book.specs.declared.change.Accept.{Accept as AcceptFields}
@@ -10,9 +10,13 @@ use Rattle.relay_book.specs.declared.change.Change.{Change}
 use Rattle.relay_book.specs.declared.change.Change.TheVariants.{Accept, Outcome}
 use Rattle.relay_book.specs.declared.message.Message.{Message}
 use Rattle.relay_book.specs.declared.fate.Way.{Way}
+use Rattle.relay_book.specs.declared.fate.PlaceStep.{PlaceStep}
+use Rattle.relay_book.specs.declared.fate.PlaceStep.TheVariants as made
+use Rattle.relay_book.specs.declared.version.Version.{Version}
+use Rattle.relay_book.specs.declared.due_report.DueReport.{DueReport}
 use Rattle.relay_book.specs.DueReport.{fate_of, way_of}
-use Rattle.relay_book.specs.Queue.{FitsMessage, empty_queue, message_of, queue_of}
-use Rattle.relay_book.specs.Marks.{LeavesAt, LeavingIsListed, QueueLeaves, leaving, leaving_by, message_at, ruled_message}
+use Rattle.relay_book.specs.Queue.{FitsMessage, due_report_at, empty_queue, message_of, queue_of, tells_delay}
+use Rattle.relay_book.specs.Marks.{LeavesAt, LeavingIsListed, QueueLeaves, StepsLeave, if_left, leaving, leaving_by, left_among, place_step, place_steps_by, step_of, message_at, ruled_message}
 use Rattle.relay_book.proofs.PlaceLemmas.{in_none, in_cons, head_in, tail_in, none_some, some_is}
 use Rattle.relay_book.proofs.ChangeLemmas.{Back, change_last, joined, last, message_other}
 use Rattle.relay_book.proofs.MarkLaws.{fits_before, stand}
@@ -137,3 +141,37 @@ leaving_is_listed changes change fitting number place way = (there, back change 
               ruling = found.ruling;
               leaves = found.leaves;
             }
+
+-- what a change makes of places, and what leaves by it
+joined_left : (steps more : List (ℕ × PlaceStep)) → left_among (steps ++ more) ≡ left_among steps ++ left_among more
+joined_left [] more = refl
+joined_left (one ∷ steps) more =
+    ap (λ (l : List (ℕ × Way)). if_left one.0 one.1 ++ l) (joined_left steps more) ∙ sym (append_assoc (if_left one.0 one.1) (left_among steps) (left_among more))
+
+one_left : (place : ℕ) (way : Option Way) (due : Option DueReport)
+    → left_among (option_map_or (λ one. (place, one) ∷ []) (step_of way due) []) ≡ option_map_or (λ way. (place, way) ∷ []) way []
+one_left place (Some way) due = refl
+one_left place None due = by (tells_delay due)
+  where
+    by : (delays : Bool) → left_among (option_map_or (λ one. (place, one) ∷ []) (if delays then Some made.Delayed else None) []) ≡ []
+    by true = refl
+    by false = refl
+
+steps_by_leave : (version : Version) (message : Message) (at : ℕ) (rulings : List Ruling)
+    → left_among (place_steps_by version message at rulings) ≡ leaving_by message.accept at rulings
+steps_by_leave version message at [] = refl
+steps_by_leave version message at (ruling ∷ rulings) =
+    joined_left (option_map_or (λ one. (ruling.place, one) ∷ []) (place_step version message at ruling) []) (place_steps_by version message at rulings)
+    ∙ (λ i.
+    one_left ruling.place (way_of (fate_of message.accept.at at ruling.verdict)) (due_report_at version message at ruling) i
+    ++ steps_by_leave version message at rulings i)
+
+pub steps_leave : StepsLeave
+steps_leave queue (Accept accept) = refl
+steps_leave queue (Outcome outcome) = by (message_of queue.messages outcome.message)
+  where
+    by : (o : Option Message)
+        → left_among (option_map_or (λ message. place_steps_by outcome.version message outcome.at outcome.rulings) o [])
+        ≡ option_map_or (λ message. leaving_by message.accept outcome.at outcome.rulings) o []
+    by None = refl
+    by (Some message) = steps_by_leave outcome.version message outcome.at outcome.rulings

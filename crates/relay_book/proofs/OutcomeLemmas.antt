@@ -1,6 +1,7 @@
 -- The fields of an outcome are one.
 use Rattle.std.proofs.Common.{◌≡◌, ℕ, ◌<◌, ◌≤◌, ◌^◌, List, [], ◌++◌, length, sym, subst, ap, ◌∙◌, arith, append-nil}
 use Rattle.relay_trace.specs.declared.moment.TheConstants.{LAST_SECOND}
+use Rattle.relay_book.specs.declared.version.Version.{Version}
 use Rattle.relay_book.specs.declared.change.Outcome.{Outcome as OutcomeFields}
 use Rattle.relay_book.specs.declared.change.Ruling.{Ruling}
 use Rattle.relay_book.specs.Record.{IsOutcome, IsRuling, MayBeHop, counted, octets_2, octets_4, octets_8, outcome_octets, ruling_octets, sized_2, sized_4}
@@ -151,10 +152,10 @@ bad_report text message at hop rulings report spelled long = record {
       omega (arith, same, limit, long);
 }
 
-pub is_outcome : (text : List ℕ) (message at : ℕ) (hop : List ℕ) (rulings : List Ruling) (report : List ℕ) → SpellsOutcome text message at hop rulings report
+pub is_outcome : (version : Version) (text : List ℕ) (message at : ℕ) (hop : List ℕ) (rulings : List Ruling) (report : List ℕ) → SpellsOutcome text message at hop rulings report
     → at ≤ LAST_SECOND → MayBeHop hop → length report ≤ 2 ^ 26
-    → IsOutcome (record { message = message; at = at; hop = hop; rulings = rulings; report = report })
-is_outcome text message at hop rulings report spelled moment may short = record {
+    → IsOutcome (record { version = version; message = message; at = at; hop = hop; rulings = rulings; report = report })
+is_outcome version text message at hop rulings report spelled moment may short = record {
   message = spelled.message_fits;
   moment = moment;
   hop = may;
@@ -164,9 +165,9 @@ is_outcome text message at hop rulings report spelled moment may short = record 
   report = short;
 }
 
-pub outcome_is : (text : List ℕ) (message at : ℕ) (hop : List ℕ) (rulings : List Ruling) (report : List ℕ) → SpellsOutcome text message at hop rulings report
-    → text ≡ outcome_octets (record { message = message; at = at; hop = hop; rulings = rulings; report = report })
-outcome_is text message at hop rulings report spelled = spelled.text_is
+pub outcome_is : (version : Version) (text : List ℕ) (message at : ℕ) (hop : List ℕ) (rulings : List Ruling) (report : List ℕ) → SpellsOutcome text message at hop rulings report
+    → text ≡ outcome_octets (record { version = version; message = message; at = at; hop = hop; rulings = rulings; report = report })
+outcome_is version text message at hop rulings report spelled = spelled.text_is
 
 pub may_be_stored : (outcome : OutcomeFields) → outcome.message < 2 ^ 64 → outcome.at ≤ LAST_SECOND → MayBeHop outcome.hop → AreSome IsRuling outcome.rulings → length outcome.report ≤ 2 ^ 26 → IsOutcome outcome
 may_be_stored outcome message moment hop some report = record { message = message; moment = moment; hop = hop; some = some.some; within = some.within; rulings = some.valid; report = report }

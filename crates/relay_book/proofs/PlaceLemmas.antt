@@ -3,15 +3,17 @@ use Rattle.std.proofs.Common.{◌≡◌, ◌⊎◌, inl, inr, ℕ, zero, suc, �
 use Rattle.std.specs.Option.{option_map_or}
 use Rattle.std.proofs.lemmas.Bool.{cond-true, cond-false, cases_eq, eq-eqb, ne_eqb, false≢true}
 use Rattle.std.proofs.lemmas.List.Elements.{Contains-append_cases, Contains-push_cases, Contains-append_left, Contains-append_right, Contains-push}
+use Rattle.relay_book.specs.declared.version.Version.{Version}
 use Rattle.relay_book.specs.declared.change.Accept.{Accept as AcceptFields}
 use Rattle.relay_book.specs.declared.change.Ruling.{Ruling}
 use Rattle.relay_book.specs.declared.change.Verdict.{Verdict}
 use Rattle.relay_book.specs.declared.message.Place.{Place}
 use Rattle.relay_book.specs.declared.fate.Fate.{Fate}
-use Rattle.relay_book.specs.declared.fate.Fate.TheVariants.{Waits, Failed, Relayed}
+use Rattle.relay_book.specs.declared.fate.Fate.TheVariants.{Waits, Late, Failed, Relayed}
 use Rattle.relay_book.specs.declared.fate.Way.{Way}
-use Rattle.relay_book.specs.DueReport.{fate_of, way_of}
-use Rattle.relay_book.specs.Queue.{AreRulings, holds_at, is_held, place_after, places_after, places_ruled}
+use Rattle.relay_book.specs.declared.due_report.DueReport.{DueReport}
+use Rattle.relay_book.specs.DueReport.{due_for, fate_of, way_of}
+use Rattle.relay_book.specs.Queue.{AreRulings, holds_at, is_held, place_after, place_ruled, places_after, places_ruled}
 
 -- elements of a list
 pub in_none : {A : Type 0} (x : A) → Contains [] x → ⊥
@@ -66,55 +68,53 @@ set_other (x ∷ xs) zero (suc m) place out = refl
 set_other (x ∷ xs) (suc n) zero place out = refl
 set_other (x ∷ xs) (suc n) (suc m) place out = set_other xs n m place (λ same. out (ap suc same))
 
-held_after : (at : ℕ) (place : Place) (fate : Fate) → is_held (place_after at place fate) ≡ stays (way_of fate)
-held_after at place Waits = refl
-held_after at place Failed = refl
-held_after at place (Relayed dsn) = refl
+held_after : (at : ℕ) (place : Place) (fate : Fate) (due : Option DueReport) → is_held (place_after at place fate due) ≡ stays (way_of fate)
+held_after at place Waits due = refl
+held_after at place Late due = refl
+held_after at place Failed due = refl
+held_after at place (Relayed dsn) due = refl
 
-after_here : (accept : AcceptFields) (at : ℕ) (places : List Place) (ruling : Ruling) → holds_at places ruling.place ≡ true
-    → holds_at (places_after accept at places ruling) ruling.place ≡ stays (way_of (fate_of accept.at at ruling.verdict))
-after_here accept at places ruling holds = by (slice_get places ruling.place) holds
+after_here : (version : Version) (accept : AcceptFields) (at : ℕ) (places : List Place) (ruling : Ruling) → holds_at places ruling.place ≡ true
+    → holds_at (places_after version accept at places ruling) ruling.place ≡ stays (way_of (fate_of accept.at at ruling.verdict))
+after_here version accept at places ruling holds = by (slice_get places ruling.place) holds
   where
-    after : Place → Place
-    after place = place_after at place (fate_of accept.at at ruling.verdict)
-
     by : (o : Option Place) → option_map_or is_held o false ≡ true
-        → holds_at (option_map_or (λ place. slice_set places ruling.place (place_after at place (fate_of accept.at at ruling.verdict))) o places) ruling.place
+        → holds_at (option_map_or (λ place. slice_set places ruling.place (place_ruled version accept at place ruling)) o places) ruling.place
         ≡ stays (way_of (fate_of accept.at at ruling.verdict))
     by None h = absurd (false≢true h)
     by (Some place) h =
-        set_here places ruling.place (place_after at place (fate_of accept.at at ruling.verdict)) holds
-        ∙ held_after at place (fate_of accept.at at ruling.verdict)
+        set_here places ruling.place (place_ruled version accept at place ruling) holds
+        ∙ held_after at place (fate_of accept.at at ruling.verdict) (due_for version accept at place ruling)
 
-after_other : (accept : AcceptFields) (at : ℕ) (places : List Place) (ruling : Ruling) (m : ℕ) → (ruling.place ≡ m → ⊥)
-    → holds_at (places_after accept at places ruling) m ≡ holds_at places m
-after_other accept at places ruling m out = by (slice_get places ruling.place)
+after_other : (version : Version) (accept : AcceptFields) (at : ℕ) (places : List Place) (ruling : Ruling) (m : ℕ) → (ruling.place ≡ m → ⊥)
+    → holds_at (places_after version accept at places ruling) m ≡ holds_at places m
+after_other version accept at places ruling m out = by (slice_get places ruling.place)
   where
     by : (o : Option Place)
-        → holds_at (option_map_or (λ place. slice_set places ruling.place (place_after at place (fate_of accept.at at ruling.verdict))) o places) m
+        → holds_at (option_map_or (λ place. slice_set places ruling.place (place_ruled version accept at place ruling)) o places) m
         ≡ holds_at places m
     by None = refl
-    by (Some place) = set_other places ruling.place m (place_after at place (fate_of accept.at at ruling.verdict)) out
+    by (Some place) = set_other places ruling.place m (place_ruled version accept at place ruling) out
 
-after_length : (accept : AcceptFields) (at : ℕ) (places : List Place) (ruling : Ruling) → length (places_after accept at places ruling) ≡ length places
-after_length accept at places ruling = by (slice_get places ruling.place)
+after_length : (version : Version) (accept : AcceptFields) (at : ℕ) (places : List Place) (ruling : Ruling) → length (places_after version accept at places ruling) ≡ length places
+after_length version accept at places ruling = by (slice_get places ruling.place)
   where
     by : (o : Option Place)
-        → length (option_map_or (λ place. slice_set places ruling.place (place_after at place (fate_of accept.at at ruling.verdict))) o places)
+        → length (option_map_or (λ place. slice_set places ruling.place (place_ruled version accept at place ruling)) o places)
         ≡ length places
     by None = refl
-    by (Some place) = length-set places ruling.place (place_after at place (fate_of accept.at at ruling.verdict))
+    by (Some place) = length-set places ruling.place (place_ruled version accept at place ruling)
 
-pub ruled_length : (accept : AcceptFields) (at : ℕ) (places : List Place) (rulings : List Ruling) → length (places_ruled accept at places rulings) ≡ length places
-ruled_length accept at places [] = refl
-ruled_length accept at places (ruling ∷ rulings) =
-    ruled_length accept at (places_after accept at places ruling) rulings ∙ after_length accept at places ruling
+pub ruled_length : (version : Version) (accept : AcceptFields) (at : ℕ) (places : List Place) (rulings : List Ruling) → length (places_ruled version accept at places rulings) ≡ length places
+ruled_length version accept at places [] = refl
+ruled_length version accept at places (ruling ∷ rulings) =
+    ruled_length version accept at (places_after version accept at places ruling) rulings ∙ after_length version accept at places ruling
 
-pub rulings_stay : (accept : AcceptFields) (at : ℕ) (places : List Place) (ruling : Ruling) (least : ℕ) (rulings : List Ruling)
-    → ruling.place < least → AreRulings places least rulings → AreRulings (places_after accept at places ruling) least rulings
-rulings_stay accept at places ruling least [] below are = tt
-rulings_stay accept at places ruling least (next ∷ rulings) below are =
-    (are.0, after_other accept at places ruling next.place (λ same. omega (arith, same, below, are.0)) ∙ are.1, rulings_stay accept at places ruling (next.place + 1) rulings (omega (arith, below, are.0)) are.2)
+pub rulings_stay : (version : Version) (accept : AcceptFields) (at : ℕ) (places : List Place) (ruling : Ruling) (least : ℕ) (rulings : List Ruling)
+    → ruling.place < least → AreRulings places least rulings → AreRulings (places_after version accept at places ruling) least rulings
+rulings_stay version accept at places ruling least [] below are = tt
+rulings_stay version accept at places ruling least (next ∷ rulings) below are =
+    (are.0, after_other version accept at places ruling next.place (λ same. omega (arith, same, below, are.0)) ∙ are.1, rulings_stay version accept at places ruling (next.place + 1) rulings (omega (arith, below, are.0)) are.2)
 
 none_below : (since at : ℕ) (places : List Place) (least : ℕ) (rulings : List Ruling) (place : ℕ)
     → AreRulings places least rulings → place < least → way_among since at rulings place ≡ None
@@ -127,38 +127,38 @@ and_true : (b : Bool) → (b && true) ≡ b
 and_true true = refl
 and_true false = refl
 
-ruled_step : (accept : AcceptFields) (at : ℕ) (places : List Place) (ruling : Ruling) (rest : Option Way) (place : ℕ)
+ruled_step : (version : Version) (accept : AcceptFields) (at : ℕ) (places : List Place) (ruling : Ruling) (rest : Option Way) (place : ℕ)
     → holds_at places ruling.place ≡ true → (ruling.place ≡ place → rest ≡ None)
-    → (holds_at (places_after accept at places ruling) place && stays rest)
+    → (holds_at (places_after version accept at places ruling) place && stays rest)
     ≡ (holds_at places place && stays (if ruling.place == place then way_of (fate_of accept.at at ruling.verdict) else rest))
-ruled_step accept at places ruling rest place holds none = by (cases_eq ruling.place place)
+ruled_step version accept at places ruling rest place holds none = by (cases_eq ruling.place place)
   where
     here : Option Way
     here = way_of (fate_of accept.at at ruling.verdict)
 
     by : (ruling.place ≡ place) ⊎ (ruling.place ≡ place → ⊥)
-        → (holds_at (places_after accept at places ruling) place && stays rest)
+        → (holds_at (places_after version accept at places ruling) place && stays rest)
         ≡ (holds_at places place && stays (if ruling.place == place then way_of (fate_of accept.at at ruling.verdict) else rest))
     by (inl same) =
         let held = subst (λ n. holds_at places n ≡ true) same holds in
         let there = cond-true (ruling.place == place) here rest (eq-eqb ruling.place place same) in
-        ap (λ o. holds_at (places_after accept at places ruling) place && stays o) (none same)
-        ∙ and_true (holds_at (places_after accept at places ruling) place)
-        ∙ subst (λ n. holds_at (places_after accept at places ruling) n ≡ stays here) same (after_here accept at places ruling holds)
+        ap (λ o. holds_at (places_after version accept at places ruling) place && stays o) (none same)
+        ∙ and_true (holds_at (places_after version accept at places ruling) place)
+        ∙ subst (λ n. holds_at (places_after version accept at places ruling) n ≡ stays here) same (after_here version accept at places ruling holds)
         ∙ sym (λ i. held i && stays (there i))
     by (inr out) =
         let there = cond-false (ruling.place == place) here rest (ne_eqb ruling.place place out) in
-        (λ i. after_other accept at places ruling place out i && stays (sym there i))
+        (λ i. after_other version accept at places ruling place out i && stays (sym there i))
 
 -- behind an outcome those places are held that were and didn't leave
-pub ruled_holds : (accept : AcceptFields) (at : ℕ) (places : List Place) (least : ℕ) (rulings : List Ruling) (place : ℕ)
+pub ruled_holds : (version : Version) (accept : AcceptFields) (at : ℕ) (places : List Place) (least : ℕ) (rulings : List Ruling) (place : ℕ)
     → AreRulings places least rulings
-    → holds_at (places_ruled accept at places rulings) place ≡ (holds_at places place && stays (way_among accept.at at rulings place))
-ruled_holds accept at places least [] place are = sym (and_true (holds_at places place))
-ruled_holds accept at places least (ruling ∷ rulings) place are =
-    let stay = rulings_stay accept at places ruling (ruling.place + 1) rulings (omega arith) are.2 in
-    ruled_holds accept at (places_after accept at places ruling) (ruling.place + 1) rulings place stay
-    ∙ ruled_step accept at places ruling (way_among accept.at at rulings place) place are.1
+    → holds_at (places_ruled version accept at places rulings) place ≡ (holds_at places place && stays (way_among accept.at at rulings place))
+ruled_holds version accept at places least [] place are = sym (and_true (holds_at places place))
+ruled_holds version accept at places least (ruling ∷ rulings) place are =
+    let stay = rulings_stay version accept at places ruling (ruling.place + 1) rulings (omega arith) are.2 in
+    ruled_holds version accept at (places_after version accept at places ruling) (ruling.place + 1) rulings place stay
+    ∙ ruled_step version accept at places ruling (way_among accept.at at rulings place) place are.1
     (λ same. none_below accept.at at places (ruling.place + 1) rulings place are.2 (omega (arith, same)))
 
 -- a way that the rulings give is one of theirs

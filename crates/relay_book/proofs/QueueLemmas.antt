@@ -1,24 +1,26 @@
 -- The queue that a list of changes leaves may be stored.
-use Rattle.std.proofs.Common.{◌≡◌, ◌⊎◌, inl, inr, ℕ, zero, suc, ◌+◌, ◌<◌, ◌≤◌, ◌^◌, ◌==◌, min, Bool, true, false, if◌then◌else◌, List, [], ◌∷◌, ◌++◌, fold, length, map, slice_get, slice_set, Option, None, Some, MatchOption, refl, sym, subst, ap, ◌∙◌, arith, append-nil}
+use Rattle.std.proofs.Common.{◌≡◌, ◌⊎◌, inl, inr, ℕ, zero, suc, ◌+◌, ◌<◌, ◌≤◌, ◌^◌, ◌==◌, min, Bool, true, false, ◌||◌, if◌then◌else◌, List, [], ◌∷◌, ◌++◌, fold, length, map, slice_get, slice_set, Option, None, Some, MatchOption, refl, sym, subst, ap, ◌∙◌, arith, append-nil}
 use Rattle.std.specs.List.{AllByRecursion, list_any}
 use Rattle.std.specs.Option.{option_map_or}
 use Rattle.std.proofs.lemmas.Bool.{false≢true, cond-true, cond-false, cases_eq, eq-eqb, ne_eqb}
 use Rattle.relay_envelope.specs.declared.envelope.Recipient.{Recipient}
 use Rattle.relay_envelope.proofs.Theorems.{reverse_path_is_forward}
+use Rattle.relay_book.specs.declared.version.Version.{Version}
 use Rattle.relay_book.specs.declared.change.Accept.{Accept as AcceptFields}
 use Rattle.relay_book.specs.declared.change.Outcome.{Outcome as OutcomeFields}
 use Rattle.relay_book.specs.declared.change.Ruling.{Ruling}
 use Rattle.relay_book.specs.declared.change.Change.{Change}
 use Rattle.relay_book.specs.declared.change.Change.TheVariants.{Accept, Outcome}
 use Rattle.relay_book.specs.declared.fate.Fate.{Fate}
-use Rattle.relay_book.specs.declared.fate.Fate.TheVariants.{Waits, Failed, Relayed}
+use Rattle.relay_book.specs.declared.fate.Fate.TheVariants.{Waits, Late, Failed, Relayed}
+use Rattle.relay_book.specs.declared.due_report.DueReport.{DueReport}
 use Rattle.relay_book.specs.declared.message.Message.{Message}
 use Rattle.relay_book.specs.declared.message.Place.{Place}
 use Rattle.relay_book.specs.Book.{Rise}
 use Rattle.relay_book.specs.DueMoment.{wait_after}
-use Rattle.relay_book.specs.DueReport.{fate_of}
+use Rattle.relay_book.specs.DueReport.{due_for, fate_of}
 use Rattle.relay_book.specs.Record.{IsAccept, IsOutcome}
-use Rattle.relay_book.specs.Queue.{Queue, FitsFrom, FitsMessage, accepted, empty_queue, held_place, is_held, left_place, message_after, message_of, place_after, places_after, places_ruled, report_of, reported, ruled, step}
+use Rattle.relay_book.specs.Queue.{Queue, FitsFrom, FitsMessage, accepted, empty_queue, held_place, is_held, left_place, message_after, message_of, place_after, place_ruled, places_after, places_ruled, report_of, reported, ruled, step, tells_delay, waiting_place}
 use Rattle.relay_book.specs.Snapshot.{IsPlace, IsQueue, IsQueued}
 use Rattle.relay_book.specs.StandsFor.{FoundIsQueued, ListIsQueue, StepIsQueue}
 use Rattle.relay_book.proofs.PlaceLemmas.{none_some, ruled_length, some_is}
@@ -30,55 +32,53 @@ wait_short : (laters : ℕ) → wait_after laters ≤ 14400
 wait_short laters = omega arith
 
 left_is_place : IsPlace left_place
-left_is_place = record { laters = omega arith; due = omega arith; left = λ is. (refl, refl) }
+left_is_place = record { laters = omega arith; due = omega arith; left = λ is. (refl, refl, refl) }
 
-held_is_place : (laters due : ℕ) → laters ≤ 4 → due < 2 ^ 64 → IsPlace (held_place laters due)
-held_is_place laters due few small = record { laters = few; due = small; left = λ is. absurd (false≢true (sym is)) }
+held_is_place : (laters : ℕ) (delayed : Bool) (due : ℕ) → laters ≤ 4 → due < 2 ^ 64 → IsPlace (held_place laters delayed due)
+held_is_place laters delayed due few small = record { laters = few; due = small; left = λ is. absurd (false≢true (sym is)) }
 
-after_is_place : (at : ℕ) (place : Place) (fate : Fate) → at ≤ 253370764799 → IsPlace place → IsPlace (place_after at place fate)
-after_is_place at place Waits moment is =
+waiting_is_place : (at : ℕ) (place : Place) (due : Option DueReport) → at ≤ 253370764799 → IsPlace (waiting_place at place due)
+waiting_is_place at place due moment =
     let wait = wait_short (min (place.laters + 1) 4) in
-    held_is_place (min (place.laters + 1) 4) (at + wait_after (min (place.laters + 1) 4)) (omega arith) (omega (arith, wait, moment))
-after_is_place at place Failed moment is = left_is_place
-after_is_place at place (Relayed dsn) moment is = left_is_place
+    held_is_place (min (place.laters + 1) 4) (tells_delay due || place.delayed) (at + wait_after (min (place.laters + 1) 4)) (omega arith) (omega (arith, wait, moment))
+
+after_is_place : (at : ℕ) (place : Place) (fate : Fate) (due : Option DueReport) → at ≤ 253370764799 → IsPlace (place_after at place fate due)
+after_is_place at place Waits due moment = waiting_is_place at place due moment
+after_is_place at place Late due moment = waiting_is_place at place due moment
+after_is_place at place Failed due moment = left_is_place
+after_is_place at place (Relayed dsn) due moment = left_is_place
 
 all_set : (places : List Place) (n : ℕ) (place : Place) → AllByRecursion IsPlace places → IsPlace place → AllByRecursion IsPlace (slice_set places n place)
 all_set [] n place all is = tt
 all_set (first ∷ places) zero place all is = (is, all.1)
 all_set (first ∷ places) (suc n) place all is = (all.0, all_set places n place all.1 is)
 
-all_get : (places : List Place) (n : ℕ) (place : Place) → AllByRecursion IsPlace places → slice_get places n ≡ Some place → IsPlace place
-all_get [] n place all is = absurd (none_some place is)
-all_get (first ∷ places) zero place all is = subst IsPlace (some_is first place is) all.0
-all_get (first ∷ places) (suc n) place all is = all_get places n place all.1 is
-
-one_ruled : (accept : AcceptFields) (at : ℕ) (places : List Place) (ruling : Ruling) → at ≤ 253370764799 → AllByRecursion IsPlace places
-    → AllByRecursion IsPlace (places_after accept at places ruling)
-one_ruled accept at places ruling moment all = by (slice_get places ruling.place) refl
+one_ruled : (version : Version) (accept : AcceptFields) (at : ℕ) (places : List Place) (ruling : Ruling) → at ≤ 253370764799 → AllByRecursion IsPlace places
+    → AllByRecursion IsPlace (places_after version accept at places ruling)
+one_ruled version accept at places ruling moment all = by (slice_get places ruling.place)
   where
-    by : (o : Option Place) → slice_get places ruling.place ≡ o
-        → AllByRecursion IsPlace (option_map_or (λ place. slice_set places ruling.place (place_after at place (fate_of accept.at at ruling.verdict))) o places)
-    by None is = all
-    by (Some place) is =
-        all_set places ruling.place (place_after at place (fate_of accept.at at ruling.verdict)) all
-        (after_is_place at place (fate_of accept.at at ruling.verdict) moment (all_get places ruling.place place all is))
+    by : (o : Option Place) → AllByRecursion IsPlace (option_map_or (λ place. slice_set places ruling.place (place_ruled version accept at place ruling)) o places)
+    by None = all
+    by (Some place) =
+        all_set places ruling.place (place_ruled version accept at place ruling) all
+        (after_is_place at place (fate_of accept.at at ruling.verdict) (due_for version accept at place ruling) moment)
 
-all_ruled : (accept : AcceptFields) (at : ℕ) (places : List Place) (rulings : List Ruling) → at ≤ 253370764799 → AllByRecursion IsPlace places
-    → AllByRecursion IsPlace (places_ruled accept at places rulings)
-all_ruled accept at places [] moment all = all
-all_ruled accept at places (ruling ∷ rulings) moment all =
-    all_ruled accept at (places_after accept at places ruling) rulings moment (one_ruled accept at places ruling moment all)
+all_ruled : (version : Version) (accept : AcceptFields) (at : ℕ) (places : List Place) (rulings : List Ruling) → at ≤ 253370764799 → AllByRecursion IsPlace places
+    → AllByRecursion IsPlace (places_ruled version accept at places rulings)
+all_ruled version accept at places [] moment all = all
+all_ruled version accept at places (ruling ∷ rulings) moment all =
+    all_ruled version accept at (places_after version accept at places ruling) rulings moment (one_ruled version accept at places ruling moment all)
 
 -- a message as it is accepted
-new_places : (at : ℕ) (recipients : List Recipient) → at ≤ 253370764799 → AllByRecursion IsPlace (map (λ (r : Recipient). held_place 0 at) recipients)
+new_places : (at : ℕ) (recipients : List Recipient) → at ≤ 253370764799 → AllByRecursion IsPlace (map (λ (r : Recipient). held_place 0 false at) recipients)
 new_places at [] moment = tt
-new_places at (recipient ∷ recipients) moment = (held_is_place 0 at (omega arith) (omega (arith, moment)), new_places at recipients moment)
+new_places at (recipient ∷ recipients) moment = (held_is_place 0 false at (omega arith) (omega (arith, moment)), new_places at recipients moment)
 
-new_many : (at : ℕ) (recipients : List Recipient) → length (map (λ (r : Recipient). held_place 0 at) recipients) ≡ length recipients
+new_many : (at : ℕ) (recipients : List Recipient) → length (map (λ (r : Recipient). held_place 0 false at) recipients) ≡ length recipients
 new_many at [] = refl
 new_many at (recipient ∷ recipients) = ap suc (new_many at recipients)
 
-new_held : (at : ℕ) (recipients : List Recipient) → 1 ≤ length recipients → list_any is_held (map (λ (r : Recipient). held_place 0 at) recipients) ≡ true
+new_held : (at : ℕ) (recipients : List Recipient) → 1 ≤ length recipients → list_any is_held (map (λ (r : Recipient). held_place 0 false at) recipients) ≡ true
 new_held at [] some = absurd (omega (arith, some))
 new_held at (recipient ∷ recipients) some = refl
 
@@ -99,8 +99,8 @@ ruled_queued outcome entry valid is some = record {
   number_is = is.number_is;
   number_fits = is.number_fits;
   accept = is.accept;
-  as_many = ruled_length entry.1.accept outcome.at entry.1.places outcome.rulings ∙ is.as_many;
-  places = all_ruled entry.1.accept outcome.at entry.1.places outcome.rulings valid.moment is.places;
+  as_many = ruled_length outcome.version entry.1.accept outcome.at entry.1.places outcome.rulings ∙ is.as_many;
+  places = all_ruled outcome.version entry.1.accept outcome.at entry.1.places outcome.rulings valid.moment is.places;
   some = some;
 }
 

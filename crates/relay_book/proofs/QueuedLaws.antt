@@ -60,7 +60,7 @@ report_held number outcome (octet ∷ report) None = tt
 report_held number outcome (octet ∷ report) (Some message) = (refl, tt)
 
 new_held : (at : ℕ) (recipients : List Recipient) → 1 ≤ length recipients
-    → list_any is_held (map (λ recipient. held_place 0 at) recipients) ≡ true
+    → list_any is_held (map (λ recipient. held_place 0 false at) recipients) ≡ true
 new_held at [] some = absurd (omega (arith, some))
 new_held at (recipient ∷ recipients) some = refl
 

@@ -1,10 +1,11 @@
 -- A snapshot is written, one entry of a map after another.
 use Rattle.std.proofs.Common.{◌≡◌, ℕ, ◌+◌, ◌≤◌, List, [], ◌∷◌, ◌++◌, drop, length, slice_get, Option, None, Some, refl, sym, subst, ap, ◌∙◌, arith, append_assoc, append-nil, add-one, length-append}
 use Rattle.std.specs.List.{AllByRecursion, flat_map}
+use Rattle.relay_book.specs.declared.version.Version.TheVariants.{WithDelay}
 use Rattle.relay_book.specs.declared.message.Message.{Message}
 use Rattle.relay_book.specs.Book.{if_there, live}
 use Rattle.relay_book.specs.Record.{octets_4, octets_8}
-use Rattle.relay_book.specs.Snapshot.{IsQueued, entry_octets, snapshot}
+use Rattle.relay_book.specs.Snapshot.{IsQueued, entry_octets, snapshot, snapshot_by}
 use Rattle.relay_book.proofs.MarkRowLemmas.{drop_past, entry_at}
 
 -- the messages from an entry on
@@ -37,11 +38,11 @@ count_end entries index count past before =
     omega (arith, none, before)
 
 -- the octets of the messages
-flat_joined : (entries more : List (ℕ × Message)) → flat_map entry_octets (entries ++ more) ≡ flat_map entry_octets entries ++ flat_map entry_octets more
+flat_joined : (entries more : List (ℕ × Message)) → flat_map (entry_octets WithDelay) (entries ++ more) ≡ flat_map (entry_octets WithDelay) entries ++ flat_map (entry_octets WithDelay) more
 flat_joined [] more = refl
 flat_joined (entry ∷ entries) more =
-    ap (λ (l : List ℕ). entry_octets entry ++ l) (flat_joined entries more)
-    ∙ sym (append_assoc (entry_octets entry) (flat_map entry_octets entries) (flat_map entry_octets more))
+    ap (λ (l : List ℕ). entry_octets WithDelay entry ++ l) (flat_joined entries more)
+    ∙ sym (append_assoc (entry_octets WithDelay entry) (flat_map (entry_octets WithDelay) entries) (flat_map (entry_octets WithDelay) more))
 
 front_valid : (entries more : List (ℕ × Message)) → AllByRecursion IsQueued (entries ++ more) → AllByRecursion IsQueued entries
 front_valid [] more all = tt
@@ -63,29 +64,29 @@ rest_valid entries index number slot is all =
     back_valid (if_there number slot) (live (drop (index + 1) entries)) (subst (AllByRecursion IsQueued) (live_from entries index number slot is) all)
 
 pub entries_step : (entries : List (ℕ × Option Message)) (index number : ℕ) (slot : Option Message) (old new all : List ℕ) → Some (number, slot) ≡ slice_get entries index
-    → old ++ flat_map entry_octets (live (drop index entries)) ≡ all → new ≡ old ++ flat_map entry_octets (if_there number slot)
-    → new ++ flat_map entry_octets (live (drop (index + 1) entries)) ≡ all
+    → old ++ flat_map (entry_octets WithDelay) (live (drop index entries)) ≡ all → new ≡ old ++ flat_map (entry_octets WithDelay) (if_there number slot)
+    → new ++ flat_map (entry_octets WithDelay) (live (drop (index + 1) entries)) ≡ all
 entries_step entries index number slot old new all is before new_is =
     let more = live (drop (index + 1) entries) in
-    ap (λ (l : List ℕ). l ++ flat_map entry_octets more) new_is
-    ∙ append_assoc old (flat_map entry_octets (if_there number slot)) (flat_map entry_octets more)
+    ap (λ (l : List ℕ). l ++ flat_map (entry_octets WithDelay) more) new_is
+    ∙ append_assoc old (flat_map (entry_octets WithDelay) (if_there number slot)) (flat_map (entry_octets WithDelay) more)
     ∙ ap (λ (l : List ℕ). old ++ l) (sym (flat_joined (if_there number slot) more))
-    ∙ ap (λ (l : List (ℕ × Message)). old ++ flat_map entry_octets l) (sym (live_from entries index number slot is))
+    ∙ ap (λ (l : List (ℕ × Message)). old ++ flat_map (entry_octets WithDelay) l) (sym (live_from entries index number slot is))
     ∙ before
 
 pub entries_end : (entries : List (ℕ × Option Message)) (index : ℕ) (out all : List ℕ) → length entries ≤ index
-    → out ++ flat_map entry_octets (live (drop index entries)) ≡ all → out ≡ all
+    → out ++ flat_map (entry_octets WithDelay) (live (drop index entries)) ≡ all → out ≡ all
 entries_end entries index out all past before =
-    sym (append-nil out) ∙ ap (λ (l : List (ℕ × Option Message)). out ++ flat_map entry_octets (live l)) (sym (drop_past entries index past)) ∙ before
+    sym (append-nil out) ∙ ap (λ (l : List (ℕ × Option Message)). out ++ flat_map (entry_octets WithDelay) (live l)) (sym (drop_past entries index past)) ∙ before
 
 -- the head and the messages make the snapshot
-pub snapshot_written : (next count : ℕ) (messages : List (ℕ × Message)) (none kind numbered counted all : List ℕ) → none ≡ [] → kind ≡ none ++ 3 ∷ []
-    → numbered ≡ kind ++ octets_8 next → counted ≡ numbered ++ octets_4 count → all ≡ counted ++ flat_map entry_octets messages → count ≡ length messages
+pub snapshot_written : (next count : ℕ) (messages : List (ℕ × Message)) (none kind numbered counted all : List ℕ) → none ≡ [] → kind ≡ none ++ 5 ∷ []
+    → numbered ≡ kind ++ octets_8 next → counted ≡ numbered ++ octets_4 count → all ≡ counted ++ flat_map (entry_octets WithDelay) messages → count ≡ length messages
     → all ≡ snapshot (record { next = next; messages = messages })
-unfolding snapshot
+unfolding snapshot_by
 snapshot_written next count messages none kind numbered counted all none_is kind_is numbered_is counted_is all_is count_is =
     all_is
-    ∙ ap (λ (l : List ℕ). l ++ flat_map entry_octets messages)
-    (counted_is ∙ ap (λ (l : List ℕ). l ++ octets_4 count) (numbered_is ∙ ap (λ (l : List ℕ). l ++ octets_8 next) (kind_is ∙ ap (λ (l : List ℕ). l ++ 3 ∷ []) none_is)))
-    ∙ ap (λ (l : List ℕ). 3 ∷ l) (append_assoc (octets_8 next) (octets_4 count) (flat_map entry_octets messages))
-    ∙ ap (λ (n : ℕ). 3 ∷ (octets_8 next ++ (octets_4 n ++ flat_map entry_octets messages))) count_is
+    ∙ ap (λ (l : List ℕ). l ++ flat_map (entry_octets WithDelay) messages)
+    (counted_is ∙ ap (λ (l : List ℕ). l ++ octets_4 count) (numbered_is ∙ ap (λ (l : List ℕ). l ++ octets_8 next) (kind_is ∙ ap (λ (l : List ℕ). l ++ 5 ∷ []) none_is)))
+    ∙ ap (λ (l : List ℕ). 5 ∷ l) (append_assoc (octets_8 next) (octets_4 count) (flat_map (entry_octets WithDelay) messages))
+    ∙ ap (λ (n : ℕ). 5 ∷ (octets_8 next ++ (octets_4 n ++ flat_map (entry_octets WithDelay) messages))) count_is

@@ -1,16 +1,21 @@
 -- The laws of what bodies stand for.
 use Rattle.std.proofs.Common.{◌≡◌, ℕ, ◌≤◌, List, [], ◌∷◌, ◌++◌, map, fold, inl, inr, refl, sym, subst, ap, ◌∙◌, arith}
+use Rattle.std.specs.List.{AllByRecursion}
 use Rattle.std.proofs.lemmas.List.Sums.{fold-append}
+use Rattle.relay_book.specs.declared.version.Version.{Version}
+use Rattle.relay_book.specs.declared.version.Version.TheVariants.{WithoutDelay, WithDelay}
+use Rattle.relay_book.specs.declared.message.Place.{Place}
+use Rattle.relay_book.specs.declared.message.Message.{Message}
 use Rattle.relay_book.specs.declared.change.Change.{Change}
 use Rattle.relay_book.specs.declared.change.Change.TheVariants.{Accept, Outcome}
-use Rattle.relay_book.specs.Record.{IsChange, encode}
+use Rattle.relay_book.specs.Record.{IsChange, encode, outcome_kind}
 use Rattle.relay_book.specs.Queue.{Queue, FitsQueue, FitsFrom, empty_queue, queue_of, step}
-use Rattle.relay_book.specs.Snapshot.{IsQueue, IsSnapshotOf, snapshot}
+use Rattle.relay_book.specs.Snapshot.{IsPlace, IsPlaceBy, IsQueue, IsQueued, IsQueuedBy, IsSnapshotOf, snapshot, snapshot_kind}
 use Rattle.relay_book.specs.StandsFor.{BodiesLeaveOne, EncodingsStand, NoneStandForNone, OneMoreStands, QueueIsRead, ReadsAll, ReadsBody, ReadsFirst, ReadsQueue, SnapshotIsRead, SnapshotStands}
 use Rattle.relay_book.proofs.ChangeFieldLemmas.{encoding_is_one}
 use Rattle.relay_book.proofs.CodeLemmas.{first_of}
 use Rattle.relay_book.proofs.QueueLemmas.{list_is_queue, step_is_queue}
-use Rattle.relay_book.proofs.SnapshotLemmas.{snapshot_is_one}
+use Rattle.relay_book.proofs.SnapshotLemmas.{kind_of, snapshot_is_one}
 use Rattle.relay_book.proofs.SnapshotLengthLemmas.{few_messages}
 
 pub none_stand_for_none : NoneStandForNone
@@ -53,17 +58,24 @@ rest_leaves_one queue (body ∷ bodies) left other one two =
     let same = body_leaves_one queue body one.0 two.0 one.1 two.1 in
     rest_leaves_one two.0 bodies left other (subst (λ (q : Queue). ReadsQueue q bodies left) same one.2) two.2
 
-kind_below : (change : Change) → first_of (encode change) ≤ 2
-kind_below (Accept accept) = omega arith
-kind_below (Outcome outcome) = omega arith
+of_version : (version other : Version) → snapshot_kind version ≡ outcome_kind other → ⊥
+of_version WithoutDelay WithoutDelay e = omega (arith, e)
+of_version WithoutDelay WithDelay e = omega (arith, e)
+of_version WithDelay WithoutDelay e = omega (arith, e)
+of_version WithDelay WithDelay e = omega (arith, e)
+
+of_accept : (version : Version) → snapshot_kind version ≡ 1 → ⊥
+of_accept WithoutDelay e = omega (arith, e)
+of_accept WithDelay e = omega (arith, e)
+
+-- no snapshot begins as a record
+pub other_kinds : (version : Version) (change : Change) → snapshot_kind version ≡ first_of (encode change) → ⊥
+other_kinds version (Accept accept) e = of_accept version e
+other_kinds version (Outcome outcome) e = of_version version outcome.version e
 
 -- no snapshot is the record of a change
 pub not_both : (body : List ℕ) (queue left : Queue) → IsSnapshotOf body queue → ReadsBody empty_queue body left → ⊥
-unfolding snapshot
-not_both body queue left is reads =
-    let kind = kind_below reads.change in
-    let same : 3 ≡ first_of (encode reads.change) = ap first_of (sym is.octets_are ∙ reads.body_is) in
-    omega (arith, kind, same)
+not_both body queue left is reads = other_kinds is.0 reads.change (sym (kind_of is.0 body queue is.1) ∙ ap first_of reads.body_is)
 
 first_leaves_one : (body : List ℕ) (left other : Queue) → ReadsFirst body left → ReadsFirst body other → left ≡ other
 first_leaves_one body left other (inl one) (inl two) = snapshot_is_one body left other one two
@@ -107,9 +119,25 @@ reads_front (body ∷ bodies) rest left reads =
     let behind = rest_front reads.0 bodies rest left reads.2 in
     (behind.0, (reads.0, reads.1, behind.1))
 
+-- the second version says all of a place
+places_said : (places : List Place) → AllByRecursion IsPlace places → AllByRecursion (IsPlaceBy WithDelay) places
+places_said [] all = tt
+places_said (place ∷ places) all = (record { is = all.0; may = tt }, places_said places all.1)
+
+messages_said : (messages : List (ℕ × Message)) → AllByRecursion IsQueued messages → AllByRecursion (IsQueuedBy WithDelay) messages
+messages_said [] all = tt
+messages_said (entry ∷ messages) all =
+    (record { is = all.0; places = places_said entry.1.places all.0.places }, messages_said messages all.1)
+
 pub snapshot_is_read : SnapshotIsRead
-snapshot_is_read queue is short =
-    (queue, inl (record { valid = is; few = few_messages queue short; octets_are = refl }), refl)
+snapshot_is_read queue is short = (
+  queue,
+  inl (
+    WithDelay,
+    record { valid = is; messages = messages_said queue.messages is.messages; few = few_messages queue short; octets_are = refl },
+  ),
+  refl,
+)
 
 pub snapshot_stands : SnapshotStands
 snapshot_stands changes fitting short = record {
@@ -127,7 +155,7 @@ rest_is_queue queue (body ∷ bodies) left is reads =
     rest_is_queue reads.0 bodies left (body_is_queue queue body reads.0 is reads.1) reads.2
 
 pub first_is_queue : (body : List ℕ) (left : Queue) → ReadsFirst body left → IsQueue left
-first_is_queue body left (inl is) = is.valid
+first_is_queue body left (inl is) = is.1.valid
 first_is_queue body left (inr reads) = body_is_queue empty_queue body left (list_is_queue [] tt) reads
 
 pub read_is_queue : (bodies : List (List ℕ)) (left : Queue) → ReadsAll bodies left → IsQueue left

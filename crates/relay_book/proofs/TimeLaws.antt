@@ -120,7 +120,7 @@ clocked_outcome changes outcome queue message knows found fits clocked = record 
         subst (λ n. IsKnown n one) same (subst (IsKnown outcome.message) it
         (timed_as message.accept.at (λ n. if waits_in n outcome.rulings then outcome.at ∷ laters_of changes outcome.message n else laters_of changes outcome.message n)
         (laters_of (joined changes (Outcome outcome)) outcome.message) (message_after outcome message).places (λ place. sym (its_laters changes outcome place))
-        (timed_ruled message.accept outcome.at (laters_of changes outcome.message) message.places 0 outcome.rulings fits.rulings (clocked.timed outcome.message message found))))
+        (timed_ruled outcome.version message.accept outcome.at (laters_of changes outcome.message) message.places 0 outcome.rulings fits.rulings (clocked.timed outcome.message message found))))
     old number one is (inr off) =
         timed_as one.accept.at (laters_of changes number) (laters_of (joined changes (Outcome outcome)) number) one.places
         (λ place. sym (other_laters changes outcome number place off))

@@ -3,15 +3,17 @@ use Rattle.std.proofs.Common.{◌≡◌, ◌⊎◌, inl, inr, ℕ, zero, suc, �
 use Rattle.std.specs.Option.{option_map_or}
 use Rattle.std.proofs.lemmas.Bool.{cases_eq, cases_lt, eq-eqb, ne_eqb, false≢true}
 use Rattle.relay_envelope.specs.declared.envelope.Recipient.{Recipient}
+use Rattle.relay_book.specs.declared.version.Version.{Version}
+use Rattle.relay_book.specs.declared.due_report.DueReport.{DueReport}
 use Rattle.relay_book.specs.declared.change.Accept.{Accept as AcceptFields}
 use Rattle.relay_book.specs.declared.change.Ruling.{Ruling}
 use Rattle.relay_book.specs.declared.change.Verdict.{Verdict}
 use Rattle.relay_book.specs.declared.change.Verdict.TheVariants.{Taken, Refused, Later, CantSend, NoRoute}
 use Rattle.relay_book.specs.declared.message.Place.{Place}
-use Rattle.relay_book.specs.declared.fate.Fate.TheVariants.{Waits, Failed}
-use Rattle.relay_book.specs.DueReport.{fate_of, patience}
+use Rattle.relay_book.specs.declared.fate.Fate.TheVariants.{Waits, Late, Failed}
+use Rattle.relay_book.specs.DueReport.{due_for, fate_of, lateness, patience}
 use Rattle.relay_book.specs.DueMoment.{due_moment_of, wait_after, is_later, waits_in}
-use Rattle.relay_book.specs.Queue.{AreRulings, holds_at, is_held, held_place, place_after, places_after, places_ruled}
+use Rattle.relay_book.specs.Queue.{AreRulings, holds_at, is_held, held_place, place_after, place_ruled, places_after, places_ruled, waiting_place}
 use Rattle.relay_book.proofs.PlaceLemmas.{none_some, some_is, rulings_stay}
 
 -- four Later verdicts and more wait alike
@@ -35,24 +37,30 @@ abbrev pub AreTimed : ℕ → (ℕ → List ℕ) → List Place → Type 0
 AreTimed since laters places = (n : ℕ) (place : Place) → slice_get places n ≡ Some place → place.held ≡ true → IsTimed since (laters n) place
 
 -- one verdict
-timed_later : (since at : ℕ) (laters : List ℕ) (place : Place) (verdict : Verdict) → IsTimed since laters place
-    → (place_after at place (fate_of since at verdict)).held ≡ true
-    → IsTimed since (if is_later verdict then at ∷ laters else laters) (place_after at place (fate_of since at verdict))
-timed_later since at laters place (Taken dsn) timed held = absurd (false≢true held)
-timed_later since at laters place (Refused code text) timed held = absurd (false≢true held)
-timed_later since at laters place CantSend timed held = absurd (false≢true held)
-timed_later since at laters place NoRoute timed held = absurd (false≢true held)
-timed_later since at laters place Later timed held = by (nat_le (since + patience) at) held
+timed_waiting : (since at : ℕ) (laters : List ℕ) (place : Place) (due : Option DueReport) → IsTimed since laters place
+    → IsTimed since (at ∷ laters) (waiting_place at place due)
+timed_waiting since at laters place due timed =
+    let count = timed.count in
+    let same : min (place.laters + 1) 4 ≡ min (suc (length laters)) 4 = omega (arith, count) in
+    record {
+      count = same;
+      due = ap (λ n. at + wait_after n) same ∙ ap (λ n. at + n) (wait_capped (suc (length laters)));
+    }
+
+timed_later : (since at : ℕ) (laters : List ℕ) (place : Place) (verdict : Verdict) (due : Option DueReport) → IsTimed since laters place
+    → (place_after at place (fate_of since at verdict) due).held ≡ true
+    → IsTimed since (if is_later verdict then at ∷ laters else laters) (place_after at place (fate_of since at verdict) due)
+timed_later since at laters place (Taken dsn) due timed held = absurd (false≢true held)
+timed_later since at laters place (Refused code text) due timed held = absurd (false≢true held)
+timed_later since at laters place CantSend due timed held = absurd (false≢true held)
+timed_later since at laters place NoRoute due timed held = absurd (false≢true held)
+timed_later since at laters place Later due timed held = by (nat_le (since + patience) at) (nat_le (since + lateness) at) held
   where
-    by : (test : Bool) → (place_after at place (if test then Failed else Waits)).held ≡ true → IsTimed since (at ∷ laters) (place_after at place (if test then Failed else Waits))
-    by true held = absurd (false≢true held)
-    by false held =
-        let count = timed.count in
-        let same : min (place.laters + 1) 4 ≡ min (suc (length laters)) 4 = omega (arith, count) in
-        record {
-          count = same;
-          due = ap (λ n. at + wait_after n) same ∙ ap (λ n. at + n) (wait_capped (suc (length laters)));
-        }
+    by : (past late : Bool) → (place_after at place (if past then Failed else (if late then Late else Waits)) due).held ≡ true
+        → IsTimed since (at ∷ laters) (place_after at place (if past then Failed else (if late then Late else Waits)) due)
+    by true late held = absurd (false≢true held)
+    by false true held = timed_waiting since at laters place due timed
+    by false false held = timed_waiting since at laters place due timed
 
 get_here : (places : List Place) (n : ℕ) (old new : Place) → slice_get places n ≡ Some old → slice_get (slice_set places n new) n ≡ Some new
 get_here [] n old new is = absurd (none_some old is)
@@ -70,29 +78,29 @@ get_other (place ∷ places) (suc n) (suc m) new out = get_other places n m new 
 abbrev pub laters_behind : ℕ → (ℕ → List ℕ) → Ruling → ℕ → List ℕ
 laters_behind at laters ruling n = if ruling.place == n && is_later ruling.verdict then at ∷ laters n else laters n
 
-timed_after : (accept : AcceptFields) (at : ℕ) (laters : ℕ → List ℕ) (places : List Place) (ruling : Ruling) → holds_at places ruling.place ≡ true
-    → AreTimed accept.at laters places → AreTimed accept.at (laters_behind at laters ruling) (places_after accept at places ruling)
-timed_after accept at laters places ruling holds timed n place = by (slice_get places ruling.place) refl holds
+timed_after : (version : Version) (accept : AcceptFields) (at : ℕ) (laters : ℕ → List ℕ) (places : List Place) (ruling : Ruling) → holds_at places ruling.place ≡ true
+    → AreTimed accept.at laters places → AreTimed accept.at (laters_behind at laters ruling) (places_after version accept at places ruling)
+timed_after version accept at laters places ruling holds timed n place = by (slice_get places ruling.place) refl holds
   where
     after : (old : Place) → slice_get places ruling.place ≡ Some old → old.held ≡ true
-        → slice_get (slice_set places ruling.place (place_after at old (fate_of accept.at at ruling.verdict))) n ≡ Some place → place.held ≡ true
+        → slice_get (slice_set places ruling.place (place_ruled version accept at old ruling)) n ≡ Some place → place.held ≡ true
         → (ruling.place ≡ n) ⊎ (ruling.place ≡ n → ⊥) → IsTimed accept.at (laters_behind at laters ruling n) place
     after old is was got held (inl same) =
-        let here = some_is (place_after at old (fate_of accept.at at ruling.verdict)) place
-        (sym (get_here places ruling.place old (place_after at old (fate_of accept.at at ruling.verdict)) is)
-        ∙ subst (λ m. slice_get (slice_set places ruling.place (place_after at old (fate_of accept.at at ruling.verdict))) m ≡ Some place) (sym same) got) in
+        let here = some_is (place_ruled version accept at old ruling) place
+        (sym (get_here places ruling.place old (place_ruled version accept at old ruling) is)
+        ∙ subst (λ m. slice_get (slice_set places ruling.place (place_ruled version accept at old ruling)) m ≡ Some place) (sym same) got) in
         let before = timed ruling.place old is was in
-        let now = timed_later accept.at at (laters ruling.place) old ruling.verdict before (subst (λ (p : Place). p.held ≡ true) (sym here) held) in
+        let now = timed_later accept.at at (laters ruling.place) old ruling.verdict (due_for version accept at old ruling) before (subst (λ (p : Place). p.held ≡ true) (sym here) held) in
         subst (IsTimed accept.at (laters_behind at laters ruling n)) here
-        (subst (λ m. IsTimed accept.at (laters_behind at laters ruling m) (place_after at old (fate_of accept.at at ruling.verdict))) same
-        (subst (λ (test : Bool). IsTimed accept.at (if test && is_later ruling.verdict then at ∷ laters ruling.place else laters ruling.place) (place_after at old (fate_of accept.at at ruling.verdict)))
+        (subst (λ m. IsTimed accept.at (laters_behind at laters ruling m) (place_ruled version accept at old ruling)) same
+        (subst (λ (test : Bool). IsTimed accept.at (if test && is_later ruling.verdict then at ∷ laters ruling.place else laters ruling.place) (place_ruled version accept at old ruling))
         (sym (eq-eqb ruling.place ruling.place refl)) now))
     after old is was got held (inr out) =
         subst (λ (test : Bool). IsTimed accept.at (if test && is_later ruling.verdict then at ∷ laters n else laters n) place) (sym (ne_eqb ruling.place n out))
-        (timed n place (sym (get_other places ruling.place n (place_after at old (fate_of accept.at at ruling.verdict)) out) ∙ got) held)
+        (timed n place (sym (get_other places ruling.place n (place_ruled version accept at old ruling) out) ∙ got) held)
 
     by : (o : Option Place) → slice_get places ruling.place ≡ o → option_map_or is_held o false ≡ true
-        → slice_get (option_map_or (λ place. slice_set places ruling.place (place_after at place (fate_of accept.at at ruling.verdict))) o places) n ≡ Some place
+        → slice_get (option_map_or (λ place. slice_set places ruling.place (place_ruled version accept at place ruling)) o places) n ≡ Some place
         → place.held ≡ true → IsTimed accept.at (laters_behind at laters ruling n) place
     by None is was got held = absurd (false≢true was)
     by (Some old) is was got held = after old is was got held (cases_eq ruling.place n)
@@ -118,18 +126,18 @@ first_only places ruling rulings n are e = by (cases_eq ruling.place n)
     by (inr out) = absurd (false≢true (sym (ap (λ (test : Bool). test && is_later ruling.verdict) (ne_eqb ruling.place n out)) ∙ e))
 
 -- behind all verdicts of an outcome
-pub timed_ruled : (accept : AcceptFields) (at : ℕ) (laters : ℕ → List ℕ) (places : List Place) (least : ℕ) (rulings : List Ruling) → AreRulings places least rulings
-    → AreTimed accept.at laters places → AreTimed accept.at (λ n. if waits_in n rulings then at ∷ laters n else laters n) (places_ruled accept at places rulings)
-timed_ruled accept at laters places least [] are timed n place got held = timed n place got held
-timed_ruled accept at laters places least (ruling ∷ rulings) are timed n place got held =
-    let stay = rulings_stay accept at places ruling (ruling.place + 1) rulings (omega arith) are.2 in
-    let now = timed_after accept at laters places ruling are.1 timed in
+pub timed_ruled : (version : Version) (accept : AcceptFields) (at : ℕ) (laters : ℕ → List ℕ) (places : List Place) (least : ℕ) (rulings : List Ruling) → AreRulings places least rulings
+    → AreTimed accept.at laters places → AreTimed accept.at (λ n. if waits_in n rulings then at ∷ laters n else laters n) (places_ruled version accept at places rulings)
+timed_ruled version accept at laters places least [] are timed n place got held = timed n place got held
+timed_ruled version accept at laters places least (ruling ∷ rulings) are timed n place got held =
+    let stay = rulings_stay version accept at places ruling (ruling.place + 1) rulings (omega arith) are.2 in
+    let now = timed_after version accept at laters places ruling are.1 timed in
     subst (λ (l : List ℕ). IsTimed accept.at l place)
     (merged at (laters n) (ruling.place == n && is_later ruling.verdict) (waits_in n rulings) (first_only places ruling rulings n are.2))
-    (timed_ruled accept at (laters_behind at laters ruling) (places_after accept at places ruling) (ruling.place + 1) rulings stay now n place got held)
+    (timed_ruled version accept at (laters_behind at laters ruling) (places_after version accept at places ruling) (ruling.place + 1) rulings stay now n place got held)
 
 -- a message as it is accepted
-pub timed_new : (at : ℕ) (recipients : List Recipient) (n : ℕ) (place : Place) → slice_get (map (λ recipient. held_place 0 at) recipients) n ≡ Some place → IsTimed at [] place
+pub timed_new : (at : ℕ) (recipients : List Recipient) (n : ℕ) (place : Place) → slice_get (map (λ recipient. held_place 0 false at) recipients) n ≡ Some place → IsTimed at [] place
 timed_new at [] n place got = absurd (none_some place got)
-timed_new at (recipient ∷ recipients) zero place got = subst (IsTimed at []) (some_is (held_place 0 at) place got) (record { count = omega arith; due = refl })
+timed_new at (recipient ∷ recipients) zero place got = subst (IsTimed at []) (some_is (held_place 0 false at) place got) (record { count = omega arith; due = refl })
 timed_new at (recipient ∷ recipients) (suc n) place got = timed_new at recipients n place got

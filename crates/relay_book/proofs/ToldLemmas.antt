@@ -109,7 +109,7 @@ told_ruled keys outcome (entry ∷ entries) message told found new = by (told_ru
         subst (AllTold keys) (sym (ruled_past outcome entry entries off))
         (told.0, more (sym (cond-false (entry.0 == outcome.message) (Some entry.1) (message_of entries outcome.message) (ne_eqb entry.0 outcome.message off)) ∙ found) new)
 
-told_from : (keys : List (ℕ × ℕ)) (at number : ℕ) (recipients : List Recipient) → Contains {X = ℕ × ℕ} keys (at, number) → AreTold keys number (map (λ recipient. held_place 0 at) recipients)
+told_from : (keys : List (ℕ × ℕ)) (at number : ℕ) (recipients : List Recipient) → Contains {X = ℕ × ℕ} keys (at, number) → AreTold keys number (map (λ recipient. held_place 0 false at) recipients)
 told_from keys at number [] has = tt
 told_from keys at number (recipient ∷ recipients) has = ((λ _. has), told_from keys at number recipients has)
 

@@ -5,10 +5,11 @@ use Rattle.std.specs.List.{flat_map, AllByRecursion}
 use Rattle.relay_envelope.specs.declared.envelope.Recipient.{Recipient}
 use Rattle.relay_envelope.specs.declared.envelope.Envelope.{Envelope}
 use Rattle.relay_envelope.specs.Envelope.{IsRecipient, IsReversePath, may_be_envid}
+use Rattle.relay_book.specs.declared.version.Version.{Version}
 use Rattle.relay_book.specs.declared.change.Accept.{Accept as AcceptFields}
 use Rattle.relay_book.specs.declared.change.Outcome.{Outcome as OutcomeFields}
 use Rattle.relay_book.specs.declared.change.Ruling.{Ruling}
-use Rattle.relay_book.specs.Record.{IsAccept, IsOutcome, IsRefusal, IsRuling, accept_octets, counted, notify_number, octets_2, octets_8, outcome_octets, recipient_octets, ret_number, ruling_octets, sized_2, sized_4, written}
+use Rattle.relay_book.specs.Record.{IsAccept, IsOutcome, IsRefusal, IsRuling, accept_octets, counted, notify_number, octets_2, octets_8, outcome_kind, outcome_octets, recipient_octets, ret_number, ruling_octets, sized_2, sized_4, written}
 
 -- a text behind its length, an octet, and a text behind its length
 pub record SpellsFields (text first : List ℕ) (number : ℕ) (second rest : List ℕ) : Type 0 where
@@ -180,4 +181,4 @@ pub record IsOfKind (kind : ℕ) (Begins : List ℕ → Type 0) (text : List ℕ
 -- the octets that are read before any memory is wanted are spelled as those of a record: its kind,
 -- and all fields up to how many recipients or verdicts it has
 pub record MayBeRecord (text : List ℕ) : Type 0 where
-  pub begins : IsOfKind 1 BeginsWithMail text ⊎ IsOfKind 2 BeginsWithHop text
+  pub begins : IsOfKind 1 BeginsWithMail text ⊎ ((version : Version) × IsOfKind (outcome_kind version) BeginsWithHop text)

@@ -1,6 +1,6 @@
 -- Custody of each recipient (RFC 5321, section 6.1), by the list of changes. A change's number is its place
 -- in the list, from 1.
-use Rattle.std.specs.Prelude.{◌≡◌, ◌≢◌, ◌⊎◌, ◌↔◌, ℕ, zero, suc, ◌<◌, List, [], ◌∷◌, ◌++◌, length, slice_get, Option, None, Some}
+use Rattle.std.specs.Prelude.{◌≡◌, ◌≢◌, ◌⊎◌, ◌↔◌, ℕ, zero, suc, ◌<◌, List, [], ◌∷◌, ◌++◌, length, slice_get, Option, None, Some, if◌then◌else◌}
 use Rattle.std.specs.Option.{option_and_then, option_map_or}
 use Rattle.std.specs.List.{Contains}
 use Rattle.relay_book.specs.declared.change.Accept.{Accept as AcceptFields}
@@ -11,8 +11,12 @@ use Rattle.relay_book.specs.declared.change.Change.{Change}
 use Rattle.relay_book.specs.declared.change.Change.TheVariants.{Accept, Outcome}
 use Rattle.relay_book.specs.declared.fate.Way.{Way}
 use Rattle.relay_book.specs.declared.fate.Way.TheVariants.{ByTransfer, ByEnd}
+use Rattle.relay_book.specs.declared.fate.PlaceStep.{PlaceStep}
+use Rattle.relay_book.specs.declared.fate.PlaceStep.TheVariants as made
+use Rattle.relay_book.specs.declared.version.Version.{Version}
+use Rattle.relay_book.specs.declared.due_report.DueReport.{DueReport}
 use Rattle.relay_book.specs.DueReport.{fate_of, way_of}
-use Rattle.relay_book.specs.Queue.{Queue, report_of, FitsQueue, Fitting, queue_of, held_of, message_of}
+use Rattle.relay_book.specs.Queue.{Queue, report_of, FitsQueue, Fitting, due_report_at, queue_of, held_of, message_of, tells_delay}
 use Rattle.relay_book.specs.Record.{IsAccept}
 use Rattle.relay_book.specs.declared.message.Message.{Message}
 
@@ -68,6 +72,44 @@ leaving_of queue (Accept accept) = []
 leaving_of queue (Outcome outcome) =
     option_map_or (λ message. leaving_by message.accept outcome.at outcome.rulings)
     (message_of queue.messages outcome.message) []
+
+-- what is told of a place, by how it leaves, if it does, and by the report that was due: that it leaves, or that it is
+-- reported as delayed, and stays held
+abbrev pub step_of : Option Way → Option DueReport → Option PlaceStep
+step_of (Some way) due = Some (made.Left way)
+step_of None due = if tells_delay due then Some made.Delayed else None
+
+-- what a verdict makes of a place of a message
+abbrev pub place_step : Version → Message → ℕ → Ruling → Option PlaceStep
+place_step version message at ruling =
+    step_of (way_of (fate_of message.accept.at at ruling.verdict)) (due_report_at version message at ruling)
+
+-- what the verdicts of an outcome make of the places of a message, in order
+abbrev pub place_steps_by : Version → Message → ℕ → List Ruling → List (ℕ × PlaceStep)
+place_steps_by version message at [] = []
+place_steps_by version message at (ruling ∷ rulings) =
+    option_map_or (λ one. (ruling.place, one) ∷ []) (place_step version message at ruling) []
+    ++ place_steps_by version message at rulings
+
+-- what a change makes of places of a queue: each that leaves, and each that is reported as delayed, in order
+abbrev pub place_steps : Queue → Change → List (ℕ × PlaceStep)
+place_steps queue (Accept accept) = []
+place_steps queue (Outcome outcome) =
+    option_map_or (λ message. place_steps_by outcome.version message outcome.at outcome.rulings)
+    (message_of queue.messages outcome.message) []
+
+-- of these, what leaves
+abbrev pub if_left : ℕ → PlaceStep → List (ℕ × Way)
+if_left place (made.Left way) = (place, way) ∷ []
+if_left place made.Delayed = []
+
+abbrev pub left_among : List (ℕ × PlaceStep) → List (ℕ × Way)
+left_among [] = []
+left_among (one ∷ steps) = if_left one.0 one.1 ++ left_among steps
+
+-- Of what a change makes of places of a queue, what leaves is what leaves of the queue.
+abbrev pub StepsLeave : Type 0
+StepsLeave = (queue : Queue) (change : Change) → left_among (place_steps queue change) ≡ leaving_of queue change
 
 -- the message that a change rules on
 abbrev pub ruled_message : Change → Option ℕ

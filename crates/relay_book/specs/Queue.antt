@@ -1,9 +1,10 @@
 -- The queue that a list of changes leaves: a fold of steps. What fits a queue is judged on the queue alone.
-use Rattle.std.specs.Prelude.{◌≡◌, ◌↔◌, ℕ, suc, ◌+◌, ◌≤◌, ◌^◌, ◌==◌, nat_le, min, fold, Bool, true, false, ◌&&◌, List, [], ◌∷◌, ◌++◌, map, slice_get, slice_set, codes, Option, Some, None, MatchOption, if◌then◌else◌}
+use Rattle.std.specs.Prelude.{◌≡◌, ◌↔◌, ℕ, suc, ◌+◌, ◌≤◌, ◌^◌, ◌==◌, nat_le, min, fold, Bool, true, false, ◌&&◌, ◌||◌, List, [], ◌∷◌, ◌++◌, map, slice_get, slice_set, codes, Option, Some, None, is_some, option_and_then, MatchOption, if◌then◌else◌}
 use Rattle.std.specs.List.{flat_map, AllByRecursion, list_any}
 use Rattle.std.specs.Option.{option_map_or}
 use Rattle.relay_envelope.specs.declared.envelope.Recipient.{Recipient}
 use Rattle.relay_envelope.specs.declared.envelope.Envelope.{Envelope}
+use Rattle.relay_book.specs.declared.version.Version.{Version}
 use Rattle.relay_book.specs.declared.change.Accept.{Accept as AcceptFields}
 use Rattle.relay_book.specs.declared.change.Outcome.{Outcome as OutcomeFields}
 use Rattle.relay_book.specs.declared.change.Ruling.{Ruling}
@@ -14,8 +15,10 @@ use Rattle.relay_book.specs.declared.change.Change.TheVariants.{Accept, Outcome}
 use Rattle.relay_book.specs.declared.message.Place.{Place}
 use Rattle.relay_book.specs.declared.message.Message.{Message}
 use Rattle.relay_book.specs.declared.fate.Fate.{Fate}
-use Rattle.relay_book.specs.declared.fate.Fate.TheVariants.{Waits, Failed, Relayed}
-use Rattle.relay_book.specs.DueReport.{fate_of, due_report_of}
+use Rattle.relay_book.specs.declared.fate.Fate.TheVariants.{Waits, Late, Failed, Relayed}
+use Rattle.relay_book.specs.declared.due_report.DueReport.{DueReport}
+use Rattle.relay_book.specs.declared.due_report.DueReport.TheVariants.{OfFailure, OfRelay, OfDelay}
+use Rattle.relay_book.specs.DueReport.{fate_of, due_for}
 use Rattle.relay_book.specs.DueMoment.{wait_after}
 use Rattle.relay_book.specs.Record.{IsAccept, IsOutcome}
 
@@ -26,38 +29,56 @@ pub record Queue : Type 0 where
 
 -- a place that left
 abbrev pub left_place : Place
-left_place = record { held = false; laters = 0; due = 0 }
+left_place = record { held = false; laters = 0; delayed = false; due = 0 }
 
--- a place that is due at a moment, after as many Later verdicts, of which four and more are one
-abbrev pub held_place : ℕ → ℕ → Place
-held_place laters due = record { held = true; laters = laters; due = due }
+-- a place that is due at a moment, after as many Later verdicts, of which four and more are one, and that was reported
+-- as delayed or not
+abbrev pub held_place : ℕ → Bool → ℕ → Place
+held_place laters delayed due = record { held = true; laters = laters; delayed = delayed; due = due }
 
--- a place behind a Later verdict
-abbrev pub waiting_place : ℕ → Place → Place
-waiting_place at place = held_place (min (place.laters + 1) 4) (at + wait_after (min (place.laters + 1) 4))
+-- a report tells of a delay
+abbrev pub tells_delay : Option DueReport → Bool
+tells_delay None = false
+tells_delay (Some OfFailure) = false
+tells_delay (Some OfRelay) = false
+tells_delay (Some OfDelay) = true
 
-abbrev pub place_after : ℕ → Place → Fate → Place
-place_after at place Waits = waiting_place at place
-place_after at place Failed = left_place
-place_after at place (Relayed dsn) = left_place
+-- a place behind a Later verdict, by which this report was due
+abbrev pub waiting_place : ℕ → Place → Option DueReport → Place
+waiting_place at place due =
+    held_place (min (place.laters + 1) 4) (tells_delay due || place.delayed)
+    (at + wait_after (min (place.laters + 1) 4))
+
+-- a place behind a verdict, by what it makes of the place and by the report that was due
+abbrev pub place_after : ℕ → Place → Fate → Option DueReport → Place
+place_after at place Waits due = waiting_place at place due
+place_after at place Late due = waiting_place at place due
+place_after at place Failed due = left_place
+place_after at place (Relayed dsn) due = left_place
+
+-- the same, of a message
+abbrev pub place_ruled : Version → AcceptFields → ℕ → Place → Ruling → Place
+place_ruled version accept at place ruling =
+    place_after at place (fate_of accept.at at ruling.verdict) (due_for version accept at place ruling)
 
 -- the places of a message behind a verdict
-abbrev pub places_after : AcceptFields → ℕ → List Place → Ruling → List Place
-places_after accept at places ruling =
-    option_map_or
-    (λ place. slice_set places ruling.place (place_after at place (fate_of accept.at at ruling.verdict)))
+abbrev pub places_after : Version → AcceptFields → ℕ → List Place → Ruling → List Place
+places_after version accept at places ruling =
+    option_map_or (λ place. slice_set places ruling.place (place_ruled version accept at place ruling))
     (slice_get places ruling.place) places
 
 -- behind all verdicts of an outcome
-abbrev pub places_ruled : AcceptFields → ℕ → List Place → List Ruling → List Place
-places_ruled accept at places rulings = fold (places_after accept at) places rulings
+abbrev pub places_ruled : Version → AcceptFields → ℕ → List Place → List Ruling → List Place
+places_ruled version accept at places rulings = fold (places_after version accept at) places rulings
 
 abbrev pub is_held : Place → Bool
 is_held place = place.held
 
 abbrev pub message_after : OutcomeFields → Message → Message
 message_after outcome message =
-    record message { places = places_ruled message.accept outcome.at message.places outcome.rulings }
+    record message {
+      places = places_ruled outcome.version message.accept outcome.at message.places outcome.rulings;
+    }
 
 -- a message that has no held place isn't queued
 abbrev pub if_held : ℕ → Message → List (ℕ × Message)
@@ -75,7 +96,7 @@ abbrev pub accepted : ℕ → AcceptFields → Message
 accepted number accept = record {
   number = number;
   accept = accept;
-  places = map (λ recipient. held_place 0 accept.at) accept.envelope.recipients;
+  places = map (λ recipient. held_place 0 false accept.at) accept.envelope.recipients;
 }
 
 -- a report: from the null reverse path to the reverse path of its message, without parameters
@@ -135,14 +156,15 @@ AreRulings places least (ruling ∷ rulings) =
     (least ≤ ruling.place) × (holds_at places ruling.place ≡ true)
     × AreRulings places (ruling.place + 1) rulings
 
--- a report is due for this place
-abbrev pub reports_at : Message → ℕ → Ruling → Bool
-reports_at message at ruling =
-    option_map_or
-    (λ recipient. option_map_or (λ _. true)
-    (due_report_of message.accept.envelope.reverse_path recipient.notify
-    (fate_of message.accept.at at ruling.verdict)) false)
-    (slice_get message.accept.envelope.recipients ruling.place) false
+-- which report is due of a place of a message by a verdict at a moment
+abbrev pub due_report_at : Version → Message → ℕ → Ruling → Option DueReport
+due_report_at version message at ruling =
+    option_and_then (λ place. due_for version message.accept at place ruling)
+    (slice_get message.places ruling.place)
+
+-- one is due
+abbrev pub reports_at : Version → Message → ℕ → Ruling → Bool
+reports_at version message at ruling = is_some (due_report_at version message at ruling)
 
 abbrev pub is_no_route : Verdict → Bool
 is_no_route (Taken dsn) = false
@@ -160,7 +182,8 @@ AllNoRoute rulings = AllByRecursion (λ ruling. is_no_route ruling.verdict ≡ t
 pub record FitsMessage (message : Message) (outcome : OutcomeFields) : Type 0 where
   pub rulings : AreRulings message.places 0 outcome.rulings
   pub hop : (outcome.hop ≡ []) ↔ AllNoRoute outcome.rulings
-  pub report : (outcome.report ≡ []) ↔ (list_any (reports_at message outcome.at) outcome.rulings ≡ false)
+  pub report : (outcome.report ≡ [])
+      ↔ (list_any (reports_at outcome.version message outcome.at) outcome.rulings ≡ false)
 
 -- profile: the greatest number of a change
 abbrev pub last_number : ℕ

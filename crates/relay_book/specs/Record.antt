@@ -11,6 +11,8 @@ use Rattle.relay_envelope.specs.declared.parameters.Ret.{Ret}
 use Rattle.relay_envelope.specs.declared.parameters.Ret.TheVariants.{Full, Hdrs}
 use Rattle.relay_envelope.specs.declared.parameters.Notify.{Notify}
 use Rattle.relay_envelope.specs.declared.parameters.Notify.TheVariants.{Never, On}
+use Rattle.relay_book.specs.declared.version.Version.{Version}
+use Rattle.relay_book.specs.declared.version.Version.TheVariants.{WithoutDelay, WithDelay}
 use Rattle.relay_book.specs.declared.change.Accept.{Accept as AcceptFields}
 use Rattle.relay_book.specs.declared.change.Outcome.{Outcome as OutcomeFields}
 use Rattle.relay_book.specs.declared.change.Ruling.{Ruling}
@@ -88,17 +90,22 @@ verdict_octets NoRoute = 6 ∷ []
 abbrev pub ruling_octets : Ruling → List ℕ
 ruling_octets ruling = ruling.place ∷ verdict_octets ruling.verdict
 
--- an outcome: its message, its moment, the hop, the verdicts and the report
+-- the fields of an outcome: its message, its moment, the hop, the verdicts and the report
 abbrev pub outcome_octets : OutcomeFields → List ℕ
 outcome_octets outcome =
     octets_8 outcome.message
     ++ (octets_8 outcome.at
     ++ (sized_2 outcome.hop ++ (counted ruling_octets outcome.rulings ++ sized_4 outcome.report)))
 
+-- the first octet of an outcome, by its version
+abbrev pub outcome_kind : Version → ℕ
+outcome_kind WithoutDelay = 2
+outcome_kind WithDelay = 4
+
 -- the one encoding of a change
 abbrev pub encode : Change → List ℕ
 encode (Accept accept) = 1 ∷ accept_octets accept
-encode (Outcome outcome) = 2 ∷ outcome_octets outcome
+encode (Outcome outcome) = outcome_kind outcome.version ∷ outcome_octets outcome
 
 -- the null reverse path (RFC 5321, section 4.5.5)
 abbrev pub is_null : List ℕ → Bool

@@ -3,7 +3,7 @@ ghost use Rattle.std.specs.Prelude.{◌≡◌, ◌<◌, ◌≤◌, ◌+◌, ◌^
 ghost use Rattle.std.specs.List.{Contains, flat_map, list_any};
 ghost use Rattle.std.specs.Option.{option_copied, option_map_or};
 ghost use Rattle.relay_book.specs.Book.{AllTold, AreTold, IsTold, Rise, is_held_until, marks_at};
-ghost use Rattle.relay_book.specs.Marks.{leaving_of};
+ghost use Rattle.relay_book.specs.Marks.{place_steps};
 ghost use Rattle.relay_book.specs.Queue.{FitsQueue, due_of, empty_queue, held_of, is_due_at, last_number, message_of, ruled, step};
 ghost use Rattle.relay_book.specs.Ready.{IsReady, entry_of, message_in};
 ghost use Rattle.relay_book.specs.Record.{IsAccept};
@@ -11,15 +11,15 @@ ghost use Rattle.relay_book.specs.Record.{IsAccept};
 mod decoded;
 mod entries;
 mod first;
-mod leaving;
 mod make;
 mod numbers;
 mod questions;
 mod restored;
 mod snapshot;
+mod steps;
 
 use crate::change::{Accept, Change, Outcome};
-use crate::fate::Way;
+use crate::fate::PlaceStep;
 use crate::fault::BookFault;
 use crate::judge::{fits_message, is_accept, is_outcome};
 use crate::limits::LAST_NUMBER;
@@ -27,7 +27,6 @@ use crate::message::{Message, Place};
 use crate::ready::{Made, Ready};
 use entries::{keep_queued, slot_after};
 use indexmap::IndexMap;
-use leaving::leaving_by;
 use make::{accepted, made_of, moments_of, places_behind};
 use questions::{held_places, numbers_until, push_due};
 use relay_trace::Moment;
@@ -35,6 +34,7 @@ use std::alloc::{AllocError, Global};
 use std::collections::BTreeSet;
 use std::marker::Model;
 use std::mem;
+use steps::place_steps_by;
 
 /// The queue of a node: the messages with a held place, and when these are due.
 #[derive(Drop)]
@@ -120,14 +120,19 @@ impl Book {
         self.due_among(alloc, &numbers, latest)
     }
 
-    /// The places that leave by a change, each with its way, in order. It fails where memory runs out.
-    pub fn leaving(&self, alloc: Global, change: &Change) -> Result<Vec<(u8, Way)>, AllocError>
-        ensures { IfOk result (λ places. places.items ≡ leaving_of self.now.queue change.now) }
+    /// What a change makes of places: each that leaves, with its way, and each that is reported as delayed, in order.
+    /// It fails where memory runs out.
+    pub fn place_steps(
+        &self,
+        alloc: Global,
+        change: &Change,
+    ) -> Result<Vec<(u8, PlaceStep)>, AllocError>
+        ensures { IfOk result (λ steps. steps.items ≡ place_steps self.now.queue change.now) }
     {
         match change {
             Change::Accept(_) => Ok(Vec::new(alloc)),
             Change::Outcome(outcome) => match self.message(outcome.message) {
-                Some(message) => leaving_by(alloc, &message.accept, outcome),
+                Some(message) => place_steps_by(alloc, message, outcome),
                 None => Ok(Vec::new(alloc)),
             },
         }

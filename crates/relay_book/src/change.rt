@@ -1,5 +1,6 @@
 ghost use Rattle.std.specs.Prelude.{◌≡◌, List, [], ◌++◌, ◌∷◌, length, OnOk, OnErr};
 
+use crate::version::Version;
 use relay_envelope::Envelope;
 use relay_octets::Octets;
 use relay_trace::Moment;
@@ -112,6 +113,8 @@ impl Rulings {
 /// How an attempt ended.
 #[derive(Debug)]
 pub struct Outcome {
+    /// By which version it is judged which report is due, and it is written.
+    pub version: Version,
     /// The number of its message.
     pub message: u64,
     /// When it ended.
@@ -128,6 +131,7 @@ pub struct Outcome {
 impl Drop for Outcome {
     fn drop(self) {
         let Outcome {
+            version: _,
             message: _,
             at: _,
             hop: _hop,

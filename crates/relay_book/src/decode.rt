@@ -1,8 +1,8 @@
 //! Records read back.
-ghost use Rattle.std.specs.Prelude.{◌≡◌, ◌≢◌, ◌<◌, ◌^◌, length, MatchOption, IfOk, IfSome, IsErrOf, IsTrue, ◌↔◌};
+ghost use Rattle.std.specs.Prelude.{◌≡◌, ◌≢◌, ◌<◌, ◌^◌, length, MatchOption, ◌∷◌, IfOk, IfSome, IsErrOf, IsTrue, ◌↔◌};
 ghost use Rattle.relay_envelope.specs.Envelope.{IsRecipient, IsReversePath, may_be_envid, envelope_from};
 ghost use Rattle.relay_envelope.specs.Mail.{mail_value};
-ghost use Rattle.relay_book.specs.Record.{IsAccept, IsChange, IsNoRecord, IsOutcome, MayBeHop, accept_octets, encode, outcome_octets, sized_4, text_limit};
+ghost use Rattle.relay_book.specs.Record.{IsAccept, IsChange, IsNoRecord, IsOutcome, MayBeHop, accept_octets, encode, outcome_kind, outcome_octets, sized_4, text_limit};
 ghost use Rattle.relay_book.specs.Fields.{BeginsAccept, BeginsRecord, BeginsWithHop, BeginsWithMail, HasNoHead, IsNoSized, MayBeRecord, SpellsHead, SpellsAccept, SpellsNoAccept, SpellsNoOutcome, SpellsOutcome};
 
 mod entry;
@@ -16,6 +16,7 @@ use crate::change::{Accept, Change, Outcome, Rulings};
 use crate::fault::BookFault;
 use crate::field::{read_4, read_8, read_sized_2};
 use crate::limits::{REPORT_LIMIT, may_be_hop, text_limit};
+use crate::version::Version;
 pub(crate) use entry::read_entry_in;
 use mail::mail_of;
 use recipient::{read_fields, read_recipients};
@@ -45,12 +46,21 @@ pub fn decode_change(alloc: Global, text: &[u8]) -> Result<Change, BookFault>
             let accept = read_accept(alloc, fields)?;
             Ok(Change::Accept(accept))
         }
-        2 => {
-            let outcome = read_outcome(alloc, fields)?;
-            Ok(Change::Outcome(outcome))
-        }
+        2 => decode_outcome(alloc, Version::WithoutDelay, fields),
+        4 => decode_outcome(alloc, Version::WithDelay, fields),
         _ => Err(BookFault::BadRecord),
     }
+}
+
+/// The outcome of a version whose fields these are.
+fn decode_outcome(alloc: Global, version: Version, fields: &[u8]) -> Result<Change, BookFault>
+    ensures change { IfOk result (λ change.
+        IsChange change × (outcome_kind version ∷ fields.now ≡ encode change)) }
+    ensures bad { IsErrOf result BookFault.BadRecord → SpellsNoOutcome fields.now }
+    ensures memory { IsErrOf result BookFault.NoMemory → BeginsWithHop fields.now }
+{
+    let outcome = read_outcome(alloc, version, fields)?;
+    Ok(Change::Outcome(outcome))
 }
 
 /// The same change, where the octets are to be had. The stored text of an accept keeps their memory, and isn't copied.
@@ -200,10 +210,11 @@ fn split_outcome(alloc: Global, text: &[u8]) -> Result<OutcomeFields<'_>, BookFa
     }
 }
 
-/// The outcome that the text spells.
+/// The outcome of a version that the text spells.
 #[tactic(auto, using(crate::proofs::OutcomeLemmas::bad_moment, crate::proofs::OutcomeLemmas::bad_hop, crate::proofs::OutcomeLemmas::bad_report, crate::proofs::OutcomeLemmas::is_outcome, crate::proofs::OutcomeLemmas::outcome_is, crate::proofs::BeginLemmas::spelled_with_hop))]
-fn read_outcome(alloc: Global, text: &[u8]) -> Result<Outcome, BookFault>
+fn read_outcome(alloc: Global, version: Version, text: &[u8]) -> Result<Outcome, BookFault>
     ensures outcome { IfOk result (λ outcome. IsOutcome outcome × (text.now ≡ outcome_octets outcome)) }
+    ensures version { IfOk result (λ outcome. outcome.version ≡ version) }
     ensures bad { IsErrOf result BookFault.BadRecord → SpellsNoOutcome text.now }
     ensures memory { IsErrOf result BookFault.NoMemory → BeginsWithHop text.now }
 {
@@ -215,6 +226,7 @@ fn read_outcome(alloc: Global, text: &[u8]) -> Result<Outcome, BookFault>
         return Err(BookFault::BadRecord);
     }
     Ok(Outcome {
+        version,
         message,
         at,
         hop: Octets::from_slice(alloc, hop)?,

@@ -1,8 +1,12 @@
 ghost use Rattle.std.specs.Prelude.{◌≡◌};
-ghost use Rattle.relay_book.specs.DueReport.{due_report_of, report_of_fate, wants_failure, wants_success};
+ghost use Rattle.relay_book.specs.DueReport.{due_for, due_report_of, report_of_delay, report_of_fate, reports_delay, wants_delay, wants_failure, wants_success};
 
-use crate::fate::Fate;
+use crate::change::{Accept, Verdict};
+use crate::fate::{Fate, fate_of};
+use crate::message::Place;
+use crate::version::Version;
 use relay_envelope::Notify;
+use relay_trace::Moment;
 
 /// What a report says of a place.
 #[derive(Clone, Copy, Debug)]
@@ -11,28 +15,88 @@ pub enum DueReport {
     OfFailure,
     /// That a hop took it which makes no reports itself.
     OfRelay,
+    /// That it is late, and is tried again.
+    OfDelay,
 }
 
-/// Which report is due of a place (RFC 3461, section 5.2): none to the null reverse path, and else by what
-/// became of the place and by its NOTIFY. It takes no memory.
-pub fn due_report_of(reverse_path: &[u8], notify: Option<Notify>, fate: Fate) -> Option<DueReport>
-    ensures { result ≡ due_report_of reverse_path.now notify fate }
+/// Which report is due by a verdict at a moment of this place of a message, which has this index: none of a place
+/// without a recipient.
+pub(crate) fn due_for(
+    version: Version,
+    accept: &Accept,
+    at: Moment,
+    place: Place,
+    index: u8,
+    verdict: &Verdict,
+) -> Option<DueReport>
+    ensures { result ≡ due_for version accept.now at place (record { place = index; verdict = verdict.now }) }
+{
+    let envelope = &accept.envelope;
+    match envelope.recipients.as_slice().get(usize::from(index)) {
+        Some(recipient) => {
+            let fate = fate_of(accept.at, at, verdict);
+            due_report_of(
+                version,
+                envelope.reverse_path.as_slice(),
+                recipient.notify,
+                place,
+                fate,
+            )
+        }
+        None => None,
+    }
+}
+
+/// Which report is due of a place (RFC 3461, section 5.2): none to the null reverse path, and else by the version of
+/// the outcome, by what became of the place and was known of it, and by its NOTIFY.
+fn due_report_of(
+    version: Version,
+    reverse_path: &[u8],
+    notify: Option<Notify>,
+    place: Place,
+    fate: Fate,
+) -> Option<DueReport>
+    ensures { result ≡ due_report_of version reverse_path.now notify place fate }
 {
     if matches!(reverse_path, b"<>") {
         None
     } else {
-        report_of_fate(notify, fate)
+        report_of_fate(version, notify, place, fate)
     }
 }
 
-fn report_of_fate(notify: Option<Notify>, fate: Fate) -> Option<DueReport>
-    ensures { result ≡ report_of_fate notify fate }
+fn report_of_fate(
+    version: Version,
+    notify: Option<Notify>,
+    place: Place,
+    fate: Fate,
+) -> Option<DueReport>
+    ensures { result ≡ report_of_fate version notify place fate }
 {
     match fate {
         Fate::Waits => None,
+        Fate::Late => report_of_delay(version, notify, place),
         Fate::Failed => wants_failure(notify).then_some(DueReport::OfFailure),
         Fate::Relayed(true) => None,
         Fate::Relayed(false) => wants_success(notify).then_some(DueReport::OfRelay),
+    }
+}
+
+/// The report of a delay, once: of a place that wasn't reported as delayed before.
+fn report_of_delay(version: Version, notify: Option<Notify>, place: Place) -> Option<DueReport>
+    ensures { result ≡ report_of_delay version notify place }
+{
+    let is_due = reports_delay(version) && wants_delay(notify) && !place.delayed;
+    is_due.then_some(DueReport::OfDelay)
+}
+
+/// Whether outcomes of this version report a delay.
+fn reports_delay(version: Version) -> bool
+    ensures { result ≡ reports_delay version }
+{
+    match version {
+        Version::WithoutDelay => false,
+        Version::WithDelay => true,
     }
 }
 
@@ -55,5 +119,16 @@ fn wants_success(notify: Option<Notify>) -> bool
         None => false,
         Some(Notify::Never) => false,
         Some(Notify::On(outcomes)) => outcomes.success,
+    }
+}
+
+/// A delay is reported where NOTIFY names it.
+fn wants_delay(notify: Option<Notify>) -> bool
+    ensures { result ≡ wants_delay notify }
+{
+    match notify {
+        None => false,
+        Some(Notify::Never) => false,
+        Some(Notify::On(outcomes)) => outcomes.delay,
     }
 }

@@ -2,12 +2,14 @@
 ghost use Rattle.std.specs.Prelude.{◌≡◌, ◌++◌, ◌∷◌, ◌<◌, ◌≤◌, ◌^◌, length, OnOk, IfOk};
 ghost use Rattle.std.specs.List.{flat_map, AllByRecursion, zip};
 ghost use Rattle.relay_envelope.specs.Envelope.{IsEnvelope, IsRecipient};
-ghost use Rattle.relay_book.specs.Record.{IsAccept, IsChange, IsOutcome, IsRuling, IsVerdict, accept_octets, counted, encode, notify_number, octets_8, outcome_octets, recipient_octets, ret_number, ruling_octets, verdict_octets};
+ghost use Rattle.relay_book.specs.Record.{IsAccept, IsChange, IsOutcome, IsRuling, IsVerdict, accept_octets, counted, encode, notify_number, octets_8, outcome_kind, outcome_octets, recipient_octets, ret_number, ruling_octets, verdict_octets};
+ghost use Rattle.relay_book.specs.declared.version.Version.TheVariants.{WithDelay};
 ghost use Rattle.relay_book.specs.Snapshot.{IsQueued, entry_octets, place_octets, placed_octets};
 
 use crate::change::{Accept, Change, Outcome, Ruling, Verdict};
 use crate::field::{push_1, push_2, push_8, push_sized_2, push_sized_4};
 use crate::message::{Message, Place};
+use crate::version::Version;
 use relay_envelope::{Notify, Recipient, Ret};
 use std::alloc::{AllocError, Global};
 
@@ -23,7 +25,7 @@ pub fn encode_change(alloc: Global, change: &Change) -> Result<Vec<u8>, AllocErr
             push_accept(&mut out, accept)?;
         }
         Change::Outcome(outcome) => {
-            push_1(&mut out, 2)?;
+            push_1(&mut out, outcome_kind(outcome.version))?;
             push_outcome(&mut out, outcome)?;
         }
     }
@@ -100,6 +102,16 @@ fn number_of_notify(notify: Option<Notify>) -> u8
     }
 }
 
+/// The first octet of an outcome.
+fn outcome_kind(version: Version) -> u8
+    ensures { result ≡ outcome_kind version }
+{
+    match version {
+        Version::WithoutDelay => 2,
+        Version::WithDelay => 4,
+    }
+}
+
 /// Adds the fields of an outcome.
 fn push_outcome(out: &mut Vec<u8>, outcome: &Outcome) -> Result<(), AllocError>
     requires { IsOutcome outcome.now }
@@ -154,7 +166,8 @@ fn push_verdict(out: &mut Vec<u8>, verdict: &Verdict) -> Result<(), AllocError>
     }
 }
 
-/// Adds a message that is queued: its number, and the fields of its accept, each recipient followed by its place.
+/// Adds a message that is queued, by the second version: its number, and the fields of its accept, each recipient
+/// followed by its place.
 #[tactic(auto, using(crate::proofs::FitLemmas::reverse_path_fits, crate::proofs::FitLemmas::given_envid_fits, crate::proofs::FitLemmas::text_fits), unfolding(crate::specs::Snapshot::entry_octets))]
 pub(crate) fn push_entry(
     out: &mut Vec<u8>,
@@ -162,7 +175,7 @@ pub(crate) fn push_entry(
     message: &Message,
 ) -> Result<(), AllocError>
     requires { IsQueued (number, message.now) }
-    ensures { OnOk result (out.new.items ≡ out.old.items ++ entry_octets (number, message.now)) }
+    ensures { OnOk result (out.new.items ≡ out.old.items ++ entry_octets WithDelay (number, message.now)) }
 {
     let accept = &message.accept;
     let envelope = &accept.envelope;
@@ -192,7 +205,7 @@ fn push_placed(
     requires as_many { length places.now ≡ length recipients.now }
     requires valid { AllByRecursion IsRecipient recipients.now }
     ensures { OnOk result
-        (out.new.items ≡ out.old.items ++ counted placed_octets (zip recipients.now places.now)) }
+        (out.new.items ≡ out.old.items ++ counted (placed_octets WithDelay) (zip recipients.now places.now)) }
 {
     push_1(out, recipients.len() as u8)?;
     push_row(out, recipients, places)?;
@@ -203,7 +216,7 @@ fn push_placed(
 fn push_row(out: &mut Vec<u8>, recipients: &[Recipient], places: &[Place]) -> Result<(), AllocError>
     requires { AllByRecursion IsRecipient recipients.now }
     ensures { OnOk result
-        (out.new.items ≡ out.old.items ++ flat_map placed_octets (zip recipients.now places.now)) }
+        (out.new.items ≡ out.old.items ++ flat_map (placed_octets WithDelay) (zip recipients.now places.now)) }
 {
     match recipients {
         [] => Ok(()),
@@ -218,11 +231,12 @@ fn push_row(out: &mut Vec<u8>, recipients: &[Recipient], places: &[Place]) -> Re
     }
 }
 
-/// Adds a place: whether it is held, its Later verdicts, and when it is due.
+/// Adds a place: whether it is held, its Later verdicts, whether it was reported as delayed, and when it is due.
 fn push_place(out: &mut Vec<u8>, place: Place) -> Result<(), AllocError>
-    ensures { OnOk result (out.new.items ≡ out.old.items ++ place_octets place) }
+    ensures { OnOk result (out.new.items ≡ out.old.items ++ place_octets WithDelay place) }
 {
     push_1(out, if place.held { 1 } else { 0 })?;
     push_1(out, place.laters)?;
+    push_1(out, if place.delayed { 1 } else { 0 })?;
     push_8(out, place.due)
 }

@@ -1,8 +1,8 @@
 ghost use Rattle.std.specs.Prelude.{◌≡◌};
-ghost use Rattle.relay_book.specs.DueReport.{fate_of, way_of};
+ghost use Rattle.relay_book.specs.DueReport.{fate_of, fate_of_later, way_of};
 
 use crate::change::Verdict;
-use crate::limits::PATIENCE;
+use crate::limits::{LATENESS, PATIENCE};
 use relay_trace::Moment;
 
 /// What a verdict makes of a held place.
@@ -10,6 +10,8 @@ use relay_trace::Moment;
 pub enum Fate {
     /// It is tried again.
     Waits,
+    /// It is tried again, and has waited for so long that this may be reported.
+    Late,
     /// It ends: it was refused, can't be sent, has no hop, or was tried for too long.
     Failed,
     /// The hop took it, which offered DSN or not.
@@ -25,6 +27,15 @@ pub enum Way {
     ByEnd,
 }
 
+/// What a change makes of a place, as it is told of.
+#[derive(Clone, Copy, Debug)]
+pub enum PlaceStep {
+    /// It leaves the queue.
+    Left(Way),
+    /// It is reported as delayed, and stays held.
+    Delayed,
+}
+
 /// What a verdict at a moment makes of a place that was accepted at another. It takes no memory.
 pub fn fate_of(accepted: Moment, at: Moment, verdict: &Verdict) -> Fate
     ensures { result ≡ fate_of accepted at verdict.now }
@@ -32,15 +43,22 @@ pub fn fate_of(accepted: Moment, at: Moment, verdict: &Verdict) -> Fate
     match verdict {
         Verdict::Taken { dsn } => Fate::Relayed(*dsn),
         Verdict::Refused { .. } => Fate::Failed,
-        Verdict::Later => {
-            if at.seconds() >= accepted.seconds() + PATIENCE {
-                Fate::Failed
-            } else {
-                Fate::Waits
-            }
-        }
+        Verdict::Later => fate_of_later(accepted, at),
         Verdict::CantSend => Fate::Failed,
         Verdict::NoRoute => Fate::Failed,
+    }
+}
+
+/// What becomes of a place that is to be tried again.
+fn fate_of_later(accepted: Moment, at: Moment) -> Fate
+    ensures { result ≡ fate_of_later accepted at }
+{
+    if at.seconds() >= accepted.seconds() + PATIENCE {
+        Fate::Failed
+    } else if at.seconds() >= accepted.seconds() + LATENESS {
+        Fate::Late
+    } else {
+        Fate::Waits
     }
 }
 
@@ -51,6 +69,7 @@ impl Fate {
     {
         match self {
             Fate::Waits => None,
+            Fate::Late => None,
             Fate::Failed => Some(Way::ByEnd),
             Fate::Relayed(_) => Some(Way::ByTransfer),
         }

@@ -6,12 +6,11 @@ ghost use Rattle.relay_book.specs.Fields.{AreSome};
 ghost use Rattle.relay_book.specs.Queue.{AllNoRoute, AreRulings, FitsMessage, holds_at, is_no_route, reports_at};
 
 use crate::change::{Accept, Outcome, Ruling, Verdict};
-use crate::due_report::due_report_of;
-use crate::fate::fate_of;
 use crate::limits::{
     REFUSAL_LIMIT, REPORT_LIMIT, is_printable, is_reply_code, may_be_hop, text_limit,
 };
 use crate::message::{Message, Place};
+use crate::version::Version;
 use relay_envelope::is_envelope;
 use relay_trace::{LAST_SECOND, Moment};
 
@@ -155,7 +154,7 @@ fn is_no_route(verdict: &Verdict) -> bool
 fn report_fits(message: &Message, outcome: &Outcome) -> bool
     ensures { IsTrue result
         ↔ ((outcome.now.report ≡ [])
-        ↔ (list_any (reports_at message.now outcome.now.at) outcome.now.rulings ≡ false)) }
+        ↔ (list_any (reports_at outcome.now.version message.now outcome.now.at) outcome.now.rulings ≡ false)) }
 {
     let unreported = outcome.report.is_empty();
     let none_due = is_none_due(message, outcome);
@@ -164,37 +163,25 @@ fn report_fits(message: &Message, outcome: &Outcome) -> bool
 
 /// Whether no report is due.
 fn is_none_due(message: &Message, outcome: &Outcome) -> bool
-    ensures { IsTrue result ↔ (list_any (reports_at message.now outcome.now.at) outcome.now.rulings ≡ false) }
+    ensures { IsTrue result
+        ↔ (list_any (reports_at outcome.now.version message.now outcome.now.at) outcome.now.rulings ≡ false) }
 {
     !any_due(message, outcome)
 }
 
 fn any_due(message: &Message, outcome: &Outcome) -> bool
-    ensures { result ≡ list_any (reports_at message.now outcome.now.at) outcome.now.rulings }
+    ensures { result
+        ≡ list_any (reports_at outcome.now.version message.now outcome.now.at) outcome.now.rulings }
 {
     let rulings = outcome.rulings.as_slice();
-    rulings
-        .iter()
-        .any(|ruling| reports_at(message, outcome.at, ruling))
+    rulings.iter().any(|ruling| reports_at(message, outcome.version, outcome.at, ruling))
 }
 
 /// Whether a report is due for a place.
-fn reports_at(message: &Message, at: Moment, ruling: &Ruling) -> bool
-    ensures { result ≡ reports_at message.now at ruling.now }
+fn reports_at(message: &Message, version: Version, at: Moment, ruling: &Ruling) -> bool
+    ensures { result ≡ reports_at version message.now at ruling.now }
 {
-    let envelope = &message.accept.envelope;
-    match envelope
-        .recipients
-        .as_slice()
-        .get(usize::from(ruling.place))
-    {
-        Some(recipient) => {
-            let fate = fate_of(message.accept.at, at, &ruling.verdict);
-            match due_report_of(envelope.reverse_path.as_slice(), recipient.notify, fate) {
-                Some(_) => true,
-                None => false,
-            }
-        }
-        None => false,
-    }
+    message
+        .due_report_at(version, at, ruling.place, &ruling.verdict)
+        .is_some()
 }

@@ -1,4 +1,4 @@
-//! How many octets a message takes in a snapshot. 2^64 - 1 octets stand for as many and more.
+//! How many octets a message takes in a snapshot of the second version. 2^64 - 1 octets stand for as many and more.
 ghost use Rattle.std.specs.Prelude.{◌≡◌, ◌+◌, ◌-◌, ◌^◌, length, min};
 ghost use Rattle.relay_book.specs.Record.{written};
 ghost use Rattle.relay_book.specs.SnapshotFields.{entry_length, row_length};
@@ -11,7 +11,7 @@ use relay_envelope::Recipient;
 pub(crate) const ENTRY_HEAD: usize = 26;
 
 /// The octets of a recipient and its place besides its texts.
-const PLACED_HEAD: usize = 15;
+const PLACED_HEAD: usize = 16;
 
 /// A message's.
 pub(crate) fn entry_length(message: &Message) -> usize
@@ -42,7 +42,7 @@ fn row_length(recipients: &[Recipient]) -> usize
 /// Those of a recipient with its place.
 fn placed_length(recipient: &Recipient) -> usize
     ensures { result
-        ≡ min (15 + length recipient.now.path + length (written recipient.now.orcpt)) (2 ^ 64 - 1) }
+        ≡ min (16 + length recipient.now.path + length (written recipient.now.orcpt)) (2 ^ 64 - 1) }
 {
     let orcpt = match &recipient.orcpt {
         Some(orcpt) => orcpt.as_slice().len(),

@@ -18,17 +18,20 @@ mod question;
 mod ready;
 pub mod record_laws;
 mod retry;
+mod version;
 
 pub use book::Book;
 pub use change::{Accept, Change, Outcome, Ruling, Rulings, Verdict};
 pub use decode::{decode_change, decode_record};
-pub use due_report::{DueReport, due_report_of};
+pub use due_report::DueReport;
 pub use encode::encode_change;
-pub use fate::{Fate, Way, fate_of};
+pub use fate::{Fate, PlaceStep, Way, fate_of};
 pub use fault::BookFault;
 pub use limits::{
-    FIRST_WAIT, LAST_NUMBER, LONGEST_WAIT, PATIENCE, REFUSAL_LIMIT, REPORT_LIMIT, STORED_TEXT_LIMIT,
+    FIRST_WAIT, LAST_NUMBER, LATENESS, LONGEST_WAIT, PATIENCE, REFUSAL_LIMIT, REPORT_LIMIT,
+    STORED_TEXT_LIMIT,
 };
 pub use message::{Message, Place, Places};
 pub use question::Question;
 pub use ready::Ready;
+pub use version::Version;

@@ -21,6 +21,9 @@ pub const REFUSAL_LIMIT: usize = 200;
 /// For how many seconds behind its acceptance a place is tried (RFC 5321, section 4.5.4.1).
 pub const PATIENCE: u64 = 432_000;
 
+/// For how many seconds behind its acceptance a place may wait before it is late (RFC 3461, section 4.1).
+pub const LATENESS: u64 = 14_400;
+
 /// How many seconds a place waits behind its first Later verdict; behind each further one it waits
 /// twice as long.
 pub const FIRST_WAIT: u64 = 1_800;

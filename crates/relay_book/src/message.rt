@@ -1,11 +1,13 @@
 ghost use Rattle.std.specs.Prelude.{◌≡◌, ◌<◌, ◌≤◌, length, slice_get, slice_set, IfOk};
 ghost use Rattle.std.specs.List.{list_any};
 ghost use Rattle.relay_book.specs.Book.{is_held_until};
-ghost use Rattle.relay_book.specs.Queue.{is_held, message_after, places_after, places_ruled};
+ghost use Rattle.relay_book.specs.Queue.{due_report_at, is_held, message_after, place_ruled, places_after, places_ruled};
 
-use crate::change::{Accept, Outcome, Ruling};
+use crate::change::{Accept, Outcome, Ruling, Verdict};
+use crate::due_report::{DueReport, due_for};
 use crate::fate::fate_of;
 use crate::retry::place_after;
+use crate::version::Version;
 use relay_trace::Moment;
 use std::alloc::{AllocError, Global};
 use std::marker::Model;
@@ -17,6 +19,8 @@ pub struct Place {
     pub held: bool,
     /// How many Later verdicts it had, of which four and more are one; 0 where it isn't held.
     pub laters: u8,
+    /// It was reported as delayed; false where it isn't held.
+    pub delayed: bool,
     /// When it is due, in seconds from 1970; 0 where it isn't held. It may pass the greatest moment.
     pub due: u64,
 }
@@ -75,22 +79,22 @@ impl Places {
     }
 
     /// Rules on one place.
-    fn rule_one(&mut self, accept: &Accept, at: Moment, ruling: &Ruling)
-        ensures { self.new ≡ places_after accept.now at self.old ruling.now }
+    fn rule_one(&mut self, version: Version, accept: &Accept, at: Moment, ruling: &Ruling)
+        ensures { self.new ≡ places_after version accept.now at self.old ruling.now }
     {
         let index = ruling.place as usize;
         if let Some(place) = self.get(index) {
-            let fate = fate_of(accept.at, at, &ruling.verdict);
-            self.set(index, place_after(at, place, fate));
+            self.set(index, place_ruled(version, accept, at, place, ruling));
         }
     }
 
     /// Rules on the places of an outcome.
     pub(crate) fn rule(&mut self, accept: &Accept, outcome: &Outcome)
-        ensures { self.new ≡ places_ruled accept.now outcome.now.at self.old outcome.now.rulings }
+        ensures { self.new
+            ≡ places_ruled outcome.now.version accept.now outcome.now.at self.old outcome.now.rulings }
     {
         for ruling in outcome.rulings.as_slice() {
-            self.rule_one(accept, outcome.at, ruling);
+            self.rule_one(outcome.version, accept, outcome.at, ruling);
         }
     }
 
@@ -109,6 +113,21 @@ impl Places {
     {
         self.items.iter().any(|place| place.held)
     }
+}
+
+/// A place behind a verdict.
+fn place_ruled(
+    version: Version,
+    accept: &Accept,
+    at: Moment,
+    place: Place,
+    ruling: &Ruling,
+) -> Place
+    ensures { result ≡ place_ruled version accept.now at place ruling.now }
+{
+    let fate = fate_of(accept.at, at, &ruling.verdict);
+    let due = due_for(version, accept, at, place, ruling.place, &ruling.verdict);
+    place_after(at, place, fate, due)
 }
 
 /// A message with a held place.
@@ -134,6 +153,24 @@ impl Drop for Message {
 }
 
 impl Message {
+    /// Which report is due of the place of this index by a verdict at a moment (RFC 3461, section 5.2): none of a
+    /// place that the message doesn't have. It takes no memory.
+    pub fn due_report_at(
+        &self,
+        version: Version,
+        at: Moment,
+        index: u8,
+        verdict: &Verdict,
+    ) -> Option<DueReport>
+        ensures { result
+            ≡ due_report_at version self.now at (record { place = index; verdict = verdict.now }) }
+    {
+        match self.places.get(usize::from(index)) {
+            Some(place) => due_for(version, &self.accept, at, place, index, verdict),
+            None => None,
+        }
+    }
+
     /// Rules on the places of an outcome.
     pub(crate) fn rule(&mut self, outcome: &Outcome)
         ensures { self.new ≡ message_after outcome.now self.old }

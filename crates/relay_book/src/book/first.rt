@@ -1,7 +1,7 @@
 //! The first body of a spool: a snapshot, or the record of a first change.
-ghost use Rattle.std.specs.Prelude.{◌↔◌, IfOk, IsTrue, OnOk, IsErrOf};
+ghost use Rattle.std.specs.Prelude.{◌≡◌, IfOk, OnOk, IsErrOf};
 ghost use Rattle.relay_book.specs.Snapshot.{IsQueue};
-ghost use Rattle.relay_book.specs.SnapshotFields.{IsOfSnapshot};
+ghost use Rattle.relay_book.specs.SnapshotFields.{is_of_snapshot};
 ghost use Rattle.relay_book.specs.StandsFor.{ReadsBody, ReadsFirst, ReadsNoBody, ReadsNoFirst};
 
 use crate::book::Book;
@@ -41,10 +41,10 @@ impl Book {
 
 /// Whether the first octet is that of a snapshot.
 fn is_of_snapshot(octets: &[u8]) -> bool
-    ensures { IsTrue result ↔ IsOfSnapshot octets.now }
+    ensures { result ≡ is_of_snapshot octets.now }
 {
     match octets {
         [] => false,
-        [kind, ..] => *kind == 3,
+        [kind, ..] => *kind == 3 || *kind == 5,
     }
 }

@@ -1,5 +1,5 @@
 //! The messages that a change queues.
-ghost use Rattle.std.specs.Prelude.{◌≡◌, ◌≤◌, ◌++◌, ◌∷◌, List, [], Some, codes, length, map, IfOk};
+ghost use Rattle.std.specs.Prelude.{◌≡◌, ◌≤◌, ◌++◌, ◌∷◌, List, [], Some, codes, false, length, map, IfOk};
 ghost use Rattle.relay_book.specs.declared.change.Change.{Change};
 ghost use Rattle.relay_book.specs.Queue.{accepted, held_place, message_after, report_envelope, reported};
 ghost use Rattle.relay_book.specs.Ready.{change_of, entry_of, message_in};
@@ -16,13 +16,14 @@ use std::mem;
 fn start_places(alloc: Global, accept: &Accept) -> Result<Places, AllocError>
     requires { length accept.now.envelope.recipients ≤ 100 }
     ensures { IfOk result (λ places.
-        places ≡ map (λ recipient. held_place 0 accept.now.at) accept.now.envelope.recipients) }
+        places ≡ map (λ recipient. held_place 0 false accept.now.at) accept.now.envelope.recipients) }
 {
     let mut items = Vec::with_capacity(alloc, accept.envelope.recipients.len())?;
     for _ in accept.envelope.recipients.as_slice() {
         items.push(Place {
             held: true,
             laters: 0,
+            delayed: false,
             due: accept.at.seconds(),
         })?;
     }

@@ -3,7 +3,9 @@ ghost use Rattle.std.specs.Prelude.{◌≡◌, ◌≢◌, ◌≤◌, ◌<◌, �
 ghost use Rattle.std.specs.List.{AllByRecursion, flat_map};
 ghost use Rattle.relay_book.specs.Book.{if_there, live};
 ghost use Rattle.relay_book.specs.Queue.{empty_queue, last_number};
-ghost use Rattle.relay_book.specs.Snapshot.{IsNoSnapshot, IsQueue, IsQueued, IsSnapshotOf, entry_octets, snapshot};
+ghost use Rattle.relay_book.specs.declared.version.Version.TheVariants.{WithDelay};
+ghost use Rattle.relay_book.specs.Snapshot.{IsNoSnapshot, IsQueue, IsQueued, IsSnapshotOf, entry_octets, snapshot, snapshot_kind};
+ghost use Rattle.relay_book.specs.declared.version.Version.{Version as AnyVersion};
 ghost use Rattle.relay_book.specs.SnapshotFields.{AreEntries, HasNoEntries, MayBeSnapshot, SpellsCounts, SpellsNoCounts, SpellsNoSnapshot, SpellsSnapshot, entries_length};
 
 use crate::book::Book;
@@ -14,6 +16,7 @@ use crate::field::{push_1, push_4, push_8, read_4, read_8};
 use crate::length::{ENTRY_HEAD, entry_length};
 use crate::limits::LAST_NUMBER;
 use crate::message::Message;
+use crate::version::Version;
 use indexmap::IndexMap;
 use std::alloc::{AllocError, Global};
 
@@ -21,8 +24,8 @@ use std::alloc::{AllocError, Global};
 const HEAD_LENGTH: usize = 13;
 
 impl Book {
-    /// The snapshot of the queue, from which `decode_snapshot` makes the same queue, with room for so many octets
-    /// more behind it. It fails where memory runs out, and counts 2^32 messages and more as that.
+    /// The snapshot of the queue by the second version, from which `decode_snapshot` makes the same queue, with room
+    /// for so many octets more behind it. It fails where memory runs out, and counts 2^32 messages and more as that.
     pub fn encode_snapshot(&self, alloc: Global, more: usize) -> Result<Vec<u8>, AllocError>
         requires { IsQueue self.now.queue }
         ensures { IfOk result (λ octets. octets.items ≡ snapshot self.now.queue) }
@@ -48,14 +51,14 @@ impl Book {
         ensures bad { IsErrOf result BookFault.BadRecord → IsNoSnapshot octets.now }
         ensures memory { IsErrOf result BookFault.NoMemory → MayBeSnapshot octets.now }
     {
-        let Some((next, count, rest)) = read_head(octets) else {
+        let Some((version, next, count, rest)) = read_head(octets) else {
             return Err(BookFault::BadRecord);
         };
         if next < 1 || next > LAST_NUMBER + 1 {
             return Err(BookFault::BadRecord);
         }
         let mut book = Book::new(alloc);
-        book.read_entries(alloc, next, count, rest)?;
+        book.read_entries(alloc, version, next, count, rest)?;
         Ok(book)
     }
 
@@ -65,6 +68,7 @@ impl Book {
     fn read_entries(
         &mut self,
         alloc: Global,
+        version: Version,
         next: u64,
         count: u32,
         text: &[u8],
@@ -73,8 +77,8 @@ impl Book {
         requires some { 1 ≤ next }
         requires few { next ≤ last_number + 1 }
         ensures next { OnOk result (self.new.queue.next ≡ next) }
-        ensures entries { OnOk result (AreEntries count next text.now self.new.queue.messages) }
-        ensures bad { IsErrOf result BookFault.BadRecord → HasNoEntries count next text.now }
+        ensures entries { OnOk result (AreEntries version count next text.now self.new.queue.messages) }
+        ensures bad { IsErrOf result BookFault.BadRecord → HasNoEntries version count next text.now }
     {
         if count as usize > text.len() / ENTRY_HEAD {
             return Err(BookFault::BadRecord);
@@ -82,7 +86,7 @@ impl Book {
         self.make_room(count as usize)?;
         let mut rest = text;
         for index in 0..count {
-            match read_entry_in(alloc, self.next_number(), next, rest) {
+            match read_entry_in(alloc, version, self.next_number(), next, rest) {
                 Err(fault) => return Err(fault),
                 Ok((message, behind)) => {
                     self.restore(message)?;
@@ -98,18 +102,29 @@ impl Book {
     }
 }
 
-/// The octet of a snapshot, the next number, the count of messages, and what follows them.
+/// The version of a snapshot, by its first octet, the next number, the count of messages, and what follows them.
 #[tactic(auto, using(crate::proofs::SnapshotReadLemmas::no_kind, crate::proofs::SnapshotReadLemmas::other_kind, crate::proofs::SnapshotReadLemmas::no_counts, crate::proofs::SnapshotReadLemmas::head_is))]
-fn read_head(octets: &[u8]) -> Option<(u64, u32, &[u8])>
+fn read_head(octets: &[u8]) -> Option<(Version, u64, u32, &[u8])>
     ensures { MatchOption result (SpellsNoSnapshot octets.now)
-        (λ parts. SpellsSnapshot octets.now parts.0 parts.1 parts.2.now) }
+        (λ parts. SpellsSnapshot parts.0 octets.now parts.1 parts.2 parts.3.now) }
 {
     let (kind, rest) = octets.split_first()?;
-    if *kind != 3 {
-        return None;
-    }
+    let version = version_of(*kind)?;
     let (next, count, rest) = read_counts(rest)?;
-    Some((next, count, rest))
+    Some((version, next, count, rest))
+}
+
+/// The version of a snapshot with this first octet.
+#[tactic(auto, using(crate::proofs::SnapshotReadLemmas::no_version))]
+fn version_of(kind: u8) -> Option<Version>
+    ensures { MatchOption result ((version : AnyVersion) → kind ≢ snapshot_kind version)
+        (λ version. kind ≡ snapshot_kind version) }
+{
+    match kind {
+        3 => Some(Version::WithoutDelay),
+        5 => Some(Version::WithDelay),
+        _ => None,
+    }
 }
 
 /// The next number, the count of messages, and what follows them.
@@ -139,7 +154,7 @@ fn write_snapshot(
         return Err(AllocError);
     };
     let mut out = Vec::with_capacity(alloc, length_of(messages).saturating_add(more))?;
-    push_1(&mut out, 3)?;
+    push_1(&mut out, 5)?;
     push_8(&mut out, next)?;
     push_4(&mut out, count)?;
     push_entries(&mut out, messages)?;
@@ -203,7 +218,7 @@ fn push_entries(
 ) -> Result<(), AllocError>
     requires { AllByRecursion IsQueued (live messages.now.entries) }
     ensures { OnOk result
-        (out.new.items ≡ out.old.items ++ flat_map entry_octets (live messages.now.entries)) }
+        (out.new.items ≡ out.old.items ++ flat_map (entry_octets WithDelay) (live messages.now.entries)) }
 {
     for index in 0..messages.len() {
         let Some((number, slot)) = messages.get_index(index) else {
@@ -218,7 +233,7 @@ fn push_entries(
 fn push_slot(out: &mut Vec<u8>, number: u64, slot: &Option<Message>) -> Result<(), AllocError>
     requires { AllByRecursion IsQueued (if_there number slot.now) }
     ensures { OnOk result
-        (out.new.items ≡ out.old.items ++ flat_map entry_octets (if_there number slot.now)) }
+        (out.new.items ≡ out.old.items ++ flat_map (entry_octets WithDelay) (if_there number slot.now)) }
 {
     match slot {
         Some(message) => push_entry(out, number, message),

@@ -1,7 +1,7 @@
 //! The messages of a snapshot.
 ghost use Rattle.std.specs.Prelude.{◌≡◌, ◌++◌, ◌≤◌, ◌<◌, IfOk, IsErrOf};
 ghost use Rattle.relay_book.specs.Fields.{HasNone};
-ghost use Rattle.relay_book.specs.Snapshot.{IsQueued, entry_octets};
+ghost use Rattle.relay_book.specs.Snapshot.{IsQueuedBy, entry_octets};
 ghost use Rattle.relay_book.specs.SnapshotFields.{IsQueuedIn, SpellsEntry, numbered};
 
 use super::mail::mail_of;
@@ -12,6 +12,7 @@ use crate::fault::BookFault;
 use crate::field::{read_8, read_sized_4};
 use crate::limits::text_limit;
 use crate::message::{Message, Places};
+use crate::version::Version;
 use relay_envelope::{Envelope, Recipients};
 use relay_octets::Octets;
 use relay_trace::Moment;
@@ -33,10 +34,10 @@ type EntryFields<'a> = (
 
 /// Cuts a message into its fields.
 #[tactic(auto, using(crate::proofs::EntryFieldLemmas::no_number, crate::proofs::EntryFieldLemmas::no_moment, crate::proofs::EntryFieldLemmas::no_mail_fields, crate::proofs::EntryFieldLemmas::no_placed, crate::proofs::EntryFieldLemmas::no_stored_text, crate::proofs::EntryFieldLemmas::entry_spelled))]
-fn split_entry(alloc: Global, text: &[u8]) -> Result<EntryFields<'_>, BookFault>
+fn split_entry(alloc: Global, version: Version, text: &[u8]) -> Result<EntryFields<'_>, BookFault>
     ensures fields { IfOk result (λ parts. SpellsEntry
-        text.now parts.0 parts.1 parts.2.now parts.3 parts.4.now parts.5 parts.6 parts.7.now parts.8.now) }
-    ensures bad { IsErrOf result BookFault.BadRecord → HasNone IsQueued entry_octets text.now }
+        version text.now parts.0 parts.1 parts.2.now parts.3 parts.4.now parts.5 parts.6 parts.7.now parts.8.now) }
+    ensures bad { IsErrOf result BookFault.BadRecord → HasNone (IsQueuedBy version) (entry_octets version) text.now }
 {
     let Some((number, rest)) = read_8(text) else {
         return Err(BookFault::BadRecord);
@@ -47,7 +48,7 @@ fn split_entry(alloc: Global, text: &[u8]) -> Result<EntryFields<'_>, BookFault>
     let Some((path, ret, envid, rest)) = read_fields(rest) else {
         return Err(BookFault::BadRecord);
     };
-    let (recipients, places, rest) = read_placed(alloc, rest)?;
+    let (recipients, places, rest) = read_placed(alloc, version, rest)?;
     match read_sized_4(rest) {
         Some((stored_text, rest)) => Ok((
             number,
@@ -66,13 +67,13 @@ fn split_entry(alloc: Global, text: &[u8]) -> Result<EntryFields<'_>, BookFault>
 
 /// A message, with a copy of its stored text, and what follows it.
 #[tactic(auto, using(crate::proofs::EntryFieldLemmas::bad_mail, crate::proofs::EntryFieldLemmas::bad_moment, crate::proofs::EntryFieldLemmas::bad_text, crate::proofs::EntryFieldLemmas::bad_places))]
-fn read_entry(alloc: Global, text: &[u8]) -> Result<(Message, &[u8]), BookFault>
-    ensures entry { IfOk result (λ parts. IsQueued (numbered parts.0)
-        × (text.now ≡ entry_octets (numbered parts.0) ++ parts.1.now)) }
-    ensures bad { IsErrOf result BookFault.BadRecord → HasNone IsQueued entry_octets text.now }
+fn read_entry(alloc: Global, version: Version, text: &[u8]) -> Result<(Message, &[u8]), BookFault>
+    ensures entry { IfOk result (λ parts. IsQueuedBy version (numbered parts.0)
+        × (text.now ≡ entry_octets version (numbered parts.0) ++ parts.1.now)) }
+    ensures bad { IsErrOf result BookFault.BadRecord → HasNone (IsQueuedBy version) (entry_octets version) text.now }
 {
     let (number, at, path, ret, envid, recipients, places, stored_text, rest) = split_entry(
-        alloc, text,
+        alloc, version, text,
     )?;
     let Some(mail) = mail_of(path, ret, envid) else {
         return Err(BookFault::BadRecord);
@@ -104,16 +105,17 @@ fn read_entry(alloc: Global, text: &[u8]) -> Result<(Message, &[u8]), BookFault>
 #[tactic(auto, using(crate::proofs::EntryFieldLemmas::none_in, crate::proofs::EntryFieldLemmas::out_of_row))]
 pub(crate) fn read_entry_in(
     alloc: Global,
+    version: Version,
     least: u64,
     next: u64,
     text: &[u8],
 ) -> Result<(Message, &[u8]), BookFault>
-    ensures entry { IfOk result (λ parts. IsQueuedIn least next (numbered parts.0)
-        × (text.now ≡ entry_octets (numbered parts.0) ++ parts.1.now)) }
+    ensures entry { IfOk result (λ parts. IsQueuedIn version least next (numbered parts.0)
+        × (text.now ≡ entry_octets version (numbered parts.0) ++ parts.1.now)) }
     ensures bad { IsErrOf result BookFault.BadRecord
-        → HasNone (IsQueuedIn least next) entry_octets text.now }
+        → HasNone (IsQueuedIn version least next) (entry_octets version) text.now }
 {
-    let (message, rest) = read_entry(alloc, text)?;
+    let (message, rest) = read_entry(alloc, version, text)?;
     if message.number < least || message.number >= next {
         return Err(BookFault::BadRecord);
     }

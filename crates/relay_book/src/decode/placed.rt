@@ -4,15 +4,17 @@ ghost use Rattle.std.specs.List.{zip};
 ghost use Rattle.relay_envelope.specs.Envelope.{IsRecipient, recipient_from};
 ghost use Rattle.relay_envelope.specs.Mail.{rcpt_value};
 ghost use Rattle.relay_book.specs.Fields.{HasNoCounted, HasNoRow, HasNone};
+ghost use Rattle.relay_book.specs.Queue.{held_place};
 ghost use Rattle.relay_book.specs.Record.{recipient_octets};
-ghost use Rattle.relay_book.specs.Snapshot.{IsPlace, place_octets, placed_octets};
-ghost use Rattle.relay_book.specs.SnapshotFields.{HasNoPlaceFields, HasPlaceFields, IsNoPlace, IsPlaced, ReadsPlaced, ReadsRow, SpellsPlace};
+ghost use Rattle.relay_book.specs.Snapshot.{IsPlace, IsPlaceBy, place_octets, placed_octets};
+ghost use Rattle.relay_book.specs.SnapshotFields.{HasNoDelay, HasNoPlaceFields, HasPlaceFields, IsNoPlace, IsPlacedBy, ReadsPlaced, ReadsRow, SpellsDelay, SpellsPlace};
 
 use super::recipient::read_recipient;
 use crate::fault::BookFault;
 use crate::field::read_8;
 use crate::message::{Place, Places};
 use crate::retry::LEFT_PLACE;
+use crate::version::Version;
 use relay_envelope::{Rcpt, Recipient, Recipients};
 use std::alloc::{AllocError, Global};
 
@@ -20,23 +22,23 @@ use std::alloc::{AllocError, Global};
 const LATER_LIMIT: u8 = 4;
 
 /// The place of these fields.
-fn place_of(held: u8, laters: u8, due: u64) -> Option<Place>
-    ensures { MatchOption result (IsNoPlace held laters due)
-        (λ place. IsPlace place × HasPlaceFields place held laters due) }
+fn place_of(held: u8, laters: u8, delayed: u8, due: u64) -> Option<Place>
+    ensures { MatchOption result (IsNoPlace held laters delayed due)
+        (λ place. IsPlace place × HasPlaceFields place held laters delayed due) }
 {
     match held {
-        0 => left_place(laters, due),
-        1 => held_place(laters, due),
+        0 => left_place(laters, delayed, due),
+        1 => held_place(laters, delayed, due),
         _ => None,
     }
 }
 
-/// A place that left, of which no Later verdict counts and which isn't due.
-fn left_place(laters: u8, due: u64) -> Option<Place>
-    ensures { MatchOption result (IsNoPlace 0 laters due)
-        (λ place. IsPlace place × HasPlaceFields place 0 laters due) }
+/// A place that left, of which no Later verdict counts, which wasn't reported as delayed and isn't due.
+fn left_place(laters: u8, delayed: u8, due: u64) -> Option<Place>
+    ensures { MatchOption result (IsNoPlace 0 laters delayed due)
+        (λ place. IsPlace place × HasPlaceFields place 0 laters delayed due) }
 {
-    if laters == 0 && due == 0 {
+    if laters == 0 && delayed == 0 && due == 0 {
         Some(LEFT_PLACE)
     } else {
         None
@@ -44,53 +46,81 @@ fn left_place(laters: u8, due: u64) -> Option<Place>
 }
 
 /// A place that is held.
-fn held_place(laters: u8, due: u64) -> Option<Place>
-    ensures { MatchOption result (IsNoPlace 1 laters due)
-        (λ place. IsPlace place × HasPlaceFields place 1 laters due) }
+fn held_place(laters: u8, delayed: u8, due: u64) -> Option<Place>
+    ensures { MatchOption result (IsNoPlace 1 laters delayed due)
+        (λ place. IsPlace place × HasPlaceFields place 1 laters delayed due) }
 {
-    if laters <= LATER_LIMIT {
-        Some(Place {
-            held: true,
-            laters,
-            due,
-        })
-    } else {
-        None
+    if laters > LATER_LIMIT {
+        return None;
+    }
+    match delayed {
+        0 => Some(waiting_place(laters, false, due)),
+        1 => Some(waiting_place(laters, true, due)),
+        _ => None,
+    }
+}
+
+fn waiting_place(laters: u8, delayed: bool, due: u64) -> Place
+    ensures { result ≡ held_place laters delayed due }
+{
+    Place {
+        held: true,
+        laters,
+        delayed,
+        due,
+    }
+}
+
+/// Whether a place was reported as delayed, and what follows it: the first version says nothing, which counts as 0.
+#[tactic(auto, using(crate::proofs::PlacedLemmas::nothing_said, crate::proofs::PlacedLemmas::one_said, crate::proofs::PlacedLemmas::none_said))]
+fn split_delay(version: Version, text: &[u8]) -> Option<(u8, &[u8])>
+    ensures { MatchOption result (HasNoDelay version text.now)
+        (λ parts. SpellsDelay version text.now parts.0 parts.1.now) }
+{
+    match version {
+        Version::WithoutDelay => Some((0, text)),
+        Version::WithDelay => {
+            let (delayed, rest) = text.split_first()?;
+            Some((*delayed, rest))
+        }
     }
 }
 
 /// The fields of a place, and what follows them.
-#[tactic(auto, using(crate::proofs::PlacedLemmas::no_octet, crate::proofs::PlacedLemmas::no_laters, crate::proofs::PlacedLemmas::no_due, crate::proofs::PlacedLemmas::fields_are))]
-fn split_place(text: &[u8]) -> Option<(u8, u8, u64, &[u8])>
-    ensures { MatchOption result (HasNoPlaceFields text.now)
-        (λ parts. SpellsPlace text.now parts.0 parts.1 parts.2 parts.3.now) }
+#[tactic(auto, using(crate::proofs::PlacedLemmas::no_octet, crate::proofs::PlacedLemmas::no_laters, crate::proofs::PlacedLemmas::no_delay, crate::proofs::PlacedLemmas::no_due, crate::proofs::PlacedLemmas::fields_are))]
+fn split_place(version: Version, text: &[u8]) -> Option<(u8, u8, u8, u64, &[u8])>
+    ensures { MatchOption result (HasNoPlaceFields version text.now)
+        (λ parts. SpellsPlace version text.now parts.0 parts.1 parts.2 parts.3 parts.4.now) }
 {
     let (held, behind) = text.split_first()?;
     let (laters, behind) = behind.split_first()?;
-    let (due, rest) = read_8(behind)?;
-    Some((*held, *laters, due, rest))
+    let (delayed, behind) = split_delay(version, behind)?;
+    match read_8(behind) {
+        None => None,
+        Some((due, rest)) => Some((*held, *laters, delayed, due, rest)),
+    }
 }
 
 /// A place, and what follows it.
-#[tactic(auto, using(crate::proofs::PlacedLemmas::none_without_fields, crate::proofs::PlacedLemmas::none_of_fields, crate::proofs::PlacedLemmas::spelled))]
-fn read_place(text: &[u8]) -> Option<(Place, &[u8])>
-    ensures { MatchOption result (HasNone IsPlace place_octets text.now)
-        (λ parts. IsPlace parts.0 × (text.now ≡ place_octets parts.0 ++ parts.1.now)) }
+#[tactic(auto, using(crate::proofs::PlacedLemmas::none_without_fields, crate::proofs::PlacedLemmas::none_of_fields, crate::proofs::PlacedLemmas::spelled, crate::proofs::PlacedLemmas::is_place_by))]
+fn read_place(version: Version, text: &[u8]) -> Option<(Place, &[u8])>
+    ensures { MatchOption result (HasNone (IsPlaceBy version) (place_octets version) text.now)
+        (λ parts. IsPlaceBy version parts.0 × (text.now ≡ place_octets version parts.0 ++ parts.1.now)) }
 {
-    let (held, laters, due, rest) = split_place(text)?;
-    let place = place_of(held, laters, due)?;
+    let (held, laters, delayed, due, rest) = split_place(version, text)?;
+    let place = place_of(held, laters, delayed, due)?;
     Some((place, rest))
 }
 
 /// A recipient and its place, and what follows them.
 #[tactic(auto, using(crate::proofs::PlacedLemmas::no_recipient, crate::proofs::PlacedLemmas::no_place_behind, crate::proofs::PlacedLemmas::placed_is))]
-fn read_one(text: &[u8]) -> Option<(Rcpt<'_>, Place, &[u8])>
-    ensures { MatchOption result (HasNone IsPlaced placed_octets text.now)
-        (λ parts. IsPlaced (recipient_from (rcpt_value parts.0), parts.1)
-        × (text.now ≡ placed_octets (recipient_from (rcpt_value parts.0), parts.1) ++ parts.2.now)) }
+fn read_one(version: Version, text: &[u8]) -> Option<(Rcpt<'_>, Place, &[u8])>
+    ensures { MatchOption result (HasNone (IsPlacedBy version) (placed_octets version) text.now)
+        (λ parts. IsPlacedBy version (recipient_from (rcpt_value parts.0), parts.1)
+        × (text.now ≡ placed_octets version (recipient_from (rcpt_value parts.0), parts.1) ++ parts.2.now)) }
 {
     let (rcpt, behind) = read_recipient(text)?;
-    match read_place(behind) {
+    match read_place(version, behind) {
         None => None,
         Some((place, rest)) => Some((rcpt, place, rest)),
     }
@@ -107,17 +137,18 @@ fn push_place(places: &mut Vec<Place>, place: Place) -> Result<(), AllocError>
 /// So many recipients and their places, and what follows them.
 fn read_row(
     alloc: Global,
+    version: Version,
     count: u8,
     text: &[u8],
 ) -> Result<(Recipients, Vec<Place>, &[u8]), BookFault>
-    ensures row { IfOk result (λ parts. ReadsRow count text.now parts.0 parts.1.items parts.2.now) }
-    ensures bad { IsErrOf result BookFault.BadRecord → HasNoRow IsPlaced placed_octets count text.now }
+    ensures row { IfOk result (λ parts. ReadsRow version count text.now parts.0 parts.1.items parts.2.now) }
+    ensures bad { IsErrOf result BookFault.BadRecord → HasNoRow (IsPlacedBy version) (placed_octets version) count text.now }
 {
     let mut recipients = Recipients::with_capacity(alloc, count as usize)?;
     let mut places = Vec::with_capacity(alloc, count as usize)?;
     let mut rest = text;
     for index in 0..count {
-        match read_one(rest) {
+        match read_one(version, rest) {
             None => return Err(BookFault::BadRecord),
             Some((rcpt, place, behind)) => {
                 recipients.push(Recipient::new(alloc, rcpt)?)?;
@@ -133,10 +164,11 @@ fn read_row(
 #[tactic(auto, using(crate::proofs::RowLemmas::no_count, crate::proofs::RowLemmas::no_such_count, crate::proofs::RowLemmas::no_counted_row, crate::proofs::PlacedLemmas::reads_placed, crate::proofs::PlacedLemmas::few_places))]
 pub(super) fn read_placed(
     alloc: Global,
+    version: Version,
     text: &[u8],
 ) -> Result<(Recipients, Places, &[u8]), BookFault>
-    ensures placed { IfOk result (λ parts. ReadsPlaced text.now parts.0 parts.1 parts.2.now) }
-    ensures bad { IsErrOf result BookFault.BadRecord → HasNoCounted IsPlaced placed_octets text.now }
+    ensures placed { IfOk result (λ parts. ReadsPlaced version text.now parts.0 parts.1 parts.2.now) }
+    ensures bad { IsErrOf result BookFault.BadRecord → HasNoCounted (IsPlacedBy version) (placed_octets version) text.now }
 {
     let Some((count, behind)) = text.split_first() else {
         return Err(BookFault::BadRecord);
@@ -144,6 +176,6 @@ pub(super) fn read_placed(
     if *count < 1 || *count > 100 {
         return Err(BookFault::BadRecord);
     }
-    let (recipients, places, rest) = read_row(alloc, *count, behind)?;
+    let (recipients, places, rest) = read_row(alloc, version, *count, behind)?;
     Ok((recipients, Places::new(places), rest))
 }

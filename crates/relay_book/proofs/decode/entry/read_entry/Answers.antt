@@ -14,7 +14,7 @@ returns-clause-entry c =
     let late : c.in-Ok.at ≤ LAST_SECOND = search rules in
     let short : length c.in_ok-number.stored_text.now ≤ text_limit c.in_ok-number.path.now = search rules in
     let some : list_any is_held c.in_ok-number.places ≡ true = search rules in
-    entry_found c.args.text.now c.in_ok-number.number c.in_ok-number.at c.in_ok-number.path.now c.in_ok-number.ret c.in_ok-number.envid.now c.in_ok-number.recipients
+    entry_found c.args.version c.args.text.now c.in_ok-number.number c.in_ok-number.at c.in_ok-number.path.now c.in_ok-number.ret c.in_ok-number.envid.now c.in_ok-number.recipients
     c.in_ok-number.places c.in_ok-number.stored_text.now c.in_ok-number.rest.now (envelope_from (mail_value c.in-Some.mail)) c.in_ok-envelope.envelope c.in-Ok.at
     c.in_ok-from_slice.field-0 c.in_ok-number.ensures.fields c.in-Some.ensures.0 c.in-Some.ensures.1 moment_is late short some c.in_ok-envelope.ensures
     c.in_ok-from_slice.ensures

@@ -5,5 +5,5 @@ use Rattle.relay_book.proofs.message.Places.rule.Given as goal
 
 abbrev pub invariant-loop-ruling : goal.invariant-loop-ruling
 invariant-loop-ruling l =
-    places_ruled l.accept l.outcome.at l.self (drop l.ruling-index l.outcome.rulings)
-    ≡ places_ruled l.accept l.outcome.at l.initial.self l.outcome.rulings
+    places_ruled l.outcome.version l.accept l.outcome.at l.self (drop l.ruling-index l.outcome.rulings)
+    ≡ places_ruled l.outcome.version l.accept l.outcome.at l.initial.self l.outcome.rulings
