@@ -1,11 +1,12 @@
 -- A report that is due may be stored.
-use Rattle.std.proofs.Common.{◌≡◌, ◌↔◌, ℕ, ◌≤◌, ◌^◌, if◌then◌else◌, Bool, true, false, ◌||◌, List, [], ◌∷◌, length, slice_get, Option, None, Some, refl, sym, ap, ◌∙◌, arith}
+use Rattle.std.proofs.Common.{◌≡◌, ◌↔◌, ℕ, ◌≤◌, ◌^◌, if◌then◌else◌, Bool, true, false, ◌||◌, List, [], ◌∷◌, length, slice_get, Option, None, Some, is_some, option_and_then, refl, sym, ap, ◌∙◌, arith}
 use Rattle.std.proofs.lemmas.Bool.{false≢true}
-use Rattle.std.specs.Option.{option_map_or}
 use Rattle.relay_envelope.specs.declared.envelope.Recipient.{Recipient}
 use Rattle.relay_book.specs.declared.change.Ruling.{Ruling}
 use Rattle.relay_book.specs.declared.message.Message.{Message}
-use Rattle.relay_book.specs.DueReport.{due_report_of, fate_of, report_of_fate}
+use Rattle.relay_book.specs.declared.message.Place.{Place}
+use Rattle.relay_book.specs.declared.version.Version.TheVariants.{WithDelay}
+use Rattle.relay_book.specs.DueReport.{due_for, due_report_of, fate_of, report_of_fate}
 use Rattle.relay_book.specs.Record.{is_null}
 use Rattle.relay_report.specs.StatusFields.{field}
 use Rattle.relay_report.specs.Multipart.{Told, header_fields, report_text}
@@ -17,13 +18,18 @@ use Rattle.relay_report.proofs.ShortLemmas.{report_is_short}
 null_reports : (message : Message) (at : ℕ) (rulings : List Ruling) → is_null message.accept.envelope.reverse_path ≡ true → is_due message at rulings ≡ false
 null_reports message at [] null = refl
 null_reports message at (ruling ∷ rulings) null =
-    (λ i. first (slice_get message.accept.envelope.recipients ruling.place) i || is_due message at rulings) ∙ null_reports message at rulings null
+    (λ i. first (slice_get message.places ruling.place) i || is_due message at rulings) ∙ null_reports message at rulings null
   where
-    first : (o : Option Recipient)
-        → option_map_or (λ recipient. option_map_or (λ _. true) (due_report_of message.accept.envelope.reverse_path recipient.notify (fate_of message.accept.at at ruling.verdict)) false) o false
+    of_recipient : (place : Place) (o : Option Recipient)
+        → is_some (option_and_then (λ recipient. due_report_of WithDelay message.accept.envelope.reverse_path recipient.notify place (fate_of message.accept.at at ruling.verdict)) o)
         ≡ false
+    of_recipient place None = refl
+    of_recipient place (Some recipient) =
+        ap (λ (test : Bool). is_some (if test then None else report_of_fate WithDelay recipient.notify place (fate_of message.accept.at at ruling.verdict))) null
+
+    first : (o : Option Place) → is_some (option_and_then (λ place. due_for WithDelay message.accept at place ruling) o) ≡ false
     first None = refl
-    first (Some recipient) = ap (λ (test : Bool). option_map_or (λ _. true) (if test then None else report_of_fate recipient.notify (fate_of message.accept.at at ruling.verdict)) false) null
+    first (Some place) = of_recipient place (slice_get message.accept.envelope.recipients ruling.place)
 
 -- a report has text
 report_is_some : (told : Told) (text : List ℕ) → IsReport told text → text ≡ [] → ⊥

@@ -17,12 +17,13 @@ use Rattle.relay_book.specs.declared.change.Ruling.{Ruling}
 use Rattle.relay_book.specs.declared.change.Verdict.{Verdict}
 use Rattle.relay_book.specs.declared.change.Verdict.TheVariants.{Taken, Refused, Later, CantSend, NoRoute}
 use Rattle.relay_book.specs.declared.due_report.DueReport.{DueReport}
-use Rattle.relay_book.specs.declared.due_report.DueReport.TheVariants.{OfFailure, OfRelay}
+use Rattle.relay_book.specs.declared.due_report.DueReport.TheVariants.{OfFailure, OfRelay, OfDelay}
+use Rattle.relay_book.specs.DueReport.{patience}
 use Rattle.relay_book.specs.Record.{IsRuling, IsVerdict}
-use Rattle.relay_report.specs.StatusFields.{action_of, address_in, attempt_fields, diagnostic_code, field, last_attempt_date, message_fields, original_envelope_id, original_recipient, plain_of, recipient_fields, remote_mta, reply_words, status_of, typed}
-use Rattle.relay_report.specs.Multipart.{Told, dash_boundary, due_to, fields_of, first_part, header_fields, if_due, line_of, multipart_text, recipient_line, report_text, report_type, returned_type, returns_whole, second_part, third_part, title_line}
+use Rattle.relay_report.specs.StatusFields.{action_of, address_in, attempt_fields, diagnostic_code, field, last_attempt_date, message_fields, original_envelope_id, original_recipient, plain_of, recipient_fields, remote_mta, reply_words, retry_until, status_of, status_of_left, typed, will_retry_until}
+use Rattle.relay_report.specs.Multipart.{Told, dash_boundary, due_at, fields_of, first_part, header_fields, if_due, line_of, multipart_text, recipient_line, report_text, report_type, returned_type, returns_whole, second_part, third_part, title_line}
 use Rattle.relay_report.specs.Fits.{MayBeTold}
-use Rattle.relay_report.specs.Report.{IsReport}
+use Rattle.relay_report.specs.Report.{IsReport, IsUntil}
 use Rattle.relay_report.specs.Lines.{BreaksNoLine, HasPlainEnvid, HasPlainOrcpt, HasShortLines, IsPlainRecipient, IsPlainRuling, IsPlainVerdict, IsShortLine, ReportHasNoReceived, ReportHasShortLines}
 use Rattle.relay_report.proofs.ApartLemmas.{IsAbove, is_above}
 use Rattle.relay_report.proofs.ReportSplitLemmas.{above_none, and_false, boundary_above, closed, decimal_above, header_filled, header_is, header_lines, headed}
@@ -110,13 +111,19 @@ part_none octets size from none =
 action_none : (due : DueReport) → HasNoCrlf (action_of due)
 action_none OfFailure = no_crlf_by_test (codes "failed") refl
 action_none OfRelay = no_crlf_by_test (codes "relayed") refl
+action_none OfDelay = no_crlf_by_test (codes "delayed") refl
 
-status_none : (verdict : Verdict) → HasNoCrlf (status_of verdict)
-status_none (Taken dsn) = no_crlf_by_test (codes "2.0.0") refl
-status_none (Refused code text) = no_crlf_by_test (codes "5.0.0") refl
-status_none Later = no_crlf_by_test (codes "4.4.7") refl
-status_none CantSend = no_crlf_by_test (codes "5.6.3") refl
-status_none NoRoute = no_crlf_by_test (codes "5.1.2") refl
+left_none : (verdict : Verdict) → HasNoCrlf (status_of_left verdict)
+left_none (Taken dsn) = no_crlf_by_test (codes "2.0.0") refl
+left_none (Refused code text) = no_crlf_by_test (codes "5.0.0") refl
+left_none Later = no_crlf_by_test (codes "4.4.7") refl
+left_none CantSend = no_crlf_by_test (codes "5.6.3") refl
+left_none NoRoute = no_crlf_by_test (codes "5.1.2") refl
+
+status_none : (due : DueReport) (verdict : Verdict) → HasNoCrlf (status_of due verdict)
+status_none OfFailure verdict = left_none verdict
+status_none OfRelay verdict = left_none verdict
+status_none OfDelay verdict = no_crlf_by_test (codes "4.0.0") refl
 
 mta_line : (hop : List ℕ) → HasNoCrlf hop → length hop ≤ 255 → HasShortLines (field (codes "Remote-MTA") (typed (codes "dns") hop))
 mta_line hop none few = typed_field (codes "Remote-MTA") (codes "dns") hop refl refl (no_crlf_by_test (codes "dns") refl) none (omega (arith, few))
@@ -153,25 +160,42 @@ last_lines date Later is = last_line date is
 last_lines date CantSend is = last_line date is
 last_lines date NoRoute is = no_lines
 
-attempt_lines : (hop date : List ℕ) (verdict : Verdict) → HasNoCrlf hop → length hop ≤ 255 → IsShortDate date → IsVerdict verdict → IsPlainVerdict verdict
-    → HasShortLines (attempt_fields hop date verdict)
-attempt_lines hop date verdict none few is valid plain =
-    joined (field (codes "Status") (status_of verdict) ++ remote_mta hop verdict ++ diagnostic_code verdict) (last_attempt_date date verdict)
-    (joined (field (codes "Status") (status_of verdict) ++ remote_mta hop verdict) (diagnostic_code verdict)
-    (joined (field (codes "Status") (status_of verdict)) (remote_mta hop verdict)
-    (field_line (codes "Status") (status_of verdict) refl refl (status_none verdict) (omega (arith, status_short verdict)))
+-- until when a place is tried
+abbrev IsShortDay : Option (List ℕ) → Type 0
+IsShortDay None = Unit {0}
+IsShortDay (Some date) = IsShortDate date
+
+retry_lines : (until : Option (List ℕ)) → IsShortDay until → HasShortLines (retry_until until)
+retry_lines None is = no_lines
+retry_lines (Some date) is = field_line (codes "Will-Retry-Until") date refl refl is.plain (omega (arith, is.size))
+
+until_lines : (until : Option (List ℕ)) (due : DueReport) → IsShortDay until → HasShortLines (will_retry_until until due)
+until_lines until OfFailure is = no_lines
+until_lines until OfRelay is = no_lines
+until_lines until OfDelay is = retry_lines until is
+
+attempt_lines : (hop date : List ℕ) (due : DueReport) (verdict : Verdict) → HasNoCrlf hop → length hop ≤ 255 → IsShortDate date → IsVerdict verdict
+    → IsPlainVerdict verdict → HasShortLines (attempt_fields hop date due verdict)
+attempt_lines hop date due verdict none few is valid plain =
+    joined (field (codes "Status") (status_of due verdict) ++ remote_mta hop verdict ++ diagnostic_code verdict) (last_attempt_date date verdict)
+    (joined (field (codes "Status") (status_of due verdict) ++ remote_mta hop verdict) (diagnostic_code verdict)
+    (joined (field (codes "Status") (status_of due verdict)) (remote_mta hop verdict)
+    (field_line (codes "Status") (status_of due verdict) refl refl (status_none due verdict) (omega (arith, status_short due verdict)))
     (remote_lines hop verdict none few)) (diagnostic_lines verdict valid plain))
     (last_lines date verdict is)
 
-recipient_lines : (hop date : List ℕ) (recipient : Recipient) (due : DueReport) (verdict : Verdict) → HasNoCrlf hop → length hop ≤ 255 → IsShortDate date
-    → IsRecipient recipient → IsPlainRecipient recipient → IsVerdict verdict → IsPlainVerdict verdict → HasShortLines (recipient_fields hop date recipient due verdict)
-recipient_lines hop date recipient due verdict none few is valid plain rules plainly =
-    joined (crlf ++ original_recipient recipient.orcpt ++ final ++ field (codes "Action") (action_of due)) (attempt_fields hop date verdict)
+recipient_lines : (hop date : List ℕ) (until : Option (List ℕ)) (recipient : Recipient) (due : DueReport) (verdict : Verdict) → HasNoCrlf hop → length hop ≤ 255
+    → IsShortDate date → IsShortDay until → IsRecipient recipient → IsPlainRecipient recipient → IsVerdict verdict → IsPlainVerdict verdict
+    → HasShortLines (recipient_fields hop date until recipient due verdict)
+recipient_lines hop date until recipient due verdict none few is day valid plain rules plainly =
+    joined (crlf ++ original_recipient recipient.orcpt ++ final ++ field (codes "Action") (action_of due) ++ attempt_fields hop date due verdict) (will_retry_until until due)
+    (joined (crlf ++ original_recipient recipient.orcpt ++ final ++ field (codes "Action") (action_of due)) (attempt_fields hop date due verdict)
     (joined (crlf ++ original_recipient recipient.orcpt ++ final) (field (codes "Action") (action_of due))
     (joined (crlf ++ original_recipient recipient.orcpt) final
     (joined crlf (original_recipient recipient.orcpt) empty_line (original_lines recipient.orcpt plain.orcpt valid.orcpt)) final_lines)
     (field_line (codes "Action") (action_of due) refl refl (action_none due) (omega (arith, action_short due))))
-    (attempt_lines hop date verdict none few is rules plainly)
+    (attempt_lines hop date due verdict none few is rules plainly))
+    (until_lines until due day)
   where
     final : List ℕ
     final = field (codes "Final-Recipient") (typed (codes "rfc822") (address_in recipient.path))
@@ -190,9 +214,9 @@ place_line recipient due valid plain =
     (omega (arith, written_short _ recipient.path valid.path, action_short due, length-append (action_of due ++ codes " ") recipient.path, length-append (action_of due) (codes " ")))
 
 -- what is written of a place, if a report is due
-at_place : (text : Recipient → DueReport → List ℕ) (due : Recipient → Option DueReport) → ((recipient : Recipient) (is : DueReport) → IsRecipient recipient → IsPlainRecipient recipient → HasShortLines (text recipient is))
+at_place : (text : Recipient → DueReport → List ℕ) (due : Option DueReport) → ((recipient : Recipient) (is : DueReport) → IsRecipient recipient → IsPlainRecipient recipient → HasShortLines (text recipient is))
     → (recipients : List Recipient) (place : ℕ) → AllByRecursion IsRecipient recipients → AllByRecursion IsPlainRecipient recipients
-    → HasShortLines (option_map_or (λ recipient. if_due text recipient (due recipient)) (slice_get recipients place) [])
+    → HasShortLines (option_map_or (λ recipient. if_due text recipient due) (slice_get recipients place) [])
 at_place text due each recipients place valid plain = at recipients place valid plain
   where
     one : (recipient : Recipient) (o : Option DueReport) → IsRecipient recipient → IsPlainRecipient recipient → HasShortLines (if_due text recipient o)
@@ -200,9 +224,9 @@ at_place text due each recipients place valid plain = at recipients place valid 
     one recipient (Some word) is free = each recipient word is free
 
     at : (rest : List Recipient) (k : ℕ) → AllByRecursion IsRecipient rest → AllByRecursion IsPlainRecipient rest
-        → HasShortLines (option_map_or (λ recipient. if_due text recipient (due recipient)) (slice_get rest k) [])
+        → HasShortLines (option_map_or (λ recipient. if_due text recipient due) (slice_get rest k) [])
     at [] k all free = no_lines
-    at (recipient ∷ rest) zero all free = one recipient (due recipient) all.0 free.0
+    at (recipient ∷ rest) zero all free = one recipient due all.0 free.0
     at (recipient ∷ rest) (suc k) all free = at rest k all.1 free.1
 
 -- rows of lines are lines
@@ -237,17 +261,18 @@ unfolding first_part
 first_lines told may plain =
     joined (title_line told.host told.message.number) (flat_map (line_of told.message told.at) told.rulings)
     (title_lines told.host told.message.number plain.host may.host.few_octets may.message)
-    (rows (line_of told.message told.at) (λ ruling is free. at_place recipient_line (due_to told.message told.at ruling.verdict) place_line told.message.accept.envelope.recipients ruling.place may.accept.envelope.recipients plain.recipients)
+    (rows (line_of told.message told.at) (λ ruling is free. at_place recipient_line (due_at told.message told.at ruling) place_line told.message.accept.envelope.recipients ruling.place may.accept.envelope.recipients plain.recipients)
     told.rulings may.rulings plain.rulings)
 
-second_lines : (told : Told) (date arrival : List ℕ) → MayBeTold told → BreaksNoLine told → IsShortDate date → IsShortDate arrival → HasShortLines (second_part told date arrival)
+second_lines : (told : Told) (date arrival : List ℕ) (until : Option (List ℕ)) → MayBeTold told → BreaksNoLine told → IsShortDate date → IsShortDate arrival
+    → IsShortDay until → HasShortLines (second_part told date arrival until)
 unfolding second_part
-second_lines told date arrival may plain day came =
-    joined (message_fields told.host arrival told.message.accept.envelope.envid) (flat_map (fields_of told.message told.hop told.at date) told.rulings)
+second_lines told date arrival until may plain day came days =
+    joined (message_fields told.host arrival told.message.accept.envelope.envid) (flat_map (fields_of told.message told.hop told.at date until) told.rulings)
     (message_lines told.host arrival told.message.accept.envelope.envid plain.host may.host.few_octets came plain.envid may.accept.envelope.envid)
-    (rows (fields_of told.message told.hop told.at date)
-    (λ ruling is free. at_place (λ recipient due. recipient_fields told.hop date recipient due ruling.verdict) (due_to told.message told.at ruling.verdict)
-    (λ recipient due valid free_of. recipient_lines told.hop date recipient due ruling.verdict plain.hop (hop_short told.hop may.hop) day valid free_of is.verdict free)
+    (rows (fields_of told.message told.hop told.at date until)
+    (λ ruling is free. at_place (λ recipient due. recipient_fields told.hop date until recipient due ruling.verdict) (due_at told.message told.at ruling)
+    (λ recipient due valid free_of. recipient_lines told.hop date until recipient due ruling.verdict plain.hop (hop_short told.hop may.hop) day days valid free_of is.verdict free)
     told.message.accept.envelope.recipients ruling.place may.accept.envelope.recipients plain.recipients)
     told.rulings may.rulings plain.rulings)
 
@@ -292,6 +317,10 @@ pub record HasHeader (told : Told) (text date boundary : List ℕ) : Type 0 wher
 short_date : (moment : ℕ) (date : List ℕ) → IsDateText moment date → IsShortDate date
 short_date moment date is = record { plain = date_text_has_no_crlf moment date is; size = date_text_has_31_octets moment date is }
 
+short_day : (accepted : ℕ) (until : Option (List ℕ)) → IsUntil accepted until → IsShortDay until
+short_day accepted None is = tt
+short_day accepted (Some date) is = short_date (accepted + patience) date is
+
 has_header : (told : Told) (text : List ℕ) → MayBeTold told → (is : IsReport told text) → HasHeader told text is.date is.boundary
 unfolding report_text
 has_header told text may is = record {
@@ -306,7 +335,7 @@ has_header told text may is = record {
 }
   where
     parts : List ℕ
-    parts = multipart_text is.boundary (first_part told) (second_part told is.date is.arrival) (returned_type (returns_whole told)) (third_part told)
+    parts = multipart_text is.boundary (first_part told) (second_part told is.date is.arrival is.until) (returned_type (returns_whole told)) (third_part told)
 
     above : IsAbove is.boundary
     above = record { test = (subst (λ l. IsAbove (dash_boundary l)) (sym is.boundary_is.boundary_is) (boundary_above told.number is.boundary_is.least may.number is.boundary_is.is_least.fits)).test }
@@ -332,7 +361,8 @@ report_has_short_lines told text may is =
     let plain = told_breaks_no_line told may in (
       header_section told text is.date is.boundary (has_header told text may is),
       first_lines told may plain,
-      second_lines told is.date is.arrival may plain (short_date told.at is.date is.date_is) (short_date told.message.accept.at is.arrival is.arrival_is),
+      second_lines told is.date is.arrival is.until may plain (short_date told.at is.date is.date_is) (short_date told.message.accept.at is.arrival is.arrival_is)
+          (short_day told.message.accept.at is.until is.until_is),
     )
 
 -- none of the header's lines begins with that name

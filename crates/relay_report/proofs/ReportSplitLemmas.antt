@@ -139,15 +139,15 @@ has_opened text start one two three start_is opens = record {
 pub report_comes_apart : ReportComesApart
 unfolding report_text
 report_comes_apart told text may is =
-    has_opened text (crlf ++ parts) (first_part told) (second_part told is.date is.arrival) (third_part told)
+    has_opened text (crlf ++ parts) (first_part told) (second_part told is.date is.arrival is.until) (third_part told)
     (ap (λ l. drop (header_end_of l) l) whole ∙ behind_header_is (header_lines told is.date is.boundary) parts lines)
-    (multipart_opens is.boundary (first_part told) (second_part told is.date is.arrival) (returned_type (returns_whole told)) (third_part told) (returned_kind (returns_whole told)) dashed
+    (multipart_opens is.boundary (first_part told) (second_part told is.date is.arrival is.until) (returned_type (returns_whole told)) (third_part told) (returned_kind (returns_whole told)) dashed
     (nowhere (first_part told) (λ stands. is.boundary_is.is_least.free (inl stands)))
-    (nowhere (second_part told is.date is.arrival) (λ stands. is.boundary_is.is_least.free (inr (inl stands))))
+    (nowhere (second_part told is.date is.arrival is.until) (λ stands. is.boundary_is.is_least.free (inr (inl stands))))
     (nowhere (third_part told) (λ stands. is.boundary_is.is_least.free (inr (inr stands)))))
   where
     parts : List ℕ
-    parts = multipart_text is.boundary (first_part told) (second_part told is.date is.arrival) (returned_type (returns_whole told)) (third_part told)
+    parts = multipart_text is.boundary (first_part told) (second_part told is.date is.arrival is.until) (returned_type (returns_whole told)) (third_part told)
 
     dashed : IsAbove (dash_boundary is.boundary)
     dashed = subst (λ l. IsAbove (dash_boundary l)) (sym is.boundary_is.boundary_is) (boundary_above told.number is.boundary_is.least may.number is.boundary_is.is_least.fits)

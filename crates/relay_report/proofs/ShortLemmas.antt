@@ -19,12 +19,14 @@ use Rattle.relay_book.specs.declared.change.Ruling.{Ruling}
 use Rattle.relay_book.specs.declared.change.Verdict.{Verdict}
 use Rattle.relay_book.specs.declared.change.Verdict.TheVariants.{Taken, Refused, Later, CantSend, NoRoute}
 use Rattle.relay_book.specs.declared.due_report.DueReport.{DueReport}
-use Rattle.relay_book.specs.declared.due_report.DueReport.TheVariants.{OfFailure, OfRelay}
+use Rattle.relay_book.specs.DueReport.{patience}
+use Rattle.relay_book.specs.declared.due_report.DueReport.TheVariants.{OfFailure, OfRelay, OfDelay}
 use Rattle.relay_book.specs.Record.{IsRuling, IsVerdict, MayBeHop}
-use Rattle.relay_report.specs.StatusFields.{action_of, address_in, attempt_fields, diagnostic_code, field, last_attempt_date, message_fields, octets_or, original_envelope_id, original_recipient, plain_of, recipient_fields, remote_mta, reply_words, status_of, typed}
-use Rattle.relay_report.specs.Multipart.{Told, body_part, closing_line, due_to, fields_of, first_part, header_fields, if_due, line_of, message_id, multipart_text, part_head, postmaster_at, recipient_line, report_text, report_type, returned, returned_type, returns_whole, second_part, third_part, title_line}
+use Rattle.relay_report.specs.StatusFields.{action_of, address_in, attempt_fields, diagnostic_code, field, last_attempt_date, message_fields, octets_or, original_envelope_id, original_recipient, plain_of, recipient_fields, remote_mta, reply_words, retry_until, status_of, status_of_left, will_retry_until, typed}
+use Rattle.relay_report.specs.Multipart.{Told, body_part, closing_line, due_at, fields_of, first_part, header_fields, if_due, line_of, message_id, multipart_text, part_head, postmaster_at, recipient_line, report_text, report_type, returned, returned_type, returns_whole, second_part, third_part, title_line}
 use Rattle.relay_report.specs.Boundary.{boundary_text}
 use Rattle.relay_report.specs.Fits.{MayBeTold, ReportIsShort}
+use Rattle.relay_report.specs.Report.{IsUntil}
 
 pub length-field : (name body : List ℕ) → length (field name body) ≡ length name + length body + 4
 unfolding field
@@ -120,13 +122,19 @@ original_short (Some orcpt) valid =
 pub action_short : (due : DueReport) → length (action_of due) ≤ 7
 action_short OfFailure = omega arith
 action_short OfRelay = omega arith
+action_short OfDelay = omega arith
 
-pub status_short : (verdict : Verdict) → length (status_of verdict) ≡ 5
-status_short (Taken dsn) = refl
-status_short (Refused code text) = refl
-status_short Later = refl
-status_short CantSend = refl
-status_short NoRoute = refl
+left_short : (verdict : Verdict) → length (status_of_left verdict) ≡ 5
+left_short (Taken dsn) = refl
+left_short (Refused code text) = refl
+left_short Later = refl
+left_short CantSend = refl
+left_short NoRoute = refl
+
+pub status_short : (due : DueReport) (verdict : Verdict) → length (status_of due verdict) ≡ 5
+status_short OfFailure verdict = left_short verdict
+status_short OfRelay verdict = left_short verdict
+status_short OfDelay verdict = refl
 
 mta_line_short : (hop : List ℕ) → length hop ≤ 255 → length (field (codes "Remote-MTA") (typed (codes "dns") hop)) ≤ 300
 mta_line_short hop few = let line = length-field (codes "Remote-MTA") (typed (codes "dns") hop) in let name = length-typed (codes "dns") hop in omega (arith, few, line, name)
@@ -167,21 +175,36 @@ last_short date Later day = last_line_short date day
 last_short date CantSend day = last_line_short date day
 last_short date NoRoute day = omega arith
 
-attempt_short : (hop date : List ℕ) (verdict : Verdict) → length hop ≤ 255 → length date ≡ 31 → IsVerdict verdict → length (attempt_fields hop date verdict) ≤ 700
-attempt_short hop date verdict few day valid =
-    let status = length-field (codes "Status") (status_of verdict) in
-    let code = status_short verdict in
+-- until when a place is tried
+abbrev pub IsDay : Option (List ℕ) → Type 0
+IsDay None = Unit {0}
+IsDay (Some date) = length date ≡ 31
+
+retry_short : (until : Option (List ℕ)) → IsDay until → length (retry_until until) ≤ 60
+retry_short None day = omega arith
+retry_short (Some date) day = let line = length-field (codes "Will-Retry-Until") date in omega (arith, line, day)
+
+until_short : (until : Option (List ℕ)) (due : DueReport) → IsDay until → length (will_retry_until until due) ≤ 60
+until_short until OfFailure day = omega arith
+until_short until OfRelay day = omega arith
+until_short until OfDelay day = retry_short until day
+
+attempt_short : (hop date : List ℕ) (due : DueReport) (verdict : Verdict) → length hop ≤ 255 → length date ≡ 31 → IsVerdict verdict
+    → length (attempt_fields hop date due verdict) ≤ 700
+attempt_short hop date due verdict few day valid =
+    let status = length-field (codes "Status") (status_of due verdict) in
+    let code = status_short due verdict in
     let remote = remote_short hop verdict few in
     let diagnostic = diagnostic_short verdict valid in
     let last = last_short date verdict day in
-    let one = length-append (field (codes "Status") (status_of verdict)) (remote_mta hop verdict) in
-    let two = length-append (field (codes "Status") (status_of verdict) ++ remote_mta hop verdict) (diagnostic_code verdict) in
-    let all = length-append (field (codes "Status") (status_of verdict) ++ remote_mta hop verdict ++ diagnostic_code verdict) (last_attempt_date date verdict) in
+    let one = length-append (field (codes "Status") (status_of due verdict)) (remote_mta hop verdict) in
+    let two = length-append (field (codes "Status") (status_of due verdict) ++ remote_mta hop verdict) (diagnostic_code verdict) in
+    let all = length-append (field (codes "Status") (status_of due verdict) ++ remote_mta hop verdict ++ diagnostic_code verdict) (last_attempt_date date verdict) in
     omega (arith, status, code, remote, diagnostic, last, one, two, all)
 
-recipient_short : (hop date : List ℕ) (recipient : Recipient) (due : DueReport) (verdict : Verdict) → length hop ≤ 255 → length date ≡ 31
-    → IsRecipient recipient → IsVerdict verdict → length (recipient_fields hop date recipient due verdict) ≤ 2200
-recipient_short hop date recipient due verdict few day valid rules =
+recipient_short : (hop date : List ℕ) (until : Option (List ℕ)) (recipient : Recipient) (due : DueReport) (verdict : Verdict) → length hop ≤ 255 → length date ≡ 31
+    → IsDay until → IsRecipient recipient → IsVerdict verdict → length (recipient_fields hop date until recipient due verdict) ≤ 2200
+recipient_short hop date until recipient due verdict few day days valid rules =
     let path = written_short _ recipient.path valid.path in
     let cut = length-take (length recipient.path - 2) (drop 1 recipient.path) in
     let original = original_short recipient.orcpt valid.orcpt in
@@ -189,12 +212,14 @@ recipient_short hop date recipient due verdict few day valid rules =
     let final = length-field (codes "Final-Recipient") (typed (codes "rfc822") (address_in recipient.path)) in
     let word = action_short due in
     let action = length-field (codes "Action") (action_of due) in
-    let attempt = attempt_short hop date verdict few day rules in
+    let attempt = attempt_short hop date due verdict few day rules in
+    let retry = until_short until due days in
     let one = length-append crlf (original_recipient recipient.orcpt) in
     let two = length-append (crlf ++ original_recipient recipient.orcpt) (field (codes "Final-Recipient") (typed (codes "rfc822") (address_in recipient.path))) in
     let three = length-append (crlf ++ original_recipient recipient.orcpt ++ field (codes "Final-Recipient") (typed (codes "rfc822") (address_in recipient.path))) (field (codes "Action") (action_of due)) in
-    let all = length-append (crlf ++ original_recipient recipient.orcpt ++ field (codes "Final-Recipient") (typed (codes "rfc822") (address_in recipient.path)) ++ field (codes "Action") (action_of due)) (attempt_fields hop date verdict) in
-    omega (arith, path, cut, original, address, final, word, action, attempt, one, two, three, all)
+    let four = length-append (crlf ++ original_recipient recipient.orcpt ++ field (codes "Final-Recipient") (typed (codes "rfc822") (address_in recipient.path)) ++ field (codes "Action") (action_of due)) (attempt_fields hop date due verdict) in
+    let all = length-append (crlf ++ original_recipient recipient.orcpt ++ field (codes "Final-Recipient") (typed (codes "rfc822") (address_in recipient.path)) ++ field (codes "Action") (action_of due) ++ attempt_fields hop date due verdict) (will_retry_until until due) in
+    omega (arith, path, cut, original, address, final, word, action, attempt, retry, one, two, three, four, all)
 
 line_short : (recipient : Recipient) (due : DueReport) → IsRecipient recipient → length (recipient_line recipient due) ≤ 300
 line_short recipient due valid =
@@ -206,18 +231,18 @@ line_short recipient due valid =
     omega (arith, path, word, one, two, all)
 
 -- what is written of a place, if a report is due
-place_short : (text : Recipient → DueReport → List ℕ) (due : Recipient → Option DueReport) (most : ℕ) → ((recipient : Recipient) (is : DueReport) → IsRecipient recipient → length (text recipient is) ≤ most)
+place_short : (text : Recipient → DueReport → List ℕ) (due : Option DueReport) (most : ℕ) → ((recipient : Recipient) (is : DueReport) → IsRecipient recipient → length (text recipient is) ≤ most)
     → (recipients : List Recipient) (place : ℕ) → AllByRecursion IsRecipient recipients
-    → length (option_map_or (λ recipient. if_due text recipient (due recipient)) (slice_get recipients place) []) ≤ most
+    → length (option_map_or (λ recipient. if_due text recipient due) (slice_get recipients place) []) ≤ most
 place_short text due most each recipients place valid = at_place recipients place valid
   where
     one : (recipient : Recipient) (o : Option DueReport) → IsRecipient recipient → length (if_due text recipient o) ≤ most
     one recipient None is = omega arith
     one recipient (Some word) is = each recipient word is
 
-    at_place : (rest : List Recipient) (k : ℕ) → AllByRecursion IsRecipient rest → length (option_map_or (λ recipient. if_due text recipient (due recipient)) (slice_get rest k) []) ≤ most
+    at_place : (rest : List Recipient) (k : ℕ) → AllByRecursion IsRecipient rest → length (option_map_or (λ recipient. if_due text recipient due) (slice_get rest k) []) ≤ most
     at_place [] k all = omega arith
-    at_place (recipient ∷ rest) zero all = one recipient (due recipient) all.0
+    at_place (recipient ∷ rest) zero all = one recipient due all.0
     at_place (recipient ∷ rest) (suc k) all = at_place rest k all.1
 
 -- rows of short elements are short
@@ -236,20 +261,21 @@ first_short told may =
     let host = may.host.few_octets in
     let number = number_short told.message.number may.message in
     let few = may.within in
-    let each = λ (ruling : Ruling) (is : IsRuling ruling). place_short recipient_line (due_to told.message told.at ruling.verdict) 300 line_short told.message.accept.envelope.recipients ruling.place may.accept.envelope.recipients in
+    let each = λ (ruling : Ruling) (is : IsRuling ruling). place_short recipient_line (due_at told.message told.at ruling) 300 line_short told.message.accept.envelope.recipients ruling.place may.accept.envelope.recipients in
     let rows = rows_short (line_of told.message told.at) 300 each told.rulings may.rulings in
     simp length-append (omega (arith, host, number, few, rows))
 
-second_short : (told : Told) (date arrival : List ℕ) → MayBeTold told → length date ≡ 31 → length arrival ≡ 31 → length (second_part told date arrival) ≤ 220500
+second_short : (told : Told) (date arrival : List ℕ) (until : Option (List ℕ)) → MayBeTold told → length date ≡ 31 → length arrival ≡ 31 → IsDay until
+    → length (second_part told date arrival until) ≤ 220500
 unfolding second_part
-second_short told date arrival may day came =
+second_short told date arrival until may day came days =
     let few = may.within in
     let hop = hop_short told.hop may.hop in
     let fields = message_fields_short told.host arrival told.message.accept.envelope.envid may.host.few_octets came may.accept.envelope.envid in
-    let each = λ (ruling : Ruling) (is : IsRuling ruling). place_short (λ recipient due. recipient_fields told.hop date recipient due ruling.verdict) (due_to told.message told.at ruling.verdict) 2200
-    (λ recipient due valid. recipient_short told.hop date recipient due ruling.verdict hop day valid is.verdict) told.message.accept.envelope.recipients ruling.place may.accept.envelope.recipients in
-    let rows = rows_short (fields_of told.message told.hop told.at date) 2200 each told.rulings may.rulings in
-    let all = length-append (message_fields told.host arrival told.message.accept.envelope.envid) (flat_map (fields_of told.message told.hop told.at date) told.rulings) in
+    let each = λ (ruling : Ruling) (is : IsRuling ruling). place_short (λ recipient due. recipient_fields told.hop date until recipient due ruling.verdict) (due_at told.message told.at ruling) 2200
+    (λ recipient due valid. recipient_short told.hop date until recipient due ruling.verdict hop day days valid is.verdict) told.message.accept.envelope.recipients ruling.place may.accept.envelope.recipients in
+    let rows = rows_short (fields_of told.message told.hop told.at date until) 2200 each told.rulings may.rulings in
+    let all = length-append (message_fields told.host arrival told.message.accept.envelope.envid) (flat_map (fields_of told.message told.hop told.at date until) told.rulings) in
     omega (arith, few, fields, rows, all)
 
 third_short : (whole : Bool) (text : List ℕ) → length (returned whole text) ≤ length text
@@ -308,6 +334,10 @@ report_type_short boundary few =
     let line = length-field (codes "Content-Type") (report_type boundary) in
     simp (length-append, length-field) (omega (arith, few))
 
+is_day : (accepted : ℕ) (until : Option (List ℕ)) → IsUntil accepted until → IsDay until
+is_day accepted None is = tt
+is_day accepted (Some date) is = date_text_has_31_octets (accepted + patience) date is
+
 pub report_is_short : ReportIsShort
 unfolding report_text
 report_is_short told text may is =
@@ -319,11 +349,11 @@ report_is_short told text may is =
     let header = header_short told is.date may day in
     let type = report_type_short is.boundary few in
     let one = first_short told may in
-    let two = second_short told is.date is.arrival may day came in
+    let two = second_short told is.date is.arrival is.until may day came (is_day told.message.accept.at is.until is.until_is) in
     let three = third_short (returns_whole told) told.message.accept.stored_text in
-    let parts = multipart_short is.boundary (first_part told) (second_part told is.date is.arrival) (returned_type (returns_whole told)) (third_part told) few kind in
+    let parts = multipart_short is.boundary (first_part told) (second_part told is.date is.arrival is.until) (returned_type (returns_whole told)) (third_part told) few kind in
     let a = length-append (header_fields told is.date) (field (codes "Content-Type") (report_type is.boundary)) in
     let b = length-append (header_fields told is.date ++ field (codes "Content-Type") (report_type is.boundary)) crlf in
-    let c = length-append (header_fields told is.date ++ field (codes "Content-Type") (report_type is.boundary) ++ crlf) (multipart_text is.boundary (first_part told) (second_part told is.date is.arrival) (returned_type (returns_whole told)) (third_part told)) in
+    let c = length-append (header_fields told is.date ++ field (codes "Content-Type") (report_type is.boundary) ++ crlf) (multipart_text is.boundary (first_part told) (second_part told is.date is.arrival is.until) (returned_type (returns_whole told)) (third_part told)) in
     let all = ap length is.text_is in
     omega (arith, header, type, one, two, three, parts, a, b, c, all)

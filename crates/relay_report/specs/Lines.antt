@@ -69,7 +69,7 @@ abbrev pub ReportHasShortLines : Type 0
 ReportHasShortLines =
     (told : Told) (text : List ℕ) → MayBeTold told → (is : IsReport told text)
     → HasShortLines (take (header_end_of text) text) × HasShortLines (first_part told)
-    × HasShortLines (second_part told is.date is.arrival)
+    × HasShortLines (second_part told is.date is.arrival is.until)
 
 -- A report has no field `Received:` in its header section.
 abbrev pub ReportHasNoReceived : Type 0

@@ -11,8 +11,9 @@ use Rattle.relay_book.specs.declared.change.Ruling.{Ruling}
 use Rattle.relay_book.specs.declared.change.Verdict.{Verdict}
 use Rattle.relay_book.specs.declared.message.Message.{Message}
 use Rattle.relay_book.specs.declared.due_report.DueReport.{DueReport}
-use Rattle.relay_book.specs.declared.due_report.DueReport.TheVariants.{OfFailure, OfRelay}
-use Rattle.relay_book.specs.DueReport.{due_report_of, fate_of}
+use Rattle.relay_book.specs.declared.due_report.DueReport.TheVariants.{OfFailure, OfRelay, OfDelay}
+use Rattle.relay_book.specs.declared.version.Version.TheVariants.{WithDelay}
+use Rattle.relay_book.specs.Queue.{due_report_at}
 use Rattle.relay_report.specs.StatusFields.{action_of, field, message_fields, recipient_fields}
 
 -- what a report tells of: this host, the number of the report, the message, the hop, the verdicts at a moment
@@ -24,16 +25,9 @@ pub record Told : Type 0 where
   pub rulings : List Ruling
   pub at : ℕ
 
--- which report is due of a recipient by this verdict at a moment
-abbrev pub due_to : Message → ℕ → Verdict → Recipient → Option DueReport
-due_to message at verdict recipient =
-    due_report_of message.accept.envelope.reverse_path recipient.notify
-    (fate_of message.accept.at at verdict)
-
--- which report is due of a place by this verdict at a moment
-abbrev pub due_at : Message → ℕ → ℕ → Verdict → Option DueReport
-due_at message at place verdict =
-    option_and_then (due_to message at verdict) (slice_get message.accept.envelope.recipients place)
+-- which report is due of a place by its verdict at a moment, as a node judges that writes the second version
+abbrev pub due_at : Message → ℕ → Ruling → Option DueReport
+due_at message at ruling = due_report_at WithDelay message at ruling
 
 -- what is written of a place of which a report is due, and nothing of another
 abbrev pub if_due : (Recipient → DueReport → List ℕ) → Recipient → Option DueReport → List ℕ
@@ -48,15 +42,15 @@ recipient_line recipient due = action_of due ++ codes " " ++ recipient.path ++ c
 abbrev pub line_of : Message → ℕ → Ruling → List ℕ
 line_of message at ruling =
     option_map_or
-    (λ recipient. if_due recipient_line recipient (due_to message at ruling.verdict recipient))
+    (λ recipient. if_due recipient_line recipient (due_at message at ruling))
     (slice_get message.accept.envelope.recipients ruling.place) []
 
 -- the fields of a verdict's place
-abbrev pub fields_of : Message → List ℕ → ℕ → List ℕ → Ruling → List ℕ
-fields_of message hop at date ruling =
+abbrev pub fields_of : Message → List ℕ → ℕ → List ℕ → Option (List ℕ) → Ruling → List ℕ
+fields_of message hop at date until ruling =
     option_map_or
-    (λ recipient. if_due (λ recipient due. recipient_fields hop date recipient due ruling.verdict) recipient
-    (due_to message at ruling.verdict recipient))
+    (λ recipient. if_due (λ recipient due. recipient_fields hop date until recipient due ruling.verdict) recipient
+    (due_at message at ruling))
     (slice_get message.accept.envelope.recipients ruling.place) []
 
 -- the sentence of a report, on a line of its own
@@ -69,20 +63,22 @@ unfoldable pub first_part : Told → List ℕ
 first_part told =
     title_line told.host told.message.number ++ flat_map (line_of told.message told.at) told.rulings
 
--- the second part: a delivery status (RFC 3464, section 2.1), by the date of the report and that of the arrival
-unfoldable pub second_part : Told → List ℕ → List ℕ → List ℕ
-second_part told date arrival =
+-- the second part: a delivery status (RFC 3464, section 2.1), by the dates of the report and of the arrival, and that
+-- until which what is late is tried
+unfoldable pub second_part : Told → List ℕ → List ℕ → Option (List ℕ) → List ℕ
+second_part told date arrival until =
     message_fields told.host arrival told.message.accept.envelope.envid
-    ++ flat_map (fields_of told.message told.hop told.at date) told.rulings
+    ++ flat_map (fields_of told.message told.hop told.at date until) told.rulings
 
 -- the place of a verdict is reported as failed
 abbrev pub is_failure : Option DueReport → Bool
 is_failure None = false
 is_failure (Some OfFailure) = true
 is_failure (Some OfRelay) = false
+is_failure (Some OfDelay) = false
 
 abbrev pub fails_at : Message → ℕ → Ruling → Bool
-fails_at message at ruling = is_failure (due_at message at ruling.place ruling.verdict)
+fails_at message at ruling = is_failure (due_at message at ruling)
 
 -- RET=FULL was given
 abbrev pub is_full : Option Ret → Bool
@@ -153,9 +149,9 @@ multipart_text boundary one two kind three =
     ++ body_part boundary kind three
     ++ closing_line boundary
 
--- the text of a report, by its two dates and its boundary
-unfoldable pub report_text : Told → List ℕ → List ℕ → List ℕ → List ℕ
-report_text told date arrival boundary =
+-- the text of a report, by its dates and its boundary
+unfoldable pub report_text : Told → List ℕ → List ℕ → Option (List ℕ) → List ℕ → List ℕ
+report_text told date arrival until boundary =
     header_fields told date ++ field (codes "Content-Type") (report_type boundary) ++ crlf
-    ++ multipart_text boundary (first_part told) (second_part told date arrival)
+    ++ multipart_text boundary (first_part told) (second_part told date arrival until)
     (returned_type (returns_whole told)) (third_part told)

@@ -1,7 +1,10 @@
 -- The report of an outcome (RFC 3461, section 6; RFC 3464): its text, and that it is there exactly where it is due.
-use Rattle.std.specs.Prelude.{◌≡◌, ℕ, Bool, true, false, List, [], MatchOption}
+use Rattle.std.specs.Prelude.{◌≡◌, ℕ, ◌+◌, ◌<◌, Bool, true, false, List, [], Option, None, Some, MatchOption}
 use Rattle.std.specs.List.{list_any}
 use Rattle.relay_trace.specs.DateTime.{IsDateText}
+use Rattle.relay_trace.specs.declared.moment.TheConstants.{LAST_SECOND}
+use Rattle.relay_book.specs.declared.version.Version.TheVariants.{WithDelay}
+use Rattle.relay_book.specs.DueReport.{patience}
 use Rattle.relay_book.specs.declared.change.Ruling.{Ruling}
 use Rattle.relay_book.specs.declared.change.Outcome.{Outcome as OutcomeFields}
 use Rattle.relay_book.specs.declared.change.Change.{Change}
@@ -23,19 +26,27 @@ told_of report = record {
   at = report.at;
 }
 
+-- the date until which a place is tried that was accepted at this moment, and none where it can't be written
+abbrev pub IsUntil : ℕ → Option (List ℕ) → Type 0
+IsUntil accepted None = LAST_SECOND < accepted + patience
+IsUntil accepted (Some date) = IsDateText (accepted + patience) date
+
 -- the text is the report that tells of this
 pub record IsReport (told : Told) (text : List ℕ) : Type 0 where
   pub date : List ℕ
   pub arrival : List ℕ
+  pub until : Option (List ℕ)
   pub boundary : List ℕ
   pub date_is : IsDateText told.at date
   pub arrival_is : IsDateText told.message.accept.at arrival
-  pub boundary_is : IsBoundary told.number (first_part told) (second_part told date arrival) (third_part told) boundary
-  pub text_is : text ≡ report_text told date arrival boundary
+  pub until_is : IsUntil told.message.accept.at until
+  pub boundary_is : IsBoundary told.number (first_part told) (second_part told date arrival until) (third_part told)
+      boundary
+  pub text_is : text ≡ report_text told date arrival until boundary
 
 -- a report is due of one of the places
 abbrev pub is_due : Message → ℕ → List Ruling → Bool
-is_due message at rulings = list_any (reports_at message at) rulings
+is_due message at rulings = list_any (reports_at WithDelay message at) rulings
 
 -- the text is the report that is due, and empty where none is
 pub record IsDueReport (told : Told) (text : List ℕ) : Type 0 where
@@ -53,12 +64,13 @@ told_by host number outcome message = record {
   at = outcome.at;
 }
 
--- an outcome is reported of the message that it is for
-abbrev pub IsReportedOf : List ℕ → ℕ → OutcomeFields → Message → Type 0
-IsReportedOf host number outcome message = IsDueReport (told_by host number outcome message) outcome.report
+-- an outcome of the second version is reported of the message that it is for
+pub record IsReportedOf (host : List ℕ) (number : ℕ) (outcome : OutcomeFields) (message : Message) : Type 0 where
+  pub version : outcome.version ≡ WithDelay
+  pub report : IsDueReport (told_by host number outcome message) outcome.report
 
--- A change behind a queue: an outcome of it has the report that is due, from this host, under the number of the
--- change, and none where none is due.
+-- A change behind a queue: an outcome of it is of the second version, and has the report that is due, from this host,
+-- under the number of the change, and none where none is due.
 abbrev pub ReportedFrom : List ℕ → Queue → Change → Type 0
 ReportedFrom host queue (Accept accept) = Unit {0}
 ReportedFrom host queue (Outcome outcome) =

@@ -7,7 +7,7 @@ use Rattle.relay_envelope.specs.declared.envelope.Recipient.{Recipient}
 use Rattle.relay_book.specs.declared.change.Verdict.{Verdict}
 use Rattle.relay_book.specs.declared.change.Verdict.TheVariants.{Taken, Refused, Later, CantSend, NoRoute}
 use Rattle.relay_book.specs.declared.due_report.DueReport.{DueReport}
-use Rattle.relay_book.specs.declared.due_report.DueReport.TheVariants.{OfFailure, OfRelay}
+use Rattle.relay_book.specs.declared.due_report.DueReport.TheVariants.{OfFailure, OfRelay, OfDelay}
 
 -- field-name ":" field-body, and the line's end
 unfoldable pub field : List ℕ → List ℕ → List ℕ
@@ -59,15 +59,22 @@ address_in path = take (length path - 2) (drop 1 path)
 abbrev pub action_of : DueReport → List ℕ
 action_of OfFailure = codes "failed"
 action_of OfRelay = codes "relayed"
+action_of OfDelay = codes "delayed"
 
--- status-code (section 2.3.4; RFC 3463). Of a place that was to be tried again a report is due only where its
--- time has run out.
-abbrev pub status_of : Verdict → List ℕ
-status_of (Taken dsn) = codes "2.0.0"
-status_of (Refused code text) = codes "5.0.0"
-status_of Later = codes "4.4.7"
-status_of CantSend = codes "5.6.3"
-status_of NoRoute = codes "5.1.2"
+-- status-code of a place that left (section 2.3.4; RFC 3463). One that was to be tried again has left since its time
+-- has run out.
+abbrev pub status_of_left : Verdict → List ℕ
+status_of_left (Taken dsn) = codes "2.0.0"
+status_of_left (Refused code text) = codes "5.0.0"
+status_of_left Later = codes "4.4.7"
+status_of_left CantSend = codes "5.6.3"
+status_of_left NoRoute = codes "5.1.2"
+
+-- status-code: the same, and that of a place that is late and stays
+abbrev pub status_of : DueReport → Verdict → List ℕ
+status_of OfFailure verdict = status_of_left verdict
+status_of OfRelay verdict = status_of_left verdict
+status_of OfDelay verdict = codes "4.0.0"
 
 -- remote-mta-field (section 2.3.5): the hop that answered for the place
 abbrev pub remote_mta : List ℕ → Verdict → List ℕ
@@ -102,15 +109,26 @@ last_attempt_date date Later = field (codes "Last-Attempt-Date") date
 last_attempt_date date CantSend = field (codes "Last-Attempt-Date") date
 last_attempt_date date NoRoute = []
 
+-- will-retry-until-field (section 2.3.9): of a date that can be written
+abbrev pub retry_until : Option (List ℕ) → List ℕ
+retry_until None = []
+retry_until (Some date) = field (codes "Will-Retry-Until") date
+
+-- the same, of a place that is tried again
+abbrev pub will_retry_until : Option (List ℕ) → DueReport → List ℕ
+will_retry_until until OfFailure = []
+will_retry_until until OfRelay = []
+will_retry_until until OfDelay = retry_until until
+
 -- what the hop said of a place, and when
-abbrev pub attempt_fields : List ℕ → List ℕ → Verdict → List ℕ
-attempt_fields hop date verdict =
-    field (codes "Status") (status_of verdict) ++ remote_mta hop verdict ++ diagnostic_code verdict
+abbrev pub attempt_fields : List ℕ → List ℕ → DueReport → Verdict → List ℕ
+attempt_fields hop date due verdict =
+    field (codes "Status") (status_of due verdict) ++ remote_mta hop verdict ++ diagnostic_code verdict
     ++ last_attempt_date date verdict
 
 -- per-recipient-fields (section 2.3), behind an empty line
-abbrev pub recipient_fields : List ℕ → List ℕ → Recipient → DueReport → Verdict → List ℕ
-recipient_fields hop date recipient due verdict =
+abbrev pub recipient_fields : List ℕ → List ℕ → Option (List ℕ) → Recipient → DueReport → Verdict → List ℕ
+recipient_fields hop date until recipient due verdict =
     crlf ++ original_recipient recipient.orcpt
     ++ field (codes "Final-Recipient") (typed (codes "rfc822") (address_in recipient.path))
-    ++ field (codes "Action") (action_of due) ++ attempt_fields hop date verdict
+    ++ field (codes "Action") (action_of due) ++ attempt_fields hop date due verdict ++ will_retry_until until due

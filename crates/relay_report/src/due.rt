@@ -1,23 +1,28 @@
 //! Which report is due of a place.
 ghost use Rattle.std.specs.Prelude.{◌≡◌, slice_get};
 ghost use Rattle.std.specs.Option.{option_copied};
+ghost use Rattle.relay_book.specs.declared.version.Version.TheVariants.{WithDelay};
 ghost use Rattle.relay_book.specs.Queue.{reports_at};
-ghost use Rattle.relay_report.specs.Multipart.{due_at, due_to, fails_at, is_failure};
+ghost use Rattle.relay_report.specs.Multipart.{due_at, fails_at, is_failure};
 ghost use Rattle.relay_report.specs.Report.{is_due};
 
-use relay_book::{DueReport, Message, Ruling, Verdict, due_report_of, fate_of};
+use relay_book::{DueReport, Message, Ruling, Verdict, Version};
 use relay_envelope::Recipient;
 use relay_trace::Moment;
 
-/// Which report is due of a place of a message by a verdict at a moment (RFC 3461, section 5.2): none of a place
-/// that the message doesn't have. It takes no memory.
+/// Which report is due of a place of a message by a verdict at a moment (RFC 3461, section 5.2), by an outcome of the
+/// second version, as a node writes it: none of a place that the message doesn't have. It takes no memory.
 pub fn due_report(message: &Message, place: u8, verdict: &Verdict, now: Moment) -> Option<DueReport>
-    ensures { result ≡ due_at message.now now place verdict.now }
+    ensures { result ≡ due_at message.now now (record { place = place; verdict = verdict.now }) }
 {
-    match recipient_at(message, place) {
-        Some(recipient) => due_to(message, recipient, verdict, now),
-        None => None,
-    }
+    message.due_report_at(Version::WithDelay, now, place, verdict)
+}
+
+/// The same of a ruling.
+pub(crate) fn due_at(message: &Message, ruling: &Ruling, now: Moment) -> Option<DueReport>
+    ensures { result ≡ due_at message.now now ruling.now }
+{
+    due_report(message, ruling.place, &ruling.verdict, now)
 }
 
 /// Whether a report is due of a message by verdicts at a moment: of one of their places. It takes no memory.
@@ -29,46 +34,23 @@ pub fn is_due(message: &Message, rulings: &[Ruling], now: Moment) -> bool
         .any(|ruling| reports_at(message, ruling, now))
 }
 
-/// Which report is due to a recipient.
-pub(crate) fn due_to(
-    message: &Message,
-    recipient: &Recipient,
-    verdict: &Verdict,
-    now: Moment,
-) -> Option<DueReport>
-    ensures { result ≡ due_to message.now now verdict.now recipient.now }
-{
-    let accept = &message.accept;
-    let fate = fate_of(accept.at, now, verdict);
-    due_report_of(
-        accept.envelope.reverse_path.as_slice(),
-        recipient.notify,
-        fate,
-    )
-}
-
 /// Whether a failure is reported of the place of a verdict.
 pub(crate) fn fails_at(message: &Message, ruling: &Ruling, now: Moment) -> bool
     ensures { result ≡ fails_at message.now now ruling.now }
 {
-    match due_report(message, ruling.place, &ruling.verdict, now) {
+    match due_at(message, ruling, now) {
         Some(DueReport::OfFailure) => true,
         Some(DueReport::OfRelay) => false,
+        Some(DueReport::OfDelay) => false,
         None => false,
     }
 }
 
 /// Whether a report is due of the place of a verdict.
 fn reports_at(message: &Message, ruling: &Ruling, now: Moment) -> bool
-    ensures { result ≡ reports_at message.now now ruling.now }
+    ensures { result ≡ reports_at WithDelay message.now now ruling.now }
 {
-    match recipient_at(message, ruling.place) {
-        Some(recipient) => match due_to(message, recipient, &ruling.verdict, now) {
-            Some(_) => true,
-            None => false,
-        },
-        None => false,
-    }
+    due_at(message, ruling, now).is_some()
 }
 
 /// The recipient of a place.

@@ -1,10 +1,11 @@
 //! The texts of the three parts.
 ghost use Rattle.std.specs.Prelude.{◌≡◌, ◌++◌, IfOk, OnOk};
 ghost use Rattle.std.specs.List.{flat_map, list_any};
+ghost use Rattle.std.specs.Option.{option_copied};
 ghost use Rattle.relay_report.specs.Multipart.{fails_at, fields_of, first_part, is_full, line_of, recipient_line, returned, returns_whole, second_part, title_line};
 ghost use Rattle.relay_report.specs.Report.{told_of};
 
-use crate::due::{due_to, fails_at, recipient_at};
+use crate::due::{due_at, fails_at, recipient_at};
 use crate::field::push_decimal;
 use crate::report::Report;
 use crate::status_fields::{Attempt, action_of, push_message_fields, push_recipient_fields};
@@ -31,13 +32,16 @@ pub(crate) fn second_part(
     report: &Report<'_>,
     date: &[u8],
     arrival: &[u8],
+    until: Option<&[u8]>,
 ) -> Result<Vec<u8>, AllocError>
-    ensures { IfOk result (λ part. part.items ≡ second_part (told_of report.now) date.now arrival.now) }
+    ensures { IfOk result (λ part.
+        part.items ≡ second_part (told_of report.now) date.now arrival.now (option_copied until.entry)) }
 {
     let mut part = Vec::new(alloc);
     let attempt = Attempt {
         hop: report.hop,
         date,
+        until,
     };
     let message = report.message;
     let envid = message.accept.envelope.envid.as_ref();
@@ -127,7 +131,7 @@ fn push_line(
     ensures { OnOk result (out.new.items ≡ out.old.items ++ line_of message.now now ruling.now) }
 {
     match recipient_at(message, ruling.place) {
-        Some(recipient) => match due_to(message, recipient, &ruling.verdict, now) {
+        Some(recipient) => match due_at(message, ruling, now) {
             Some(due) => push_recipient_line(out, recipient, due),
             None => Ok(()),
         },
@@ -159,7 +163,9 @@ fn push_fields(
     now: Moment,
 ) -> Result<(), AllocError>
     ensures { OnOk result (out.new.items ≡ out.old.items
-        ++ flat_map (fields_of message.now attempt.entry.hop.now now attempt.entry.date.now) rulings.now) }
+        ++ flat_map
+        (fields_of message.now attempt.entry.hop.now now attempt.entry.date.now (option_copied attempt.entry.until))
+        rulings.now) }
 {
     for ruling in rulings {
         push_fields_of(alloc, out, message, attempt, ruling, now)?;
@@ -176,10 +182,11 @@ fn push_fields_of(
     now: Moment,
 ) -> Result<(), AllocError>
     ensures { OnOk result (out.new.items ≡ out.old.items
-        ++ fields_of message.now attempt.entry.hop.now now attempt.entry.date.now ruling.now) }
+        ++ fields_of message.now attempt.entry.hop.now now attempt.entry.date.now (option_copied attempt.entry.until)
+        ruling.now) }
 {
     match recipient_at(message, ruling.place) {
-        Some(recipient) => match due_to(message, recipient, &ruling.verdict, now) {
+        Some(recipient) => match due_at(message, ruling, now) {
             Some(due) => push_recipient_fields(
                 alloc,
                 out,

@@ -1,17 +1,18 @@
 //! The text of a report.
 ghost use Rattle.std.specs.Prelude.{◌≡◌, ◌++◌, IfOk, OnOk, codes};
+ghost use Rattle.std.specs.Option.{option_copied};
 ghost use Rattle.relay_octets.specs.Line.{crlf};
 ghost use Rattle.relay_trace.specs.DateTime.{IsDateText};
 ghost use Rattle.relay_report.specs.StatusFields.{field};
 ghost use Rattle.relay_report.specs.Multipart.{body_part, closing_line, header_fields, message_id, multipart_text, part_head, postmaster_at, report_text, report_type, returned_type};
-ghost use Rattle.relay_report.specs.Report.{IsDueReport, IsReport, told_of};
+ghost use Rattle.relay_report.specs.Report.{IsDueReport, IsReport, IsUntil, told_of};
 
 use crate::boundary::boundary_for;
 use crate::due::is_due;
 use crate::field::{begin_field, push_decimal, push_field};
 use crate::part_text::{first_part, returned, returns_whole, second_part};
 use crate::parts::Parts;
-use relay_book::{Message, Ruling};
+use relay_book::{Message, PATIENCE, Ruling};
 use relay_octets::Octets;
 use relay_trace::{Moment, date_text};
 use std::alloc::{AllocError, Global};
@@ -55,7 +56,14 @@ pub fn report_content(alloc: Global, report: &Report<'_>) -> Result<Octets, Allo
     let date = date_of(alloc, report.at)?;
     let arrival = date_of(alloc, report.message.accept.at)?;
     let first = first_part(alloc, report)?;
-    let second = second_part(alloc, report, date.as_slice(), arrival.as_slice())?;
+    let until = until_of(alloc, report.message.accept.at)?;
+    let second = second_part(
+        alloc,
+        report,
+        date.as_slice(),
+        arrival.as_slice(),
+        as_octets(&until),
+    )?;
     let whole = returns_whole(report);
     let parts = Parts {
         first: first.as_slice(),
@@ -80,6 +88,29 @@ fn date_of(alloc: Global, moment: Moment) -> Result<Vec<u8>, AllocError>
     match date_text(alloc, moment) {
         Ok(date) => Ok(date),
         Err(_) => Err(AllocError),
+    }
+}
+
+/// The date until which a place is tried that was accepted at a moment, and none where it passes the range of moments.
+fn until_of(alloc: Global, accepted: Moment) -> Result<Option<Octets>, AllocError>
+    ensures { IfOk result (λ until. IsUntil accepted until) }
+{
+    match Moment::new(accepted.seconds() + PATIENCE) {
+        Ok(moment) => {
+            let date = date_of(alloc, moment)?;
+            Ok(Some(Octets::new(date)))
+        }
+        Err(_) => Ok(None),
+    }
+}
+
+/// The octets of a date that may be there.
+fn as_octets(date: &Option<Octets>) -> Option<&[u8]>
+    ensures { option_copied result ≡ date.now }
+{
+    match date {
+        Some(date) => Some(date.as_slice()),
+        None => None,
     }
 }
 

@@ -1,7 +1,7 @@
 //! The fields of a delivery status (RFC 3464, sections 2.2 and 2.3).
 ghost use Rattle.std.specs.Prelude.{◌≡◌, ◌++◌, OnOk};
 ghost use Rattle.std.specs.Option.{option_copied};
-ghost use Rattle.relay_report.specs.StatusFields.{action_of, address_in, attempt_fields, diagnostic_code, diagnostic_of, last_attempt_date, message_fields, original_envelope_id, original_recipient, recipient_fields, remote_mta, reply_words, status_of};
+ghost use Rattle.relay_report.specs.StatusFields.{action_of, address_in, attempt_fields, diagnostic_code, diagnostic_of, last_attempt_date, message_fields, original_envelope_id, original_recipient, recipient_fields, remote_mta, reply_words, retry_until, status_of, status_of_left, will_retry_until};
 
 use crate::field::{begin_typed_field, plain_of, push_field, push_typed_field};
 use itoa::Buffer;
@@ -9,13 +9,15 @@ use relay_book::{DueReport, Verdict};
 use relay_envelope::{Orcpt, Recipient, Xtext};
 use std::alloc::{AllocError, Global};
 
-/// What the hop said, and when the report is made.
+/// What the hop said, when the report is made, and until when what is late is tried.
 #[derive(Clone, Copy)]
 pub(crate) struct Attempt<'a> {
     /// The name of the hop.
     pub(crate) hop: &'a [u8],
     /// The date of the report.
     pub(crate) date: &'a [u8],
+    /// The date until which a place is tried; none where it can't be written.
+    pub(crate) until: Option<&'a [u8]>,
 }
 
 /// Adds the fields of the message: this host, the date of arrival, and ENVID where it was given.
@@ -61,7 +63,8 @@ pub(crate) fn push_recipient_fields(
     verdict: &Verdict,
 ) -> Result<(), AllocError>
     ensures { OnOk result (out.new.items ≡ out.old.items
-        ++ recipient_fields attempt.entry.hop.now attempt.entry.date.now recipient.now due verdict.now) }
+        ++ recipient_fields attempt.entry.hop.now attempt.entry.date.now (option_copied attempt.entry.until)
+        recipient.now due verdict.now) }
 {
     out.extend_from_slice(b"\r\n")?;
     push_original_recipient(alloc, out, recipient.orcpt.as_ref())?;
@@ -72,7 +75,8 @@ pub(crate) fn push_recipient_fields(
         address_in(recipient.path.as_slice()),
     )?;
     push_field(out, b"Action", action_of(due))?;
-    push_attempt_fields(out, attempt, verdict)?;
+    push_attempt_fields(out, attempt, due, verdict)?;
+    push_will_retry_until(out, attempt.until, due)?;
     Ok(())
 }
 
@@ -114,6 +118,7 @@ pub(crate) fn action_of(due: DueReport) -> &'static [u8]
     match due {
         DueReport::OfFailure => b"failed",
         DueReport::OfRelay => b"relayed",
+        DueReport::OfDelay => b"delayed",
     }
 }
 
@@ -121,20 +126,32 @@ pub(crate) fn action_of(due: DueReport) -> &'static [u8]
 fn push_attempt_fields(
     out: &mut Vec<u8>,
     attempt: Attempt<'_>,
+    due: DueReport,
     verdict: &Verdict,
 ) -> Result<(), AllocError>
     ensures { OnOk result (out.new.items ≡ out.old.items
-        ++ attempt_fields attempt.entry.hop.now attempt.entry.date.now verdict.now) }
+        ++ attempt_fields attempt.entry.hop.now attempt.entry.date.now due verdict.now) }
 {
-    push_field(out, b"Status", status_of(verdict))?;
+    push_field(out, b"Status", status_of(due, verdict))?;
     push_remote_mta(out, attempt.hop, verdict)?;
     push_diagnostic_code(out, verdict)?;
     push_last_attempt_date(out, attempt.date, verdict)
 }
 
-/// The status code of a verdict of which a report is due (RFC 3463).
-fn status_of(verdict: &Verdict) -> &'static [u8]
-    ensures { result.now ≡ status_of verdict.now }
+/// The status code of a place of which a report is due by a verdict (RFC 3463).
+fn status_of(due: DueReport, verdict: &Verdict) -> &'static [u8]
+    ensures { result.now ≡ status_of due verdict.now }
+{
+    match due {
+        DueReport::OfFailure => status_of_left(verdict),
+        DueReport::OfRelay => status_of_left(verdict),
+        DueReport::OfDelay => b"4.0.0",
+    }
+}
+
+/// That of a place that left.
+fn status_of_left(verdict: &Verdict) -> &'static [u8]
+    ensures { result.now ≡ status_of_left verdict.now }
 {
     match verdict {
         Verdict::Taken { .. } => b"2.0.0",
@@ -206,5 +223,29 @@ fn push_last_attempt_date(
         Verdict::Later => push_field(out, b"Last-Attempt-Date", date),
         Verdict::CantSend => push_field(out, b"Last-Attempt-Date", date),
         Verdict::NoRoute => Ok(()),
+    }
+}
+
+/// Adds until when a place is tried that is late and stays.
+fn push_will_retry_until(
+    out: &mut Vec<u8>,
+    until: Option<&[u8]>,
+    due: DueReport,
+) -> Result<(), AllocError>
+    ensures { OnOk result (out.new.items ≡ out.old.items ++ will_retry_until (option_copied until.entry) due) }
+{
+    match due {
+        DueReport::OfFailure => Ok(()),
+        DueReport::OfRelay => Ok(()),
+        DueReport::OfDelay => push_retry_until(out, until),
+    }
+}
+
+fn push_retry_until(out: &mut Vec<u8>, until: Option<&[u8]>) -> Result<(), AllocError>
+    ensures { OnOk result (out.new.items ≡ out.old.items ++ retry_until (option_copied until.entry)) }
+{
+    match until {
+        Some(date) => push_field(out, b"Will-Retry-Until", date),
+        None => Ok(()),
     }
 }
