@@ -11,10 +11,10 @@ use Rattle.relay_book.specs.declared.change.Change.{Change}
 use Rattle.relay_book.specs.declared.change.Change.TheVariants.{Accept, Outcome}
 use Rattle.relay_book.specs.Record.{IsChange, encode}
 use Rattle.relay_book.specs.Queue.{Queue, FitsQueue, queue_of, step}
-use Rattle.relay_book.specs.Marks.{leaving_of}
+use Rattle.relay_book.specs.Marks.{place_steps}
 use Rattle.relay_book.specs.Snapshot.{IsQueue}
 use Rattle.relay_book.specs.StandsFor.{StandsFor}
-use Rattle.relay_book.proofs.Theorems.{one_more_stands, queue_leaves, record_is_short, step_is_queue}
+use Rattle.relay_book.proofs.Theorems.{one_more_stands, record_is_short, step_is_queue}
 use Rattle.relay_records.specs.declared.noted.Noted.{Noted}
 use Rattle.relay_records.specs.Note.{IsNoted, NotesNext}
 use Rattle.relay_records.specs.Records.{Adds, Cuts, Keeps, Kept, StandsForOrWith}
@@ -85,7 +85,7 @@ module _ {D : Type 0} (honest : Type 0) (words : DiskWords D) (seen old : Kept D
     octets = notes.octets_are ∙ body_is;
     used_is = notes.used_is;
     accepted = notes.accepted;
-    left = notes.left ∙ ap (λ (q : Queue). leaving_of q change) seen_queue ∙ queue_leaves changes change keeps.fitting fits_list;
+    left = notes.left ∙ ap (λ (q : Queue). place_steps q change) seen_queue;
     report = notes.report;
   }
 

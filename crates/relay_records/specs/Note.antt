@@ -4,8 +4,8 @@ use Rattle.std.specs.Prelude.{◌≡◌, ℕ, ◌+◌, Bool, true, false, List, 
 use Rattle.relay_book.specs.declared.change.Change.{Change}
 use Rattle.relay_book.specs.declared.change.Change.TheVariants.{Accept, Outcome}
 use Rattle.relay_book.specs.Record.{encode}
-use Rattle.relay_book.specs.Queue.{Queue}
-use Rattle.relay_book.specs.Marks.{leaving, leaving_of}
+use Rattle.relay_book.specs.Queue.{Queue, queue_of}
+use Rattle.relay_book.specs.Marks.{place_steps}
 use Rattle.relay_records.specs.declared.noted.Noted.{Noted}
 
 -- how many recipients a change accepts
@@ -30,7 +30,7 @@ pub record IsNoted (noted : Option Noted) (changes : List Change) (change : Chan
   pub octets : note.octets ≡ encode change
   pub used_is : note.used ≡ used
   pub accepted : note.accepted ≡ accepted_by change
-  pub left : note.left.items ≡ leaving changes change
+  pub left : note.left.items ≡ place_steps (queue_of changes) change
   pub report : note.report ≡ queues_report change
 
 -- the note of a change that comes next in this queue
@@ -40,5 +40,5 @@ pub record NotesNext (queue : Queue) (change : Change) (octets : List ℕ) (used
   pub octets_are : note.octets ≡ octets
   pub used_is : note.used ≡ used
   pub accepted : note.accepted ≡ accepted_by change
-  pub left : note.left.items ≡ leaving_of queue change
+  pub left : note.left.items ≡ place_steps queue change
   pub report : note.report ≡ queues_report change

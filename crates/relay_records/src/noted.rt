@@ -2,7 +2,7 @@
 ghost use Rattle.std.specs.Prelude.{◌≡◌, IfOk};
 ghost use Rattle.relay_records.specs.Note.{NotesNext, accepted_by, queues_report};
 
-use relay_book::{Book, Change, Way};
+use relay_book::{Book, Change, PlaceStep};
 use relay_octets::Octets;
 use std::alloc::{AllocError, Global};
 
@@ -17,8 +17,8 @@ pub struct Noted {
     pub used: usize,
     /// The recipients of an accept; 0 for an outcome.
     pub accepted: usize,
-    /// Each place that left by it, in order, and how.
-    pub left: Vec<(u8, Way)>,
+    /// Each place that left by it or that it reported as delayed, which stays held, in order, and which of both.
+    pub left: Vec<(u8, PlaceStep)>,
     /// Whether it queued a report.
     pub report: bool,
 }
@@ -70,7 +70,7 @@ pub(crate) fn note_of(
 ) -> Result<Noted, AllocError>
     ensures { IfOk result (NotesNext book.now.queue change.now octets used) }
 {
-    let left = book.leaving(alloc, change)?;
+    let left = book.place_steps(alloc, change)?;
     Ok(Noted {
         number: book.next_number(),
         octets,
