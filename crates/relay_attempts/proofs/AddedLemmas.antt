@@ -1,11 +1,13 @@
 -- An outcome with the report that is due of it fits the queue.
-use Rattle.std.proofs.Common.{◌≡◌, ◌↔◌, ◌⊎◌, inl, inr, ℕ, ◌+◌, ◌<◌, ◌≤◌, ◌^◌, List, length, Some, Option, MatchOption, Result, Ok, Err, IfErr, refl, sym, ap, ◌∙◌, subst, arith}
+use Rattle.std.proofs.Common.{◌≡◌, ◌↔◌, ◌⊎◌, inl, inr, ℕ, ◌+◌, ◌<◌, ◌≤◌, ◌^◌, false, List, [], length, Some, Option, MatchOption, Result, Ok, Err, IfErr, refl, sym, ap, ◌∙◌, subst, arith}
 use Rattle.relay_trace.specs.declared.moment.TheConstants.{LAST_SECOND}
 use Rattle.relay_envelope.specs.HostName.{IsHostName}
+use Rattle.std.specs.List.{list_any}
+use Rattle.relay_book.specs.declared.version.Version.{Version}
 use Rattle.relay_book.specs.declared.change.Outcome.{Outcome}
 use Rattle.relay_book.specs.declared.change.Ruling.{Ruling}
 use Rattle.relay_book.specs.declared.message.Message.{Message}
-use Rattle.relay_book.specs.Queue.{Queue, FitsMessage, message_of}
+use Rattle.relay_book.specs.Queue.{Queue, FitsMessage, message_of, reports_at}
 use Rattle.relay_book.specs.Snapshot.{IsQueue}
 use Rattle.relay_book.proofs.Theorems.{found_is_queued}
 use Rattle.relay_disk.specs.Device.{DiskWords}
@@ -47,11 +49,18 @@ is_reported host queue outcome message text next is_host moment comes valid foun
     record {
       report = text;
       change_is = refl;
-      reported = subst (λ (o : Option Message). MatchOption o ⊥ (IsReportedOf host queue.next (record outcome { report = text }))) (sym found) due;
+      reported = subst (λ (o : Option Message). MatchOption o ⊥ (IsReportedOf host queue.next (record outcome { report = text }))) (sym found)
+          (record { version = comes.version; report = due });
       fits = (
         next,
         subst (λ (o : Option Message). MatchOption o ⊥ (λ message. FitsMessage message (record outcome { report = text }))) (sym found)
-            (record { rulings = rules.rulings; hop = rules.hop; report = fit.0 }),
+            (record {
+              rulings = rules.rulings;
+              hop = rules.hop;
+              report =
+                  subst (λ (v : Version). (text ≡ []) ↔ (list_any (reports_at v message outcome.at) outcome.rulings ≡ false)) (sym comes.version)
+                  fit.0;
+            }),
         record {
           message = comes.number;
           moment = moment;

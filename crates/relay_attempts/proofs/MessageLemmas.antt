@@ -4,14 +4,14 @@ use Rattle.std.specs.Prelude.{slice_set}
 use Rattle.std.specs.List.{list_any}
 use Rattle.std.specs.Option.{option_map_or}
 use Rattle.std.proofs.lemmas.Bool.{cases_eq, cond-true, cond-false, eq-eqb, ne_eqb, false≢true}
+use Rattle.relay_book.specs.declared.version.Version.{Version}
 use Rattle.relay_book.specs.declared.change.Accept.{Accept}
 use Rattle.relay_book.specs.declared.change.Outcome.{Outcome}
 use Rattle.relay_book.specs.declared.change.Ruling.{Ruling}
 use Rattle.relay_book.specs.declared.message.Message.{Message}
 use Rattle.relay_book.specs.declared.message.Place.{Place}
 use Rattle.relay_book.specs.Book.{Rise}
-use Rattle.relay_book.specs.DueReport.{fate_of}
-use Rattle.relay_book.specs.Queue.{AreRulings, holds_at, if_held, is_held, message_after, message_of, place_after, places_after, places_ruled, ruled}
+use Rattle.relay_book.specs.Queue.{AreRulings, holds_at, if_held, is_held, message_after, message_of, place_ruled, places_after, places_ruled, ruled}
 
 -- a write to another place
 set_other : {A : Type 0} (xs : List A) (i j : ℕ) (x : A) → (i ≡ j → ⊥) → slice_get (slice_set xs i x) j ≡ slice_get xs j
@@ -26,22 +26,22 @@ abbrev pub is_ruled : List Ruling → ℕ → Bool
 is_ruled rulings place = list_any (λ (ruling : Ruling). ruling.place == place) rulings
 
 -- one that isn't stays
-pub place_stays : (accept : Accept) (at : ℕ) (places : List Place) (rulings : List Ruling) (place : ℕ) → is_ruled rulings place ≡ false
-    → slice_get (places_ruled accept at places rulings) place ≡ slice_get places place
-place_stays accept at places [] place out = refl
-place_stays accept at places (ruling ∷ rulings) place out =
-    by (ruling.place == place) refl (place_stays accept at (places_after accept at places ruling) rulings place)
+pub place_stays : (version : Version) (accept : Accept) (at : ℕ) (places : List Place) (rulings : List Ruling) (place : ℕ) → is_ruled rulings place ≡ false
+    → slice_get (places_ruled version accept at places rulings) place ≡ slice_get places place
+place_stays version accept at places [] place out = refl
+place_stays version accept at places (ruling ∷ rulings) place out =
+    by (ruling.place == place) refl (place_stays version accept at (places_after version accept at places ruling) rulings place)
   where
     one : (ruling.place == place) ≡ false → (found : Option Place)
-        → slice_get (option_map_or (λ (p : Place). slice_set places ruling.place (place_after at p (fate_of accept.at at ruling.verdict))) found places) place ≡ slice_get places place
+        → slice_get (option_map_or (λ (p : Place). slice_set places ruling.place (place_ruled version accept at p ruling)) found places) place ≡ slice_get places place
     one off None = refl
     one off (Some p) =
-        set_other places ruling.place place (place_after at p (fate_of accept.at at ruling.verdict))
+        set_other places ruling.place place (place_ruled version accept at p ruling)
         (λ same. false≢true (sym off ∙ eq-eqb ruling.place place same))
 
     by : (b : Bool) → (ruling.place == place) ≡ b
-        → (is_ruled rulings place ≡ false → slice_get (places_ruled accept at (places_after accept at places ruling) rulings) place ≡ slice_get (places_after accept at places ruling) place)
-        → slice_get (places_ruled accept at (places_after accept at places ruling) rulings) place ≡ slice_get places place
+        → (is_ruled rulings place ≡ false → slice_get (places_ruled version accept at (places_after version accept at places ruling) rulings) place ≡ slice_get (places_after version accept at places ruling) place)
+        → slice_get (places_ruled version accept at (places_after version accept at places ruling) rulings) place ≡ slice_get places place
     by true is rest = absurd (false≢true (sym out ∙ ap (λ (b : Bool). b || is_ruled rulings place) is))
     by false is rest =
         rest (ap (λ (b : Bool). b || is_ruled rulings place) (sym is) ∙ out)
@@ -57,13 +57,13 @@ ruled_was_held places least (ruling ∷ rulings) place are out = by (cases_eq ru
     by (inr off) rest = rest (ap (λ (b : Bool). b || is_ruled rulings place) (sym (ne_eqb ruling.place place off)) ∙ out)
 
 -- what is held behind an outcome was held before it
-pub was_held : (accept : Accept) (at : ℕ) (places : List Place) (rulings : List Ruling) (place : ℕ) → AreRulings places 0 rulings
-    → holds_at (places_ruled accept at places rulings) place ≡ true → holds_at places place ≡ true
-was_held accept at places rulings place are held = by (is_ruled rulings place) refl
+pub was_held : (version : Version) (accept : Accept) (at : ℕ) (places : List Place) (rulings : List Ruling) (place : ℕ) → AreRulings places 0 rulings
+    → holds_at (places_ruled version accept at places rulings) place ≡ true → holds_at places place ≡ true
+was_held version accept at places rulings place are held = by (is_ruled rulings place) refl
   where
     by : (b : Bool) → is_ruled rulings place ≡ b → holds_at places place ≡ true
     by true is = ruled_was_held places 0 rulings place are is
-    by false is = ap (λ (o : Option Place). option_map_or is_held o false) (sym (place_stays accept at places rulings place is)) ∙ held
+    by false is = ap (λ (o : Option Place). option_map_or is_held o false) (sym (place_stays version accept at places rulings place is)) ∙ held
 
 -- the message of another number
 pub other_stays : (outcome : Outcome) (entries : List (ℕ × Message)) (number : ℕ) → (number ≡ outcome.message → ⊥) → message_of (ruled outcome entries) number ≡ message_of entries number

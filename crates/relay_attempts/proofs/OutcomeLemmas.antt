@@ -72,6 +72,7 @@ unroutable_may_come table queue number at message outcome is fits found some few
 
     may : MayCome queue (unroutable table number at message)
     may = record {
+      version = refl;
       number = fits;
       message =
           subst (λ (o : Option Message). MatchOption o ⊥ (RulesOn (unroutable table number at message))) (sym found) (record {
@@ -96,7 +97,7 @@ stay_held : (outcome : Outcome) (message : Message) (least : ℕ) (numbers : Lis
 stay_held outcome message least [] apart held = tt
 stay_held outcome message least (n ∷ numbers) apart held = (
   held.0,
-  ap (λ (o : Option Place). option_map_or is_held o false) (place_stays message.accept outcome.at message.places outcome.rulings n apart.0) ∙ held.1,
+  ap (λ (o : Option Place). option_map_or is_held o false) (place_stays outcome.version message.accept outcome.at message.places outcome.rulings n apart.0) ∙ held.1,
   stay_held outcome message (n + 1) numbers apart.1 held.2,
 )
 

@@ -77,6 +77,7 @@ pub ended_may_come : (host : List ℕ) (table : RouteTable) (queue : Queue) (run
     → IsCourse host envelope text run.places.items input broken output (Some verdicts) → MayCome queue outcome
 ended_may_come host table queue run runs now verdicts outcome is fits name small envelope text input broken output course =
     subst (MayCome queue) (sym is) (record {
+      version = refl;
       number = fits;
       message =
           subst (λ (o : Option Message). MatchOption o ⊥ (RulesOn one)) (sym runs.found) (record {

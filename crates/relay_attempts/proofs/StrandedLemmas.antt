@@ -81,9 +81,9 @@ module _ (table : RouteTable) (outcome : Outcome) where
   -- a message that has a held place without a hop had one
   was_stranded : (message : Message) → AreRulings message.places 0 outcome.rulings → is_lost (after message) ≡ true → is_lost message ≡ true
   was_stranded message are some =
-      let found = there_is table message.accept.envelope.recipients 0 (places_ruled message.accept outcome.at message.places outcome.rulings) some in
+      let found = there_is table message.accept.envelope.recipients 0 (places_ruled outcome.version message.accept outcome.at message.places outcome.rulings) some in
       some_is_there table message.accept.envelope.recipients 0 message.places found.index
-      (was_held message.accept outcome.at message.places outcome.rulings found.index are found.held) found.none
+      (was_held outcome.version message.accept outcome.at message.places outcome.rulings found.index are found.held) found.none
 
   -- and is still queued
   stranded_is_held : (message : Message) → is_lost message ≡ true → list_any is_held message.places ≡ true

@@ -3,6 +3,7 @@
 use Rattle.std.specs.Prelude.{◌≡◌, ◌↔◌, ℕ, ◌+◌, ◌<◌, ◌≤◌, ◌^◌, List, [], length, MatchOption}
 use Rattle.std.specs.List.{AllByRecursion}
 use Rattle.relay_disk.specs.Device.{DiskWords}
+use Rattle.relay_book.specs.declared.version.Version.TheVariants.{WithDelay}
 use Rattle.relay_book.specs.declared.change.Change.{Change}
 use Rattle.relay_book.specs.declared.change.Change.TheVariants as change
 use Rattle.relay_book.specs.declared.change.Outcome.{Outcome}
@@ -23,8 +24,10 @@ pub record RulesOn (outcome : Outcome) (message : Message) : Type 0 where
   pub rulings : AreRulings message.places 0 outcome.rulings
   pub hop : (outcome.hop ≡ []) ↔ AllNoRoute outcome.rulings
 
--- But for its report, the outcome fits the queue: its message is queued, and what it says of it may be stored.
+-- But for its report, the outcome fits the queue, and is of the second version: its message is queued, and what it says
+-- of it may be stored.
 pub record MayCome (queue : Queue) (outcome : Outcome) : Type 0 where
+  pub version : outcome.version ≡ WithDelay
   pub number : outcome.message < 2 ^ 64
   pub message : MatchOption (message_of queue.messages outcome.message) ⊥ (RulesOn outcome)
   pub hop : MayBeHop outcome.hop

@@ -2,6 +2,7 @@
 use Rattle.std.specs.Prelude.{◌≡◌, ◌⊎◌, ℕ, true, false, List, [], ◌∷◌, map, None, Some}
 use Rattle.relay_disk.specs.Device.{DiskWords}
 use Rattle.relay_routes.specs.Routes.{RouteTable}
+use Rattle.relay_book.specs.declared.version.Version.TheVariants.{WithDelay}
 use Rattle.relay_book.specs.declared.change.Outcome.{Outcome}
 use Rattle.relay_book.specs.declared.change.Ruling.{Ruling}
 use Rattle.relay_book.specs.declared.change.Verdict.{Verdict}
@@ -26,9 +27,16 @@ rulings_of (place ∷ places) (verdict ∷ verdicts) =
 abbrev pub unrouted : List ℕ → List Ruling
 unrouted places = map (λ place. record { place = place; verdict = NoRoute }) places
 
--- the outcome for a message of these verdicts, with the name of the hop and no report
+-- the outcome for a message of these verdicts, of the second version, with the name of the hop and no report
 abbrev pub outcome_of : ℕ → ℕ → List ℕ → List Ruling → Outcome
-outcome_of message at hop rulings = record { message = message; at = at; hop = hop; rulings = rulings; report = [] }
+outcome_of message at hop rulings = record {
+  version = WithDelay;
+  message = message;
+  at = at;
+  hop = hop;
+  rulings = rulings;
+  report = [];
+}
 
 -- the outcome for a message of exactly its held places without a hop
 abbrev pub unroutable : RouteTable → ℕ → ℕ → Message → Outcome

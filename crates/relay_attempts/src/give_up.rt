@@ -8,7 +8,7 @@ ghost use Rattle.relay_records.specs.Records.{Keeps};
 
 use crate::attempts::Attempts;
 use crate::hops::{has_stranded, stranded_places};
-use relay_book::{Message, Outcome, Ruling, Rulings, Verdict};
+use relay_book::{Message, Outcome, Ruling, Rulings, Verdict, Version};
 use relay_disk::Disk;
 use relay_octets::Octets;
 use relay_records::{NodeFault, Records};
@@ -75,6 +75,7 @@ fn unroutable(
 {
     let places = stranded_places(alloc, table, message)?;
     Ok(Outcome {
+        version: Version::WithDelay,
         message: number,
         at: now,
         hop: Octets::new(Vec::new(alloc)),

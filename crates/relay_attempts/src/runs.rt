@@ -7,7 +7,7 @@ ghost use Rattle.relay_book.specs.declared.message.Message.{Message};
 ghost use Rattle.relay_envelope.specs.HostName.{IsHostName};
 ghost use Rattle.relay_client.specs.Attempt.{Follows, FollowsOn, Turns};
 
-use relay_book::{Outcome, Ruling, Rulings};
+use relay_book::{Outcome, Ruling, Rulings, Version};
 use relay_client::{Attempt, Driven, MailObject, Verdicts};
 use relay_disk::Disk;
 use relay_octets::Octets;
@@ -94,6 +94,7 @@ impl Run {
         ensures hop { IfOk result (λ _. IsHostName self.hop) }
     {
         Ok(Outcome {
+            version: Version::WithDelay,
             message: self.message,
             at: now,
             hop: Octets::from_slice(alloc, self.hop.as_slice())?,
