@@ -43,6 +43,7 @@ fn show_rows(rt: &HostRuntime) -> Result<(), RowsFault> {
     show_lines(rt, file(rt, folder, "rows.in")?.as_str())?;
     show_lines(rt, file(rt, folder, "octets.in")?.as_str())?;
     show_lines(rt, file(rt, folder, "snapshots.in")?.as_str())?;
+    show_lines(rt, file(rt, folder, "delay.in")?.as_str())?;
     show_reports(rt, file(rt, folder, "reports.in")?.as_str())
 }
 

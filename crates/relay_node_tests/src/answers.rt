@@ -4,7 +4,7 @@ use crate::calls::{
 };
 use crate::scene::Scene;
 use crate::words::Words;
-use relay_book::Way;
+use relay_book::{PlaceStep, Way};
 use relay_node::{Connected, Noted, Started, Work};
 use relay_routes::HostName;
 
@@ -146,8 +146,8 @@ impl Scene {
         self.keep_record(noted);
         self.tell_number("change", noted.number);
         self.tell_number("accepts", noted.accepted as u64);
-        for (place, way) in noted.left.as_slice() {
-            self.tell_number(word_of(way), u64::from(*place));
+        for (place, step) in noted.left.as_slice() {
+            self.tell_number(word_of(step), u64::from(*place));
         }
         self.tell(if noted.report { "report" } else { "no report" });
     }
@@ -178,10 +178,11 @@ impl Scene {
     }
 }
 
-/// How a place left: the next hop has it, or it failed.
-fn word_of(way: &Way) -> &'static str {
-    match way {
-        Way::ByTransfer => "there",
-        Way::ByEnd => "failed",
+/// What became of a place: the next hop has it, it failed, or it is late.
+fn word_of(step: &PlaceStep) -> &'static str {
+    match step {
+        PlaceStep::Left(Way::ByTransfer) => "there",
+        PlaceStep::Left(Way::ByEnd) => "failed",
+        PlaceStep::Delayed => "delayed",
     }
 }

@@ -27,13 +27,14 @@ use std::{env, fs};
 use trial::difference_of;
 
 /// The files of scenarios.
-const FILES: [&str; 10] = [
+const FILES: [&str; 11] = [
     "receiving",
     "sessions",
     "stops",
     "passing",
     "retrying",
     "moments",
+    "delay",
     "compaction",
     "compaction_refused",
     "compaction_stops",
