@@ -13,10 +13,10 @@ use Rattle.relay_book.specs.declared.change.Change.TheVariants as change
 use Rattle.relay_book.specs.declared.change.Outcome.{Outcome}
 use Rattle.relay_book.specs.declared.change.Ruling.{Ruling}
 use Rattle.relay_book.specs.declared.change.Verdict.TheVariants.{NoRoute, Taken}
-use Rattle.relay_book.specs.declared.fate.Way.{Way}
+use Rattle.relay_book.specs.declared.fate.PlaceStep.{PlaceStep}
 use Rattle.relay_book.specs.declared.message.Message.{Message}
-use Rattle.relay_book.specs.Marks.{leaving, message_at}
-use Rattle.relay_book.specs.Queue.{Queue, message_of}
+use Rattle.relay_book.specs.Marks.{message_at, place_steps}
+use Rattle.relay_book.specs.Queue.{Queue, message_of, queue_of}
 use Rattle.relay_book.proofs.Theorems.{fold_knows}
 use Rattle.relay_book.specs.Record.{encode}
 use Rattle.relay_records.specs.declared.noted.Noted.{Noted}
@@ -33,7 +33,7 @@ use Rattle.relay_node.specs.Node.{NodeState}
 use Rattle.relay_world.specs.declared.attempt.Fate.TheVariants.{Lost, Replied}
 use Rattle.relay_world.specs.declared.line.Line.TheVariants.{Accepted}
 use Rattle.relay_world.specs.Bound.{HostKeeps, IsBound, IsListOf, NodeKeeps, told_by}
-use Rattle.relay_world.specs.Ledger.{Accepts, Leaves, Step, steps_by, steps_in, steps_of}
+use Rattle.relay_world.specs.Ledger.{Accepts, Becomes, Step, steps_by, steps_in, steps_of}
 use Rattle.relay_world.specs.Once.{HasNoHops, IsTriedOnce}
 use Rattle.relay_world.specs.Steps.{HasGivenUp, HasHeard, HasLost, HasRead, IsPut, RecordsHeard, RecordsRead, waiting_down, without_note}
 use Rattle.relay_world.specs.World.{Host, Up, World}
@@ -48,8 +48,8 @@ use Rattle.relay_world.proofs.PieceLemmas.{same_number}
 use Rattle.relay_world.proofs.TakerLemmas.{AddsTo, HasTakers, ListsAdd, lists_put, lists_stay}
 
 -- what leaves is no accept
-pub none_accepts : (message report number places : ℕ) (left : List (ℕ × Way))
-    → map (λ one. Leaves one.1 message one.0 report) left ≡ Accepts number places ∷ [] → ⊥
+pub none_accepts : (message report number places : ℕ) (left : List (ℕ × PlaceStep))
+    → map (λ one. Becomes one.1 message one.0 report) left ≡ Accepts number places ∷ [] → ⊥
 none_accepts message report number places [] same = cc
 none_accepts message report number places (one ∷ left) same = cc
 
@@ -163,7 +163,7 @@ module _ {D : Type 0} (honest : Type 0) (words : DiskWords D) (old new : World D
           sym (steps_more before one) ∙ sym (ap steps_of is) ∙ sym (now.ledger node more second) ∙ ledger
           ∙ ap (λ l. l ++ accept ∷ []) (bound.ledger node before first) in
           let only : steps_by before one ≡ accept ∷ [] = append_cancel_left (steps_of before) _ _ steps in
-          none_accepts outcome.message _ change_now records.0.accepted (leaving before (change.Outcome outcome))
+          none_accepts outcome.message _ change_now records.0.accepted (place_steps (queue_of before) (change.Outcome outcome))
           (ap (λ c. steps_by before c) (sym same) ∙ only)
 
   -- replies that have ended an attempt add its outcome

@@ -11,8 +11,8 @@ use Rattle.relay_book.specs.declared.change.Verdict.{Verdict}
 use Rattle.relay_book.specs.declared.change.Verdict.TheVariants.{Taken, Refused, Later, CantSend, NoRoute}
 use Rattle.relay_book.specs.declared.fate.Way.{Way}
 use Rattle.relay_book.specs.declared.fate.Way.TheVariants.{ByTransfer, ByEnd}
-use Rattle.relay_book.specs.declared.fate.Fate.TheVariants.{Waits, Failed}
-use Rattle.relay_book.specs.DueReport.{fate_of, patience, way_of}
+use Rattle.relay_book.specs.declared.fate.Fate.TheVariants.{Waits, Late, Failed}
+use Rattle.relay_book.specs.DueReport.{fate_of, lateness, patience, way_of}
 use Rattle.relay_book.specs.Marks.{LeavesAt, change_at}
 use Rattle.relay_report.specs.Report.{Reported}
 use Rattle.relay_world.specs.Bound.{ReportsBehind}
@@ -29,11 +29,12 @@ not_transfer : Some ByTransfer ≡ Some ByEnd → ⊥
 not_transfer same = not_end (sym same)
 
 -- a place that is tried for too long has failed
-late : (accepted at : ℕ) (way : Way) (is : Bool) → nat_le (accepted + patience) at ≡ is
-    → way_of (cond is Failed Waits) ≡ Some way → HasCause accepted at way Later
-late accepted at ByTransfer true test leaves = not_end leaves
-late accepted at ByEnd true test leaves = leb-true (accepted + patience) at test
-late accepted at way false test leaves = absurd (false≢true (ap is_some leaves))
+too_long : (accepted at : ℕ) (way : Way) (is late : Bool) → nat_le (accepted + patience) at ≡ is
+    → way_of (cond is Failed (cond late Late Waits)) ≡ Some way → HasCause accepted at way Later
+too_long accepted at ByTransfer true late test leaves = not_end leaves
+too_long accepted at ByEnd true late test leaves = leb-true (accepted + patience) at test
+too_long accepted at way false true test leaves = absurd (false≢true (ap is_some leaves))
+too_long accepted at way false false test leaves = absurd (false≢true (ap is_some leaves))
 
 pub has_cause : (accepted at : ℕ) (way : Way) (verdict : Verdict) → way_of (fate_of accepted at verdict) ≡ Some way
     → HasCause accepted at way verdict
@@ -41,7 +42,8 @@ has_cause accepted at ByTransfer (Taken dsn) leaves = tt
 has_cause accepted at ByEnd (Taken dsn) leaves = not_transfer leaves
 has_cause accepted at ByTransfer (Refused code text) leaves = not_end leaves
 has_cause accepted at ByEnd (Refused code text) leaves = tt
-has_cause accepted at way Later leaves = late accepted at way (nat_le (accepted + patience) at) refl leaves
+has_cause accepted at way Later leaves =
+    too_long accepted at way (nat_le (accepted + patience) at) (nat_le (accepted + lateness) at) refl leaves
 has_cause accepted at ByTransfer CantSend leaves = not_end leaves
 has_cause accepted at ByEnd CantSend leaves = tt
 has_cause accepted at ByTransfer NoRoute leaves = not_end leaves

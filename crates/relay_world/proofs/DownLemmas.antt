@@ -10,8 +10,8 @@ use Rattle.relay_book.specs.declared.change.Accept.{Accept}
 use Rattle.relay_book.specs.declared.change.Change.{Change}
 use Rattle.relay_book.specs.declared.change.Change.TheVariants as change
 use Rattle.relay_book.specs.declared.change.Outcome.{Outcome}
-use Rattle.relay_book.specs.declared.fate.Way.{Way}
-use Rattle.relay_book.specs.Marks.{leaving}
+use Rattle.relay_book.specs.declared.fate.PlaceStep.{PlaceStep}
+use Rattle.relay_book.specs.Marks.{place_steps}
 use Rattle.relay_book.specs.Queue.{FitsQueue, Fitting, empty_queue, queue_of}
 use Rattle.relay_book.specs.Record.{encode}
 use Rattle.relay_book.proofs.Theorems.{one_more_fits}
@@ -24,7 +24,7 @@ use Rattle.relay_world.specs.declared.attempt.Attempt.{Attempt}
 use Rattle.relay_world.specs.declared.attempt.Fate.TheVariants.{Running}
 use Rattle.relay_world.specs.declared.link.Link.{Link}
 use Rattle.relay_world.specs.Bound.{HasFate, HasLink, StateKeeps, HostKeeps, IsBound, IsServed, IsTried, MayBeIn, SaysThere, StandsAt, link_of}
-use Rattle.relay_world.specs.Ledger.{Accepts, Leaves, accepts_on, left_lines, lines_by, report_told, steps_by, steps_in, steps_of}
+use Rattle.relay_world.specs.Ledger.{Accepts, Becomes, accepts_on, left_lines, lines_by, report_told, steps_by, steps_in, steps_of}
 use Rattle.relay_world.specs.Steps.{IsPut}
 use Rattle.relay_world.specs.Stops.{IsLeftBy, LeavesList, NoAttempt, NoSession}
 use Rattle.relay_world.specs.World.{Down, FromClient, HostState, Host, Origin, Undecided, Up, World, link_at}
@@ -53,7 +53,7 @@ pub record Notes (noted : Noted) (changes : List Change) (change : Change) (used
   pub octets : noted.octets ≡ encode change
   pub used_is : noted.used ≡ used
   pub accepted : noted.accepted ≡ accepted_by change
-  pub left : noted.left.items ≡ leaving changes change
+  pub left : noted.left.items ≡ place_steps (queue_of changes) change
   pub report : noted.report ≡ queues_report change
 
 pub notes : (is : Option Noted) (noted : Noted) (changes : List Change) (change : Change) (used : ℕ) → is ≡ Some noted
@@ -84,9 +84,9 @@ pub outcome_steps : (node link : ℕ) (noted : Noted) (changes : List Change) (o
     ≡ steps_by changes (reported_as outcome report)
 outcome_steps node link noted changes outcome report used told =
     left_steps node outcome.message link (report_told noted.number noted.report) noted.left.items
-    ∙ ap (λ (l : List (ℕ × Way)). map (λ one. Leaves one.1 outcome.message one.0 (report_told noted.number noted.report)) l)
+    ∙ ap (λ (l : List (ℕ × PlaceStep)). map (λ one. Becomes one.1 outcome.message one.0 (report_told noted.number noted.report)) l)
     told.left
-    ∙ ap (λ n. map (λ one. Leaves one.1 outcome.message one.0 n) (leaving changes (reported_as outcome report)))
+    ∙ ap (λ n. map (λ one. Becomes one.1 outcome.message one.0 n) (place_steps (queue_of changes) (reported_as outcome report)))
     (ap (λ b. report_told noted.number b) told.report
     ∙ ap (λ n. report_told n (is_text report)) (told.number ∙ add-one (length changes))
     ∙ report_is (suc (length changes)) report)

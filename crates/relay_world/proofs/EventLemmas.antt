@@ -6,7 +6,7 @@ use Rattle.std.proofs.lemmas.Option.{none-some}
 use Rattle.relay_octets.specs.Beginning.{Begins}
 use Rattle.relay_disk.specs.Device.{DiskWords}
 use Rattle.relay_book.specs.declared.change.Change.{Change}
-use Rattle.relay_book.specs.declared.fate.Way.{Way}
+use Rattle.relay_book.specs.declared.fate.PlaceStep.{PlaceStep}
 use Rattle.relay_node.specs.Node.{NodeState}
 use Rattle.relay_world.specs.declared.attempt.Attempt.{Attempt}
 use Rattle.relay_world.specs.declared.attempt.Fate.{Fate}
@@ -28,7 +28,7 @@ use Rattle.relay_world.proofs.OpenLemmas.{off_by}
 use Rattle.relay_world.proofs.RecordLemmas.{none_left_accepted}
 
 -- what left adds no accept, and an accept on another link none here
-pub left_same : (ledger grown : List Line) (node message link report : ℕ) (left : List (ℕ × Way))
+pub left_same : (ledger grown : List Line) (node message link report : ℕ) (left : List (ℕ × PlaceStep))
     → grown ≡ ledger ++ left_lines node message link report left → (other : ℕ) → accepts_on other grown ≡ accepts_on other ledger
 left_same ledger grown node message link report left is other =
     ap (λ l. accepts_on other l) is ∙ accepts_on_more other ledger (left_lines node message link report left)

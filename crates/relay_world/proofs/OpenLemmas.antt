@@ -18,7 +18,7 @@ use Rattle.relay_records.specs.Records.{Keeps}
 use Rattle.relay_node.specs.Attempts.{Tells}
 use Rattle.relay_node.specs.Node.{SeatHasSaid, NodeState, greeted_by}
 use Rattle.relay_world.specs.declared.line.Line.{Line}
-use Rattle.relay_world.specs.declared.line.Line.TheVariants.{Accepted, Left}
+use Rattle.relay_world.specs.declared.line.Line.TheVariants.{Accepted, Became}
 use Rattle.relay_world.specs.declared.link.Link.{Link}
 use Rattle.relay_world.specs.declared.link.ServerEnd.{ServerEnd}
 use Rattle.relay_world.specs.Bound.{HasSession, StateKeeps, HostKeeps, IsBound, IsServed, NodeKeeps, SaysThere, ServesLink, StandsAt, link_of}
@@ -44,7 +44,7 @@ none_accepted number count (Accepted node change places link ∷ ledger) beyond 
     let off : nat_eq link number ≡ false = off_by link number (λ same. omega (arith, beyond, lines.0, same)) in
     ap (λ b. cond b ((change, places) ∷ []) [] ++ accepts_on number ledger) off
     ∙ none_accepted number count ledger beyond lines.1
-none_accepted number count (Left way node change place link report ∷ ledger) beyond lines =
+none_accepted number count (Became step node change place link report ∷ ledger) beyond lines =
     none_accepted number count ledger beyond lines.1
 
 pub lines_within : (count more : ℕ) (ledger : List Line) → count ≤ more → AllByRecursion (λ line. link_of line ≤ count) ledger

@@ -8,9 +8,9 @@ use Rattle.std.proofs.lemmas.Option.{same_Some}
 use Rattle.relay_disk.specs.Device.{DiskWords}
 use Rattle.relay_book.specs.declared.change.Change.{Change}
 use Rattle.relay_book.specs.declared.change.Outcome.{Outcome}
-use Rattle.relay_book.specs.declared.fate.Way.{Way}
-use Rattle.relay_book.specs.Marks.{change_at, leaving}
-use Rattle.relay_book.specs.Queue.{Fitting}
+use Rattle.relay_book.specs.declared.fate.PlaceStep.{PlaceStep}
+use Rattle.relay_book.specs.Marks.{change_at, place_steps}
+use Rattle.relay_book.specs.Queue.{Fitting, queue_of}
 use Rattle.relay_book.specs.Record.{encode}
 use Rattle.relay_records.specs.declared.noted.Noted.{Noted}
 use Rattle.relay_records.specs.Note.{IsNoted, is_text}
@@ -18,7 +18,7 @@ use Rattle.relay_attempts.specs.AddedOutcome.{AddsOutcome, reported_as}
 use Rattle.relay_node.specs.Node.{NodeState}
 use Rattle.relay_world.specs.declared.line.Line.{Line}
 use Rattle.relay_world.specs.Bound.{HostKeeps, IsBound, NodeKeeps, link_of}
-use Rattle.relay_world.specs.Ledger.{Leaves, accepts_on, left_lines, report_number, report_told, steps_in, steps_of}
+use Rattle.relay_world.specs.Ledger.{Becomes, accepts_on, left_lines, report_number, report_told, steps_in, steps_of}
 use Rattle.relay_world.specs.Steps.{without_note}
 use Rattle.relay_world.specs.World.{Host, Up, World}
 use Rattle.relay_world.proofs.FrameLemmas.{accepts_on_more, get_last, steps_in_more, steps_more}
@@ -26,28 +26,28 @@ use Rattle.relay_world.proofs.PieceLemmas.{all_append, kept_without_note, report
 use Rattle.relay_world.proofs.OpenLemmas.{lines_within, off_by}
 
 -- what a ledger's lines of an outcome tell: its steps, of its node alone, and no accept
-pub left_steps : (node message link report : ℕ) (left : List (ℕ × Way))
-    → steps_in node (left_lines node message link report left) ≡ map (λ one. Leaves one.1 message one.0 report) left
+pub left_steps : (node message link report : ℕ) (left : List (ℕ × PlaceStep))
+    → steps_in node (left_lines node message link report left) ≡ map (λ one. Becomes one.1 message one.0 report) left
 left_steps node message link report [] = refl
 left_steps node message link report (one ∷ left) =
-    ap (λ b. cond b (Leaves one.1 message one.0 report ∷ []) [] ++ steps_in node (left_lines node message link report left))
+    ap (λ b. cond b (Becomes one.1 message one.0 report ∷ []) [] ++ steps_in node (left_lines node message link report left))
     (same_number node)
-    ∙ ap (λ l. Leaves one.1 message one.0 report ∷ l) (left_steps node message link report left)
+    ∙ ap (λ l. Becomes one.1 message one.0 report ∷ l) (left_steps node message link report left)
 
-pub left_elsewhere : (node other message link report : ℕ) (left : List (ℕ × Way)) → other ≢ node
+pub left_elsewhere : (node other message link report : ℕ) (left : List (ℕ × PlaceStep)) → other ≢ node
     → steps_in other (left_lines node message link report left) ≡ []
 left_elsewhere node other message link report [] off = refl
 left_elsewhere node other message link report (one ∷ left) off =
-    ap (λ b. cond b (Leaves one.1 message one.0 report ∷ []) [] ++ steps_in other (left_lines node message link report left))
+    ap (λ b. cond b (Becomes one.1 message one.0 report ∷ []) [] ++ steps_in other (left_lines node message link report left))
     (off_by node other (λ same. off (sym same)))
     ∙ left_elsewhere node other message link report left off
 
-pub none_left_accepted : (node number message link report : ℕ) (left : List (ℕ × Way))
+pub none_left_accepted : (node number message link report : ℕ) (left : List (ℕ × PlaceStep))
     → accepts_on number (left_lines node message link report left) ≡ []
 none_left_accepted node number message link report [] = refl
 none_left_accepted node number message link report (one ∷ left) = none_left_accepted node number message link report left
 
-pub left_within : (node message link report count : ℕ) (left : List (ℕ × Way)) → link ≤ count
+pub left_within : (node message link report count : ℕ) (left : List (ℕ × PlaceStep)) → link ≤ count
     → AllByRecursion (λ line. link_of line ≤ count) (left_lines node message link report left)
 left_within node message link report count [] few = tt
 left_within node message link report count (one ∷ left) few = (few, left_within node message link report count left few)
@@ -95,7 +95,7 @@ module _ {D : Type 0} (honest : Type 0) (words : DiskWords D) (old new : World D
         ∙ ap (λ n. report_told n (is_text r.adds.report)) number_is
         ∙ report_is (suc (length changes)) r.adds.report
 
-    left_are : r.noted.left.items ≡ leaving changes (reported_as outcome r.adds.report)
+    left_are : r.noted.left.items ≡ place_steps (queue_of changes) (reported_as outcome r.adds.report)
     left_are = ap (λ (n : Noted). n.left.items) (sym same_note) ∙ is_noted.left
 
     pub fitting_now : Fitting grown
@@ -110,10 +110,10 @@ module _ {D : Type 0} (honest : Type 0) (words : DiskWords D) (old new : World D
         ∙ ap (λ l. l ++ steps_in node told_lines) (r.bound.ledger node changes r.list_at)
         ∙ ap (λ l. steps_of changes ++ l)
         (left_steps node outcome.message number (report_told change_now r.noted.report) r.noted.left.items)
-        ∙ ap (λ (l : List (ℕ × Way)). steps_of changes
-        ++ map (λ one. Leaves one.1 outcome.message one.0 (report_told change_now r.noted.report)) l) left_are
+        ∙ ap (λ (l : List (ℕ × PlaceStep)). steps_of changes
+        ++ map (λ one. Becomes one.1 outcome.message one.0 (report_told change_now r.noted.report)) l) left_are
         ∙ ap (λ n. steps_of changes
-        ++ map (λ one. Leaves one.1 outcome.message one.0 n) (leaving changes (reported_as outcome r.adds.report))) report_told_is
+        ++ map (λ one. Becomes one.1 outcome.message one.0 n) (place_steps (queue_of changes) (reported_as outcome r.adds.report))) report_told_is
         ∙ sym (steps_more changes (reported_as outcome r.adds.report))
 
     pub other_steps : (other : ℕ) → other ≢ node → steps_in other new.ledger ≡ steps_in other old.ledger

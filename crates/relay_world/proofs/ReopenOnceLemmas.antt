@@ -10,7 +10,7 @@ use Rattle.relay_book.specs.declared.change.Change.TheVariants as change
 use Rattle.relay_book.specs.declared.change.Outcome.{Outcome}
 use Rattle.relay_book.specs.declared.change.Verdict.{Verdict}
 use Rattle.relay_book.specs.declared.change.Verdict.TheVariants.{Taken}
-use Rattle.relay_book.specs.Marks.{Held, Transferred, change_at, leaving}
+use Rattle.relay_book.specs.Marks.{Held, Transferred, change_at, place_steps}
 use Rattle.relay_book.specs.Queue.{Fitting, queue_of}
 use Rattle.relay_book.specs.Record.{IsChange}
 use Rattle.relay_book.proofs.Theorems.{encoding_is_one}
@@ -126,7 +126,7 @@ module _ {D : Type 0} (honest : Type 0) (words : DiskWords D) (old new : World D
         kept honest words old new lists later bound once now grow
         (there_same honest words old new lists later bound once now finds.attempts)
         (adds (λ outcome same was at.
-        absurd (none_accepts outcome.message _ note.number note.accepted (leaving listed.0 (change.Outcome outcome))
+        absurd (none_accepts outcome.message _ note.number note.accepted (place_steps (queue_of listed.0) (change.Outcome outcome))
         (ap (λ c. steps_by listed.0 c) (sym same) ∙ sym steps
         ∙ ap (λ b. cond b (Accepts note.number note.accepted ∷ []) [] ++ []) (same_number node)))))
         (same_ends honest words old new lists later bound once now finds.attempts) given

@@ -34,7 +34,7 @@ use Rattle.relay_world.specs.declared.attempt.Attempt.{Attempt}
 use Rattle.relay_world.specs.declared.attempt.Fate.{Fate}
 use Rattle.relay_world.specs.declared.attempt.Fate.TheVariants.{Running, Replied, Lost, Dropped}
 use Rattle.relay_world.specs.declared.line.Line.{Line}
-use Rattle.relay_world.specs.declared.line.Line.TheVariants.{Accepted, Left}
+use Rattle.relay_world.specs.declared.line.Line.TheVariants.{Accepted, Became}
 use Rattle.relay_world.specs.declared.link.Link.{Link}
 use Rattle.relay_world.specs.declared.link.ServerEnd.{ServerEnd}
 use Rattle.relay_world.specs.Ledger.{accepts_on, lines_by, lines_of, steps_by, steps_in, steps_of}
@@ -255,7 +255,7 @@ pub record ReadsWithin (link : Link) : Type 0 where
 -- the number of the link that a line tells of
 abbrev pub link_of : Line → ℕ
 link_of (Accepted node number places link) = link
-link_of (Left way node number place link report) = link
+link_of (Became step node number place link report) = link
 
 -- the link's server end is a session of this number at this node, which goes on
 pub record HasSession (link : Link) (node session : ℕ) : Type 0 where

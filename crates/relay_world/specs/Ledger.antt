@@ -3,18 +3,19 @@ use Rattle.std.specs.Prelude.{ℕ, suc, nat_eq, Bool, true, false, List, [], ◌
 use Rattle.std.specs.List.{flat_map}
 use Rattle.relay_book.specs.declared.change.Change.{Change}
 use Rattle.relay_book.specs.declared.change.Change.TheVariants.{Accept, Outcome}
-use Rattle.relay_book.specs.declared.fate.Way.{Way}
-use Rattle.relay_book.specs.Marks.{leaving}
+use Rattle.relay_book.specs.declared.fate.PlaceStep.{PlaceStep}
+use Rattle.relay_book.specs.Queue.{queue_of}
+use Rattle.relay_book.specs.Marks.{place_steps}
 use Rattle.relay_records.specs.declared.noted.Noted.{Noted}
 use Rattle.relay_world.specs.declared.line.Line.{Line}
-use Rattle.relay_world.specs.declared.line.Line.TheVariants.{Accepted, Left}
+use Rattle.relay_world.specs.declared.line.Line.TheVariants.{Accepted, Became}
 use Rattle.relay_world.specs.World.{FromClient, FromLoss, FromNoHop, FromReplies, Origin, Undecided}
 
--- a message was accepted with so many places; or a place of a message left, and a report was queued under this number
--- (0: none)
+-- a message was accepted with so many places; or a place of a message left, or was reported as delayed, and a report
+-- was queued under this number (0: none)
 pub data Step : Type 0 where
   Accepts : (number places : ℕ) → Step
-  Leaves : (way : Way) (number place report : ℕ) → Step
+  Becomes : (step : PlaceStep) (number place report : ℕ) → Step
 
 -- the number of the change where it queues a report, and else 0
 abbrev pub report_number : ℕ → List ℕ → ℕ
@@ -25,8 +26,8 @@ report_number number (octet ∷ report) = number
 abbrev pub steps_by : List Change → Change → List Step
 steps_by changes (Accept accept) = Accepts (suc (length changes)) (length accept.envelope.recipients) ∷ []
 steps_by changes (Outcome outcome) =
-    map (λ one. Leaves one.1 outcome.message one.0 (report_number (suc (length changes)) outcome.report))
-    (leaving changes (Outcome outcome))
+    map (λ one. Becomes one.1 outcome.message one.0 (report_number (suc (length changes)) outcome.report))
+    (place_steps (queue_of changes) (Outcome outcome))
 
 -- the steps of changes behind these
 abbrev pub steps_behind : List Change → List Change → List Step
@@ -41,8 +42,8 @@ steps_of changes = steps_behind [] changes
 abbrev pub if_of_node : ℕ → Line → List Step
 if_of_node node (Accepted other number places link) =
     if nat_eq other node then Accepts number places ∷ [] else []
-if_of_node node (Left way other number place link report) =
-    if nat_eq other node then Leaves way number place report ∷ [] else []
+if_of_node node (Became step other number place link report) =
+    if nat_eq other node then Becomes step number place report ∷ [] else []
 
 -- the steps that a ledger tells of a node
 abbrev pub steps_in : ℕ → List Line → List Step
@@ -51,7 +52,7 @@ steps_in node ledger = flat_map (if_of_node node) ledger
 -- the accept that a line tells of, on a link: its number, and how many places
 abbrev pub if_accepted_on : ℕ → Line → List (ℕ × ℕ)
 if_accepted_on link (Accepted node number places other) = if nat_eq other link then (number, places) ∷ [] else []
-if_accepted_on link (Left way node number place other report) = []
+if_accepted_on link (Became step node number place other report) = []
 
 -- the accepts on a link, in order
 abbrev pub accepts_on : ℕ → List Line → List (ℕ × ℕ)
@@ -62,9 +63,9 @@ abbrev pub report_told : ℕ → Bool → ℕ
 report_told number true = number
 report_told number false = 0
 
--- the lines of what left by an outcome of a message
-abbrev pub left_lines : ℕ → ℕ → ℕ → ℕ → List (ℕ × Way) → List Line
-left_lines node message link report left = map (λ one. Left one.1 node message one.0 link report) left
+-- the lines of what became of places by an outcome of a message
+abbrev pub left_lines : ℕ → ℕ → ℕ → ℕ → List (ℕ × PlaceStep) → List Line
+left_lines node message link report left = map (λ one. Became one.1 node message one.0 link report) left
 
 -- what the ledger will tell of a noted change of a node, by what the change came from
 abbrev pub lines_by : ℕ → Noted → Origin → List Line

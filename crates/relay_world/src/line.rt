@@ -1,7 +1,8 @@
 //! The ledger of a run.
-use relay_book::Way;
+use relay_book::PlaceStep;
 
-/// A step in the custody of mail: each accept, and each place that left, in the order in which they came.
+/// A step in the custody of mail: each accept, each place that left, and each that was reported as delayed, in the order
+/// in which they came.
 #[derive(Clone, Copy, Debug)]
 pub enum Line {
     /// A node accepted a message of so many places.
@@ -15,10 +16,10 @@ pub enum Line {
         /// The number of the link that it came on, from 1.
         link: usize,
     },
-    /// A place of a message left the queue of a node.
-    Left {
-        /// How it left.
-        way: Way,
+    /// A place of a message left the queue of a node; or it was reported as delayed, and stays held.
+    Became {
+        /// What became of it.
+        step: PlaceStep,
         /// The node, by its place among the nodes, from 0.
         node: usize,
         /// The number of the message.
