@@ -3,7 +3,7 @@
 use Rattle.std.proofs.Common.{◌≡◌, ℕ, suc, List, [], ◌∷◌, ◌++◌, length, Option, None, Some, subst, ap, ◌∙◌}
 use Rattle.std.specs.Prelude.{slice_get}
 use Rattle.relay_disk.specs.Device.{DiskWords}
-use Rattle.relay_book.specs.declared.fate.Way.{Way}
+use Rattle.relay_book.specs.declared.fate.PlaceStep.{PlaceStep}
 use Rattle.relay_attempts.specs.declared.reply.Replied.{Replied}
 use Rattle.relay_node.specs.declared.node.Connected.{Connected}
 use Rattle.relay_node.specs.declared.receive.Received.{Received}
@@ -125,7 +125,7 @@ module _ {D : Type 0} (honest : Type 0) (words : DiskWords D) (old new : World D
     ledger = ledger
         ∙ ap (λ (report : _). old.ledger ++ left_lines of.attempt.node of.attempt.message number (report_told change report)
         recorded.left.items) notes.tells.report
-        ∙ ap (λ (left : List (ℕ × Way)). old.ledger ++ left_lines of.attempt.node of.attempt.message number
+        ∙ ap (λ (left : List (ℕ × PlaceStep)). old.ledger ++ left_lines of.attempt.node of.attempt.message number
         (report_told change notes.noted.report) left) notes.tells.left;
     attempts = attempts;
   }
@@ -197,7 +197,7 @@ module _ {D : Type 0} (honest : Type 0) (words : DiskWords D) (old new : World D
     ledger = ledger
         ∙ ap (λ (report : _). old.ledger ++ left_lines node message 0 (report_told change report) recorded.left.items)
         gives.notes.tells.report
-        ∙ ap (λ (left : List (ℕ × Way)). old.ledger ++ left_lines node message 0 (report_told change gives.notes.noted.report) left)
+        ∙ ap (λ (left : List (ℕ × PlaceStep)). old.ledger ++ left_lines node message 0 (report_told change gives.notes.noted.report) left)
         gives.notes.tells.left;
     rest = rest;
   }

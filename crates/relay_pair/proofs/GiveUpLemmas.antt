@@ -7,15 +7,15 @@ use Rattle.std.proofs.lemmas.Option.{same_Some}
 use Rattle.relay_disk.specs.Device.{DiskWords}
 use Rattle.relay_attempts.specs.Outcomes.{CutsUnroutable, unroutable}
 use Rattle.relay_attempts.specs.declared.work.Work.TheVariants.{NoRoute}
-use Rattle.relay_book.specs.declared.change.Accept.{Accept}
+use Rattle.relay_book.specs.declared.version.Version.{Version}
+use Rattle.relay_book.specs.declared.message.Message.{Message}
 use Rattle.relay_book.specs.declared.change.Change.{Change}
 use Rattle.relay_book.specs.declared.change.Change.TheVariants as change
 use Rattle.relay_book.specs.declared.change.Outcome.{Outcome}
 use Rattle.relay_book.specs.declared.change.Ruling.{Ruling}
-use Rattle.relay_book.specs.declared.fate.Way.{Way}
-use Rattle.relay_book.specs.DueReport.{fate_of, way_of}
-use Rattle.relay_book.specs.Marks.{leaving, leaving_by, message_at}
-use Rattle.relay_book.specs.Queue.{FitsFrom, Queue, empty_queue, step}
+use Rattle.relay_book.specs.declared.fate.PlaceStep.{PlaceStep}
+use Rattle.relay_book.specs.Marks.{place_step, place_steps, place_steps_by}
+use Rattle.relay_book.specs.Queue.{FitsFrom, Queue, empty_queue, message_of, queue_of, step}
 use Rattle.relay_book.specs.Record.{IsOutcome}
 use Rattle.relay_records.specs.declared.noted.Noted.{Noted}
 use Rattle.relay_records.specs.Note.{IsNoted}
@@ -50,26 +50,29 @@ use Rattle.relay_pair.proofs.ReopenLemmas.{held_put}
 use Rattle.relay_pair.proofs.RunLemmas.{both_happened, one_happened, opened_happened, still_bound}
 use Rattle.relay_pair.proofs.StepLemmas.{told_already}
 
--- no more places leave by an outcome than it rules on
-one_way : (way : Option Way) (place : ℕ) (rest : List (ℕ × Way))
-    → length (option_map_or (λ w. (place, w) ∷ []) way [] ++ rest) ≤ suc (length rest)
-one_way None place rest = omega arith
-one_way (Some way) place rest = omega arith
+-- no more places leave or are late by an outcome than it rules on
+one_step : (made : Option PlaceStep) (place : ℕ) (rest : List (ℕ × PlaceStep))
+    → length (option_map_or (λ one. (place, one) ∷ []) made [] ++ rest) ≤ suc (length rest)
+one_step None place rest = omega arith
+one_step (Some made) place rest = omega arith
 
-few_by : (accept : Accept) (at : ℕ) (rulings : List Ruling) → length (leaving_by accept at rulings) ≤ length rulings
-few_by accept at [] = omega arith
-few_by accept at (ruling ∷ rulings) =
-    let one = one_way (way_of (fate_of accept.at at ruling.verdict)) ruling.place (leaving_by accept at rulings) in
-    let rest = few_by accept at rulings in
+few_by : (version : Version) (message : Message) (at : ℕ) (rulings : List Ruling)
+    → length (place_steps_by version message at rulings) ≤ length rulings
+few_by version message at [] = omega arith
+few_by version message at (ruling ∷ rulings) =
+    let one = one_step (place_step version message at ruling) ruling.place (place_steps_by version message at rulings) in
+    let rest = few_by version message at rulings in
     omega (arith, one, rest)
 
-few_of : (accept : Option Accept) (at : ℕ) (rulings : List Ruling)
-    → length (option_map_or (λ a. leaving_by a at rulings) accept []) ≤ length rulings
-few_of None at rulings = omega arith
-few_of (Some accept) at rulings = few_by accept at rulings
+few_of : (version : Version) (message : Option Message) (at : ℕ) (rulings : List Ruling)
+    → length (option_map_or (λ m. place_steps_by version m at rulings) message []) ≤ length rulings
+few_of version None at rulings = omega arith
+few_of version (Some message) at rulings = few_by version message at rulings
 
-few_leave : (changes : List Change) (outcome : Outcome) → length (leaving changes (change.Outcome outcome)) ≤ length outcome.rulings
-few_leave changes outcome = few_of (message_at changes outcome.message) outcome.at outcome.rulings
+few_steps : (changes : List Change) (outcome : Outcome)
+    → length (place_steps (queue_of changes) (change.Outcome outcome)) ≤ length outcome.rulings
+few_steps changes outcome =
+    few_of outcome.version (message_of (queue_of changes).messages outcome.message) outcome.at outcome.rulings
 
 -- the last of changes that fit
 last_fits : (queue : Queue) (changes : List Change) (outcome : Outcome) → FitsFrom queue (changes ++ change.Outcome outcome ∷ [])
@@ -82,8 +85,8 @@ few_noted : (changes : List Change) (outcome : Outcome) (noted : Option Noted) (
     → IsNoted noted changes (change.Outcome outcome) used → noted ≡ Some note → length note.left.items ≤ 100
 few_noted changes outcome noted note used stored its is =
     let same : its.note ≡ note = same_Some its.note note (sym its.is ∙ is) in
-    let left = ap (λ (n : Noted). length n.left.items) (sym same) ∙ ap (λ (l : List (ℕ × Way)). length l) its.left in
-    let few = few_leave changes outcome in
+    let left = ap (λ (n : Noted). length n.left.items) (sym same) ∙ ap (λ (l : List (ℕ × PlaceStep)). length l) its.left in
+    let few = few_steps changes outcome in
     let within = stored.within in
     omega (arith, left, few, within)
 
@@ -110,7 +113,7 @@ module _ {D : Type 0} (honest : Type 0) (words : DiskWords D) (old called : Worl
         let stored = last_fits empty_queue knows.changes outcome adds.adds.adds.keeps.fitting in
         let few = few_noted knows.changes outcome gives.after.records.noted gives.notes.noted 0 stored adds.adds.adds.noted
         gives.notes.note_is in
-        let left = ap (λ (l : List (ℕ × Way)). length l) gives.notes.tells.left in
+        let left = ap (λ (l : List (ℕ × PlaceStep)). length l) gives.notes.tells.left in
         omega (arith, few, left)
 
     module _ (new : World D)

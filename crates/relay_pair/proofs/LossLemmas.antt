@@ -6,12 +6,13 @@ use Rattle.std.proofs.lemmas.Bool.{false≢true}
 use Rattle.std.proofs.lemmas.List.{length-set}
 use Rattle.std.proofs.lemmas.Option.{same_Some, slice_get_read}
 use Rattle.relay_disk.specs.Device.{DiskWords}
-use Rattle.relay_book.specs.declared.change.Accept.{Accept}
+use Rattle.relay_book.specs.declared.version.Version.TheVariants.{WithDelay}
+use Rattle.relay_book.specs.declared.message.Message.{Message}
 use Rattle.relay_book.specs.declared.change.Change.{Change}
 use Rattle.relay_book.specs.declared.change.Verdict.{Verdict}
-use Rattle.relay_book.specs.declared.fate.Way.{Way}
-use Rattle.relay_book.specs.DueReport.{fate_of, way_of}
-use Rattle.relay_book.specs.Marks.{leaving, leaving_by, message_at}
+use Rattle.relay_book.specs.declared.fate.PlaceStep.{PlaceStep}
+use Rattle.relay_book.specs.Queue.{message_of, queue_of}
+use Rattle.relay_book.specs.Marks.{place_step, place_steps, place_steps_by}
 use Rattle.relay_records.specs.declared.noted.Noted.{Noted}
 use Rattle.relay_records.specs.Records.{Keeps}
 use Rattle.relay_attempts.specs.AddedOutcome.{reported_as}
@@ -60,29 +61,32 @@ runs_within [] place runs = absurd (false≢true runs)
 runs_within (x ∷ xs) zero runs = (x, refl)
 runs_within (x ∷ xs) (suc place) runs = runs_within xs place runs
 
--- what leaves by an outcome is some of its places
-one_way : (way : Option Way) (place : ℕ) (rest : List (ℕ × Way))
-    → length (option_map_or (λ w. (place, w) ∷ []) way [] ++ rest) ≤ suc (length rest)
-one_way None place rest = omega arith
-one_way (Some way) place rest = omega arith
+-- what leaves or is late by an outcome is some of its places
+one_step : (made : Option PlaceStep) (place : ℕ) (rest : List (ℕ × PlaceStep))
+    → length (option_map_or (λ one. (place, one) ∷ []) made [] ++ rest) ≤ suc (length rest)
+one_step None place rest = omega arith
+one_step (Some made) place rest = omega arith
 
-few_by : (accept : Accept) (at : ℕ) (places : List ℕ) (verdicts : List Verdict)
-    → length (leaving_by accept at (rulings_of places verdicts)) ≤ length places
-few_by accept at [] verdicts = omega arith
-few_by accept at (place ∷ places) [] = omega arith
-few_by accept at (place ∷ places) (verdict ∷ verdicts) =
-    let one = one_way (way_of (fate_of accept.at at verdict)) place (leaving_by accept at (rulings_of places verdicts)) in
-    let rest = few_by accept at places verdicts in
+few_by : (message : Message) (at : ℕ) (places : List ℕ) (verdicts : List Verdict)
+    → length (place_steps_by WithDelay message at (rulings_of places verdicts)) ≤ length places
+few_by message at [] verdicts = omega arith
+few_by message at (place ∷ places) [] = omega arith
+few_by message at (place ∷ places) (verdict ∷ verdicts) =
+    let one = one_step (place_step WithDelay message at (record { place = place; verdict = verdict })) place
+    (place_steps_by WithDelay message at (rulings_of places verdicts)) in
+    let rest = few_by message at places verdicts in
     omega (arith, one, rest)
 
-few_of : (accept : Option Accept) (at : ℕ) (places : List ℕ) (verdicts : List Verdict)
-    → length (option_map_or (λ a. leaving_by a at (rulings_of places verdicts)) accept []) ≤ length places
+few_of : (message : Option Message) (at : ℕ) (places : List ℕ) (verdicts : List Verdict)
+    → length (option_map_or (λ m. place_steps_by WithDelay m at (rulings_of places verdicts)) message []) ≤ length places
 few_of None at places verdicts = omega arith
-few_of (Some accept) at places verdicts = few_by accept at places verdicts
+few_of (Some message) at places verdicts = few_by message at places verdicts
 
 pub few_left : (changes : List Change) (message at : ℕ) (hop places : List ℕ) (verdicts : List Verdict) (report : List ℕ)
-    → length (leaving changes (reported_as (outcome_of message at hop (rulings_of places verdicts)) report)) ≤ length places
-few_left changes message at hop places verdicts report = few_of (message_at changes message) at places verdicts
+    → length (place_steps (queue_of changes) (reported_as (outcome_of message at hop (rulings_of places verdicts)) report))
+    ≤ length places
+few_left changes message at hop places verdicts report =
+    few_of (message_of (queue_of changes).messages message) at places verdicts
 
 -- the node of an up state
 abbrev node_or : {D : Type 0} → NodeState D → HostState D → NodeState D
@@ -233,7 +237,7 @@ module _ {D : Type 0} (honest : Type 0) (words : DiskWords D) (old : World D) (n
           lines
           ∙ ap (λ (b : Bool). old.ledger ++ left_lines attempt.node attempt.message number (report_told change b) recorded.left.items)
           loses.notes.tells.report
-          ∙ ap (λ (l : List (ℕ × Way)). old.ledger
+          ∙ ap (λ (l : List (ℕ × PlaceStep)). old.ledger
           ++ left_lines attempt.node attempt.message number (report_told change loses.notes.noted.report) l) loses.notes.tells.left;
       attempts = ended_put ended (Lost change) is;
     };
@@ -249,7 +253,7 @@ module _ {D : Type 0} (honest : Type 0) (words : DiskWords D) (old : World D) (n
       (subst (λ (n : NodeState D). Tells n.config.host on.changes n.attempts slot on.told) same on.tells) in
       let noted = lost.adds.adds.noted in
       let its : loses.notes.noted ≡ noted.note = same_Some loses.notes.noted noted.note (sym loses.notes.note_is ∙ noted.is) in
-      let left = ap (λ (l : List (ℕ × Way)). length l) (loses.notes.tells.left ∙ ap (λ (n : Noted). n.left.items) its ∙ noted.left) in
+      let left = ap (λ (l : List (ℕ × PlaceStep)). length l) (loses.notes.tells.left ∙ ap (λ (n : Noted). n.left.items) its ∙ noted.left) in
       let few = few_left on.changes on.told.message old.clock on.told.hop on.told.places (all_later on.told.places) lost.adds.report in
       let places = ap (λ (l : List ℕ). length l) on.places in
       omega (arith, left, few, places)

@@ -5,7 +5,7 @@ use Rattle.std.proofs.lemmas.List.{length-map}
 use Rattle.std.proofs.lemmas.Option.{same_Some}
 use Rattle.relay_disk.specs.Device.{DiskWords}
 use Rattle.relay_book.specs.declared.change.Change.{Change}
-use Rattle.relay_book.specs.declared.fate.Way.{Way}
+use Rattle.relay_book.specs.declared.fate.PlaceStep.{PlaceStep}
 use Rattle.relay_records.specs.declared.noted.Noted.{Noted}
 use Rattle.relay_records.specs.Records.{Keeps}
 use Rattle.relay_attempts.specs.declared.reply.Replied.{Replied}
@@ -224,7 +224,7 @@ module _ {D : Type 0} (honest : Type 0) (words : DiskWords D) (old called : Worl
           same_Some crashes.noted noted.note
           (sym (note_there honest words old called end.node calls.was calls.now calls.was_at calls.new_is stops.before stops.after
           stops.runs (FromReplies number end.place end.message) down crashes) ∙ noted.is) in
-          let left = ap (λ (n : Noted). length n.left.items) one ∙ ap (λ (l : List (ℕ × Way)). length l) noted.left in
+          let left = ap (λ (n : Noted). length n.left.items) one ∙ ap (λ (l : List (ℕ × PlaceStep)). length l) noted.left in
           let few = few_left on.changes on.told.message old.clock on.told.hop on.told.places cut.ends.verdicts cut.cuts.report in
           let places = ap (λ (l : List ℕ). length l) on.places in
           omega (arith, left, few, places)

@@ -4,7 +4,7 @@ use Rattle.std.specs.Prelude.{if◌then◌else◌, slice_set}
 use Rattle.std.proofs.lemmas.List.{append-nil, length-map, length-set}
 use Rattle.std.proofs.lemmas.Option.{same_Some}
 use Rattle.relay_disk.specs.Device.{DiskWords}
-use Rattle.relay_book.specs.declared.fate.Way.{Way}
+use Rattle.relay_book.specs.declared.fate.PlaceStep.{PlaceStep}
 use Rattle.relay_records.specs.declared.noted.Noted.{Noted}
 use Rattle.relay_records.specs.Records.{Keeps}
 use Rattle.relay_attempts.specs.declared.reply.Replied.{Replied}
@@ -136,7 +136,7 @@ module _ {D : Type 0} (honest : Type 0) (words : DiskWords D) (old : World D) (n
   few_by before after (Some change) (Some one) notes replies =
       let noted = replies.adds.adds.noted in
       let its : notes.noted ≡ noted.note = same_Some notes.noted noted.note (sym notes.note_is ∙ noted.is) in
-      let left = ap (λ (l : List (ℕ × Way)). length l) (notes.tells.left ∙ ap (λ (n : Noted). n.left.items) its ∙ noted.left) in
+      let left = ap (λ (l : List (ℕ × PlaceStep)). length l) (notes.tells.left ∙ ap (λ (n : Noted). n.left.items) its ∙ noted.left) in
       let few = few_left on.changes on.told.message old.clock on.told.hop on.told.places replies.verdicts replies.adds.report in
       let places = ap (λ (l : List ℕ). length l) on.places in
       let lines : length (left_lines attempt.node attempt.message number (report_told change one.report) one.left.items)

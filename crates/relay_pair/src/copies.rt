@@ -86,7 +86,7 @@ fn accepts_by(line: &Line, link: usize) -> usize
 {
     match *line {
         Line::Accepted { link: other, .. } => { if other == link { 1 } else { 0 } }
-        Line::Left { .. } => 0,
+        Line::Became { .. } => 0,
     }
 }
 

@@ -5,7 +5,7 @@ ghost use Rattle.relay_pair.specs.Relays.{world_of};
 
 use crate::recorded::Recorded;
 use crate::relays::Relays;
-use relay_book::Way;
+use relay_book::PlaceStep;
 use relay_disk::Disk;
 use relay_world::Line;
 
@@ -16,24 +16,24 @@ pub(crate) fn report_told(change: u64, report: bool) -> u64
     if report { change } else { 0 }
 }
 
-/// Adds a line for each place that left a message, for which there is room.
+/// Adds a line for each place of a message that left or is late, for which there is room.
 pub(crate) fn push_left(
     ledger: &mut Vec<Line>,
     node: usize,
     message: u64,
     link: usize,
     report: u64,
-    left: &[(u8, Way)],
+    left: &[(u8, PlaceStep)],
 )
     requires { vec_len ledger.old + length left.now ≤ vec_capacity ledger.old }
     ensures items { ledger.new.items ≡ ledger.old.items ++ left_lines node message link report left.now }
     ensures len { vec_len ledger.new ≡ vec_len ledger.old + length left.now }
     ensures capacity { vec_capacity ledger.old ≤ vec_capacity ledger.new }
 {
-    for (place, way) in left {
+    for (place, step) in left {
         ledger
-            .push(Line::Left {
-                way: *way,
+            .push(Line::Became {
+                step: *step,
                 node,
                 number: message,
                 place: *place,
@@ -45,8 +45,8 @@ pub(crate) fn push_left(
 }
 
 impl<D: Disk> Relays<D> {
-    /// Adds a line for each place that left a message of a node, on this link, by the change of this number, for which
-    /// there is room.
+    /// Adds a line for each place of a message of a node that left or is late, on this link, by the change of this number,
+    /// for which there is room.
     pub(crate) fn note_left(
         &mut self,
         node: usize,
