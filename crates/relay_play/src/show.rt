@@ -1,6 +1,6 @@
 //! The lines that a script asks for: the ledger, what is held, how many copies there are, and how many replies were lost.
 use crate::print::letter;
-use relay_book::Way;
+use relay_book::{PlaceStep, Way};
 use relay_disk::Disk;
 use relay_pair::Pair;
 use relay_script::NodeIndex;
@@ -25,8 +25,8 @@ fn show_line(line: &Line, out: &mut Vec<u8>) -> io::Result<()> {
             places,
             link,
         } => writeln!(out, "accept {} {number} {places} link {link}", letter(node)),
-        Line::Left {
-            way: Way::ByTransfer,
+        Line::Became {
+            step: PlaceStep::Left(Way::ByTransfer),
             node,
             number,
             place,
@@ -37,8 +37,8 @@ fn show_line(line: &Line, out: &mut Vec<u8>) -> io::Result<()> {
             "transfer {} {number} {place} link {link} report {report}",
             letter(node)
         ),
-        Line::Left {
-            way: Way::ByEnd,
+        Line::Became {
+            step: PlaceStep::Left(Way::ByEnd),
             node,
             number,
             place,
@@ -47,6 +47,18 @@ fn show_line(line: &Line, out: &mut Vec<u8>) -> io::Result<()> {
         } => writeln!(
             out,
             "end {} {number} {place} failed link {link} report {report}",
+            letter(node)
+        ),
+        Line::Became {
+            step: PlaceStep::Delayed,
+            node,
+            number,
+            place,
+            link,
+            report,
+        } => writeln!(
+            out,
+            "delay {} {number} {place} link {link} report {report}",
             letter(node)
         ),
     }
