@@ -1,7 +1,9 @@
 use crate::blocks::read_all;
 use crate::mail::{accept_of, moment_of};
 use crate::memory::memory_line;
-use relay_book::{Book, BookFault, Change, Outcome, Ruling, Rulings, Verdict, decode_change};
+use relay_book::{
+    Book, BookFault, Change, Outcome, Ruling, Rulings, Verdict, Version, decode_change,
+};
 use relay_octets::Octets;
 use std::alloc::Global;
 use std::io::Read;
@@ -135,6 +137,7 @@ fn transfer_of(alloc: Global, message: u64) -> Result<Outcome, Fail> {
         verdict: Verdict::Taken { dsn: true },
     })?;
     Ok(Outcome {
+        version: Version::WithDelay,
         message,
         at,
         hop,

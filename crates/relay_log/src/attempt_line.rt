@@ -1,7 +1,7 @@
 //! The line of the log for an attempt.
 use crate::hop_link::Why;
 use crate::replies::Deferral;
-use relay_book::{Change, Ruling, Verdict, decode_change};
+use relay_book::{Change, PlaceStep, Ruling, Verdict, decode_change};
 use relay_node::Noted;
 use std::alloc::Global;
 use std::io::{self, ErrorKind, Write};
@@ -41,7 +41,7 @@ pub(crate) fn attempt_text(alloc: Global, attempt: &Attempt<'_>) -> io::Result<V
 }
 
 /// Writes what an outcome says of each place, the number of the report that it queues, and what has put off the places
-/// that wait. The note has the places that left and not why, so its record is read.
+/// that wait. The note has the places that left or are late and not why, so its record is read.
 fn write_outcome(alloc: Global, text: &mut Vec<u8>, noted: &Noted, why: &Why) -> io::Result<()> {
     match decode_change(alloc, noted.octets.as_slice()) {
         Ok(Change::Outcome(outcome)) => {
@@ -72,10 +72,8 @@ fn write_deferral(text: &mut Vec<u8>, deferral: &Deferral) -> io::Result<()> {
 }
 
 fn write_rulings(text: &mut Vec<u8>, rulings: &[Ruling], noted: &Noted) -> io::Result<()> {
-    // Of the places that may be tried again all leave or none does: their message is too old, or isn't.
-    let none_waits = noted.left.len() == rulings.len();
     for ruling in rulings {
-        write_ruling(text, ruling, none_waits)?;
+        write_ruling(text, ruling, step_of(noted, ruling.place))?;
     }
     if noted.report {
         write!(text, ", report queued as {}", noted.number)?;
@@ -83,19 +81,27 @@ fn write_rulings(text: &mut Vec<u8>, rulings: &[Ruling], noted: &Noted) -> io::R
     Ok(())
 }
 
-/// Writes what was said of a place.
-fn write_ruling(text: &mut Vec<u8>, ruling: &Ruling, none_waits: bool) -> io::Result<()> {
+/// What became of a place, where the note tells it.
+fn step_of(noted: &Noted, place: u8) -> Option<PlaceStep> {
+    for (other, step) in noted.left.as_slice() {
+        if *other == place {
+            return Some(*step);
+        }
+    }
+    None
+}
+
+/// Writes what was said of a place, and of one that may be tried again what became of it.
+fn write_ruling(text: &mut Vec<u8>, ruling: &Ruling, step: Option<PlaceStep>) -> io::Result<()> {
     write!(text, ", place {} ", ruling.place)?;
     match &ruling.verdict {
         Verdict::Taken { .. } => write!(text, "transferred"),
         Verdict::Refused { code, .. } => write!(text, "refused {code}"),
-        Verdict::Later => {
-            if none_waits {
-                write!(text, "expired")
-            } else {
-                write!(text, "deferred")
-            }
-        }
+        Verdict::Later => match step {
+            Some(PlaceStep::Left(_)) => write!(text, "expired"),
+            Some(PlaceStep::Delayed) => write!(text, "delayed"),
+            None => write!(text, "deferred"),
+        },
         Verdict::CantSend => write!(text, "unsendable"),
         Verdict::NoRoute => write!(text, "unroutable"),
     }
