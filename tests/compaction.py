@@ -72,7 +72,7 @@ def init_makes_both_files(field):
 
 
 def an_empty_spool_is_written_anew_and_anew(field):
-    body = bytes.fromhex("03" "0000000000000001" "00000000")
+    body = bytes.fromhex("05" "0000000000000001" "00000000")
     same("compact", field.relay.run("compact"), ["18 36"])
     same("the files", field.files(), (EMPTY, file_of(2, body)))
     same("compact", field.relay.run("compact"), ["36 36"])
@@ -101,7 +101,7 @@ def a_drained_spool_is_as_small_as_one_body(field):
     field.hold("b@example.org")
     size = len(field.files()[0])
     same("compact", field.relay.run("compact"), [f"{size} 36"])
-    same("the second file", field.files()[1], file_of(2, bytes.fromhex("03" "0000000000000003" "00000000")))
+    same("the second file", field.files()[1], file_of(2, bytes.fromhex("05" "0000000000000003" "00000000")))
     field.sink.take_all()
     with field.relay.serving() as lines:
         hand_in(field.relay)

@@ -4,6 +4,7 @@ fields that the records of its row fill in, and the parts that the program itsel
 
     tests/reports_read_by_python.py crates/relay_book_tests/out/relay_book_tests
 """
+import datetime
 import email
 import email.policy
 import re
@@ -13,6 +14,8 @@ import pathlib
 
 DATA = pathlib.Path(__file__).resolve().parent.parent / "crates/relay_book_tests/data"
 HOST = "relay.example"
+# How long a place waits before it is late, and before it fails, in seconds; the last moment that a date shows.
+LATENESS, PATIENCE, LAST_SECOND = 14_400, 432_000, 253_370_764_799
 ESCAPE = re.compile(rb"\\(r|n|x[0-9A-F]{2})")
 
 
@@ -41,39 +44,53 @@ class Record:
 
 def read_accept(text):
     record = Record(text)
-    record.number(8)
+    moment = record.number(8)
     path, ret, envid = record.text(2), record.number(1), record.text(2)
     places = [(record.text(2), record.number(1), record.text(2)) for _ in range(record.number(1))]
-    return path, ret, envid, places, record.text(4)
+    return moment, path, ret, envid, places, record.text(4)
 
 
 def read_outcome(text):
     record = Record(text)
-    record.number(16)
-    hop, verdicts = record.text(2), []
+    record.number(8)
+    moment, hop, verdicts = record.number(8), record.text(2), []
     for _ in range(record.number(1)):
         place, kind = record.number(1), record.number(1)
         refusal = (record.number(2), record.text(1)) if kind == 3 else None
         verdicts.append((place, kind, refusal))
-    return hop, verdicts
+    return moment, hop, verdicts
 
 
 def plain(text):
     return re.sub(r"\+([0-9A-F]{2})", lambda found: chr(int(found[1], 16)), text)
 
 
-def is_reported(kind, notify):
-    """Failures unless NOTIFY leaves them out, and what was taken without DSN where NOTIFY has SUCCESS."""
-    return bool(notify & 2) if kind == 2 else kind in (3, 4, 5, 6) and notify in (0, 4, 5, 6, 7, 12, 14)
+def action_of(kind, notify, waited):
+    """What is reported of a place that has waited so long: a failure unless NOTIFY leaves it out, what was taken without
+    DSN where NOTIFY has SUCCESS, and what is late and stays where it has DELAY."""
+    if kind == 2:
+        return "relayed" if notify & 2 else None
+    if kind == 4 and waited < PATIENCE:
+        return "delayed" if waited >= LATENESS and notify & 8 else None
+    return "failed" if kind in (3, 4, 5, 6) and notify in (0, 4, 5, 6, 7, 12, 14) else None
 
 
-def fields_of(hop, place, kind, refusal):
+def date_of(moment):
+    at = datetime.datetime(1970, 1, 1) + datetime.timedelta(seconds=moment)
+    return at.strftime("%a, %d %b %Y %H:%M:%S +0000")
+
+
+def fields_of(hop, place, kind, refusal, action, until):
     path, _, orcpt = place
-    fields = {"Final-Recipient": f"rfc822; {path[1:-1]}", "Action": "relayed" if kind == 2 else "failed"}
+    fields = {"Final-Recipient": f"rfc822; {path[1:-1]}", "Action": action}
     if orcpt:
         kind_of_address, address = orcpt.split(";", 1)
         fields["Original-Recipient"] = f"{kind_of_address}; {plain(address)}"
     fields["Status"] = {2: "2.0.0", 3: "5.0.0", 4: "4.4.7", 5: "5.6.3", 6: "5.1.2"}[kind]
+    if action == "delayed":
+        fields["Status"] = "4.0.0"
+        if until <= LAST_SECOND:
+            fields["Will-Retry-Until"] = date_of(until)
     if kind in (2, 3):
         fields["Remote-MTA"] = f"dns; {hop}"
     if kind == 3:
@@ -82,16 +99,19 @@ def fields_of(hop, place, kind, refusal):
 
 
 def check(row, text, sizes):
-    path, ret, envid, places, stored = read_accept(row[1])
-    hop, verdicts = read_outcome(row[2])
+    accepted, path, ret, envid, places, stored = read_accept(row[1])
+    moment, hop, verdicts = read_outcome(row[2])
     message = email.message_from_bytes(text, policy=email.policy.compat32)
     assert message.get_content_type() == "multipart/report" and not message.defects, "no report"
     assert message.get_param("report-type") == "delivery-status"
     assert message["To"] == path and message["From"] == f"<postmaster@{HOST}>" and message["Message-ID"] == f"<2@{HOST}>"
     people, status, returned = message.get_payload()
     assert people.get_content_type() == "text/plain" and status.get_content_type() == "message/delivery-status"
-    told = [fields_of(hop, places[place], kind, refusal) for place, kind, refusal in verdicts
-            if is_reported(kind, places[place][1])]
+    told = []
+    for place, kind, refusal in verdicts:
+        action = action_of(kind, places[place][1], moment - accepted)
+        if action:
+            told.append(fields_of(hop, places[place], kind, refusal, action, accepted + PATIENCE))
     whole = ret == 1 and any(fields["Action"] == "failed" for fields in told)
     assert returned.get_content_type() == ("message/rfc822" if whole else "text/rfc822-headers")
     lines = people.get_payload().splitlines()
@@ -122,13 +142,12 @@ def main():
         words = row.split(" ")
         if words[0] != "report":
             continue
-        _, _, _, places, _ = read_accept(words[1])
         if line == "no report":
             continue
         shown, sizes = line.split(" | parts of ")
         check(words, octets_of(shown), [int(size) for size in sizes.split(", ")])
         count += 1
-    assert count >= 14, f"{count} reports"
+    assert count >= 17, f"{count} reports"
     print(f"{count} reports were read")
 
 

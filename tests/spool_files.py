@@ -122,15 +122,16 @@ def snapshot_of(bodies):
         if kind == 1:
             held[number] = accept_of(reader)
         else:
-            same("the kind of a record", kind, 2)
+            same("the kind of a record", kind, 4)
             follow_outcome(reader, held)
         same("the end of a record", reader.place, len(body))
     held = {number: it for number, it in held.items() if any(place.held for place in it.places)}
-    octets = struct.pack(">BQI", 3, len(bodies) + 1, len(held))
+    octets = struct.pack(">BQI", 5, len(bodies) + 1, len(held))
     for number, message in held.items():
         octets += struct.pack(">Q", number) + message.front
         for place in message.places:
-            octets += place.spelled + struct.pack(">BBQ", place.held, place.later, place.due)
+            # None of these places was reported as delayed.
+            octets += place.spelled + struct.pack(">BBBQ", place.held, place.later, 0, place.due)
         octets += struct.pack(">I", len(message.text)) + message.text
     return octets
 
