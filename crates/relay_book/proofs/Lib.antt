@@ -18,6 +18,9 @@ mod CustodyLemmas
 mod MarkLaws
 mod TimeLemmas
 mod TimeLaws
+mod DelayLemmas
+mod DelayLaws
+mod DelayTold
 mod DueListLaws
 mod QueuedLaws
 mod LiveLemmas

@@ -9,9 +9,12 @@ pub use Rattle.relay_book.proofs.SnapshotLemmas.{snapshot_is_one}
 pub use Rattle.relay_book.proofs.LengthLemmas.{record_is_short}
 -- custody
 pub use Rattle.relay_book.proofs.MarkLaws.{fold_finds, fold_holds, fold_knows, exactly_one, one_more_holds}
-pub use Rattle.relay_book.proofs.LeavingLemmas.{queue_leaves, leaving_is_listed}
+pub use Rattle.relay_book.proofs.LeavingLemmas.{queue_leaves, leaving_is_listed, steps_leave}
 pub use Rattle.relay_book.proofs.QueuedLaws.{queued_is_held}
 pub use Rattle.relay_book.proofs.StoredLemmas.{message_stays, queued_may_be_stored, report_may_be_stored}
+-- reported delays
+pub use Rattle.relay_book.proofs.DelayLaws.{fold_delays}
+pub use Rattle.relay_book.proofs.DelayTold.{delay_is_told}
 -- due moments
 pub use Rattle.relay_book.proofs.TimeLaws.{fold_due}
 pub use Rattle.relay_book.proofs.DueListLaws.{queue_lists_due, queue_tells_due}

@@ -84,7 +84,7 @@ clocked_accept changes accept queue knows clocked = record { timed = λ number m
         (clocked.timed number message (sym (joined_other queue.messages queue.next number (accepted queue.next accept) off) ∙ is))
 
 -- the message of an outcome is ruled on
-ruled_is : (outcome : OutcomeFields) (least next : ℕ) (entries : List (ℕ × Message)) (old new : Message) → Rise least next entries
+pub ruled_is : (outcome : OutcomeFields) (least next : ℕ) (entries : List (ℕ × Message)) (old new : Message) → Rise least next entries
     → message_of entries outcome.message ≡ Some old → message_of (ruled outcome entries) outcome.message ≡ Some new → message_after outcome old ≡ new
 ruled_is outcome least next [] old new rise was is = absurd (none_some old was)
 ruled_is outcome least next (entry ∷ entries) old new rise was is =

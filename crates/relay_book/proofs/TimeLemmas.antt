@@ -62,12 +62,12 @@ timed_later since at laters place Later due timed held = by (nat_le (since + pat
     by false true held = timed_waiting since at laters place due timed
     by false false held = timed_waiting since at laters place due timed
 
-get_here : (places : List Place) (n : ℕ) (old new : Place) → slice_get places n ≡ Some old → slice_get (slice_set places n new) n ≡ Some new
+pub get_here : (places : List Place) (n : ℕ) (old new : Place) → slice_get places n ≡ Some old → slice_get (slice_set places n new) n ≡ Some new
 get_here [] n old new is = absurd (none_some old is)
 get_here (place ∷ places) zero old new is = refl
 get_here (place ∷ places) (suc n) old new is = get_here places n old new is
 
-get_other : (places : List Place) (n m : ℕ) (new : Place) → (n ≡ m → ⊥) → slice_get (slice_set places n new) m ≡ slice_get places m
+pub get_other : (places : List Place) (n m : ℕ) (new : Place) → (n ≡ m → ⊥) → slice_get (slice_set places n new) m ≡ slice_get places m
 get_other [] n m new out = refl
 get_other (place ∷ places) zero zero new out = absurd (out refl)
 get_other (place ∷ places) zero (suc m) new out = refl
@@ -117,7 +117,7 @@ merged : (at : ℕ) (before : List ℕ) (first rest : Bool) → (first ≡ true 
 merged at before true rest out = ap (λ (test : Bool). if test then at ∷ at ∷ before else at ∷ before) (out refl)
 merged at before false rest out = refl
 
-first_only : (places : List Place) (ruling : Ruling) (rulings : List Ruling) (n : ℕ) → AreRulings places (ruling.place + 1) rulings
+pub first_only : (places : List Place) (ruling : Ruling) (rulings : List Ruling) (n : ℕ) → AreRulings places (ruling.place + 1) rulings
     → (ruling.place == n && is_later ruling.verdict) ≡ true → waits_in n rulings ≡ false
 first_only places ruling rulings n are e = by (cases_eq ruling.place n)
   where

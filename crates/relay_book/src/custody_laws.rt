@@ -1,7 +1,8 @@
 //! What is true of the custody of each recipient, by the list of changes.
+ghost use Rattle.relay_book.specs.DelayLaw.{DelayIsTold, FoldDelays};
 ghost use Rattle.relay_book.specs.DueLaw.{FoldDue, QueueListsDue, QueueTellsDue};
 ghost use Rattle.relay_book.specs.HeldLaw.{FoldFinds, QueuedIsHeld};
-ghost use Rattle.relay_book.specs.Marks.{ExactlyOne, FoldHolds, FoldKnows, LeavingIsListed, MessageStays, OneMoreHolds, QueueLeaves, QueuedMayBeStored, ReportMayBeStored};
+ghost use Rattle.relay_book.specs.Marks.{ExactlyOne, FoldHolds, FoldKnows, LeavingIsListed, MessageStays, OneMoreHolds, QueueLeaves, QueuedMayBeStored, ReportMayBeStored, StepsLeave};
 
 /// The queue of a list of changes holds exactly what is held.
 pub fn fold_holds()
@@ -73,4 +74,21 @@ pub fn report_may_be_stored()
 /// A queued message may be stored.
 pub fn queued_may_be_stored()
     ensures { QueuedMayBeStored }
+{}
+
+/// Of what a change makes of places of a queue, what leaves is what leaves of the queue.
+pub fn steps_leave()
+    ensures { StepsLeave }
+{}
+
+/// A held place was reported as delayed exactly where one of the changes has put it off when it was late, and its sender
+/// had asked to be told.
+pub fn fold_delays()
+    ensures { FoldDelays }
+{}
+
+/// An outcome tells of a place as delayed exactly where it puts the place off when it is late, and not so late that it
+/// fails, its sender had asked to be told, and no change before has put it off so.
+pub fn delay_is_told()
+    ensures { DelayIsTold }
 {}
