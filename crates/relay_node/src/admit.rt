@@ -1,10 +1,11 @@
 //! Mail of a session that stands outside of the node.
 ghost use Rattle.std.specs.Prelude.{◌≡◌, ◌⊎◌, ◌<◌, ◌^◌, ℕ, List, Err, IfErr, IfOk, IsTrue};
+ghost use Rattle.std.specs.Option.{option_copied};
 ghost use Rattle.relay_attempts.specs.Attempts.{Serves};
 ghost use Rattle.relay_book.specs.Book.{Rise};
-ghost use Rattle.relay_book.specs.Queue.{Queue};
+ghost use Rattle.relay_book.specs.Queue.{Queue, message_of};
 ghost use Rattle.relay_book.specs.declared.change.Change.{Change};
-ghost use Rattle.relay_node.specs.Acceptance.{IsStorable};
+ghost use Rattle.relay_node.specs.Acceptance.{IsAcceptOf, IsStorable, acceptance_by};
 ghost use Rattle.relay_node.specs.Admission.{Admits, CutsOffer, HasAnswered, RefusesToAdmit, StandsForOrAccepts, TakesAnswer};
 ghost use Rattle.relay_node.specs.Node.{RefusesToHear};
 ghost use Rattle.relay_records.specs.Records.{Keeps};
@@ -12,15 +13,17 @@ ghost use Rattle.relay_server.specs.Session.{offered};
 ghost use Rattle.relay_spool.specs.Pair.{HasBodies};
 ghost use Rattle.relay_spool.specs.Spool.{AtEachMoment};
 
+use crate::accept::accept_of;
 use crate::intake::Intake;
 use crate::node::Node;
 use relay_attempts::Attempts;
+use relay_book::{Accept, Message};
 use relay_disk::Disk;
 use relay_records::{NodeFault, Records};
 use relay_routes::Config;
 use relay_server::{Answer, Offer};
 use relay_trace::Moment;
-use std::alloc::Global;
+use std::alloc::{AllocError, Global};
 
 impl<D: Disk> Node<D> {
     /// Takes an offer of a session that stands outside of the node, whose client is at this address; what
@@ -68,6 +71,33 @@ impl<D: Disk> Node<D> {
         )?;
         note_answer(&mut self.attempts, &self.config, &self.records, answer);
         Ok(answer)
+    }
+
+    /// The accept that [`Node::admit`] would add of an offer, under the next number. It fails where memory runs out.
+    pub fn accept_next(
+        &self,
+        offer: &Offer<'_>,
+        peer: [u8; 4],
+        now: Moment,
+    ) -> Result<Accept, AllocError>
+        ensures { IfOk result (IsAcceptOf
+            (acceptance_by self.now.config peer self.now.records.queue.next now) (offered offer.now)) }
+    {
+        accept_of(
+            self.alloc,
+            &self.config,
+            peer,
+            self.records.next_number(),
+            now,
+            offer,
+        )
+    }
+
+    /// The message of a number, while a place of it is held, live or stopped. It takes no memory.
+    pub fn message(&self, number: u64) -> Option<&Message>
+        ensures { option_copied result ≡ message_of self.now.records.queue.messages number }
+    {
+        self.records.message(number)
     }
 }
 
