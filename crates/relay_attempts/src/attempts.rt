@@ -1,8 +1,8 @@
 //! The attempts of a node.
-ghost use Rattle.std.specs.Prelude.{◌≡◌, [], ℕ, List, IfOk};
+ghost use Rattle.std.specs.Prelude.{◌≡◌, ◌↔◌, [], ℕ, List, IfOk, IsTrue};
 ghost use Rattle.relay_book.specs.Queue.{Queue};
 ghost use Rattle.relay_routes.specs.Routes.{RouteTable};
-ghost use Rattle.relay_slots.specs.Slots.{AreFree, HasPlaces};
+ghost use Rattle.relay_slots.specs.Slots.{AreFree, HasPlaces, IsFull};
 ghost use Rattle.std.specs.List.{flat_map};
 ghost use Rattle.relay_attempts.specs.Attempts.{KnowsStranded, Serves};
 ghost use Rattle.relay_attempts.specs.Work.{works_of};
@@ -78,6 +78,13 @@ impl Attempts {
             runs: Slots::new(alloc)?,
             stranded,
         })
+    }
+
+    /// Whether 64 attempts are running, so that none can be started.
+    pub fn is_full(&self) -> bool
+        ensures { IsTrue result ↔ IsFull self.now.runs }
+    {
+        self.runs.free().is_none()
     }
 
     /// What there is to do at a moment, in order of the messages' numbers: that a held place has no hop, and then each

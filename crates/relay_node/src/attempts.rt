@@ -1,5 +1,5 @@
 //! Mail that is passed on.
-ghost use Rattle.std.specs.Prelude.{◌≡◌, ◌<◌, ◌↔◌, ◌⊎◌, ℕ, false, List, Err, IfErr, IfOk};
+ghost use Rattle.std.specs.Prelude.{◌≡◌, ◌<◌, ◌↔◌, ◌⊎◌, ℕ, false, List, Err, IfErr, IfOk, IsTrue};
 ghost use Rattle.relay_attempts.specs.Attempts.{RefusesToStart, Serves, Starts};
 ghost use Rattle.relay_attempts.specs.Outcomes.{AddsUnroutable, CutsUnroutable, EndsUnroutable, RefusesToGiveUp};
 ghost use Rattle.relay_attempts.specs.Work.{works_of};
@@ -9,6 +9,7 @@ ghost use Rattle.relay_book.specs.Queue.{Queue, queue_of};
 ghost use Rattle.relay_node.specs.Attempts.{Begins};
 ghost use Rattle.relay_node.specs.Node.{TakesIn};
 ghost use Rattle.relay_records.specs.Records.{Keeps};
+ghost use Rattle.relay_slots.specs.Slots.{IsFull};
 
 use crate::node::Node;
 use crate::receive::Received;
@@ -39,6 +40,13 @@ impl<D: Disk> Node<D> {
             self.attempts
                 .due(alloc, &self.config.routes, &self.records, now)?,
         )
+    }
+
+    /// Whether 64 attempts are running, so that [`Node::start`] begins none.
+    pub fn is_full_of_attempts(&self) -> bool
+        ensures { IsTrue result ↔ IsFull self.now.attempts }
+    {
+        self.attempts.is_full()
     }
 
     /// Begins an attempt for the places of a message that are due and go to this hop, under the least free
