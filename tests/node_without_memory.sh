@@ -113,8 +113,9 @@ echo "node_without_memory: $total allocations refused in turn: ${met[begin]} bef
 # A spool that is written anew twice behind a message, and the session that goes on behind that.
 "$program" compactions > "$room/whole"
 read -r _ before after < "$room/whole"
-# The one body has a next number and a count, and a message its number, where its record has none; and its place is held.
-[ "$after" -eq $((before + 12 + 8 + 10)) ]
+# The one body has a next number and a count, and a message its number, where its record has none; and of its place that it
+# is held, how often it was tried, whether it was reported as delayed, and when it is due.
+[ "$after" -eq $((before + 12 + 8 + 11)) ]
 anew() { echo "compact: $before $after"; }
 again() { echo "compact: $after $after"; }
 unwritten() { echo "compact: no memory"; }

@@ -1,19 +1,21 @@
 //! Links of a node over memory. By the rows of data/ it takes one message by a link, and hands it on by
-//! another: to a next hop that takes it, in pieces of any length, and to one whose connection ends or fails
-//! behind each octet that is read or written. Then it serves and pushes over sockets of 127.0.0.1, both ends
+//! another: from a client and to a next hop that give their octets in pieces of any length, and over connections that end
+//! or fail behind each octet that is read or written. Then it serves and pushes over sockets of 127.0.0.1, both ends
 //! in one process and one thread, and over a writer that fails where it is flushed. Each row has a line.
 #![tactic(auto)]
 
+mod came;
 mod faulty;
 mod flushes;
 mod mail;
 mod pushing;
 mod row;
+mod serving;
 mod setup;
 mod sockets;
 
+use came::difference_of;
 use flushes::a_flush_that_fails_ends_the_session;
-use pushing::difference_of;
 use row::Row;
 use sockets::{a_client_is_answered_over_a_socket, a_hop_is_handed_mail_over_a_socket};
 use std::io::{self, Print};

@@ -98,9 +98,9 @@ pub fn push<R: Read, W: Write>(
     push_link(alloc, node, attempt, reader, writer, first_moment())
 }
 
-/// The number of the next change.
-pub fn next_number(node: &MemoryNode) -> u64 {
-    node.next_number()
+/// How many changes there are.
+pub fn count_changes(node: &MemoryNode) -> u64 {
+    node.next_number().saturating_sub(1)
 }
 
 /// How many places are held.

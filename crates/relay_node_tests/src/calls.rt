@@ -29,18 +29,18 @@ pub struct Handed {
     pub is_closed: bool,
 }
 
-/// A configuration with this limit of the spool, in octets, and a route for each two words: a domain, and
-/// the name of its hop. There is none where they are no configuration.
+/// A configuration with this line of further keys, and a route for each two words: a domain, and the name of
+/// its hop. There is none where they are no configuration.
 pub fn configuration(
     alloc: Global,
-    spool_limit: u64,
+    keys: &str,
     table: &str,
 ) -> Result<Option<Config>, AllocError> {
     let mut text = format!(in alloc;
         "host = \"relay.example\"
 listen = \"127.0.0.1:2525\"
 spool = \"relay.spool\"
-spool_limit = {spool_limit}
+{keys}
 [routes]
 "
     )?;

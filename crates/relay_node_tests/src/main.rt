@@ -2,13 +2,15 @@
 //! two at each octet, octet by octet, and in one piece among so many other clients that 64 are there; or, where
 //! a device fails, for each call and each stop. What comes of each event is compared with what is written down. By
 //! the word `sessions`, `report` or `compactions` it plays what tests/node_without_memory.sh refuses each
-//! allocation of in turn.
+//! allocation of in turn, by `file` and a path the scenarios of that file alone, and by `dialogues`, a folder and
+//! names the dialogues of that folder.
 #![tactic(auto)]
 
 mod answers;
 mod calls;
 mod course;
 mod crowd;
+mod dialogues;
 mod escape;
 mod pushed;
 mod refused;
@@ -20,6 +22,7 @@ mod talk;
 mod trial;
 mod words;
 
+use dialogues::dialogues;
 use refused::{compactions, report, sessions};
 use scenario::Scenario;
 use std::test::Fail;
@@ -41,19 +44,26 @@ const FILES: [&str; 11] = [
     "wrong",
 ];
 
-/// A word that is none of the three is the folder of the scenarios. Without one they lie where the program
+/// A word that is none of the five is the folder of the scenarios. Without one they lie where the program
 /// runs.
 fn main(rt: HostRuntime) -> Result<(), Fail> {
     let words: Vec<String> = env::args(&rt)?.collect(rt.alloc())?;
-    let word = match words.get(1) {
-        Some(word) => word.as_str(),
-        None => ".",
-    };
+    let word = word_of(words.as_slice(), 1);
     match word {
         "sessions" => sessions(&rt),
         "report" => report(&rt),
         "compactions" => compactions(&rt),
+        "file" => play_named(&rt, word_of(words.as_slice(), 2)),
+        "dialogues" => dialogues(&rt, word_of(words.as_slice(), 2), words.get(3..).unwrap_or(&[])),
         folder => play_files(&rt, folder),
+    }
+}
+
+/// The word at this place, and where there is none the folder in which the program runs.
+fn word_of(words: &[String], place: usize) -> &str {
+    match words.get(place) {
+        Some(word) => word.as_str(),
+        None => ".",
     }
 }
 
@@ -61,8 +71,19 @@ fn main(rt: HostRuntime) -> Result<(), Fail> {
 fn play_files(rt: &HostRuntime, folder: &str) -> Result<(), Fail> {
     let mut are_right = true;
     for file in FILES {
-        are_right = play_file(rt, folder, file)? && are_right;
+        let path = format!(in rt.alloc(); "{folder}/{file}.in")?;
+        are_right = play_file(rt, path.as_str())? && are_right;
     }
+    fail_unless(are_right)
+}
+
+/// Plays the scenarios of the file at this path. It fails where one differs.
+fn play_named(rt: &HostRuntime, path: &str) -> Result<(), Fail> {
+    let are_right = play_file(rt, path)?;
+    fail_unless(are_right)
+}
+
+fn fail_unless(are_right: bool) -> Result<(), Fail> {
     if are_right {
         Ok(())
     } else {
@@ -71,9 +92,8 @@ fn play_files(rt: &HostRuntime, folder: &str) -> Result<(), Fail> {
 }
 
 /// Plays the scenarios of a file, and says whether each came as it is to.
-fn play_file(rt: &HostRuntime, folder: &str, file: &str) -> Result<bool, Fail> {
-    let path = format!(in rt.alloc(); "{folder}/{file}.in")?;
-    let text = fs::read_to_string(rt, path.as_str())?;
+fn play_file(rt: &HostRuntime, path: &str) -> Result<bool, Fail> {
+    let text = fs::read_to_string(rt, path)?;
     play_text(rt, text.as_str())
 }
 

@@ -72,7 +72,7 @@ fn write_anew(rt: &HostRuntime, node: &mut MemoryNode) -> Result<(), Fail> {
 
 /// A node without changes, on disks in memory.
 fn node(alloc: Global) -> Result<MemoryNode, Fail> {
-    let Some(config) = configuration(alloc, 67_108_864, "example.org next.example")? else {
+    let Some(config) = configuration(alloc, "", "example.org next.example")? else {
         return Err(Fail::new("no configuration"));
     };
     match create(alloc, config) {

@@ -9,7 +9,7 @@ use relay_disk::{Disks, MemoryDisk};
 use relay_node::NodeFault;
 use relay_routes::Config;
 use relay_trace::Moment;
-use std::alloc::Global;
+use std::alloc::{AllocError, Global};
 
 /// The limit of a spool, in octets, where a scenario sets no other one.
 const SPOOL_LIMIT: u64 = 67_108_864;
@@ -124,11 +124,17 @@ impl<'a> Stage<'a> {
 
     /// Starts a node on these disks, and on empty ones where there are none.
     fn start(&mut self, disks: Option<MemoryDisks>) {
-        match configuration(self.scene.alloc, self.spool_limit, self.table) {
+        match self.configuration() {
             Ok(Some(config)) => self.start_with(config, disks),
             Ok(None) => self.scene.tell("no configuration"),
             Err(_) => self.scene.is_short = true,
         }
+    }
+
+    /// What a node is made with now, if that is a configuration.
+    fn configuration(&self) -> Result<Option<Config>, AllocError> {
+        let limit = format!(in self.scene.alloc; "spool_limit = {}", self.spool_limit)?;
+        configuration(self.scene.alloc, limit.as_str(), self.table)
     }
 
     /// Starts a node with this configuration. Where its disks are refused, they come back, and the reason is
