@@ -28,6 +28,8 @@ test:
 	tests/hostile_octets.py build/relayd
 	tests/each_allocation_refused.sh build/relayd
 	tests/book_without_memory.sh crates/relay_book_tests/out/relay_book_tests
+	tests/dialogues_of_a_node.sh crates/relay_node_tests/out/relay_node_tests
+	tests/attempts_of_a_node.py crates/relay_node_tests/out/relay_node_tests
 	tests/node_without_memory.sh crates/relay_node_tests/out/relay_node_tests
 	tests/spool_on_a_file.sh crates/relay_spool_tests/out/relay_spool_tests
 	tests/reports_read_by_python.py crates/relay_book_tests/out/relay_book_tests
