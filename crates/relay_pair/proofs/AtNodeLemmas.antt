@@ -1,11 +1,13 @@
 -- An attempt that begins on a link which its node has opened to the node that the hop is.
-use Rattle.std.proofs.Common.{inl, inr, ◌≡◌, ◌<◌, ◌≤◌, ◌+◌, ℕ, suc, Bool, true, false, not, List, [], ◌∷◌, ◌++◌, length, None, Some, Result, Ok, Err, refl, sym, subst, ap, ◌∙◌, arith, length-append}
-use Rattle.std.specs.Prelude.{if◌then◌else◌, slice_get, slice_set}
+use Rattle.std.proofs.Common.{inl, inr, ◌≡◌, ◌↔◌, ◌≤◌, ◌+◌, ℕ, suc, Bool, true, false, not, List, [], ◌∷◌, ◌++◌, length, Option, None, Some, Result, Ok, Err, refl, sym, subst, ap, ◌∙◌, arith, length-append}
+use Rattle.std.specs.Prelude.{if◌then◌else◌, IsTrue, slice_get, slice_set}
+use Rattle.std.proofs.lemmas.Bool.{false≢true, true≢false}
 use Rattle.std.proofs.lemmas.Bool.Decides.{eqb_tells}
 use Rattle.std.proofs.lemmas.Option.{none-some, same_Some}
 use Rattle.relay_disk.specs.Device.{DiskWords}
-use Rattle.relay_slots.specs.declared.slots.TheConstants.{SLOT_COUNT}
+use Rattle.relay_slots.specs.Slots.{IsFull}
 use Rattle.relay_records.specs.declared.fault.NodeFault.TheVariants as node_fault
+use Rattle.relay_attempts.specs.declared.runs.Run.{Run}
 use Rattle.relay_attempts.specs.declared.work.Work.TheVariants.{Try}
 use Rattle.relay_records.specs.declared.fault.NodeFault.{NodeFault}
 use Rattle.relay_routes.specs.declared.config.Config.{Config}
@@ -21,24 +23,38 @@ use Rattle.relay_pair.specs.declared.seen.Seen.{Seen}
 use Rattle.relay_pair.specs.declared.seen.Seen.TheVariants as seen
 use Rattle.relay_pair.specs.BreakOff.{BreaksBehind}
 use Rattle.relay_pair.specs.FirstFault.{first_fault, holds_up, is_up, names_down, unless_up}
-use Rattle.relay_pair.specs.Give.{HasBegun, HasBegunOn, IsFirstWork, IsWhyNotBegun, LeadsOn, tries_of}
+use Rattle.relay_pair.specs.Give.{HasBegun, HasBegunOn, IsFirstWork, IsWhyNotBegun, LeadsOn}
 use Rattle.relay_pair.specs.Named.{IsFirstNamed}
 use Rattle.relay_pair.specs.Open.{LinksTo, RefusesClient}
 use Rattle.relay_pair.specs.Promise.{HasHappened}
 use Rattle.relay_pair.specs.Relays.{AreBound}
 use Rattle.relay_pair.specs.Room.{HasRoom, lines_left, lines_to_come}
-use Rattle.relay_pair.specs.Step.{BreaksUnstarted, Refuses, RefusesOneMore, RefusesToOpen, Shows, StartsAtNode, Steps, fault_of}
+use Rattle.relay_pair.specs.Step.{BreaksUnstarted, IsSeen, Refuses, RefusesToOpen, RefusesToStart, Shows, StartsAtNode, Steps, fault_of}
 use Rattle.relay_pair.specs.Told.{IsToldOfBreaks}
-use Rattle.relay_pair.specs.Work.{works_in}
+use Rattle.relay_pair.specs.Work.{attempts_in, works_in}
 use Rattle.relay_pair.proofs.ConnectLemmas.{has_linked, linked_happened, linked_held, linked_host, linked_put, linked_told}
-use Rattle.relay_pair.proofs.DueLemmas.{same_work}
+use Rattle.relay_pair.proofs.DueLemmas.{same_attempts, same_work}
 use Rattle.relay_pair.proofs.GiveLemmas.{first_not_down}
 use Rattle.relay_pair.proofs.NamedLemmas.{first_is_down}
 use Rattle.relay_pair.proofs.NamesLemmas.{SameNames, names_put}
-use Rattle.relay_pair.proofs.OutsideLemmas.{why_of_first}
 use Rattle.relay_pair.proofs.RunLemmas.{both_happened}
 use Rattle.relay_pair.proofs.StartLemmas.{has_started, linked_there, started_bound, started_happened, started_room, started_told}
 use Rattle.relay_pair.proofs.StepLemmas.{done_steps, told_already}
+
+-- what a node told of its table of attempts
+pub is_full : (told : Bool) (runs : List (Option Run)) → (IsTrue told ↔ IsFull runs) → told ≡ true → IsFull runs
+is_full true runs tells is = tells.0 tt
+is_full false runs tells is = absurd (false≢true is)
+
+pub has_free : (told : Bool) (runs : List (Option Run)) → (IsTrue told ↔ IsFull runs) → told ≡ false → IsFull runs → ⊥
+has_free true runs tells is full = true≢false is
+has_free false runs tells is full = tells.1 full
+
+-- where not all are taken, an attempt is refused for want of memory alone
+memory_alone : {D : Type 0} (host : Host D) (why : NodeFault) → (IsFull (attempts_in host.state) → ⊥) → IsWhyNotBegun host why
+    → why ≡ node_fault.NoMemory
+memory_alone host why free (inl none) = none
+memory_alone host why free (inr full) = absurd (free full.1)
 
 module _ {D : Type 0} (old : World D) (hop : List ℕ) (to : ℕ) (named : IsFirstNamed old.hosts hop to) where
   -- the node of the name is up, so that it isn't down
@@ -86,6 +102,25 @@ module _ {D : Type 0} (honest : Type 0) (words : DiskWords D) (old opened : Worl
     }
   ]
 
+  -- and as many of its attempts run
+  attempts_still : (host : Host D) → slice_get opened.hosts node ≡ Some host
+      → attempts_in host.state ≡ attempts_in first.host.state
+  attempts_still host at = elim (eqb_tells node to) [
+    | inl here ↦
+        let same : links.was ≡ first.host = same_Some links.was first.host
+        (sym links.was_at ∙ ap (λ n. slice_get old.hosts n) (sym here.1) ∙ first.host_at) in
+        let now : host ≡ links.now = same_Some host links.now
+        (sym at ∙ ap (λ n. slice_get opened.hosts n) here.1
+        ∙ (linked_host honest words old opened to peer greeting links).at) in
+        ap (λ (h : Host D). attempts_in h.state) now
+        ∙ same_attempts links.was links.now peer links.connected links.opens
+        ∙ ap (λ (h : Host D). attempts_in h.state) same
+    | inr off ↦
+        ap (λ (h : Host D). attempts_in h.state)
+        (same_Some host first.host
+        (sym at ∙ (linked_host honest words old opened to peer greeting links).others node off.1 ∙ first.host_at))
+  ]
+
   names_still : SameNames old.hosts opened.hosts
   names_still =
       names_put old.hosts opened.hosts to links.was links.now links.was_at
@@ -115,7 +150,7 @@ module _ {D : Type 0} (honest : Type 0) (words : DiskWords D) (old opened : Worl
       omega (arith, room, held, attempts)
 
   module _ (named : IsFirstNamed old.hosts hop to) (from : peer ≡ first.host.config.listen.ip.octets)
-      (up : unless_up old to None ≡ None) (room : tries_of node old.attempts < SLOT_COUNT) where
+      (up : unless_up old to None ≡ None) where
     leads : LeadsOn old node hop to peer
     leads = record {
       opener = first.host;
@@ -234,25 +269,31 @@ module _ {D : Type 0} (honest : Type 0) (words : DiskWords D) (old opened : Worl
         ),
       )
 
-    -- the node refused the attempt, and the link breaks
-    pub unstarted_steps : (still new : World D) (number : ℕ) (why : NodeFault) (answer : Result Seen PairFault)
+    -- the node had no memory for the attempt, since not all were taken, and the link breaks
+    pub unstarted_steps : (IsFull (attempts_in first.host.state) → ⊥)
+        → (still new : World D) (number : ℕ) (why : NodeFault) (answer : Result Seen PairFault)
         → (still ≡ opened) × ((host : Host D) × (slice_get opened.hosts node ≡ Some host) × IsWhyNotBegun host why)
         → number ≡ suc (length old.links) → BreaksBehind honest words still new number why answer
         → Steps honest words old (Give node) new answer
-    unstarted_steps still new number why answer refused is breaks =
+    unstarted_steps free still new number why answer refused is breaks =
         let its : Breaks opened breaks.middle (suc (length old.links)) =
         subst (λ n. Breaks opened breaks.middle n) is
         (subst (λ (w : World D). Breaks w breaks.middle number) refused.0 breaks.breaks) in
+        let free_still : IsFull (attempts_in refused.1.0.state) → ⊥ =
+        subst (λ runs. IsFull runs → ⊥) (sym (attempts_still refused.1.0 refused.1.1)) free in
+        let memory : why ≡ node_fault.NoMemory = memory_alone refused.1.0 why free_still refused.1.2 in
         done_steps honest words old (Give node) new answer (
           none,
           (
             breaks.middle,
             (
-              Refuses (fault_of why),
-              BreaksUnstarted message hop first to peer room leads opened (has_linked honest words old opened to peer greeting links) its
-                  first_still why
-                  (why_of_first honest words opened opened node message hop why first_still refused.1.0 refused.1.1 refused.1.2),
-              (breaks.told, breaks.seen),
+              Refuses fault.NoMemory,
+              BreaksUnstarted message hop first free to peer leads opened (has_linked honest words old opened to peer greeting links)
+                  its,
+              (
+                breaks.told,
+                subst (λ f. IsSeen (Refuses (fault_of f)) breaks.told.stopped answer) memory breaks.seen,
+              ),
             ),
           ),
         )
@@ -261,15 +302,16 @@ module _ {D : Type 0} (honest : Type 0) (words : DiskWords D) (old opened : Worl
 module _ {D : Type 0} (honest : Type 0) (words : DiskWords D) (old new : World D) (node message : ℕ) (hop : List ℕ) (to : ℕ)
     (why : NodeFault) (first : IsFirstWork old node (Try message hop)) (named : IsFirstNamed old.hosts hop to)
     (up : unless_up old to None ≡ None) (refuses : RefusesClient old new to why) where
-  pub unopened_steps : IsToldOfBreaks old → Steps honest words old (Give node) new (Err (fault_of why))
-  unopened_steps told =
+  pub unopened_steps : (IsFull (attempts_in first.host.state) → ⊥) → IsToldOfBreaks old
+      → Steps honest words old (Give node) new (Err (fault_of why))
+  unopened_steps free told =
       inr (inr (
         first_not_down old node message hop first (up_named old hop to named up),
         (
           new,
           (
             Refuses (fault_of why),
-            RefusesToOpen message hop first to refuses.host refuses.host_at
+            RefusesToOpen message hop first free to refuses.host refuses.host_at
                 (ap (λ (h : Host D). h.config.host) (same_Some refuses.host named.host (sym refuses.host_at ∙ named.host_at)) ∙ named.named)
                 why refuses.refuses refuses.new_is,
             (told_already honest words new (subst (λ (w : World D). IsToldOfBreaks w) (sym refuses.new_is) told), refl),
@@ -277,20 +319,20 @@ module _ {D : Type 0} (honest : Type 0) (words : DiskWords D) (old new : World D
         ),
       ))
 
--- as many attempts of the node run as may
+-- all numbers of the node's attempts are taken
 module _ {D : Type 0} (honest : Type 0) (words : DiskWords D) (old : World D) (node message : ℕ) (hop : List ℕ) (to : ℕ)
     (first : IsFirstWork old node (Try message hop)) (named : IsFirstNamed old.hosts hop to)
     (up : unless_up old to None ≡ None) where
-  pub one_too_many : SLOT_COUNT ≤ tries_of node old.attempts → IsToldOfBreaks old
+  pub one_too_many : IsFull (attempts_in first.host.state) → IsToldOfBreaks old
       → Steps honest words old (Give node) old (Err (fault.Node node_fault.TooMany))
-  one_too_many many told =
+  one_too_many full told =
       inr (inr (
         first_not_down old node message hop first (up_named old hop to named up),
         (
           old,
           (
             Refuses (fault.Node node_fault.TooMany),
-            RefusesOneMore message hop first many refl,
+            RefusesToStart message hop first node_fault.TooMany (inr (refl, full)) refl,
             (told_already honest words old told, refl),
           ),
         ),

@@ -362,3 +362,9 @@ same_work now old new peer connected opens =
     ∙ ap (λ (a : List (Option Run)). works_of opens.before.config.routes a now opens.after.records.queue) opens.attempts
     ∙ ap (λ (k : Kept _). works_of opens.before.config.routes opens.before.attempts now k.queue) opens.records
     ∙ ap (λ (h : HostState _). works_in now h) (sym opens.runs.up)
+
+pub same_attempts : {D : Type 0} (old new : Host D) (peer : List ℕ) (connected : Connected)
+    → OpensSession old new peer connected → attempts_in new.state ≡ attempts_in old.state
+same_attempts old new peer connected opens =
+    ap (λ (h : Host _). attempts_in h.state) opens.runs.new_is ∙ opens.attempts
+    ∙ ap (λ (h : HostState _). attempts_in h) (sym opens.runs.up)

@@ -1,9 +1,8 @@
--- Lines of the ledger, and attempts that run, counted one by one.
+-- Lines of the ledger, counted one by one.
 use Rattle.std.proofs.Common.{◌≡◌, ◌<◌, ◌≤◌, ◌+◌, ℕ, zero, suc, List, [], ◌∷◌, length, drop, refl, sym, ap, ◌∙◌, arith}
-use Rattle.std.specs.Prelude.{if◌then◌else◌, slice_index_or}
+use Rattle.std.specs.Prelude.{slice_index_or}
 use Rattle.relay_world.specs.declared.attempt.Attempt.{Attempt}
 use Rattle.relay_world.specs.World.{Host}
-use Rattle.relay_pair.specs.Give.{is_tried_by, tries_of}
 use Rattle.relay_pair.specs.Room.{lines_held, lines_left, lines_of_attempt, lines_to_come}
 
 one_more : (n : ℕ) → suc n ≡ n + 1
@@ -42,13 +41,3 @@ left_one_more hosts node base host within there = ap (λ hs. lines_left base hs)
 pub left_none_more : {D : Type 0} (hosts : List (Host D)) (node base : ℕ) → length hosts ≤ node
     → lines_left base (drop node hosts) ≡ 0
 left_none_more hosts node base beyond = ap (λ hs. lines_left base hs) (drop_all hosts node beyond)
-
-pub tries_one_more : (node : ℕ) (attempts : List Attempt) (place : ℕ) (attempt : Attempt) → place < length attempts
-    → attempt ≡ slice_index_or attempts place attempt
-    → tries_of node (drop place attempts)
-    ≡ (if is_tried_by node attempt then 1 else 0) + tries_of node (drop (place + 1) attempts)
-tries_one_more node attempts place attempt within there = ap (λ left. tries_of node left) (drop_more attempts place attempt within there)
-
-pub tries_none_more : (node : ℕ) (attempts : List Attempt) (place : ℕ) → length attempts ≤ place
-    → tries_of node (drop place attempts) ≡ 0
-tries_none_more node attempts place beyond = ap (λ left. tries_of node left) (drop_all attempts place beyond)

@@ -1,5 +1,5 @@
 -- What a node does first, and what its calls for that make of the parts of a pair.
-use Rattle.std.specs.Prelude.{if◌then◌else◌, nat_eq, Bool, false, ◌≡◌, ◌⊎◌, ◌<◌, ◌≤◌, ℕ, ◌+◌, List, [], ◌∷◌, ◌++◌, length, Result, Ok, Err, Some, slice_get, slice_set, vec_capacity, vec_len}
+use Rattle.std.specs.Prelude.{◌≡◌, ◌⊎◌, ◌<◌, ◌≤◌, ℕ, ◌+◌, List, [], ◌∷◌, ◌++◌, length, Result, Ok, Err, Some, slice_get, slice_set, vec_capacity, vec_len}
 use Rattle.std.specs.Global.{Vec}
 use Rattle.relay_disk.specs.Device.{DiskWords}
 use Rattle.relay_slots.specs.Slots.{IsFull}
@@ -13,7 +13,6 @@ use Rattle.relay_world.specs.Steps.{IsPutAt, started_attempt}
 use Rattle.relay_world.specs.World.{Host, World, link_at}
 use Rattle.relay_pair.specs.declared.relays.Relays.{Relays}
 use Rattle.relay_pair.specs.declared.work.GivenUp.{GivenUp}
-use Rattle.relay_pair.specs.FirstFault.{is_running}
 use Rattle.relay_pair.specs.Relays.{free_lines}
 use Rattle.relay_pair.specs.Room.{lines_left, lines_to_come}
 use Rattle.relay_pair.specs.Told.{running_of}
@@ -24,15 +23,6 @@ pub record IsFirstWork {D : Type 0} (world : World D) (node : ℕ) (work : Work)
   pub host : Host D
   pub host_at : slice_get world.hosts node ≡ Some host
   pub first : slice_get (works_in world.clock host.state) 0 ≡ Some work
-
--- whether an attempt is this node's, and runs
-abbrev pub is_tried_by : ℕ → Attempt → Bool
-is_tried_by node attempt = if nat_eq attempt.node node then is_running attempt.fate else false
-
--- how many attempts of a node run
-abbrev pub tries_of : ℕ → List Attempt → ℕ
-tries_of node [] = 0
-tries_of node (attempt ∷ attempts) = (if is_tried_by node attempt then 1 else 0) + tries_of node attempts
 
 -- why a node may refuse to begin an attempt: it has no memory, or 64 attempts of it run
 abbrev pub IsWhyNotBegun : {D : Type 0} → Host D → NodeFault → Type 0

@@ -4,7 +4,7 @@ use Rattle.std.specs.Option.{is_some}
 use Rattle.std.specs.Global.{Vec}
 use Rattle.relay_disk.specs.Device.{DiskWords}
 use Rattle.relay_disk.specs.Disks.{calls_left_of}
-use Rattle.relay_slots.specs.declared.slots.TheConstants.{SLOT_COUNT}
+use Rattle.relay_slots.specs.Slots.{IsFull}
 use Rattle.relay_world.specs.declared.attempt.Attempt.{Attempt}
 use Rattle.relay_world.specs.declared.link.Link.{Link}
 use Rattle.relay_world.specs.Crashes.{CrashesAtRest, CrashesCompacting, CrashesGivingUp, CrashesHearing, CrashesReading, serves_for}
@@ -22,9 +22,9 @@ use Rattle.relay_records.specs.declared.fault.NodeFault.TheVariants as node_faul
 use Rattle.relay_pair.specs.Call.{IsWant}
 use Rattle.relay_pair.specs.Compact.{IsWhyNotCompacted}
 use Rattle.relay_pair.specs.FirstFault.{first_fault, is_nil, waits_down}
-use Rattle.relay_pair.specs.Give.{IsFirstWork, IsWhyNotBegun, IsWhyNotGivenUp, LeadsOn, tries_of}
+use Rattle.relay_pair.specs.Give.{IsFirstWork, IsWhyNotBegun, IsWhyNotGivenUp, LeadsOn}
 use Rattle.relay_pair.specs.Told.{AreTold, CrashesTold, IsOpened}
-use Rattle.relay_pair.specs.Work.{RefusesSession}
+use Rattle.relay_pair.specs.Work.{RefusesSession, attempts_in}
 use Rattle.relay_attempts.specs.declared.work.Work.TheVariants.{NoRoute, Try}
 
 abbrev pub outside_address : List ℕ
@@ -133,9 +133,10 @@ module _ {D : Type 0} (honest : Type 0) (words : DiskWords D) where
         → RefusesSession host host why → new ≡ old → OpensFromOutside old node new (Refuses (fault_of why))
 
   -- A node does its first work. It begins an attempt: on a new link to outside, or on one that it has opened to the
-  -- node that the hop is, unless 64 of its attempts run; or that node refuses it a session, or it refuses the attempt
-  -- itself, and then a link that it had opened breaks. Or it gives up the places of a message that have no hop, or
-  -- refuses to, or stops in that call.
+  -- node that the hop is. Or it refuses the attempt, for want of memory, or where 64 of its attempts run, and nothing
+  -- changes. Where fewer run, the other node may refuse it a session; or, behind the opened link, it has no memory for
+  -- the attempt, and that link breaks. Or it gives up the places of a message that have no hop, or refuses to, or stops
+  -- in that call.
   pub data Gives (old : World D) (node : ℕ) (new : World D) : Did → Type 0 where
     StartsOutside : (message : ℕ) → (hop : List ℕ) → IsFirstWork old node (Try message hop)
         → (begun : HasStarted honest words old new (suc (length old.links)) message hop) → begun.attempt.node ≡ node
@@ -144,19 +145,16 @@ module _ {D : Type 0} (honest : Type 0) (words : DiskWords D) where
         → (opened : World D) → HasOpened old opened to peer
         → (begun : HasStarted honest words opened new (suc (length old.links)) message hop) → begun.attempt.node ≡ node
         → Gives old node new (Shows (seen.Started (length old.attempts)))
-    RefusesOneMore : (message : ℕ) → (hop : List ℕ) → IsFirstWork old node (Try message hop)
-        → SLOT_COUNT ≤ tries_of node old.attempts → new ≡ old
-        → Gives old node new (Refuses (fault.Node node_fault.TooMany))
-    RefusesToOpen : (message : ℕ) → (hop : List ℕ) → IsFirstWork old node (Try message hop) → (to : ℕ) → (host : Host D)
-        → slice_get old.hosts to ≡ Some host → host.config.host ≡ hop → (why : NodeFault) → RefusesSession host host why
-        → new ≡ old → Gives old node new (Refuses (fault_of why))
     RefusesToStart : (message : ℕ) → (hop : List ℕ) → (first : IsFirstWork old node (Try message hop))
         → (why : NodeFault) → IsWhyNotBegun first.host why → new ≡ old → Gives old node new (Refuses (fault_of why))
-    BreaksUnstarted : (message : ℕ) → (hop : List ℕ) → IsFirstWork old node (Try message hop) → (to : ℕ)
-        → (peer : List ℕ) → tries_of node old.attempts < SLOT_COUNT → LeadsOn old node hop to peer
-        → (opened : World D) → HasOpened old opened to peer → Breaks opened new (suc (length old.links))
-        → (first : IsFirstWork opened node (Try message hop)) → (why : NodeFault) → IsWhyNotBegun first.host why
+    RefusesToOpen : (message : ℕ) → (hop : List ℕ) → (first : IsFirstWork old node (Try message hop))
+        → (IsFull (attempts_in first.host.state) → ⊥) → (to : ℕ) → (host : Host D) → slice_get old.hosts to ≡ Some host
+        → host.config.host ≡ hop → (why : NodeFault) → RefusesSession host host why → new ≡ old
         → Gives old node new (Refuses (fault_of why))
+    BreaksUnstarted : (message : ℕ) → (hop : List ℕ) → (first : IsFirstWork old node (Try message hop))
+        → (IsFull (attempts_in first.host.state) → ⊥) → (to : ℕ) → (peer : List ℕ) → LeadsOn old node hop to peer
+        → (opened : World D) → HasOpened old opened to peer → Breaks opened new (suc (length old.links))
+        → Gives old node new (Refuses fault.NoMemory)
     GivesUpPlaces : (message change : ℕ) → IsFirstWork old node (NoRoute message)
         → HasGivenUp honest words old new node message change → Gives old node new (Shows (seen.NoRoute message change))
     RefusesToGiveUp : (message : ℕ) → (first : IsFirstWork old node (NoRoute message)) → (why : NodeFault)

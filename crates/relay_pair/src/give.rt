@@ -1,22 +1,22 @@
 //! A node does the first of its works.
-ghost use Rattle.std.specs.Prelude.{◌≡◌, ◌<◌, ◌≤◌, if◌then◌else◌, None, Some, length, slice_get, vec_capacity, vec_len};
+ghost use Rattle.std.specs.Prelude.{◌≡◌, ◌<◌, ◌↔◌, IsTrue, None, Some, length, slice_get, vec_capacity, vec_len};
+ghost use Rattle.relay_slots.specs.Slots.{IsFull};
 ghost use Rattle.relay_attempts.specs.declared.work.Work.TheVariants.{NoRoute, Try};
 ghost use Rattle.relay_world.specs.World.{Host as HostOf};
 ghost use Rattle.relay_pair.specs.BreakOff.{BreaksBehind, IsLink};
 ghost use Rattle.relay_pair.specs.FirstFault.{unless_up};
 ghost use Rattle.relay_pair.specs.Give.{HasBegunOrNot, HasBegunThere, HasRoomForWork, IsCalledToGiveUp, IsFirstWork, IsListOfStops};
-ghost use Rattle.relay_pair.specs.Give.{is_tried_by, tries_of};
 ghost use Rattle.relay_pair.specs.Named.{IsFirstNamed, NoneIsNamed};
 ghost use Rattle.relay_pair.specs.Promise.{HasHappened};
 ghost use Rattle.relay_pair.specs.Relays.{AreBound, AreInOrder, free_lines, world_of};
 ghost use Rattle.relay_pair.specs.Room.{HasRoom};
 ghost use Rattle.relay_pair.specs.Step.{Steps};
+ghost use Rattle.relay_pair.specs.Work.{attempts_in};
 ghost use Rattle.relay_pair.specs.declared.event.Event.TheVariants.{Give};
 
 use crate::act::{Act, fault_of};
 use crate::fault::PairFault;
 use crate::host::Origin;
-use crate::links::is_running;
 use crate::named::node_named;
 use crate::relays::Relays;
 use crate::seen::Seen;
@@ -26,7 +26,6 @@ use relay_disk::{Disk, Reboot};
 use relay_node::NodeFault;
 use relay_octets::Octets;
 use relay_routes::HostName;
-use relay_slots::SLOT_COUNT;
 use relay_world::passing::{resting_crash_happens, runs_keep_all};
 use relay_world::{Attempt, Fate, Link};
 
@@ -133,8 +132,8 @@ impl<D: Reboot + Drop> Relays<D> {
         self.start_at_node(node, message, hop, name, to, stopped)
     }
 
-    /// A node begins an attempt on a link that it opens to the node that the hop is, unless as many of its attempts
-    /// run as may. Where it refuses the attempt, that link breaks.
+    /// A node begins an attempt on a link that it opens to the node that the hop is, unless 64 of its attempts are
+    /// running. Where it has no memory for the attempt, that link breaks.
     fn start_at_node(
         &mut self,
         node: usize,
@@ -157,7 +156,7 @@ impl<D: Reboot + Drop> Relays<D> {
         ensures order { AreInOrder D.Disk.honest D.Disk.words self.new }
     {
         runs_keep_all::<D>();
-        if SLOT_COUNT <= tries_of(self.attempts.as_slice(), node) {
+        if self.is_full_of_attempts(node) {
             return Err(PairFault::Node(NodeFault::TooMany));
         }
         let peer = self.address_of(node);
@@ -206,6 +205,15 @@ impl<D: Disk> Relays<D> {
         ensures ledger { self.new.ledger ≡ self.old.ledger }
     {
         self.hosts[node].give_up(message, self.clock)
+    }
+
+    /// Whether 64 attempts of a node are running.
+    fn is_full_of_attempts(&self, node: usize) -> bool
+        requires { node < length self.now.hosts.items }
+        ensures { (host : HostOf D) → slice_get self.now.hosts.items node ≡ Some host
+            → IsTrue result ↔ IsFull (attempts_in host.state) }
+    {
+        self.hosts[node].is_full_of_attempts()
     }
 
     /// The address of a node.
@@ -318,29 +326,4 @@ impl<D: Disk> Relays<D> {
             .unwrap();
         Ok(place)
     }
-}
-
-/// How many attempts of a node run.
-fn tries_of(attempts: &[Attempt], node: usize) -> usize
-    ensures { result ≡ tries_of node attempts.now }
-{
-    let mut tries: usize = 0;
-    for place in 0..attempts.len() {
-        tries += tries_once(&attempts[place], node);
-    }
-    tries
-}
-
-/// 1 of an attempt of a node that runs, and else 0.
-fn tries_once(attempt: &Attempt, node: usize) -> usize
-    ensures count { result ≡ (if is_tried_by node attempt.now then 1 else 0) }
-    ensures once { result ≤ 1 }
-{
-    if attempt.node != node {
-        return 0;
-    }
-    if is_running(attempt.fate) {
-        return 1;
-    }
-    0
 }

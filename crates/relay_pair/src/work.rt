@@ -1,7 +1,8 @@
 //! What a node of a pair begins of itself: sessions, attempts, and the end of places without a hop.
-ghost use Rattle.std.specs.Prelude.{◌≡◌, IfErr, IfOk, slice_get, vec_capacity, vec_len};
+ghost use Rattle.std.specs.Prelude.{◌≡◌, ◌↔◌, IfErr, IfOk, IsTrue, slice_get, vec_capacity, vec_len};
+ghost use Rattle.relay_slots.specs.Slots.{IsFull};
 ghost use Rattle.relay_pair.specs.Host.{OwesWithin, host_of, notes_of};
-ghost use Rattle.relay_pair.specs.Work.{BeginsOrNot, BeginsUnlessFull, GivesUpOrNot, GivesUpUnlessFull, HasChanges, KnowsChanges, OpensOrRefuses, works_in};
+ghost use Rattle.relay_pair.specs.Work.{BeginsOrNot, BeginsUnlessFull, GivesUpOrNot, GivesUpUnlessFull, HasChanges, KnowsChanges, OpensOrRefuses, attempts_in, works_in};
 
 use crate::calls::{is_stop, take_note};
 use crate::host::{Host, HostState};
@@ -129,6 +130,16 @@ impl<D: Disk> Host<D> {
             return Ok(None);
         }
         Ok(Some(works.swap_remove(0)))
+    }
+
+    /// Whether 64 attempts of the node are running, so that it begins none.
+    pub(crate) fn is_full_of_attempts(&self) -> bool
+        ensures { IsTrue result ↔ IsFull (attempts_in self.now.state) }
+    {
+        match &self.state {
+            HostState::Up(node) => node.is_full_of_attempts(),
+            HostState::Down(_) => false,
+        }
     }
 
     /// The node begins an attempt for a message and a hop.

@@ -1,17 +1,16 @@
-use Rattle.std.proofs.Common.{◌≡◌, ◌<◌, ◌≤◌, ◌-◌, length, Err, sym, subst, ap, ◌∙◌, arith, rules}
+use Rattle.std.proofs.Common.{◌≡◌, ◌<◌, ◌-◌, length, Err, sym, subst, ap, ◌∙◌, arith, rules}
 use Rattle.std.specs.Prelude.{vec_capacity, vec_len}
-use Rattle.relay_slots.specs.declared.slots.TheConstants.{SLOT_COUNT}
 use Rattle.relay_world.specs.Steps.{opened_link}
 use Rattle.relay_world.specs.World.{World}
 use Rattle.relay_pair.specs.declared.event.Event.TheVariants.{Give}
 use Rattle.relay_pair.specs.BreakOff.{IsLink}
-use Rattle.relay_pair.specs.Give.{tries_of}
 use Rattle.relay_pair.specs.Promise.{HasHappened}
 use Rattle.relay_pair.specs.Relays.{AreBound, free_lines, world_of}
 use Rattle.relay_pair.specs.Room.{HasRoom}
 use Rattle.relay_pair.specs.Step.{Steps}
 use Rattle.relay_pair.specs.Told.{IsToldOfBreaks, running_of}
-use Rattle.relay_pair.proofs.AtNodeLemmas.{begun_bound, begun_happened, begun_room, begun_steps, begun_told, first_still, link_opened, next_number, one_too_many, unopened_steps, unstarted_steps}
+use Rattle.relay_pair.specs.Work.{attempts_in}
+use Rattle.relay_pair.proofs.AtNodeLemmas.{begun_bound, begun_happened, begun_room, begun_steps, begun_told, first_still, has_free, is_full, link_opened, next_number, one_too_many, unopened_steps, unstarted_steps}
 use Rattle.relay_pair.proofs.ConnectLemmas.{linked_bound, linked_happened, linked_room}
 use Rattle.relay_pair.proofs.RunLemmas.{both_happened, none_happened}
 use Rattle.relay_pair.proofs.TellLemmas.{get_within}
@@ -63,9 +62,8 @@ returns-in-Ok-begin_on-clause-steps g c =
     let number = len
     ∙ next_number g.D.Disk.honest g.D.Disk.words old opened c.args.node c.args.message c.args.hop.now c.args.to peer
     c.in-Ok.greeting links first in
-    let few : tries_of c.args.node old.attempts < SLOT_COUNT = search rules in
     begun_steps g.D.Disk.honest g.D.Disk.words old opened c.args.node c.args.message c.args.hop.now c.args.to peer
-    c.in-Ok.greeting links first c.requires.named (c.address_of-peer.ensures first.host first.host_at) c.requires.up few
+    c.in-Ok.greeting links first c.requires.named (c.address_of-peer.ensures first.host first.host_at) c.requires.up
     (world_of c.begin_on.new.self) c.in-Ok-begin_on.place c.len-link.result number
     c.in-Ok-begin_on.ensures.begun bound c.requires.order.told
 
@@ -82,9 +80,8 @@ returns-in-Ok-begin_on-clause-happened g c =
     let number = len
     ∙ next_number g.D.Disk.honest g.D.Disk.words old opened c.args.node c.args.message c.args.hop.now c.args.to peer
     c.in-Ok.greeting links first in
-    let few : tries_of c.args.node old.attempts < SLOT_COUNT = search rules in
     begun_happened g.D.Disk.honest g.D.Disk.words old opened c.args.node c.args.message c.args.hop.now c.args.to peer
-    c.in-Ok.greeting links first c.requires.named (c.address_of-peer.ensures first.host first.host_at) c.requires.up few
+    c.in-Ok.greeting links first c.requires.named (c.address_of-peer.ensures first.host first.host_at) c.requires.up
     (world_of c.begin_on.new.self) c.in-Ok-begin_on.place c.len-link.result number
     c.in-Ok-begin_on.ensures.begun bound
 
@@ -101,30 +98,34 @@ returns-in-Ok-begin_on-clause-order g c =
     let number = len
     ∙ next_number g.D.Disk.honest g.D.Disk.words old opened c.args.node c.args.message c.args.hop.now c.args.to peer
     c.in-Ok.greeting links first in
-    let few : tries_of c.args.node old.attempts < SLOT_COUNT = search rules in
     let new = world_of c.begin_on.new.self in
     let begun = c.in-Ok-begin_on.ensures.begun in
     let from = c.address_of-peer.ensures first.host first.host_at in
     let still = begun_bound g.D.Disk.honest g.D.Disk.words old opened c.args.node c.args.message c.args.hop.now c.args.to peer
-    c.in-Ok.greeting links first c.requires.named from c.requires.up few new c.in-Ok-begin_on.place c.len-link.result number begun
+    c.in-Ok.greeting links first c.requires.named from c.requires.up new c.in-Ok-begin_on.place c.len-link.result number begun
     bound c.requires.honest c.runs_keep_all.ensures in
     record {
       bound = still;
       told = begun_told g.D.Disk.honest g.D.Disk.words old opened c.args.node c.args.message c.args.hop.now c.args.to peer
-          c.in-Ok.greeting links first c.requires.named from c.requires.up few new c.in-Ok-begin_on.place c.len-link.result number
+          c.in-Ok.greeting links first c.requires.named from c.requires.up new c.in-Ok-begin_on.place c.len-link.result number
           begun bound c.requires.order.told;
       room = subst (λ l. HasRoom new (vec_capacity l - vec_len l)) (sym (c.begin_on.ensures.ledger ∙ c.in-Ok.ensures.rest.1))
           (begun_room g.D.Disk.honest g.D.Disk.words old opened c.args.node c.args.message c.args.hop.now c.args.to peer
-          c.in-Ok.greeting links first c.requires.named from c.requires.up few new c.in-Ok-begin_on.place c.len-link.result number
+          c.in-Ok.greeting links first c.requires.named from c.requires.up new c.in-Ok-begin_on.place c.len-link.result number
           begun bound (free_lines c.args.self.now) still c.requires.room.lines);
     }
 
-pub returns-then-tries_of-ge-SLOT_COUNT-clause-steps : goal.returns-then-tries_of-ge-SLOT_COUNT-clause-steps
-returns-then-tries_of-ge-SLOT_COUNT-clause-steps g c =
-    let old = world_of c.args.self.now in
-    let many : SLOT_COUNT ≤ tries_of c.args.node old.attempts = search rules in
-    one_too_many g.D.Disk.honest g.D.Disk.words old c.args.node c.args.message c.args.hop.now c.args.to c.requires.first
-    c.requires.named c.requires.up many c.requires.order.told
+pub is_full_of_attempts-requires : goal.is_full_of_attempts-requires
+is_full_of_attempts-requires g c =
+    get_within c.args.self.now.hosts.items c.args.node c.requires.first.host c.requires.first.host_at
+
+pub returns-then-is_full_of_attempts-clause-steps : goal.returns-then-is_full_of_attempts-clause-steps
+returns-then-is_full_of_attempts-clause-steps g c =
+    let first = c.requires.first in
+    one_too_many g.D.Disk.honest g.D.Disk.words (world_of c.args.self.now) c.args.node c.args.message c.args.hop.now c.args.to first
+    c.requires.named c.requires.up
+    (is_full c.is_full_of_attempts.result (attempts_in first.host.state)
+    (c.is_full_of_attempts.ensures first.host first.host_at) c.if-is_full_of_attempts.true) c.requires.order.told
 
 pub break_unstarted-requires-clause-bound : goal.break_unstarted-requires-clause-bound
 break_unstarted-requires-clause-bound g c =
@@ -173,9 +174,10 @@ returns-in-Err-begin_on-clause-steps g c =
     let number = len
     ∙ next_number g.D.Disk.honest g.D.Disk.words old opened c.args.node c.args.message c.args.hop.now c.args.to peer
     c.in-Ok.greeting links first in
-    let few : tries_of c.args.node old.attempts < SLOT_COUNT = search rules in
+    let free = has_free c.is_full_of_attempts.result (attempts_in first.host.state)
+    (c.is_full_of_attempts.ensures first.host first.host_at) c.if-is_full_of_attempts.false in
     unstarted_steps g.D.Disk.honest g.D.Disk.words old opened c.args.node c.args.message c.args.hop.now c.args.to peer
-    c.in-Ok.greeting links first c.requires.named (c.address_of-peer.ensures first.host first.host_at) c.requires.up few
+    c.in-Ok.greeting links first c.requires.named (c.address_of-peer.ensures first.host first.host_at) c.requires.up free
     (world_of c.begin_on.new.self) (world_of c.break_unstarted.new.self) c.len-link.result c.in-Err-begin_on.fault
     c.break_unstarted.result c.in-Err-begin_on.ensures.begun number c.break_unstarted.ensures.breaks
 
@@ -192,9 +194,12 @@ pub returns-in-Err-clause-steps : goal.returns-in-Err-clause-steps
 returns-in-Err-clause-steps g c =
     let old = world_of c.args.self.now in
     let new = world_of c.open_link.new.self in
+    let first = c.requires.first in
+    let free = has_free c.is_full_of_attempts.result (attempts_in first.host.state)
+    (c.is_full_of_attempts.ensures first.host first.host_at) c.if-is_full_of_attempts.false in
     subst (λ f. Steps g.D.Disk.honest g.D.Disk.words old (Give c.args.node) new (Err f)) (sym c.fault_of.ensures)
     (unopened_steps g.D.Disk.honest g.D.Disk.words old new c.args.node c.args.message c.args.hop.now c.args.to c.in-Err.fault
-    c.requires.first c.requires.named c.requires.up c.in-Err.ensures.opens c.requires.order.told)
+    first c.requires.named c.requires.up c.in-Err.ensures.opens free c.requires.order.told)
 
 pub returns-in-Err-clause-happened : goal.returns-in-Err-clause-happened
 returns-in-Err-clause-happened g c =
