@@ -1,7 +1,7 @@
 -- An attempt that begins on a link which its node has opened to the node that the hop is.
 use Rattle.std.proofs.Common.{inl, inr, ◌≡◌, ◌↔◌, ◌≤◌, ◌+◌, ℕ, suc, Bool, true, false, not, List, [], ◌∷◌, ◌++◌, length, Option, None, Some, Result, Ok, Err, refl, sym, subst, ap, ◌∙◌, arith, length-append}
 use Rattle.std.specs.Prelude.{if◌then◌else◌, IsTrue, slice_get, slice_set}
-use Rattle.std.proofs.lemmas.Bool.{false≢true, true≢false}
+use Rattle.std.proofs.lemmas.Bool.{true≢false}
 use Rattle.std.proofs.lemmas.Bool.Decides.{eqb_tells}
 use Rattle.std.proofs.lemmas.Option.{none-some, same_Some}
 use Rattle.relay_disk.specs.Device.{DiskWords}
@@ -41,16 +41,11 @@ use Rattle.relay_pair.proofs.RunLemmas.{both_happened}
 use Rattle.relay_pair.proofs.StartLemmas.{has_started, linked_there, started_bound, started_happened, started_room, started_told}
 use Rattle.relay_pair.proofs.StepLemmas.{done_steps, told_already}
 
--- what a node told of its table of attempts
-pub is_full : (told : Bool) (runs : List (Option Run)) → (IsTrue told ↔ IsFull runs) → told ≡ true → IsFull runs
-is_full true runs tells is = tells.0 tt
-is_full false runs tells is = absurd (false≢true is)
-
+-- a node has told that not all numbers of its attempts are taken
 pub has_free : (told : Bool) (runs : List (Option Run)) → (IsTrue told ↔ IsFull runs) → told ≡ false → IsFull runs → ⊥
-has_free true runs tells is full = true≢false is
-has_free false runs tells is full = tells.1 full
+has_free told runs tells is full = true≢false (sym (tells.1 full) ∙ is)
 
--- where not all are taken, an attempt is refused for want of memory alone
+-- and then an attempt is refused for want of memory alone
 memory_alone : {D : Type 0} (host : Host D) (why : NodeFault) → (IsFull (attempts_in host.state) → ⊥) → IsWhyNotBegun host why
     → why ≡ node_fault.NoMemory
 memory_alone host why free (inl none) = none

@@ -45,8 +45,8 @@ pub(crate) fn push_left(
 }
 
 impl<D: Disk> Relays<D> {
-    /// Adds a line for each place of a message of a node that left or is late, on this link, by the change of this number,
-    /// for which there is room.
+    /// Adds a line for each place of a message of a node that left or is late, on this link, by the change of this
+    /// number, for which there is room.
     pub(crate) fn note_left(
         &mut self,
         node: usize,

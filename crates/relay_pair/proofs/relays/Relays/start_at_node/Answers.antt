@@ -10,7 +10,7 @@ use Rattle.relay_pair.specs.Room.{HasRoom}
 use Rattle.relay_pair.specs.Step.{Steps}
 use Rattle.relay_pair.specs.Told.{IsToldOfBreaks, running_of}
 use Rattle.relay_pair.specs.Work.{attempts_in}
-use Rattle.relay_pair.proofs.AtNodeLemmas.{begun_bound, begun_happened, begun_room, begun_steps, begun_told, first_still, has_free, is_full, link_opened, next_number, one_too_many, unopened_steps, unstarted_steps}
+use Rattle.relay_pair.proofs.AtNodeLemmas.{begun_bound, begun_happened, begun_room, begun_steps, begun_told, first_still, has_free, link_opened, next_number, one_too_many, unopened_steps, unstarted_steps}
 use Rattle.relay_pair.proofs.ConnectLemmas.{linked_bound, linked_happened, linked_room}
 use Rattle.relay_pair.proofs.RunLemmas.{both_happened, none_happened}
 use Rattle.relay_pair.proofs.TellLemmas.{get_within}
@@ -124,8 +124,7 @@ returns-then-is_full_of_attempts-clause-steps g c =
     let first = c.requires.first in
     one_too_many g.D.Disk.honest g.D.Disk.words (world_of c.args.self.now) c.args.node c.args.message c.args.hop.now c.args.to first
     c.requires.named c.requires.up
-    (is_full c.is_full_of_attempts.result (attempts_in first.host.state)
-    (c.is_full_of_attempts.ensures first.host first.host_at) c.if-is_full_of_attempts.true) c.requires.order.told
+    ((c.is_full_of_attempts.ensures first.host first.host_at).0 c.if-is_full_of_attempts.true) c.requires.order.told
 
 pub break_unstarted-requires-clause-bound : goal.break_unstarted-requires-clause-bound
 break_unstarted-requires-clause-bound g c =
