@@ -147,6 +147,25 @@ def too_many(program):
     ])
 
 
+def too_many_attempts(program):
+    """Where 64 attempts of a node run, no link is opened for one more; one that is over leaves room for it."""
+    rows = [("connect b", GREETED.format(1, "b"))]
+    for number in range(1, 65):
+        rows += [
+            ("send 1 " + MAIL.format("out.example"), "ok"),
+            ("carry 1 b 1000", "node b link 1 used 73 out " + QUEUED.format("b", number) + f" change {number}"),
+            ("give b", f"start b {number} out.example link {number + 1}"),
+        ]
+    played(program, rows + [
+        ("send 1 " + MAIL.format("a.example"), "ok"),
+        ("carry 1 b 1000", "node b link 1 used 71 out " + QUEUED.format("b", 65) + " change 65"),
+        ("give b", "refused TooMany"),
+        ("connect a", GREETED.format(66, "a")),
+        ("break 2", "broken 2"),
+        ("give b", "start b 65 a.example link 67"),
+    ])
+
+
 def no_route(program):
     """A place whose domain only the other node has a route for isn't taken; a report whose domain none has is given up."""
     played(program, [
@@ -267,7 +286,7 @@ def carries(program):
 
 def main(program):
     program = str(pathlib.Path(program).resolve())
-    for check in (scripts, compactions, refusals, too_many, no_route, cascade, faults):
+    for check in (scripts, compactions, refusals, too_many, too_many_attempts, no_route, cascade, faults):
         check(program)
     count, seconds = circle(program)
     print(f"ok: plays: scripts, compactions, refusals, stops, faults; a circle of {count} carries in {seconds:.2f} s, "
