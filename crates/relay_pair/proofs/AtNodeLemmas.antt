@@ -275,7 +275,7 @@ module _ {D : Type 0} (honest : Type 0) (words : DiskWords D) (old opened : Worl
         subst (λ n. Breaks opened breaks.middle n) is
         (subst (λ (w : World D). Breaks w breaks.middle number) refused.0 breaks.breaks) in
         let free_still : IsFull (attempts_in refused.1.0.state) → ⊥ =
-        subst (λ runs. IsFull runs → ⊥) (sym (attempts_still refused.1.0 refused.1.1)) free in
+        subst (λ (runs : List (Option Run)). IsFull runs → ⊥) (sym (attempts_still refused.1.0 refused.1.1)) free in
         let memory : why ≡ node_fault.NoMemory = memory_alone refused.1.0 why free_still refused.1.2 in
         done_steps honest words old (Give node) new answer (
           none,
