@@ -1,0 +1,6 @@
+//! A text in pieces, which are freed as they are read.
+#![tactic(auto)]
+
+mod pieces;
+
+pub use pieces::Pieces;
