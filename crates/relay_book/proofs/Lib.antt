@@ -33,6 +33,7 @@ mod SnapshotLengthLemmas
 mod LongLemmas
 mod PlacedLemmas
 mod EntryFieldLemmas
+mod PieceLemmas
 mod SnapshotReadLemmas
 mod SnapshotWriteLemmas
 mod FirstLemmas

@@ -1,5 +1,5 @@
 -- A snapshot is read back: its head, and its messages one after another.
-use Rattle.std.proofs.Common.{◌≡◌, ◌≢◌, ℕ, suc, ◌+◌, ◌/◌, ◌<◌, ◌≤◌, ◌^◌, List, [], ◌∷◌, ◌++◌, length, refl, sym, subst, ap, ◌∙◌, arith, append_assoc, append-nil, add-one, length-append}
+use Rattle.std.proofs.Common.{◌≡◌, ◌≢◌, ℕ, suc, ◌+◌, ◌-◌, ◌/◌, ◌<◌, ◌≤◌, ◌^◌, List, [], ◌∷◌, ◌++◌, length, min, refl, sym, subst, ap, ◌∙◌, arith, append_assoc, append-nil, add-one, length-append}
 use Rattle.std.specs.List.{AllByRecursion, flat_map}
 use Rattle.relay_book.specs.declared.version.Version.{Version}
 use Rattle.relay_book.specs.declared.version.Version.TheVariants.{WithoutDelay, WithDelay}
@@ -262,6 +262,10 @@ module _ (version : Version) where
         let so_many = entries.are.so_many in
         omega (arith, rows, long, so_many, many);
   }
+
+  -- by a count of octets that stops at a word's greatest number
+  pub too_many_counted : (count next : ℕ) (text : List ℕ) → count < 2 ^ 32 → min (length text) (2 ^ 64 - 1) / 26 < count → HasNoEntries version count next text
+  too_many_counted count next text small many = too_many count next text (omega (arith, small, many))
 
   pub octets_behind : (count next : ℕ) (text : List ℕ) (queue : Queue) (rest : List ℕ) → ReadsEntries version count next text queue rest → length rest ≢ 0
       → HasNoEntries version count next text

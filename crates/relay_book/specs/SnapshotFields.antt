@@ -3,6 +3,7 @@ use Rattle.std.specs.Prelude.{◌≡◌, ◌≢◌, ◌==◌, ◌||◌, Bool, fa
 use Rattle.std.specs.List.{flat_map, zip}
 use Rattle.relay_envelope.specs.declared.envelope.Recipient.{Recipient}
 use Rattle.relay_envelope.specs.Envelope.{IsRecipient}
+use Rattle.relay_pieces.specs.Pieces.{InPieces}
 use Rattle.relay_book.specs.declared.version.Version.{Version}
 use Rattle.relay_book.specs.declared.version.Version.TheVariants.{WithoutDelay, WithDelay}
 use Rattle.relay_book.specs.declared.message.Place.{Place}
@@ -150,6 +151,10 @@ pub record SpellsSnapshot (version : Version) (octets : List ℕ) (next count : 
 pub record SpellsNoSnapshot (octets : List ℕ) : Type 0 where
   pub none : (version : Version) (next count : ℕ) (rest : List ℕ) → SpellsSnapshot version octets next count rest
       → ⊥
+
+-- what stands before the messages can be read at once, if the text has so much, and else the whole text
+abbrev pub HoldsHead : InPieces → Type 0
+HoldsHead octets = length octets.front < 13 → octets.left ≡ 0
 
 -- the octets that are read before any memory is wanted begin as those of a snapshot
 pub record MayBeSnapshot (octets : List ℕ) : Type 0 where

@@ -17,7 +17,7 @@ use crate::fault::BookFault;
 use crate::field::{read_4, read_8, read_sized_2};
 use crate::limits::{REPORT_LIMIT, may_be_hop, text_limit};
 use crate::version::Version;
-pub(crate) use entry::read_entry_in;
+pub(crate) use entry::next_entry;
 use mail::mail_of;
 use recipient::{read_fields, read_recipients};
 use relay_envelope::{Envelope, Recipients};

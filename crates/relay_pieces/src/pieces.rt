@@ -1,4 +1,4 @@
-ghost use Rattle.std.specs.Prelude.{◌≡◌, ◌+◌, ◌-◌, ◌^◌, ◌≤◌, [], ◌++◌, false, drop, length, min, IfOk, OnOk, IsTrue};
+ghost use Rattle.std.specs.Prelude.{◌≡◌, ◌+◌, ◌-◌, ◌^◌, ◌<◌, ◌≤◌, [], ◌++◌, drop, length, min, IfOk, OnErr, OnOk};
 ghost use Rattle.relay_pieces.specs.Pieces.{TakesUp, text_of};
 
 use std::alloc::{AllocError, Global};
@@ -83,9 +83,38 @@ impl Pieces {
         self.used += count;
     }
 
-    /// Puts the next piece to what is held, and tells whether there was one. Where memory runs out, the text is lost.
+    /// Sees that so many octets can be read, or all where the text has fewer. Memory is wanted only where fewer could
+    /// be read, and a piece stands behind them; where it runs out, the text is lost.
+    pub fn hold_first(&mut self, count: usize) -> Result<(), AllocError>
+        ensures text { OnOk result (text_of self.new ≡ text_of self.old) }
+        ensures held { OnOk result (length self.new.front < count → self.new.behind ≡ []) }
+        ensures memory { OnErr result ((length self.old.front < count) × (0 < self.old.left)) }
+    {
+        if self.front().len() >= count {
+            return Ok(());
+        }
+        self.take_up_to(count)
+    }
+
+    /// Puts pieces to what is held until so many octets can be read, or none is left.
+    fn take_up_to(&mut self, count: usize) -> Result<(), AllocError>
+        ensures text { OnOk result (text_of self.new ≡ text_of self.old) }
+        ensures held { OnOk result (length self.new.front < count → self.new.behind ≡ []) }
+        ensures memory { OnErr result (0 < self.old.left) }
+    {
+        while self.front().len() < count {
+            if !self.take_up()? {
+                return Ok(());
+            }
+        }
+        Ok(())
+    }
+
+    /// Puts the next piece to what is held, and tells whether there was one. Memory is wanted only where there is one;
+    /// where it runs out, the text is lost.
     pub fn take_up(&mut self) -> Result<bool, AllocError>
-        ensures { IfOk result (TakesUp self.old self.new) }
+        ensures next { IfOk result (TakesUp self.old self.new) }
+        ensures memory { OnErr result (0 < self.old.left) }
     {
         let Some(piece) = self.rest.pop_front() else {
             return Ok(false);

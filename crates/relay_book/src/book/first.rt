@@ -1,5 +1,6 @@
 //! The first body of a spool: a snapshot, or the record of a first change.
 ghost use Rattle.std.specs.Prelude.{◌≡◌, IfOk, OnOk, IsErrOf};
+ghost use Rattle.relay_pieces.specs.Pieces.{text_of};
 ghost use Rattle.relay_book.specs.Snapshot.{IsQueue};
 ghost use Rattle.relay_book.specs.SnapshotFields.{is_of_snapshot};
 ghost use Rattle.relay_book.specs.StandsFor.{ReadsBody, ReadsFirst, ReadsNoBody, ReadsNoFirst};
@@ -7,22 +8,24 @@ ghost use Rattle.relay_book.specs.StandsFor.{ReadsBody, ReadsFirst, ReadsNoBody,
 use crate::book::Book;
 use crate::decode::decode_record;
 use crate::fault::BookFault;
+use relay_pieces::Pieces;
 use std::alloc::Global;
 
 impl Book {
     /// The book that a first body leaves: of the queue of which it is the snapshot, or of the one change that it
     /// records. It fails with `BadRecord` exactly where it is neither, and where memory runs out.
     #[tactic(auto, using(crate::proofs::FirstLemmas::snapshot_first, crate::proofs::FirstLemmas::no_snapshot_first, crate::proofs::FirstLemmas::change_first, crate::proofs::FirstLemmas::no_change_first, crate::proofs::StandLemmas::first_is_queue))]
-    pub fn read_first(alloc: Global, body: Vec<u8>) -> Result<Self, BookFault>
-        ensures reads { IfOk result (λ book. ReadsFirst body.items book.queue) }
+    pub fn read_first(alloc: Global, mut body: Pieces) -> Result<Self, BookFault>
+        ensures reads { IfOk result (λ book. ReadsFirst (text_of body) book.queue) }
         ensures queue { IfOk result (λ book. IsQueue book.queue) }
-        ensures bad { IsErrOf result BookFault.BadRecord → ReadsNoFirst body.items }
+        ensures bad { IsErrOf result BookFault.BadRecord → ReadsNoFirst (text_of body) }
     {
-        if is_of_snapshot(body.as_slice()) {
-            return Book::decode_snapshot(alloc, body.as_slice());
+        body.hold_first(1)?;
+        if is_of_snapshot(body.front()) {
+            return Book::decode_snapshot(alloc, body);
         }
         let mut book = Book::new(alloc);
-        book.read_next(alloc, body)?;
+        book.read_next(alloc, body.into_vec()?)?;
         Ok(book)
     }
 

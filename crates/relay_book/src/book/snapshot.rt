@@ -1,15 +1,16 @@
 //! The snapshot of a book's queue, written and read back.
 ghost use Rattle.std.specs.Prelude.{◌≡◌, ◌≢◌, ◌≤◌, ◌<◌, ◌+◌, ◌-◌, ◌^◌, ◌++◌, length, min, IfOk, OnOk, IsErrOf, MatchOption};
 ghost use Rattle.std.specs.List.{AllByRecursion, flat_map};
+ghost use Rattle.relay_pieces.specs.Pieces.{text_of};
 ghost use Rattle.relay_book.specs.Book.{if_there, live};
 ghost use Rattle.relay_book.specs.Queue.{empty_queue, last_number};
 ghost use Rattle.relay_book.specs.declared.version.Version.TheVariants.{WithDelay};
 ghost use Rattle.relay_book.specs.Snapshot.{IsNoSnapshot, IsQueue, IsQueued, IsSnapshotOf, entry_octets, snapshot, snapshot_kind};
 ghost use Rattle.relay_book.specs.declared.version.Version.{Version as AnyVersion};
-ghost use Rattle.relay_book.specs.SnapshotFields.{AreEntries, HasNoEntries, MayBeSnapshot, SpellsCounts, SpellsNoCounts, SpellsNoSnapshot, SpellsSnapshot, entries_length};
+ghost use Rattle.relay_book.specs.SnapshotFields.{AreEntries, HasNoEntries, HoldsHead, MayBeSnapshot, SpellsCounts, SpellsNoCounts, SpellsNoSnapshot, SpellsSnapshot, entries_length};
 
 use crate::book::Book;
-use crate::decode::read_entry_in;
+use crate::decode::next_entry;
 use crate::encode::push_entry;
 use crate::fault::BookFault;
 use crate::field::{push_1, push_4, push_8, read_4, read_8};
@@ -18,6 +19,7 @@ use crate::limits::LAST_NUMBER;
 use crate::message::Message;
 use crate::version::Version;
 use indexmap::IndexMap;
+use relay_pieces::Pieces;
 use std::alloc::{AllocError, Global};
 
 /// The octets of a snapshot in front of its messages: that of its kind, the next number, and their count.
@@ -42,64 +44,76 @@ impl Book {
         length_of(&self.messages)
     }
 
-    /// The book of the queue of which these octets are the snapshot, with one copy of each text. It fails with
-    /// `BadRecord` exactly where they are no snapshot of a queue, and where memory runs out; memory is wanted only
-    /// behind the count of messages.
+    /// The book of the queue of which these octets are the snapshot, with one copy of each text; their pieces are
+    /// freed as they are read. It fails with `BadRecord` exactly where they are no snapshot of a queue, and where
+    /// memory runs out; where what stands before the messages can be read at once, memory is wanted only behind it.
     #[tactic(auto, using(crate::proofs::SnapshotReadLemmas::bad_head, crate::proofs::SnapshotReadLemmas::bad_next, crate::proofs::SnapshotReadLemmas::bad_entries, crate::proofs::SnapshotReadLemmas::may_be))]
-    pub fn decode_snapshot(alloc: Global, octets: &[u8]) -> Result<Self, BookFault>
-        ensures snapshot { IfOk result (λ book. IsSnapshotOf octets.now book.queue) }
-        ensures bad { IsErrOf result BookFault.BadRecord → IsNoSnapshot octets.now }
-        ensures memory { IsErrOf result BookFault.NoMemory → MayBeSnapshot octets.now }
+    pub fn decode_snapshot(alloc: Global, mut octets: Pieces) -> Result<Self, BookFault>
+        ensures snapshot { IfOk result (λ book. IsSnapshotOf (text_of octets) book.queue) }
+        ensures bad { IsErrOf result BookFault.BadRecord → IsNoSnapshot (text_of octets) }
+        ensures memory { IsErrOf result BookFault.NoMemory → HoldsHead octets → MayBeSnapshot (text_of octets) }
     {
-        let Some((version, next, count, rest)) = read_head(octets) else {
-            return Err(BookFault::BadRecord);
-        };
+        let (version, next, count) = next_head(&mut octets)?;
         if next < 1 || next > LAST_NUMBER + 1 {
             return Err(BookFault::BadRecord);
         }
         let mut book = Book::new(alloc);
-        book.read_entries(alloc, version, next, count, rest)?;
+        book.read_entries(alloc, version, next, count, octets)?;
         Ok(book)
     }
 
     /// Reads so many messages into an empty book, and takes this next number; the whole text is these messages. Memory
     /// is asked for no more messages than may stand in the text.
-    #[tactic(auto, using(crate::proofs::SnapshotReadLemmas::none_read, crate::proofs::SnapshotReadLemmas::too_many))]
+    #[tactic(auto, using(crate::proofs::SnapshotReadLemmas::none_read, crate::proofs::SnapshotReadLemmas::too_many_counted))]
     fn read_entries(
         &mut self,
         alloc: Global,
         version: Version,
         next: u64,
         count: u32,
-        text: &[u8],
+        mut text: Pieces,
     ) -> Result<(), BookFault>
         requires empty { self.old.queue ≡ empty_queue }
         requires some { 1 ≤ next }
         requires few { next ≤ last_number + 1 }
         ensures next { OnOk result (self.new.queue.next ≡ next) }
-        ensures entries { OnOk result (AreEntries version count next text.now self.new.queue.messages) }
-        ensures bad { IsErrOf result BookFault.BadRecord → HasNoEntries version count next text.now }
+        ensures entries { OnOk result (AreEntries version count next (text_of text) self.new.queue.messages) }
+        ensures bad { IsErrOf result BookFault.BadRecord → HasNoEntries version count next (text_of text) }
     {
         if count as usize > text.len() / ENTRY_HEAD {
             return Err(BookFault::BadRecord);
         }
         self.make_room(count as usize)?;
-        let mut rest = text;
         for index in 0..count {
-            match read_entry_in(alloc, version, self.next_number(), next, rest) {
+            match next_entry(alloc, version, self.next_number(), next, &mut text) {
                 Err(fault) => return Err(fault),
-                Ok((message, behind)) => {
-                    self.restore(message)?;
-                    rest = behind;
-                }
+                Ok(message) => self.restore(message)?,
             }
         }
-        if !rest.is_empty() {
+        if text.len() > 0 {
             return Err(BookFault::BadRecord);
         }
         self.skip_to(next);
         Ok(())
     }
+}
+
+/// The version of a snapshot, the next number and the count of messages, which are let go.
+#[tactic(auto, using(crate::proofs::PieceLemmas::head_in_all, crate::proofs::PieceLemmas::no_head_in_all, crate::proofs::PieceLemmas::head_behind))]
+fn next_head(octets: &mut Pieces) -> Result<(Version, u64, u32), BookFault>
+    ensures head { IfOk result (λ parts.
+        SpellsSnapshot parts.0 (text_of octets.old) parts.1 parts.2 (text_of octets.new)) }
+    ensures bad { IsErrOf result BookFault.BadRecord → SpellsNoSnapshot (text_of octets.old) }
+    ensures memory { IsErrOf result BookFault.NoMemory → HoldsHead octets.old → ⊥ }
+{
+    octets.hold_first(HEAD_LENGTH)?;
+    let front = octets.front();
+    let Some((version, next, count, rest)) = read_head(front) else {
+        return Err(BookFault::BadRecord);
+    };
+    let used = front.len() - rest.len();
+    octets.advance(used);
+    Ok((version, next, count))
 }
 
 /// The version of a snapshot, by its first octet, the next number, the count of messages, and what follows them.

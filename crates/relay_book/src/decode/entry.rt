@@ -1,5 +1,6 @@
 //! The messages of a snapshot.
-ghost use Rattle.std.specs.Prelude.{◌≡◌, ◌++◌, ◌≤◌, ◌<◌, IfOk, IsErrOf};
+ghost use Rattle.std.specs.Prelude.{◌≡◌, ◌++◌, ◌≤◌, ◌<◌, IfOk, IsErrOf, OnErr};
+ghost use Rattle.relay_pieces.specs.Pieces.{text_of};
 ghost use Rattle.relay_book.specs.Fields.{HasNone};
 ghost use Rattle.relay_book.specs.Snapshot.{IsQueuedBy, entry_octets};
 ghost use Rattle.relay_book.specs.SnapshotFields.{IsQueuedIn, SpellsEntry, numbered};
@@ -15,6 +16,7 @@ use crate::message::{Message, Places};
 use crate::version::Version;
 use relay_envelope::{Envelope, Recipients};
 use relay_octets::Octets;
+use relay_pieces::Pieces;
 use relay_trace::Moment;
 use std::alloc::Global;
 
@@ -103,7 +105,7 @@ fn read_entry(alloc: Global, version: Version, text: &[u8]) -> Result<(Message, 
 
 /// A message of a number from a least one to below the next, and what follows it.
 #[tactic(auto, using(crate::proofs::EntryFieldLemmas::none_in, crate::proofs::EntryFieldLemmas::out_of_row))]
-pub(crate) fn read_entry_in(
+fn read_entry_in(
     alloc: Global,
     version: Version,
     least: u64,
@@ -120,4 +122,54 @@ pub(crate) fn read_entry_in(
         return Err(BookFault::BadRecord);
     }
     Ok((message, rest))
+}
+
+/// The same at the front of what is held of a text, where it is let go.
+#[tactic(auto, using(crate::proofs::PieceLemmas::behind_first, crate::proofs::PieceLemmas::first_behind))]
+fn read_front(
+    alloc: Global,
+    version: Version,
+    least: u64,
+    next: u64,
+    text: &mut Pieces,
+) -> Result<Message, BookFault>
+    ensures entry { IfOk result (λ message. IsQueuedIn version least next (numbered message)
+        × (text_of text.old ≡ entry_octets version (numbered message) ++ text_of text.new)) }
+    ensures bad { IsErrOf result BookFault.BadRecord
+        → HasNone (IsQueuedIn version least next) (entry_octets version) text.old.front }
+    ensures err { OnErr result (text.new ≡ text.old) }
+{
+    let front = text.front();
+    let (message, rest) = read_entry_in(alloc, version, least, next, front)?;
+    let used = front.len() - rest.len();
+    text.advance(used);
+    Ok(message)
+}
+
+/// The same at the front of a text, where it is let go. Its pieces are put together only where a message stands in
+/// several.
+#[tactic(auto, using(crate::proofs::PieceLemmas::none_in_all))]
+pub(crate) fn next_entry(
+    alloc: Global,
+    version: Version,
+    least: u64,
+    next: u64,
+    text: &mut Pieces,
+) -> Result<Message, BookFault>
+    ensures entry { IfOk result (λ message. IsQueuedIn version least next (numbered message)
+        × (text_of text.old ≡ entry_octets version (numbered message) ++ text_of text.new)) }
+    ensures bad { IsErrOf result BookFault.BadRecord
+        → HasNone (IsQueuedIn version least next) (entry_octets version) (text_of text.old) }
+{
+    loop {
+        match read_front(alloc, version, least, next, text) {
+            Ok(message) => return Ok(message),
+            Err(BookFault::NoMemory) => return Err(BookFault::NoMemory),
+            Err(BookFault::BadRecord) => {
+                if !text.take_up()? {
+                    return Err(BookFault::BadRecord);
+                }
+            }
+        }
+    }
 }

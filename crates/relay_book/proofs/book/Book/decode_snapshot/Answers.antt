@@ -1,4 +1,5 @@
 use Rattle.std.proofs.Common.{arith}
+use Rattle.relay_pieces.specs.Pieces.{text_of}
 use Rattle.relay_book.proofs.book.Book.decode_snapshot.Goals.{then-next-lt1-via-then-next-lt1, then-next-lt1-via-else-next-lt1+then-next}
 use Rattle.relay_book.proofs.SnapshotReadLemmas.{bad_next, is_snapshot}
 use Rattle.relay_book.proofs.book.Book.decode_snapshot.Goals as goal
@@ -6,12 +7,12 @@ use Rattle.relay_book.proofs.book.Book.decode_snapshot.Goals as goal
 pub returns-clause-snapshot : goal.returns-clause-snapshot
 returns-clause-snapshot c =
     let few = c.if-next.false in
-    is_snapshot c.in-Some.version c.args.octets.now c.in-Some.next c.in-Some.count c.in-Some.rest.now c.read_entries.new.self.queue c.in-Some.ensures (omega (arith, few))
+    is_snapshot c.in_ok-version.version (text_of c.args.octets) c.in_ok-version.next c.in_ok-version.count (text_of c.next_head.new.octets) c.read_entries.new.self.queue c.in_ok-version.ensures.head (omega (arith, few))
     c.in_ok-read_entries.ensures.next c.in_ok-read_entries.ensures.entries
 
 pub returns-then-next-lt1-clause-bad : goal.returns-then-next-lt1-clause-bad
 returns-then-next-lt1-clause-bad c =
-    λ _. bad_next c.in-Some.version c.args.octets.now c.in-Some.next c.in-Some.count c.in-Some.rest.now c.in-Some.ensures
+    λ _. bad_next c.in_ok-version.version (text_of c.args.octets) c.in_ok-version.next c.in_ok-version.count (text_of c.next_head.new.octets) c.in_ok-version.ensures.head
     (elim c.then-next-lt1.branch [
       | then-next-lt1-via-then-next-lt1 w ↦ (λ some few. let low = w.if-next-lt1.true in omega (arith, some, low))
       | then-next-lt1-via-else-next-lt1+then-next w ↦ (λ some few. let high = w.if-next.true in omega (arith, few, high))

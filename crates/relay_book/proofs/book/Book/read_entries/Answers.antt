@@ -1,5 +1,6 @@
 -- One message more was read, or is the first that isn't one.
 use Rattle.std.proofs.Common.{◌≡◌, ◌≢◌, ℕ, arith, length, rules, subst}
+use Rattle.relay_pieces.specs.Pieces.{text_of}
 use Rattle.relay_book.specs.Fields.{HasNone}
 use Rattle.relay_book.specs.Snapshot.{entry_octets}
 use Rattle.relay_book.specs.SnapshotFields.{IsQueuedIn, ReadsEntries, numbered}
@@ -10,31 +11,31 @@ use Rattle.relay_book.proofs.book.Book.read_entries.Goals as goal
 pub returns-in-Err-clause-bad : goal.returns-in-Err-clause-bad
 returns-in-Err-clause-bad c =
     let least_is : c.next_number.result ≡ c.loop-index.self.queue.next = search rules in
-    λ bad. no_next_entry c.args.version c.args.count c.args.next c.args.text.now c.loop-index.index c.loop-index.self.queue c.loop-index.rest.now c.loop-index-test.true c.loop-index.invariant
-    (subst (λ (n : ℕ). HasNone (IsQueuedIn c.args.version n c.args.next) (entry_octets c.args.version) c.loop-index.rest.now) least_is (c.in-Err.ensures.bad (fault_as _ c.in-Err.fault _ bad)))
+    λ bad. no_next_entry c.args.version c.args.count c.args.next (text_of c.args.text) c.loop-index.index c.loop-index.self.queue (text_of c.loop-index.text) c.loop-index-test.true c.loop-index.invariant
+    (subst (λ (n : ℕ). HasNone (IsQueuedIn c.args.version n c.args.next) (entry_octets c.args.version) (text_of c.loop-index.text)) least_is (c.in-Err.ensures.bad (fault_as _ c.in-Err.fault _ bad)))
 
 pub loop-index-preserved : goal.loop-index-preserved
 loop-index-preserved c =
     let least_is : c.next_number.result ≡ c.loop-index.self.queue.next = search rules in
-    one_read c.args.version c.loop-index.index c.args.next c.args.text.now c.loop-index.self.queue c.loop-index.rest.now c.in-Ok.message c.in-Ok.behind.now c.restore.new.self.queue
+    one_read c.args.version c.loop-index.index c.args.next (text_of c.args.text) c.loop-index.self.queue (text_of c.loop-index.text) c.in-Ok.message (text_of c.next_entry.new.text) c.restore.new.self.queue
     c.loop-index.invariant (subst (λ (n : ℕ). IsQueuedIn c.args.version n c.args.next (numbered c.in-Ok.message)) least_is c.in-Ok.ensures.entry.0) c.in-Ok.ensures.entry.1
     c.in_ok-restore-in-Ok.ensures.next c.in_ok-restore-in-Ok.ensures.messages
 
-pub returns-then-not-is_empty-clause-bad : goal.returns-then-not-is_empty-clause-bad
-returns-then-not-is_empty-clause-bad c =
+pub returns-then-len-gt0-clause-bad : goal.returns-then-len-gt0-clause-bad
+returns-then-len-gt0-clause-bad c =
     let past = c.loop-index-test.false in
     let within = c.loop-index.auto.index-end in
     let whole : c.loop-index.index ≡ c.args.count = omega (arith, past, within) in
-    let some : length c.loop-index.rest.now ≢ 0 = search rules in
-    λ _. octets_behind c.args.version c.args.count c.args.next c.args.text.now c.loop-index.self.queue c.loop-index.rest.now
-    (subst (λ (n : ℕ). ReadsEntries c.args.version n c.args.next c.args.text.now c.loop-index.self.queue c.loop-index.rest.now) whole c.loop-index.invariant) some
+    let some : length (text_of c.loop-index.text) ≢ 0 = search rules in
+    λ _. octets_behind c.args.version c.args.count c.args.next (text_of c.args.text) c.loop-index.self.queue (text_of c.loop-index.text)
+    (subst (λ (n : ℕ). ReadsEntries c.args.version n c.args.next (text_of c.args.text) c.loop-index.self.queue (text_of c.loop-index.text)) whole c.loop-index.invariant) some
 
 pub returns-clause-entries : goal.returns-clause-entries
 returns-clause-entries c =
     let past = c.loop-index-test.false in
     let within = c.loop-index.auto.index-end in
     let whole : c.loop-index.index ≡ c.args.count = omega (arith, past, within) in
-    let none : length c.loop-index.rest.now ≡ 0 = search rules in
-    all_read c.args.version c.args.count c.args.next c.args.text.now c.loop-index.self.queue c.loop-index.rest.now c.skip_to.new.self.queue.messages
-    (subst (λ (n : ℕ). ReadsEntries c.args.version n c.args.next c.args.text.now c.loop-index.self.queue c.loop-index.rest.now) whole c.loop-index.invariant) none
+    let none : length (text_of c.loop-index.text) ≡ 0 = search rules in
+    all_read c.args.version c.args.count c.args.next (text_of c.args.text) c.loop-index.self.queue (text_of c.loop-index.text) c.skip_to.new.self.queue.messages
+    (subst (λ (n : ℕ). ReadsEntries c.args.version n c.args.next (text_of c.args.text) c.loop-index.self.queue (text_of c.loop-index.text)) whole c.loop-index.invariant) none
     c.skip_to.ensures.messages
