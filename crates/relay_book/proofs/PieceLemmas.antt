@@ -7,7 +7,7 @@ use Rattle.relay_book.specs.declared.version.Version.{Version}
 use Rattle.relay_book.specs.Fields.{HasNone}
 use Rattle.relay_book.specs.Record.{octets_4, octets_8}
 use Rattle.relay_book.specs.Snapshot.{snapshot_kind}
-use Rattle.relay_book.specs.SnapshotFields.{SpellsNoSnapshot, SpellsSnapshot}
+use Rattle.relay_book.specs.SnapshotFields.{SpellsNoSnapshot, SpellsSnapshot, is_of_snapshot}
 use Rattle.relay_book.proofs.LengthLemmas.{length_8}
 
 -- what follows a first part is not longer than the text
@@ -99,3 +99,11 @@ no_head_in_all text pieces out short same = subst SpellsNoSnapshot same (by (cas
             count_fits = spelled.count_fits;
           });
     }
+
+-- the first octet of what is held is that of the text
+pub kind_in_all : (pieces : InPieces) → (length pieces.front < 1 → pieces.behind ≡ []) → is_of_snapshot pieces.front ≡ is_of_snapshot (text_of pieces)
+kind_in_all pieces held = by pieces.front pieces.behind held
+  where
+    by : (front behind : List ℕ) → (length front < 1 → behind ≡ []) → is_of_snapshot front ≡ is_of_snapshot (front ++ behind)
+    by [] behind held = ap is_of_snapshot (sym (held (omega arith)))
+    by (octet ∷ front) behind held = refl
