@@ -11,7 +11,7 @@ use Rattle.relay_book.specs.declared.message.Message.{Message}
 use Rattle.relay_book.specs.Fields.{AreSome}
 use Rattle.relay_book.specs.Queue.{Queue}
 use Rattle.relay_book.specs.Record.{counted, octets_2, octets_4, octets_8, recipient_octets, ret_number, sized_2, sized_4, worth, written}
-use Rattle.relay_book.specs.Snapshot.{IsPlaceBy, MaySay, IsQueue, IsQueuedBy, IsSnapshotBy, IsSnapshotOf, SnapshotIsOne, delay_octets, entry_octets, placed_octets, place_octets, snapshot_by, snapshot_kind}
+use Rattle.relay_book.specs.Snapshot.{IsPlaceBy, MaySay, IsQueue, IsQueuedBy, IsSnapshotBy, SnapshotIsOne, delay_octets, entry_octets, placed_octets, place_octets, snapshot_by, snapshot_kind}
 use Rattle.relay_book.specs.SnapshotFields.{IsPlacedBy, SpellsEntry}
 use Rattle.relay_book.proofs.CodeLemmas.{IsCode, first_of, code_2, code_4, code_8, code_list, code_sized}
 use Rattle.relay_book.proofs.FieldLemmas.{same_head}

@@ -1,5 +1,5 @@
 -- The laws of what bodies stand for.
-use Rattle.std.proofs.Common.{◌≡◌, ℕ, ◌≤◌, List, [], ◌∷◌, ◌++◌, map, fold, inl, inr, refl, sym, subst, ap, ◌∙◌, arith}
+use Rattle.std.proofs.Common.{◌≡◌, ℕ, List, [], ◌∷◌, ◌++◌, map, fold, inl, inr, refl, sym, subst, ap, ◌∙◌, arith}
 use Rattle.std.specs.List.{AllByRecursion}
 use Rattle.std.proofs.lemmas.List.Sums.{fold-append}
 use Rattle.relay_book.specs.declared.version.Version.{Version}
@@ -10,7 +10,7 @@ use Rattle.relay_book.specs.declared.change.Change.{Change}
 use Rattle.relay_book.specs.declared.change.Change.TheVariants.{Accept, Outcome}
 use Rattle.relay_book.specs.Record.{IsChange, encode, outcome_kind}
 use Rattle.relay_book.specs.Queue.{Queue, FitsQueue, FitsFrom, empty_queue, queue_of, step}
-use Rattle.relay_book.specs.Snapshot.{IsPlace, IsPlaceBy, IsQueue, IsQueued, IsQueuedBy, IsSnapshotOf, snapshot, snapshot_kind}
+use Rattle.relay_book.specs.Snapshot.{IsPlace, IsPlaceBy, IsQueue, IsQueued, IsQueuedBy, IsSnapshotOf, snapshot_kind}
 use Rattle.relay_book.specs.StandsFor.{BodiesLeaveOne, EncodingsStand, NoneStandForNone, OneMoreStands, QueueIsRead, ReadsAll, ReadsBody, ReadsFirst, ReadsQueue, SnapshotIsRead, SnapshotStands}
 use Rattle.relay_book.proofs.ChangeFieldLemmas.{encoding_is_one}
 use Rattle.relay_book.proofs.CodeLemmas.{first_of}

@@ -12,7 +12,7 @@ use Rattle.relay_book.specs.Book.{Rise}
 use Rattle.relay_book.specs.Fields.{AreSome, AreSoMany}
 use Rattle.relay_book.specs.Queue.{Queue}
 use Rattle.relay_book.specs.Record.{counted, octets_4, octets_8, sized_2, sized_4, worth, written}
-use Rattle.relay_book.specs.Snapshot.{IsPlace, IsPlaceBy, IsQueued, IsQueuedBy, delay_octets, entry_octets, placed_octets, snapshot_kind}
+use Rattle.relay_book.specs.Snapshot.{IsPlace, IsPlaceBy, IsQueuedBy, delay_octets, entry_octets, placed_octets, snapshot_kind}
 
 -- no text behind a length of four octets begins these octets
 pub record HasNoLong (text : List ℕ) : Type 0 where

@@ -1,5 +1,5 @@
 -- A first body that is no snapshot records a first change, or is none.
-use Rattle.std.proofs.Common.{◌≡◌, List, ℕ, false, ap, sym, subst, rules, ◌∙◌}
+use Rattle.std.proofs.Common.{◌≡◌, false, ap, sym, subst, rules, ◌∙◌}
 use Rattle.relay_pieces.specs.Pieces.{text_of}
 use Rattle.relay_book.specs.SnapshotFields.{is_of_snapshot}
 use Rattle.relay_book.specs.StandsFor.{ReadsNoBody}

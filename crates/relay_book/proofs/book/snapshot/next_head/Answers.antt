@@ -1,6 +1,5 @@
 -- What stands before the messages was let go.
-use Rattle.std.proofs.Common.{◌≡◌, ◌-◌, List, ℕ, drop, length, ap, rules, subst, ◌∙◌}
-use Rattle.relay_pieces.specs.Pieces.{InPieces}
+use Rattle.std.proofs.Common.{◌≡◌, ◌-◌, List, ℕ, drop, length, rules, subst}
 use Rattle.relay_book.specs.SnapshotFields.{SpellsSnapshot}
 use Rattle.relay_book.proofs.PieceLemmas.{head_in_all}
 use Rattle.relay_book.proofs.book.snapshot.next_head.Goals as goal
