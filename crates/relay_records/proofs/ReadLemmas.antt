@@ -1,10 +1,10 @@
 -- Bodies that are read one by one.
-use Rattle.std.proofs.Common.{◌≡◌, ℕ, zero, suc, ◌+◌, List, [], ◌∷◌, ◌++◌, length, map, Vec, refl, sym, ap, ◌∙◌, subst}
+use Rattle.std.proofs.Common.{◌≡◌, ℕ, zero, suc, ◌+◌, List, [], ◌∷◌, ◌++◌, length, map, refl, sym, ap, ◌∙◌, subst}
 use Rattle.std.specs.Iterator.{Yields}
 use Rattle.std.proofs.lemmas.List.{map-append}
 use Rattle.std.specs.Vec.Iter.{into_iter_items, into_iter_steps}
-use Rattle.std.specs.declared.alloc.Global.{Global}
 use Rattle.std.specs.declared.vec.IntoIter.{IntoIter}
+use Rattle.relay_pieces.specs.Pieces.{InPieces, text_of}
 use Rattle.relay_book.specs.Queue.{Queue, empty_queue}
 use Rattle.relay_book.specs.Snapshot.{IsQueue}
 use Rattle.relay_book.specs.StandsFor.{ReadsAll, ReadsBody, ReadsFirst, ReadsNoBody, ReadsNoFirst, ReadsQueue}
@@ -74,10 +74,10 @@ taken_front s [] t y = ap into_iter_items y
 taken_front s (x ∷ xs) t y = y.1.0 ∙ ap (λ ys. x ∷ ys) (taken_front y.0 xs t y.2)
 
 -- the texts of what was given, of the one that is given now, and of the others
-pub texts_around : {A : Type 0} (rows : List (Vec ℕ Global)) (s t u : IntoIter (Vec ℕ Global) A) (given : List (Vec ℕ Global)) (row : Vec ℕ Global)
+pub texts_around : {A : Type 0} (rows : List InPieces) (s t u : IntoIter InPieces A) (given : List InPieces) (row : InPieces)
     → into_iter_items s ≡ rows → Yields into_iter_steps s given t → into_iter_items t ≡ row ∷ into_iter_items u
-    → map (λ (r : Vec ℕ Global). r.items) rows
-    ≡ map (λ (r : Vec ℕ Global). r.items) given ++ row.items ∷ map (λ (r : Vec ℕ Global). r.items) (into_iter_items u)
+    → map text_of rows
+    ≡ map text_of given ++ text_of row ∷ map text_of (into_iter_items u)
 texts_around rows s t u given row is yielded next =
-    ap (map (λ (r : Vec ℕ Global). r.items)) (sym is ∙ taken_front s given t yielded ∙ ap (λ rest. given ++ rest) next)
-    ∙ map-append (λ (r : Vec ℕ Global). r.items) given (row ∷ into_iter_items u)
+    ap (map text_of) (sym is ∙ taken_front s given t yielded ∙ ap (λ rest. given ++ rest) next)
+    ∙ map-append text_of given (row ∷ into_iter_items u)
