@@ -31,11 +31,7 @@ pub struct Handed {
 
 /// A configuration with this line of further keys, and a route for each two words: a domain, and the name of
 /// its hop. There is none where they are no configuration.
-pub fn configuration(
-    alloc: Global,
-    keys: &str,
-    table: &str,
-) -> Result<Option<Config>, AllocError> {
+pub fn configuration(alloc: Global, keys: &str, table: &str) -> Result<Option<Config>, AllocError> {
     let mut text = format!(in alloc;
         "host = \"relay.example\"
 listen = \"127.0.0.1:2525\"

@@ -60,8 +60,16 @@ fn hold(rt: &HostRuntime, folder: &str, name: &str, host: Host) -> Result<bool, 
     let expected = fs::read(rt, format!(in alloc; "{folder}/{name}.ref")?.as_str())?;
     let alone = replies_to(alloc, said.as_slice(), host, false)?;
     let crowded = replies_to(alloc, said.as_slice(), host, true)?;
-    let is_right = alone.as_slice() == expected.as_slice() && crowded.as_slice() == expected.as_slice();
-    println!(rt; "{name}: {}", if is_right { "as written down" } else { "otherwise" })?;
+    let is_right = alone.as_slice() == expected.as_slice()
+        && crowded.as_slice() == expected.as_slice();
+    println!(rt;
+        "{name}: {}",
+        if is_right {
+            "as written down"
+        } else {
+            "otherwise"
+        }
+    )?;
     Ok(is_right)
 }
 

@@ -54,7 +54,11 @@ fn main(rt: HostRuntime) -> Result<(), Fail> {
         "report" => report(&rt),
         "compactions" => compactions(&rt),
         "file" => play_named(&rt, word_of(words.as_slice(), 2)),
-        "dialogues" => dialogues(&rt, word_of(words.as_slice(), 2), words.get(3..).unwrap_or(&[])),
+        "dialogues" => dialogues(
+            &rt,
+            word_of(words.as_slice(), 2),
+            words.get(3..).unwrap_or(&[]),
+        ),
         folder => play_files(&rt, folder),
     }
 }
