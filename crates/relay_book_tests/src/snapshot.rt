@@ -2,7 +2,11 @@
 use crate::fault::RowsFault;
 use crate::hex::octets_of;
 use relay_book::{Book, BookFault};
+use relay_pieces::Pieces;
 use std::alloc::{AllocError, Global};
+
+/// How many octets a piece of a snapshot has.
+const PIECE: usize = 7;
 
 /// The snapshot of the queue that the records of a row leave, one or two.
 pub fn snapshot_text(alloc: Global, row: &str) -> Result<String, RowsFault> {
@@ -17,12 +21,12 @@ pub fn snapshot_text(alloc: Global, row: &str) -> Result<String, RowsFault> {
 }
 
 fn of_one(alloc: Global, first: Vec<u8>) -> Result<Vec<u8>, BookFault> {
-    let book = Book::read_first(alloc, first)?;
+    let book = Book::read_first(alloc, Pieces::of_one(alloc, first))?;
     Ok(book.encode_snapshot(alloc, 0)?)
 }
 
 fn of_two(alloc: Global, first: Vec<u8>, second: Vec<u8>) -> Result<Vec<u8>, BookFault> {
-    let mut book = Book::read_first(alloc, first)?;
+    let mut book = Book::read_first(alloc, Pieces::of_one(alloc, first))?;
     book.read_next(alloc, second)?;
     Ok(book.encode_snapshot(alloc, 0)?)
 }
@@ -36,9 +40,18 @@ fn hex_text(alloc: Global, octets: &[u8]) -> Result<String, AllocError> {
     Ok(text)
 }
 
+/// The octets in pieces of so many, so that what stands before the messages and each message stand in several.
+fn in_pieces(alloc: Global, octets: &[u8]) -> Result<Pieces, AllocError> {
+    let mut pieces = Pieces::new(alloc);
+    for piece in octets.chunks(PIECE) {
+        pieces.push(Vec::from_slice(alloc, piece)?)?;
+    }
+    Ok(pieces)
+}
+
 /// The book of a snapshot, and whether it is written as these octets again.
 pub fn book_of(alloc: Global, octets: &[u8]) -> Result<(Book, bool), BookFault> {
-    let book = Book::decode_snapshot(alloc, octets)?;
+    let book = Book::decode_snapshot(alloc, in_pieces(alloc, octets)?)?;
     let again = book.encode_snapshot(alloc, 0)?;
     let same = again.as_slice() == octets;
     Ok((book, same))
@@ -46,7 +59,7 @@ pub fn book_of(alloc: Global, octets: &[u8]) -> Result<(Book, bool), BookFault> 
 
 /// Whether the octets are a snapshot.
 pub fn is_snapshot(alloc: Global, octets: &[u8]) -> Result<bool, RowsFault> {
-    match Book::decode_snapshot(alloc, octets) {
+    match Book::decode_snapshot(alloc, in_pieces(alloc, octets)?) {
         Ok(_) => Ok(true),
         Err(BookFault::BadRecord) => Ok(false),
         Err(BookFault::NoMemory) => Err(RowsFault::NoMemory),

@@ -9,6 +9,7 @@ use crate::answer::{of_call, of_fault, of_number, of_question, of_size, word};
 use crate::held::Mounted;
 use crate::octets::octets_of;
 use relay_disk::{Disk, DiskFault, Disks, MemoryDisk, Reboot};
+use relay_pieces::Pieces;
 use relay_spool::{Spool, SpoolFault};
 use std::alloc::{AllocError, Global};
 
@@ -181,11 +182,11 @@ fn answered(alloc: Global, answer: Result<(), SpoolFault>) -> Result<String, All
 }
 
 /// Whether the body of this index has these octets.
-fn is_body(alloc: Global, bodies: &[Vec<u8>], text: &str) -> Result<String, AllocError> {
+fn is_body(alloc: Global, bodies: &[Pieces], text: &str) -> Result<String, AllocError> {
     let (index, octets) = text.split_once(' ').unwrap_or((text, "-"));
     let octets = octets_of(alloc, octets)?;
     let is_so = match bodies.get(index.parse::<usize>().unwrap_or(0)) {
-        Some(body) => body.as_slice() == octets.as_slice(),
+        Some(body) => body.len() == octets.len() && body.front() == octets.as_slice(),
         None => false,
     };
     of_question(alloc, is_so)

@@ -1,5 +1,6 @@
 //! A disk and a spool over a real file.
 use relay_disk::{Disk, DiskFault, Disks, FileDisk};
+use relay_pieces::Pieces;
 use relay_spool::{Opened, Spool, SpoolFault};
 use std::alloc::Global;
 use std::fs;
@@ -145,10 +146,10 @@ fn compacts(alloc: Global, disks: Disks<FileDisk>) -> bool {
     }
 }
 
-fn are_one_and_another(bodies: &[Vec<u8>]) -> bool {
+fn are_one_and_another(bodies: &[Pieces]) -> bool {
     match bodies {
-        [first, second] => first.as_slice() == b"one".as_slice()
-            && second.as_slice() == b"another".as_slice(),
+        [first, second] => first.front() == b"one".as_slice()
+            && second.front() == b"another".as_slice(),
         _ => false,
     }
 }

@@ -15,6 +15,7 @@ use crate::held::{Held, Mounted};
 use crate::octets::octets_of;
 use crate::once::fail_once;
 use relay_disk::{Disks, MemoryDisk, Reboot};
+use relay_pieces::Pieces;
 use relay_spool::{Opened, Refused, Spool, SpoolFault};
 use std::alloc::{AllocError, Global};
 use std::test::Fail;
@@ -157,7 +158,7 @@ fn is_bodiless(alloc: Global, disks: Disks<MemoryDisk>) -> bool {
 fn mounted(
     alloc: Global,
     spool: Spool<MemoryDisk>,
-    bodies: Vec<Vec<u8>>,
+    bodies: Vec<Pieces>,
 ) -> Result<(Held, String), Fail> {
     let answer = format!(in alloc; "{} in {}", bodies.len(), spool.size())?;
     Ok((Held::Spool(Mounted { spool, bodies }), answer))
