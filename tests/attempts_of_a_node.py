@@ -1,9 +1,9 @@
 #!/usr/bin/env python3
-"""Plays each attempt that is written down beside the client's end, each row of the table of verdicts among them, by a node
-over memory: mail that a client hands in, to a next hop that says what the row says, whole, cut in two behind each octet,
-octet by octet, and among so many other clients that 64 are there. What the node writes to the hop is to be what the row
-writes, with the time stamp line before the content; which places are held behind it follows from the row's verdicts; and
-no call may want for memory.
+"""Plays each attempt that is written down beside the client's end, each row of the table of verdicts among them, by a
+node over memory: mail that a client hands in, to a next hop that says what the row says, whole, cut in two behind each
+octet, octet by octet, and among so many other clients that 64 are there. What the node writes to the hop is to be what
+the row writes, with the time stamp line before the content; which places are held behind it follows from the row's
+verdicts; and no call may want for memory.
 
     tests/attempts_of_a_node.py crates/relay_node_tests/out/relay_node_tests
 """
@@ -14,6 +14,7 @@ import sys
 import tempfile
 
 ROWS = pathlib.Path(__file__).resolve().parent.parent / "crates/relay_client_tests/data/rows.in"
+LINE_LIMIT = 2_048
 LETTERS = {b"r": b"\r", b"n": b"\n", b"t": b"\t", b"0": b"\0", b"d": b"\x7f", b"h": b"\x80", b"f": b"\xff"}
 
 
@@ -66,14 +67,18 @@ class Row:
         yield from ("< 250 queued as 1", "= change 1")
 
     def said(self):
-        """What the hop says, and the node writes: the row's, with the time stamp line of the node before the content."""
+        """What the hop says, and the node writes: as in the row, with the node's time stamp line before the content."""
         written = (trace(self.protocol) if self.protocol else b"") + self.content
         stamped = trace(self.protocol or "ESMTP") + self.content
         ours = {dotted(written) + b".\r\n": dotted(stamped) + b".\r\n", written: stamped,
                 f"BDAT {len(written)} LAST".encode(): f"BDAT {len(stamped)} LAST".encode()}
         for word, it in self.talk:
             octets = octets_of(it)
-            yield {"S": "> ", "s": ">. ", "C": "< ", "c": "<. "}[word] + escaped(ours.get(octets, octets))
+            if word == "S" and len(octets) + 2 > LINE_LIMIT:
+                # The attempt ends by the last octet that a line may have and that isn't its end: no more is used.
+                yield ">. " + escaped((octets + b"\r\n")[:LINE_LIMIT])
+            else:
+                yield {"S": "> ", "s": ">. ", "C": "< ", "c": "<. "}[word] + escaped(ours.get(octets, octets))
 
     def is_reported(self, place, verdict):
         notify = re.search(r" NOTIFY=(\S+)", self.recipients[place])
@@ -104,9 +109,11 @@ class Row:
 
 def main():
     every = [Row(lines) for lines in rows()]
-    # An attempt is for all places of a new message that go one way, so a row of some of them alone isn't played.
-    played = [it for it in every if it.places == list(range(len(it.recipients)))]
-    assert len(played) >= len(every) - 3, f"{len(played)} of {len(every)} rows are played"
+    # An attempt is for all places of a new message that go one way, so a row of some of them alone isn't played, nor
+    # are the four that are wrong on purpose.
+    right = [it for it in every if not it.name.startswith("wrong: ")]
+    played = [it for it in right if it.places == list(range(len(it.recipients)))]
+    assert (len(every) - len(right), len(right) - len(played)) == (4, 1), f"{len(played)} of {len(every)} are played"
     with tempfile.TemporaryDirectory() as folder:
         path = pathlib.Path(folder) / "attempts.in"
         path.write_text("\n".join(line for it in played for line in it.scenario()) + "\n")
