@@ -1,7 +1,7 @@
 #!/usr/bin/env bash
-# Runs a node once for each allocation of the program, which is refused: with two sessions, with an attempt whose
-# three places go three ways in one change with a report, and with a spool that is written anew. Either the program says that it couldn't begin, and ends with
-# status 1; or the call that met the refusal is answered so, its session or attempt is gone, no change was made for it,
+# Runs a node once for each allocation of the program, which is refused: with two sessions, whose mail comes as lines or
+# in chunks, with an attempt whose three places go three ways in one change with a report, and with a spool that is
+# written anew. Either the program says that it couldn't begin, and ends with status 1; or the call that met the refusal is answered so, its session or attempt is gone, no change was made for it,
 # and what is done behind it comes as if nothing had been; or the disk couldn't grow, which counts as a device that
 # failed, and the node is stopped.
 #
@@ -55,28 +55,35 @@ refuse_each() {
 }
 
 # Two sessions.
-mail() { echo "session $1: 69 octets used, 104 out, change $2, close false"; }
+mail() { echo "session $1: $taken, change $2, close false"; }
 quit() { echo "session $1: 6 octets used, 27 out, change 0, close true"; }
 refused() { echo "session $1: no memory"; }
 gone() { echo "session $1: unknown"; }
 stopped() { echo "session $1: stopped"; }
 next() { echo "the next change is $1"; }
 
-# What comes out where no piece, or where one of the four, met the refusal.
-{ mail 0 1; mail 1 2; quit 0; quit 1; next 3; } > "$room/none"
-{ refused 0; mail 1 1; gone 0; quit 1; next 2; } > "$room/first"
-{ mail 0 1; refused 1; quit 0; gone 1; next 2; } > "$room/second"
-{ mail 0 1; mail 1 2; refused 0; quit 1; next 3; } > "$room/third"
-{ mail 0 1; mail 1 2; quit 0; refused 1; next 3; } > "$room/fourth"
-# And where the disk couldn't grow for the first piece, or for the second.
-{ stopped 0; stopped 1; stopped 0; stopped 1; next 1; } > "$room/device"
-{ mail 0 1; stopped 1; stopped 0; stopped 1; next 2; } > "$room/later"
+# Two sessions whose mail is answered so: what comes out where no piece, or where one of the four, met the refusal.
+two_sessions() {
+    taken=$2
+    { mail 0 1; mail 1 2; quit 0; quit 1; next 3; } > "$room/none"
+    { refused 0; mail 1 1; gone 0; quit 1; next 2; } > "$room/first"
+    { mail 0 1; refused 1; quit 0; gone 1; next 2; } > "$room/second"
+    { mail 0 1; mail 1 2; refused 0; quit 1; next 3; } > "$room/third"
+    { mail 0 1; mail 1 2; quit 0; refused 1; next 3; } > "$room/fourth"
+    # And where the disk couldn't grow for the first piece, or for the second.
+    { stopped 0; stopped 1; stopped 0; stopped 1; next 1; } > "$room/device"
+    { mail 0 1; stopped 1; stopped 0; stopped 1; next 2; } > "$room/later"
 
-"$program" sessions | cmp - "$room/none"
-refuse_each sessions none first second third fourth device later
-echo "node_without_memory: $total allocations refused in turn: ${met[begin]} before the node stood;" \
-    "$((met[first] + met[second])) in mail and $((met[third] + met[fourth])) in QUIT, and the other session went on;" \
-    "$((met[device] + met[later])) of the disk, and the node stopped"
+    "$program" "$1" | cmp - "$room/none"
+    refuse_each "$1" none first second third fourth device later
+    echo "node_without_memory: $total allocations refused in turn: ${met[begin]} before the node stood;" \
+        "$((met[first] + met[second])) in mail ($1) and $((met[third] + met[fourth])) in QUIT, and the other session went" \
+        "on; $((met[device] + met[later])) of the disk, and the node stopped"
+}
+
+two_sessions sessions "69 octets used, 104 out"
+two_sessions chunks "98 octets used, 154 out"
+taken="69 octets used, 104 out"
 
 # An attempt: the change of its end leaves the place that may be tried later, and the report, which is the second message.
 places() { echo "message 1: 3 places"; }

@@ -134,6 +134,21 @@ def refusals(program):
     ])
 
 
+def undone(program):
+    """The stop of the play of a crash, by the pick that leaves the append out: the message is at its sender alone until
+    it is tried again, and then there is one copy, though a reply was lost."""
+    script = (PLAYS / "crash.play").read_text()
+    changed = script.replace("stop b 4 1\n", "stop b 4 0\n")
+    same("whether the script has the stop", changed != script, True)
+    status, out, errors = run(program, changed.encode())
+    same("the end", (status, errors), (0, b""))
+    seen = out.decode().split("\n")[:-1]
+    behind = seen.index("stopped b") + 1
+    same("behind the stop", seen[behind:behind + 4], ["refused NoLink", "a 1 0", "accept a 1 1 link 1", "now 1800"])
+    same("in the end", seen[-6:], ["b 1 0", "accept a 1 1 link 1", "accept b 1 1 link 3",
+                                   "transfer a 1 0 link 3 report 0", "1", "1"])
+
+
 def too_many(program):
     rows = [("connect a", GREETED.format(number, "a")) for number in range(1, 65)]
     played(program, rows + [
@@ -286,7 +301,7 @@ def carries(program):
 
 def main(program):
     program = str(pathlib.Path(program).resolve())
-    for check in (scripts, compactions, refusals, too_many, too_many_attempts, no_route, cascade, faults):
+    for check in (scripts, undone, compactions, refusals, too_many, too_many_attempts, no_route, cascade, faults):
         check(program)
     count, seconds = circle(program)
     print(f"ok: plays: scripts, compactions, refusals, stops, faults; a circle of {count} carries in {seconds:.2f} s, "

@@ -1,7 +1,7 @@
 //! Plays each scenario of data/ on a node over memory: in one piece, with what the other sides say cut in
 //! two at each octet, octet by octet, and in one piece among so many other clients that 64 are there; or, where
 //! a device fails, for each call and each stop. What comes of each event is compared with what is written down. By
-//! the word `sessions`, `report` or `compactions` it plays what tests/node_without_memory.sh refuses each
+//! the word `sessions`, `chunks`, `report` or `compactions` it plays what tests/node_without_memory.sh refuses each
 //! allocation of in turn, by `file` and a path the scenarios of that file alone, and by `dialogues`, a folder and
 //! names the dialogues of that folder.
 #![tactic(auto)]
@@ -23,7 +23,7 @@ mod trial;
 mod words;
 
 use dialogues::dialogues;
-use refused::{compactions, report, sessions};
+use refused::{chunks, compactions, report, sessions};
 use scenario::Scenario;
 use std::test::Fail;
 use std::{env, fs};
@@ -44,13 +44,14 @@ const FILES: [&str; 11] = [
     "wrong",
 ];
 
-/// A word that is none of the five is the folder of the scenarios. Without one they lie where the program
+/// A word that is none of these is the folder of the scenarios. Without one they lie where the program
 /// runs.
 fn main(rt: HostRuntime) -> Result<(), Fail> {
     let words: Vec<String> = env::args(&rt)?.collect(rt.alloc())?;
     let word = word_of(words.as_slice(), 1);
     match word {
         "sessions" => sessions(&rt),
+        "chunks" => chunks(&rt),
         "report" => report(&rt),
         "compactions" => compactions(&rt),
         "file" => play_named(&rt, word_of(words.as_slice(), 2)),

@@ -13,6 +13,11 @@ use std::test::Fail;
 const MAIL: &[u8] =
     b"HELO x\r\nMAIL FROM:<a@example.org>\r\nRCPT TO:<b@example.org>\r\nDATA\r\n.\r\n";
 
+/// A client that gives mail in three chunks, with a command between them that is refused.
+const MAIL_IN_CHUNKS: &[u8] =
+    b"EHLO x\r\nMAIL FROM:<a@example.org>\r\nRCPT TO:<b@example.org>\r\nBDAT 1\r\naDATA\r\nBDAT 2\r\n\r\n\
+BDAT 0 LAST\r\n";
+
 /// A client that quits.
 const QUIT: &[u8] = b"QUIT\r\n";
 
@@ -21,13 +26,23 @@ const MAIL_FOR_THREE: &[u8] =
     b"EHLO x\r\nMAIL FROM:<a@example.org>\r\nRCPT TO:<b@example.org>\r\nRCPT TO:<c@example.org>\r\n\
 RCPT TO:<d@example.org>\r\nDATA\r\n.\r\n";
 
-/// Two sessions on one node: each gives a message, and then quits. It prints what came of each piece.
+/// Two sessions on one node: each gives a message without content, and then quits.
 pub fn sessions(rt: &HostRuntime) -> Result<(), Fail> {
+    two_sessions(rt, MAIL)
+}
+
+/// The same, with a content in chunks.
+pub fn chunks(rt: &HostRuntime) -> Result<(), Fail> {
+    two_sessions(rt, MAIL_IN_CHUNKS)
+}
+
+/// Two sessions on one node: each gives this mail, and then quits. It prints what came of each piece.
+fn two_sessions(rt: &HostRuntime, mail: &[u8]) -> Result<(), Fail> {
     let mut node = node(rt.alloc())?;
     let first = session(&mut node)?;
     let second = session(&mut node)?;
-    give(rt, &mut node, first, MAIL)?;
-    give(rt, &mut node, second, MAIL)?;
+    give(rt, &mut node, first, mail)?;
+    give(rt, &mut node, second, mail)?;
     give(rt, &mut node, first, QUIT)?;
     give(rt, &mut node, second, QUIT)?;
     println!(rt; "the next change is {}", next_number(&node))?;
