@@ -1,0 +1,58 @@
+-- The list of changes of a node that threads share, from where it began.
+use Rattle.std.specs.Prelude.{◌≡◌, ◌↔◌, ℕ, ◌+◌, ◌≤◌, ◌<◌, true, false, List, ◌++◌, length, map, slice_get, Option, Some}
+use Rattle.std.specs.List.{AllByRecursion}
+use Rattle.relay_disk.specs.Device.{DiskWords}
+use Rattle.relay_book.specs.declared.change.Accept.{Accept}
+use Rattle.relay_book.specs.declared.change.Change.{Change}
+use Rattle.relay_book.specs.declared.change.Change.TheVariants as change
+use Rattle.relay_book.specs.Marks.{Held}
+use Rattle.relay_book.specs.Queue.{Fitting, queue_of}
+use Rattle.relay_records.specs.Records.{Halted, Keeps, Kept}
+use Rattle.relay_hub.specs.declared.receipt.Receipt.{Receipt}
+use Rattle.relay_hub.specs.Receipts.{Rise, count_of, times}
+
+-- a list of changes, and behind it one for each of these accepts
+abbrev pub with_accepts : List Change → List Accept → List Change
+with_accepts changes accepts = changes ++ map change.Accept accepts
+
+-- The receipt tells the accept of its number, where these accepts have the numbers behind the first ones.
+pub record IsTold (before : ℕ) (accepts : List Accept) (receipt : Receipt) : Type 0 where
+  pub place : ℕ
+  pub number_is : receipt.number ≡ before + 1 + place
+  pub accept_is : slice_get accepts place ≡ Some receipt.accept
+
+-- the number is the first behind each list that was kept at the start
+abbrev pub IsFirst : (List Change → Type 0) → ℕ → Type 0
+IsFirst starts number = (changes : List Change) → starts changes → number ≡ length changes + 1
+
+module _ {D : Type 0} (honest : Type 0) (words : DiskWords D) where
+  -- Live or stopped, this is the list of changes: a stop leaves it, or it with the one change that was being added.
+  pub record HasList (records : Kept D) (changes : List Change) : Type 0 where
+    pub fitting : Fitting changes
+    pub queue : records.queue ≡ queue_of changes
+    pub live : records.spool.live ≡ true → Keeps honest words records changes
+    pub stopped : records.spool.live ≡ false → (pending : Option Change) × Halted honest words records changes pending
+
+  -- behind these changes so many accepts were added, and nothing else
+  pub record GrowsBy (changes : List Change) (added : ℕ) (records : Kept D) : Type 0 where
+    pub accepts : List Accept
+    pub count : length accepts ≡ added
+    pub list : HasList records (with_accepts changes accepts)
+
+  -- so it is behind each list that was kept at the start
+  abbrev pub HasGrown : (List Change → Type 0) → ℕ → Kept D → Type 0
+  HasGrown starts added records = (changes : List Change) → starts changes → GrowsBy changes added records
+
+  -- From the number behind these changes on, the list has one accept for each receipt of the passes, at its number and as
+  -- the receipt tells it, and no other; the numbers of each pass rise. What is held below is what these changes hold.
+  pub record HasTaken (changes : List Change) (passes : List (List Receipt)) (records : Kept D) : Type 0 where
+    pub accepts : List Accept
+    pub list : HasList records (with_accepts changes accepts)
+    pub count : length accepts ≡ count_of passes
+    pub told : AllByRecursion
+        (λ receipts. AllByRecursion (λ receipt. IsTold (length changes) accepts receipt) receipts) passes
+    pub once : (place : ℕ) → place < length accepts → times (length changes + 1 + place) passes ≡ 1
+    pub rise : AllByRecursion
+        (λ receipts. Rise (length changes + 1) (length changes + 1 + length accepts) receipts) passes
+    pub marks : (number place : ℕ) → number ≤ length changes
+        → Held (with_accepts changes accepts) number place ↔ Held changes number place

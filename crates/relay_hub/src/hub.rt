@@ -1,0 +1,135 @@
+//! A node under a lock.
+ghost use Rattle.std.specs.Prelude.{◌≡◌, ◌+◌, List, length, vec_len, IfErr, IfOk, MatchResult};
+ghost use Rattle.relay_book.specs.declared.change.Change.{Change};
+ghost use Rattle.relay_hub.specs.Admission.{IsOfAdmission, Notes};
+ghost use Rattle.relay_hub.specs.Hub.{GrowsBy, HasTaken};
+ghost use Rattle.relay_hub.specs.Receipts.{AreNew, AreReceipts, count_of};
+ghost use Rattle.relay_records.specs.Records.{Keeps};
+ghost use Rattle.relay_node.specs.Acceptance.{IsStorable};
+ghost use Rattle.relay_server.specs.Session.{offered};
+
+use crate::desk::Desk;
+use crate::opening::Opening;
+use crate::pass::Pass;
+use crate::told::are_receipts;
+use relay_disk::Disk;
+use relay_node::{Node, NodeFault};
+use relay_server::{Answer, Offer};
+use relay_trace::Moment;
+use std::alloc::{AllocError, Global};
+use std::sync::ledger::{Blank, Share};
+use std::sync::{Mutex, Wait};
+
+/// A node that threads share: one call at a time has it.
+#[derive(Drop)]
+pub struct Hub<D: Disk, J: Opening> {
+    desk: Mutex<Desk<D, J>>,
+}
+
+/// The receipts of the threads aren't what the node has accepted.
+pub struct Mismatch<D: Disk, J: Opening> {
+    pub node: Node<D>,
+    pub passes: Vec<Pass<J>>,
+}
+
+// Written out, so that what drops one calls this.
+impl<D: Disk + Drop, J: Opening> Drop for Mismatch<D, J> {
+    fn drop(self) {
+        let Mismatch {
+            node: _node,
+            passes: _passes,
+        } = self;
+    }
+}
+
+impl<D: Disk, J: Opening> Hub<D, J> {
+    /// Puts a node under a lock, with a pass for each of so many threads. Where memory runs out the node comes back.
+    /// The blank ledger has a part for each thread.
+    pub fn new(
+        alloc: Global,
+        node: Node<D>,
+        blank: Blank,
+        threads: u8,
+    ) -> Result<(Hub<D, J>, Vec<Pass<J>>), Node<D>>
+        requires name { blank.name ≡ J.name }
+        requires parts { (blank.parts ≡ J.parts) × (blank.parts ≡ threads) }
+        requires starts { (changes : List Change) → J.starts changes
+            → Keeps D.honest D.words node.records changes }
+        ensures passes { IfOk result (λ made. AreNew threads made.1.items) }
+        ensures refused { IfErr result (λ refused. refused ≡ node) }
+    {
+        let (queued, share) = blank.open::<J>();
+        let Ok((passes, rest)) = passes_of(alloc, share, threads) else {
+            return Err(node);
+        };
+        let desk = Desk::new(node, queued, rest);
+        Ok((
+            Hub {
+                desk: Mutex::new(desk),
+            },
+            passes,
+        ))
+    }
+
+    /// Takes an offer into the node, and adds its receipt to the pass where it is queued. The receipt's room is
+    /// taken first, and where memory runs out for it that is answered, whatever the node would have answered. Behind
+    /// `Queued` each stop leaves the message.
+    pub fn admit<R: Wait>(
+        &self,
+        rt: &R,
+        pass: &mut Pass<J>,
+        offer: &Offer<'_>,
+        peer: [u8; 4],
+        now: Moment,
+    ) -> Result<Answer, NodeFault>
+        requires { IsStorable (offered offer.now) }
+        ensures notes { MatchResult result
+            (λ answer. Notes (offered offer.now) peer now pass.old answer pass.new)
+            (λ _. pass.new ≡ pass.old) }
+        ensures faults { IfErr result IsOfAdmission }
+    {
+        self.desk.lock(rt).admit(pass, offer, peer, now)
+    }
+
+    /// Takes the node back, with all passes. Behind each list of changes that it kept at the start it has one accept for
+    /// each receipt, at its number and as that tells it, and no other change; live or stopped. Where that isn't so by
+    /// their numbers and texts, node and passes come back as a mismatch. It takes no memory.
+    pub fn close(self, passes: Vec<Pass<J>>) -> Result<(Node<D>, Vec<Pass<J>>), Mismatch<D, J>>
+        requires { vec_len passes ≡ J.parts }
+        ensures closed { (changes : List Change) → J.starts changes
+            → IfOk result (λ closed. HasTaken D.honest D.words changes passes.items closed.0.records) }
+        ensures mismatch { (changes : List Change) → J.starts changes → IfErr result (λ mismatch.
+            AreReceipts (length changes + 1) mismatch.node.records.queue passes.items → ⊥) }
+        ensures grown { (changes : List Change) → J.starts changes → IfErr result (λ mismatch.
+            GrowsBy D.honest D.words changes (count_of passes.items) mismatch.node.records) }
+        ensures passes { MatchResult result (λ closed. closed.1.items ≡ passes.items)
+            (λ mismatch. mismatch.passes.items ≡ passes.items) }
+    {
+        let Hub { desk } = self;
+        let mut passes = passes;
+        let (node, first) = desk.into_inner().close(&mut passes);
+        if are_receipts(&node, first, passes.as_slice()) {
+            Ok((node, passes))
+        } else {
+            Err(Mismatch { node, passes })
+        }
+    }
+}
+
+/// A pass for each of so many threads, and what is left of their share. It fails where memory runs out.
+fn passes_of<J: Opening>(
+    alloc: Global,
+    share: Share<J>,
+    threads: u8,
+) -> Result<(Vec<Pass<J>>, Share<J>), AllocError>
+    requires { (share.parts ≡ threads) × (share.amount ≡ 0) }
+    ensures passes { IfOk result (λ made. AreNew threads made.0.items) }
+    ensures rest { IfOk result (λ made. (made.1.parts ≡ 0) × (made.1.amount ≡ 0)) }
+{
+    let mut share = share;
+    let mut passes = Vec::with_capacity(alloc, usize::from(threads))?;
+    for _i in 0..threads {
+        passes.push(Pass::new(alloc, share.split_off(1, 0)))?;
+    }
+    Ok((passes, share))
+}

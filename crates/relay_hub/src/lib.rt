@@ -1,0 +1,15 @@
+//! A node that threads share: each serves a client of its own, and the node is locked for each message alone.
+#![tactic(auto)]
+
+mod desk;
+mod hub;
+mod opening;
+mod pass;
+mod receipt;
+mod same;
+mod told;
+
+pub use hub::{Hub, Mismatch};
+pub use opening::Opening;
+pub use pass::Pass;
+pub use receipt::Receipt;

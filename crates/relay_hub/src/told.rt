@@ -1,0 +1,132 @@
+//! Whether receipts are what a node has accepted. It takes no memory.
+ghost use Rattle.std.specs.Prelude.{◌≡◌, ◌↔◌, ◌+◌, ◌≤◌, ◌<◌, ◌*◌, ℕ, length, IsTrue};
+ghost use Rattle.std.specs.List.{AllByRecursion};
+ghost use Rattle.relay_hub.specs.Receipts.{AreReceipts, AreTrueOf, IsTrueOf, Rise, times, times_in};
+
+use crate::opening::Opening;
+use crate::pass::Pass;
+use crate::receipt::Receipt;
+use crate::same::is_same_accept;
+use relay_disk::Disk;
+use relay_node::Node;
+
+/// Whether the numbers rise from a least one on, and are below a bound.
+fn rise(receipts: &[Receipt], least: u64, bound: u64) -> bool
+    ensures { IsTrue result ↔ Rise least bound receipts.now }
+{
+    let mut least = least;
+    for receipt in receipts {
+        if receipt.number < least || receipt.number >= bound {
+            return false;
+        }
+        least = receipt.number + 1;
+    }
+    true
+}
+
+/// How many of the receipts have a number.
+fn times_in(receipts: &[Receipt], number: u64) -> usize
+    ensures { result ≡ times_in number receipts.now }
+{
+    let mut times = 0;
+    for receipt in receipts {
+        if receipt.number == number {
+            times += 1;
+        }
+    }
+    times
+}
+
+/// Whether just one receipt of all passes has a number.
+fn comes_once<J: Opening>(passes: &[Pass<J>], number: u64) -> bool
+    ensures { IsTrue result ↔ (times number passes.now ≡ 1) }
+{
+    let mut found = false;
+    for pass in passes {
+        match times_in(pass.receipts(), number) {
+            0 => {}
+            1 => {
+                if found {
+                    return false;
+                }
+                found = true;
+            }
+            _ => return false,
+        }
+    }
+    found
+}
+
+/// Whether each number from the first on, and below a bound, is that of just one receipt of all passes.
+fn each_comes_once<J: Opening>(passes: &[Pass<J>], first: u64, bound: u64) -> bool
+    ensures { IsTrue result ↔ ((number : ℕ) → first ≤ number → number < bound → times number passes.now ≡ 1) }
+{
+    for number in first..bound {
+        if !comes_once(passes, number) {
+            return false;
+        }
+    }
+    true
+}
+
+/// Whether the message of its number was accepted as the receipt says.
+fn is_true<D: Disk>(node: &Node<D>, receipt: &Receipt) -> bool
+    ensures { IsTrue result ↔ IsTrueOf node.now.records.queue receipt.now }
+{
+    match node.message(receipt.number) {
+        Some(message) => is_same_accept(&message.accept, &receipt.accept),
+        None => false,
+    }
+}
+
+/// Whether so it is of all receipts of a pass.
+fn are_true<D: Disk>(node: &Node<D>, receipts: &[Receipt]) -> bool
+    ensures { IsTrue result ↔ AreTrueOf node.now.records.queue receipts.now }
+{
+    for receipt in receipts {
+        if !is_true(node, receipt) {
+            return false;
+        }
+    }
+    true
+}
+
+/// Whether so it is of the receipts of all passes.
+fn are_all_true<D: Disk, J: Opening>(node: &Node<D>, passes: &[Pass<J>]) -> bool
+    ensures { IsTrue result
+        ↔ AllByRecursion (λ receipts. AreTrueOf node.now.records.queue receipts) passes.now }
+{
+    for pass in passes {
+        if !are_true(node, pass.receipts()) {
+            return false;
+        }
+    }
+    true
+}
+
+/// Whether the numbers of each pass rise from a least one on, and are below a bound.
+fn each_rises<J: Opening>(passes: &[Pass<J>], least: u64, bound: u64) -> bool
+    ensures { IsTrue result ↔ AllByRecursion (λ receipts. Rise least bound receipts) passes.now }
+{
+    for pass in passes {
+        if !rise(pass.receipts(), least, bound) {
+            return false;
+        }
+    }
+    true
+}
+
+/// Whether the receipts of all passes, by number, are the messages that the node has from the first number on, each
+/// once, and those of each pass rise.
+pub(crate) fn are_receipts<D: Disk, J: Opening>(
+    node: &Node<D>,
+    first: u64,
+    passes: &[Pass<J>],
+) -> bool
+    ensures { IsTrue result ↔ AreReceipts first node.now.records.queue passes.now }
+{
+    let next = node.next_number();
+    each_rises(passes, first, next)
+        && are_all_true(node, passes)
+        && each_comes_once(passes, first, next)
+}
