@@ -160,6 +160,9 @@ fn drop_front(octets: &mut Vec<u8>, count: usize)
     requires { count ≤ length octets.old.items }
     ensures { octets.new.items ≡ drop count octets.old.items }
 {
+    if count == 0 {
+        return;
+    }
     let left = octets.len() - count;
     octets.copy_within(count.., 0);
     octets.truncate(left);
