@@ -23,6 +23,7 @@ grep -E '^(apply|held|due)' $rows > "$room/rows.in"
 head -n "$(wc -l < $rows)" crates/relay_book_tests/stdout | grep -E '^(apply|held|due)' > "$room/wanted"
 : > "$room/octets.in"
 : > "$room/snapshots.in"
+: > "$room/delay.in"
 : > "$room/reports.in"
 
 refused=0
