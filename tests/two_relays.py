@@ -6,6 +6,7 @@ difference.
     tests/two_relays.py build/relayd
 """
 import contextlib
+import email.utils
 import fcntl
 import os
 import pathlib
@@ -396,6 +397,31 @@ def a_log_says_which_places_have_expired(field):
         ["relayd: message 1 next.example ended, place 0 expired, place 1 transferred, report queued as 3; deferred by 450 later"]))
 
 
+def a_sender_who_asked_hears_once_that_mail_is_late(field):
+    field.sink.manners = Manners(refusals={"<b@example.org>": "450 later"})
+    with field.relay.serving():
+        hand_in(field.relay, rcpt=["NOTIFY=DELAY,FAILURE"])
+    # Four hours behind its acceptance a place that still waits is late.
+    field.later(field.relay, 4 * 3600 + 60)
+    same("push of late mail", field.relay.logged("push"), (
+        ["1 next.example ended"],
+        ["relayd: message 1 next.example ended, place 0 delayed, report queued as 3; deferred by 450 later"]))
+    same("list", [held[:2] for held in field.relay.held()], [(1, 0), (3, 0)])
+    field.sink.take_all()
+    field.later(field.relay, 8 * 3600)
+    same("push behind that", field.relay.logged("push"), (
+        ["1 next.example ended", "3 next.example ended"],
+        ["relayd: message 1 next.example ended, place 0 deferred; deferred by 450 later",
+         "relayd: message 3 next.example ended, place 0 transferred"]))
+    report = read_report(one_message(field.sink), 3, 1)
+    arrival = email.utils.parsedate_to_datetime(report[1].get_payload()[0]["Arrival-Date"])
+    status = fields(report, 1)
+    until = email.utils.parsedate_to_datetime(status.pop("Will-Retry-Until"))
+    same("for how long it is tried, in seconds", (until - arrival).total_seconds(), 5 * 86400.0)
+    same("of the recipient", status, {"Final-Recipient": "rfc822; b@example.org", "Action": "delayed", "Status": "4.0.0"})
+    same("list", [held[:2] for held in field.relay.held()], [(1, 0)])
+
+
 def a_silent_peer_is_given_up(field):
     waits = field.folder / "waits"
     field.preload(field.relay, "shorter_waits", WAITS=str(waits))
@@ -510,6 +536,7 @@ ROWS = [
     a_log_has_a_line_for_each_connection,
     a_log_says_why_a_place_has_left,
     a_log_says_which_places_have_expired,
+    a_sender_who_asked_hears_once_that_mail_is_late,
     a_silent_peer_is_given_up,
     a_hop_that_is_silent_is_tried_once_a_push,
     a_hop_that_cuts_a_connection_is_tried_again,
