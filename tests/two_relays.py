@@ -418,7 +418,7 @@ def a_sender_who_asked_hears_once_that_mail_is_late(field):
     status = fields(report, 1)
     until = email.utils.parsedate_to_datetime(status.pop("Will-Retry-Until"))
     same("for how long it is tried, in seconds", (until - arrival).total_seconds(), 5 * 86400.0)
-    same("of the recipient", status, {"Final-Recipient": "rfc822; b@example.org", "Action": "delayed", "Status": "4.0.0"})
+    same("of the recipient", status, {**FAILED, "Action": "delayed", "Status": "4.0.0"})
     same("list", [held[:2] for held in field.relay.held()], [(1, 0)])
 
 
