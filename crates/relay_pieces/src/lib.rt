@@ -2,5 +2,6 @@
 #![tactic(auto)]
 
 mod pieces;
+mod window;
 
 pub use pieces::Pieces;

@@ -1,33 +1,29 @@
 ghost use Rattle.std.specs.Prelude.{◌≡◌, ◌+◌, ◌-◌, ◌^◌, ◌<◌, ◌≤◌, [], ◌++◌, drop, length, min, IfOk, OnErr, OnOk};
-ghost use Rattle.relay_pieces.specs.Pieces.{TakesUp, text_of};
+ghost use Rattle.relay_pieces.specs.Pieces.{TakesUp, first_of, in_pieces, text_of};
+ghost use Rattle.relay_pieces.specs.Window.{Overlaps, front_of};
 
+use crate::window::Window;
 use std::alloc::{AllocError, Global};
 use std::collections::VecDeque;
 use std::marker::Model;
 
-/// A text in pieces. Of those that are held the front can be read; what was read is let go by `advance`, and the piece
-/// behind what is held is put to it by `take_up`.
+/// A text in pieces. Its front can be read; what was read is let go by `advance`, and by `take_up` more can be read. A
+/// piece that stands whole in the front is read where it is; only round the seam of two pieces octets are copied.
 #[derive(Drop)]
 pub struct Pieces {
-    held: Vec<u8>,
-    /// How many octets of what is held were let go.
-    used: usize,
+    window: Window,
     rest: VecDeque<Vec<u8>>,
 }
 
 impl Model for Pieces {
-    ghost use Rattle.std.specs.Prelude.{◌≤◌, drop, length};
-    ghost use Rattle.relay_pieces.specs.Pieces.{InPieces, joined};
+    ghost use Rattle.relay_pieces.specs.Pieces.{InPieces, first_of, in_pieces};
+    ghost use Rattle.relay_pieces.specs.Window.{Overlaps};
 
     ghost Value = { InPieces };
 
-    ghost view = { λ pieces. record {
-      front = drop pieces.used pieces.held.items;
-      behind = joined pieces.rest.items;
-      left = length pieces.rest.items;
-    } };
+    ghost view = { λ pieces. in_pieces pieces.window pieces.rest.items };
 
-    ghost invariant = { λ pieces. pieces.used ≤ length pieces.held.items };
+    ghost invariant = { λ pieces. Overlaps pieces.window (first_of pieces.rest.items) };
 }
 
 impl Pieces {
@@ -38,13 +34,16 @@ impl Pieces {
         Pieces::of_one(alloc, Vec::new(alloc))
     }
 
-    /// A text of one piece, which is held. It takes no memory.
+    /// A text of one piece, which can be read. It takes no memory.
     pub fn of_one(alloc: Global, text: Vec<u8>) -> Self
         ensures { result ≡ record { front = text.items; behind = []; left = 0 } }
     {
         Pieces {
-            held: text,
-            used: 0,
+            window: Window {
+                held: text,
+                used: 0,
+                ahead: 0,
+            },
             rest: VecDeque::new(alloc),
         }
     }
@@ -61,15 +60,19 @@ impl Pieces {
     pub fn front(&self) -> &[u8]
         ensures { result.now ≡ self.now.front }
     {
-        &self.held[self.used..]
+        &self.window.held[self.window.used..]
     }
 
     /// How many octets the text has; 2^64 - 1 stands for as many and more.
     pub fn len(&self) -> usize
         ensures { result ≡ min (length (text_of self.now)) (2 ^ 64 - 1) }
     {
-        let mut total = self.held.len() - self.used;
-        for index in 0..self.rest.len() {
+        let mut total = self.window.held.len() - self.window.used;
+        let Some(next) = self.rest.front() else {
+            return total;
+        };
+        total = total.saturating_add(next.len() - self.window.ahead);
+        for index in 1..self.rest.len() {
             total = total.saturating_add(self.rest[index].len());
         }
         total
@@ -80,11 +83,11 @@ impl Pieces {
         requires { count ≤ length self.old.front }
         ensures { self.new ≡ record self.old { front = drop count self.old.front } }
     {
-        self.used += count;
+        self.window.used += count;
     }
 
     /// Sees that so many octets can be read, or all where the text has fewer. Memory is wanted only where fewer could
-    /// be read, and a piece stands behind them; where it runs out, the text is lost.
+    /// be read, and more stands behind them; where it runs out, the text is lost.
     pub fn hold_first(&mut self, count: usize) -> Result<(), AllocError>
         ensures text { OnOk result (text_of self.new ≡ text_of self.old) }
         ensures held { OnOk result (length self.new.front < count → self.new.behind ≡ []) }
@@ -96,7 +99,7 @@ impl Pieces {
         self.take_up_to(count)
     }
 
-    /// Puts pieces to what is held until so many octets can be read, or none is left.
+    /// Takes up until so many octets can be read, or none is left.
     fn take_up_to(&mut self, count: usize) -> Result<(), AllocError>
         ensures text { OnOk result (text_of self.new ≡ text_of self.old) }
         ensures held { OnOk result (length self.new.front < count → self.new.behind ≡ []) }
@@ -110,34 +113,20 @@ impl Pieces {
         Ok(())
     }
 
-    /// Puts the next piece to what is held, and tells whether there was one. Memory is wanted only where there is one;
-    /// where it runs out, the text is lost.
+    /// Sees that more can be read, and tells whether more stood behind. Memory is wanted only where it does; where it
+    /// runs out, the text is lost.
     pub fn take_up(&mut self) -> Result<bool, AllocError>
         ensures next { IfOk result (TakesUp self.old self.new) }
         ensures memory { OnErr result (0 < self.old.left) }
     {
+        if self.window.held.len() - self.window.used > self.window.ahead {
+            return join(&mut self.window, &mut self.rest);
+        }
         let Some(piece) = self.rest.pop_front() else {
             return Ok(false);
         };
-        self.hold(piece)?;
+        self.window.turn(piece);
         Ok(true)
-    }
-
-    /// Puts a piece to the front. What was used goes first; if that is all, the piece takes its place.
-    fn hold(&mut self, piece: Vec<u8>) -> Result<(), AllocError>
-        ensures front { OnOk result (self.new.front ≡ self.old.front ++ piece.items) }
-        ensures behind { self.new.behind ≡ self.old.behind }
-        ensures left { self.new.left ≡ self.old.left }
-    {
-        if self.used == self.held.len() {
-            self.held = piece;
-            self.used = 0;
-            return Ok(());
-        }
-        drop_front(&mut self.held, self.used);
-        self.used = 0;
-        self.held.extend_from_slice(piece.as_slice())?;
-        Ok(())
     }
 
     /// The text in one piece. Where it is in one, that isn't copied; else it fails where memory runs out.
@@ -145,25 +134,28 @@ impl Pieces {
         ensures { IfOk result (λ text. text.items ≡ text_of self) }
     {
         while self.take_up()? {}
-        let Pieces {
-            mut held,
-            used,
-            rest: _,
-        } = self;
-        drop_front(&mut held, used);
-        Ok(held)
+        let Pieces { window, rest: _ } = self;
+        Ok(window.into_vec())
     }
 }
 
-/// Takes so many octets from the front away.
-fn drop_front(octets: &mut Vec<u8>, count: usize)
-    requires { count ≤ length octets.old.items }
-    ensures { octets.new.items ≡ drop count octets.old.items }
+/// Puts octets of the next piece to those that can be read, and lets it go once all of it stands there. Tells whether
+/// there was one.
+fn join(window: &mut Window, rest: &mut VecDeque<Vec<u8>>) -> Result<bool, AllocError>
+    requires overlaps { Overlaps window.old (first_of rest.old.items) }
+    requires left { window.old.ahead ≤ length (front_of window.old) }
+    ensures overlaps { Overlaps window.new (first_of rest.new.items) }
+    ensures next { IfOk result
+        (TakesUp (in_pieces window.old rest.old.items) (in_pieces window.new rest.new.items)) }
+    ensures memory { OnErr result (0 < length rest.old.items) }
 {
-    if count == 0 {
-        return;
+    let Some(piece) = rest.front() else {
+        return Ok(false);
+    };
+    window.join(piece)?;
+    if window.ahead == piece.len() {
+        window.ahead = 0;
+        rest.pop_front();
     }
-    let left = octets.len() - count;
-    octets.copy_within(count.., 0);
-    octets.truncate(left);
+    Ok(true)
 }
