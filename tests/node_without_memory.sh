@@ -61,24 +61,28 @@ refused() { echo "session $1: no memory"; }
 gone() { echo "session $1: unknown"; }
 stopped() { echo "session $1: stopped"; }
 next() { echo "the next change is $1"; }
+opened() {
+    echo "opened again: the next change is $1"
+    for mark in "${@:2}"; do echo "held again: $mark"; done
+}
 
 # Two sessions whose mail is answered so: what comes out where no piece, or where one of the four, met the refusal.
 two_sessions() {
     taken=$2
-    { mail 0 1; mail 1 2; quit 0; quit 1; next 3; } > "$room/none"
-    { refused 0; mail 1 1; gone 0; quit 1; next 2; } > "$room/first"
-    { mail 0 1; refused 1; quit 0; gone 1; next 2; } > "$room/second"
-    { mail 0 1; mail 1 2; refused 0; quit 1; next 3; } > "$room/third"
-    { mail 0 1; mail 1 2; quit 0; refused 1; next 3; } > "$room/fourth"
+    { mail 0 1; mail 1 2; quit 0; quit 1; next 3; opened 3 "1 0" "2 0"; } > "$room/none"
+    { refused 0; mail 1 1; gone 0; quit 1; next 2; opened 2 "1 0"; } > "$room/first"
+    { mail 0 1; refused 1; quit 0; gone 1; next 2; opened 2 "1 0"; } > "$room/second"
+    { mail 0 1; mail 1 2; refused 0; quit 1; next 3; opened 3 "1 0" "2 0"; } > "$room/third"
+    { mail 0 1; mail 1 2; quit 0; refused 1; next 3; opened 3 "1 0" "2 0"; } > "$room/fourth"
     # And where the disk couldn't grow for the first piece, or for the second.
-    { stopped 0; stopped 1; stopped 0; stopped 1; next 1; } > "$room/device"
-    { mail 0 1; stopped 1; stopped 0; stopped 1; next 2; } > "$room/later"
+    { stopped 0; stopped 1; stopped 0; stopped 1; next 1; opened 1; } > "$room/device"
+    { mail 0 1; stopped 1; stopped 0; stopped 1; next 2; opened 2 "1 0"; } > "$room/later"
 
     "$program" "$1" | cmp - "$room/none"
     refuse_each "$1" none first second third fourth device later
     echo "node_without_memory: $total allocations refused in turn: ${met[begin]} before the node stood;" \
         "$((met[first] + met[second])) in mail ($1) and $((met[third] + met[fourth])) in QUIT, and the other session went" \
-        "on; $((met[device] + met[later])) of the disk, and the node stopped"
+        "on; $((met[device] + met[later])) of the disk, and the node stopped and was opened again"
 }
 
 two_sessions sessions "69 octets used, 104 out"
@@ -93,29 +97,30 @@ held() { for mark in "$@"; do echo "held: $mark"; done; }
 before() { attempt unknown; next 2; held "1 0" "1 1" "1 2"; }
 behind() { next 3; held "1 2" "2 0"; }
 whole() { places; ended; attempt unknown; behind; }
-record() { tail -n 2 "$room/whole"; }
+record() { sed -n '/^change 2/,/^[0-9a-f]*$/p' "$room/whole"; }
+left() { opened 3 "1 2" "2 0"; }
 
 "$program" report > "$room/whole"
-{ whole; behind; record; } > "$room/none"
+{ whole; behind; record; left; } > "$room/none"
 cmp "$room/whole" "$room/none"
 record | head -n 1 | cmp - <(echo "change 2, report true:")
 # Each call in turn is answered that there is no memory, and the next attempt ends as if it were the first.
-{ echo "due: no memory"; before; whole; behind; record; } > "$room/due"
-{ echo "message 1: no memory"; before; whole; behind; record; } > "$room/start"
-{ places; attempt "no memory"; before; whole; behind; record; } > "$room/reply"
-{ places; ended; attempt unknown; next 3; held "no memory"; behind; record; } > "$room/held"
-{ whole; next 3; held "no memory"; record; } > "$room/last"
+{ echo "due: no memory"; before; whole; behind; record; left; } > "$room/due"
+{ echo "message 1: no memory"; before; whole; behind; record; left; } > "$room/start"
+{ places; attempt "no memory"; before; whole; behind; record; left; } > "$room/reply"
+{ places; ended; attempt unknown; next 3; held "no memory"; behind; record; left; } > "$room/held"
+{ whole; next 3; held "no memory"; record; left; } > "$room/last"
 # And where the disk couldn't grow for the change.
 {
     places; attempt stopped; attempt stopped; next 2; held stopped
     echo "due: stopped"; attempt stopped; next 2; held stopped
-    next 2; held stopped; record
+    next 2; held stopped; record; opened 2 "1 0" "1 1" "1 2"
 } > "$room/device"
 
 refuse_each report none due start reply held last device
 echo "node_without_memory: $total allocations refused in turn: ${met[begin]} before the message was there;" \
     "${met[due]} of what is due, ${met[start]} of a start and ${met[reply]} of an attempt that ends, behind each of which" \
-    "the next attempt led to the same change; ${met[device]} of the disk, and the node stopped"
+    "the next attempt led to the same change; ${met[device]} of the disk, and the node stopped and was opened again"
 
 # A spool that is written anew twice behind a message, and the session that goes on behind that.
 "$program" compactions > "$room/whole"
@@ -127,22 +132,22 @@ anew() { echo "compact: $before $after"; }
 again() { echo "compact: $after $after"; }
 unwritten() { echo "compact: no memory"; }
 spent() { echo "compact: stopped"; }
-goes_on() { mail 0 2; quit 0; next 3; }
+goes_on() { mail 0 2; quit 0; next 3; opened 3 "1 0" "2 0"; }
 
 { anew; again; goes_on; } > "$room/none"
 cmp "$room/whole" "$room/none"
 # What wasn't written anew stands as it was, and is written by the next call.
 { unwritten; anew; goes_on; } > "$room/first"
 { anew; unwritten; goes_on; } > "$room/second"
-{ anew; again; refused 0; gone 0; next 2; } > "$room/third"
-{ anew; again; mail 0 2; refused 0; next 3; } > "$room/fourth"
+{ anew; again; refused 0; gone 0; next 2; opened 2 "1 0"; } > "$room/third"
+{ anew; again; mail 0 2; refused 0; next 3; opened 3 "1 0" "2 0"; } > "$room/fourth"
 # And where the disk couldn't grow for the one body, or for the message behind it.
-{ spent; spent; stopped 0; stopped 0; next 2; } > "$room/device"
-{ anew; spent; stopped 0; stopped 0; next 2; } > "$room/device_again"
-{ anew; again; stopped 0; stopped 0; next 2; } > "$room/later"
+{ spent; spent; stopped 0; stopped 0; next 2; opened 2 "1 0"; } > "$room/device"
+{ anew; spent; stopped 0; stopped 0; next 2; opened 2 "1 0"; } > "$room/device_again"
+{ anew; again; stopped 0; stopped 0; next 2; opened 2 "1 0"; } > "$room/later"
 
 refuse_each compactions none first second third fourth device device_again later
 echo "node_without_memory: $total allocations refused in turn: ${met[begin]} before the message was there;" \
     "$((met[first] + met[second])) of a spool that is written anew, which stood as it was;" \
     "$((met[third] + met[fourth])) of the session behind it; $((met[device] + met[device_again] + met[later])) of the disk," \
-    "and the node stopped"
+    "and the node stopped and was opened again"

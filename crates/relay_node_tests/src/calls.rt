@@ -65,6 +65,27 @@ pub fn open(alloc: Global, config: Config, disks: MemoryDisks) -> Result<MemoryN
     Node::open(alloc, config, disks)
 }
 
+/// A node that is opened again by its own configuration, behind a stop at which nothing stays that wasn't synced. What is
+/// refused for want of memory is done once more. There is none where it can't be opened.
+pub fn stop_and_open(alloc: Global, node: MemoryNode) -> Option<MemoryNode> {
+    let (config, disks) = node.into_parts();
+    match Node::open_again(alloc, config, stop(disks)) {
+        Ok(node) => Some(node),
+        Err(refused) => Node::open_again(alloc, refused.config, refused.refused.disk).ok(),
+    }
+}
+
+/// What a stop leaves of disks at which nothing stays that wasn't synced.
+fn stop(disks: MemoryDisks) -> MemoryDisks {
+    match disks.after_stop(0) {
+        Ok(disks) => disks,
+        Err(refused) => match refused.value.after_stop(0) {
+            Ok(disks) => disks,
+            Err(refused) => refused.value,
+        },
+    }
+}
+
 /// The disks of a node.
 pub fn into_disk(node: MemoryNode) -> MemoryDisks {
     node.into_disk()

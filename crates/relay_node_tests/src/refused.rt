@@ -1,7 +1,8 @@
 //! What tests/node_without_memory.sh refuses each allocation of in turn. From the first line that is printed
 //! on, nothing here takes memory but the node.
 use crate::calls::{
-    Handed, MemoryNode, compact, configuration, connect, create, next_number, receive,
+    Handed, MemoryNode, compact, configuration, connect, create, marks, next_number, receive,
+    stop_and_open,
 };
 use crate::pushed::push;
 use relay_node::NodeFault;
@@ -36,7 +37,8 @@ pub fn chunks(rt: &HostRuntime) -> Result<(), Fail> {
     two_sessions(rt, MAIL_IN_CHUNKS)
 }
 
-/// Two sessions on one node: each gives this mail, and then quits. It prints what came of each piece.
+/// Two sessions on one node: each gives this mail, and then quits; then the node stops, and is opened again. It prints
+/// what came of each piece, and what is held in the end.
 fn two_sessions(rt: &HostRuntime, mail: &[u8]) -> Result<(), Fail> {
     let mut node = node(rt.alloc())?;
     let first = session(&mut node)?;
@@ -46,22 +48,26 @@ fn two_sessions(rt: &HostRuntime, mail: &[u8]) -> Result<(), Fail> {
     give(rt, &mut node, first, QUIT)?;
     give(rt, &mut node, second, QUIT)?;
     println!(rt; "the next change is {}", next_number(&node))?;
-    Ok(())
+    open_again(rt, node)
 }
 
-/// One message whose three places go three ways at one attempt, with a report of one of them. What was
-/// refused for want of memory is tried once more. It prints what came of each call.
+/// One message whose three places go three ways at one attempt, with a report of one of them; then the node stops, and is
+/// opened again. What was refused for want of memory is tried once more. It prints what came of each call, and what is held
+/// in the end.
 pub fn report(rt: &HostRuntime) -> Result<(), Fail> {
     let mut node = node(rt.alloc())?;
     let session = session(&mut node)?;
     match receive(&mut node, session, MAIL_FOR_THREE, Moment::new(0)?) {
-        Ok(_) => push(rt, &mut node, Moment::new(1000)?),
+        Ok(_) => {
+            push(rt, &mut node, Moment::new(1000)?)?;
+            open_again(rt, node)
+        }
         Err(_) => Err(Fail::new("no mail")),
     }
 }
 
-/// A spool that is written anew twice behind a message, and a session that gives another behind that. It prints what came of
-/// each call but the first message's.
+/// A spool that is written anew twice behind a message, and a session that gives another behind that; then the node stops,
+/// and is opened again. It prints what came of each call but the first message's, and what is held in the end.
 pub fn compactions(rt: &HostRuntime) -> Result<(), Fail> {
     let mut node = node(rt.alloc())?;
     let session = session(&mut node)?;
@@ -73,6 +79,22 @@ pub fn compactions(rt: &HostRuntime) -> Result<(), Fail> {
     give(rt, &mut node, session, MAIL)?;
     give(rt, &mut node, session, QUIT)?;
     println!(rt; "the next change is {}", next_number(&node))?;
+    open_again(rt, node)
+}
+
+/// Stops the node, opens it again, and prints the number of its next change and the places that are held.
+fn open_again(rt: &HostRuntime, node: MemoryNode) -> Result<(), Fail> {
+    let Some(node) = stop_and_open(rt.alloc(), node) else {
+        return Err(Fail::new("not opened again"));
+    };
+    let held = match marks(rt.alloc(), &node) {
+        Ok(held) => held,
+        Err(_) => marks(rt.alloc(), &node).unwrap_or(Vec::new(rt.alloc())),
+    };
+    println!(rt; "opened again: the next change is {}", next_number(&node))?;
+    for (number, place) in held.as_slice() {
+        println!(rt; "held again: {number} {place}")?;
+    }
     Ok(())
 }
 
