@@ -7,7 +7,7 @@ use std::alloc::{AllocError, Global};
 const BLOCK: usize = 65_536;
 
 /// A block for the reads of a link. It fails where memory runs out.
-pub(crate) fn read_block(alloc: Global) -> Result<Vec<u8>, AllocError>
+pub fn read_block(alloc: Global) -> Result<Vec<u8>, AllocError>
     ensures { IfOk result (λ block. 0 < length block.items) }
 {
     zeros(alloc, BLOCK)

@@ -36,7 +36,7 @@ impl From<AllocError> for LinkFault {
 }
 
 /// What a fault of the node is to its link. A session or an attempt that the node doesn't have reads nothing.
-pub(crate) fn link_fault(fault: NodeFault) -> LinkFault
+pub fn link_fault(fault: NodeFault) -> LinkFault
     ensures { result ≡ link_fault_of fault }
 {
     match fault {

@@ -4,11 +4,12 @@
 mod block;
 mod fault;
 mod push;
-mod send;
+pub mod send;
 mod serve;
 mod whole;
 
-pub use fault::LinkFault;
+pub use block::read_block;
+pub use fault::{LinkFault, link_fault};
 pub use push::{Pushed, lose_link, push_link};
 pub use serve::serve_link;
 pub use whole::write_whole;

@@ -1,3 +1,4 @@
+//! Octets that are written and flushed.
 ghost use Rattle.std.specs.Prelude.{◌≡◌, ◌≢◌, ℕ, List, [], ◌++◌, IfErr, OnOk, OnErr};
 ghost use Rattle.std.specs.Io.KnownBytes.{Appends};
 
@@ -6,7 +7,7 @@ use crate::whole::write_whole;
 use std::io::Write;
 
 /// Writes the octets, and flushes the writer. After a fault a beginning of them was written.
-pub(crate) fn send<W: Write>(writer: &mut W, octets: &[u8]) -> Result<(), LinkFault>
+pub fn send<W: Write>(writer: &mut W, octets: &[u8]) -> Result<(), LinkFault>
     ensures ok { OnOk result (Appends (W.contents writer.old) (W.contents writer.new) octets.now) }
     ensures err { OnErr result ((front : List ℕ) × (rest : List ℕ) × (octets.now ≡ front ++ rest)
         × Appends (W.contents writer.old) (W.contents writer.new) front) }
