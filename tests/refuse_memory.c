@@ -9,14 +9,17 @@ extern void *__libc_malloc(size_t size);
 extern void *__libc_calloc(size_t count, size_t size);
 extern void *__libc_realloc(void *place, size_t size);
 
+// Several threads may ask at once: just one of them meets the number. The first to ask stands alone, before `main`.
 static int is_refused(void)
 {
-	static long left = -1;
-	if (left < 0) {
+	static int has_begun;
+	static long left;
+	if (!has_begun) {
 		const char *number = getenv("REFUSE");
 		left = number ? atol(number) : 0;
+		has_begun = 1;
 	}
-	if (left == 0 || --left > 0)
+	if (__atomic_load_n(&left, __ATOMIC_SEQ_CST) <= 0 || __atomic_fetch_sub(&left, 1, __ATOMIC_SEQ_CST) != 1)
 		return 0;
 	const char *mark = getenv("REFUSED");
 	if (mark)

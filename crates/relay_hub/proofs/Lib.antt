@@ -1,2 +1,5 @@
 mod ListLemmas
 mod HubLemmas
+mod LinkLemmas
+mod RiseLemmas
+mod LaneLemmas

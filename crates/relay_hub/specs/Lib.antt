@@ -1,3 +1,5 @@
 pub mod Receipts
 pub mod Hub
 pub mod Admission
+pub mod Link
+pub mod Round

@@ -10,6 +10,10 @@ Rise least bound [] = Unit {0}
 Rise least bound (receipt ∷ receipts) =
     (least ≤ receipt.number) × (receipt.number < bound) × Rise (receipt.number + 1) bound receipts
 
+-- they rise from some number on, below another
+abbrev pub IsRising : List Receipt → Type 0
+IsRising receipts = (least : ℕ) × (bound : ℕ) × Rise least bound receipts
+
 -- the message of its number was accepted as the receipt says
 abbrev pub IsTrueOf : Queue → Receipt → Type 0
 IsTrueOf queue receipt =

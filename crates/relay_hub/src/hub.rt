@@ -42,6 +42,16 @@ impl<D: Disk + Drop, J: Opening> Drop for Mismatch<D, J> {
     }
 }
 
+impl<D: Disk, J: Opening> Mismatch<D, J> {
+    /// The node and the passes.
+    pub fn into_parts(self) -> (Node<D>, Vec<Pass<J>>)
+        ensures { (result.0 ≡ self.node) × (result.1.items ≡ self.passes.items) }
+    {
+        let Mismatch { node, passes } = self;
+        (node, passes)
+    }
+}
+
 impl<D: Disk, J: Opening> Hub<D, J> {
     /// Puts a node under a lock, with a pass for each of so many threads. Where memory runs out the node comes back.
     /// The blank ledger has a part for each thread.

@@ -54,6 +54,17 @@ impl<J: Opening> Pass<J> {
     {
         self.receipts.as_slice()
     }
+
+    /// The receipts, and no pass any more. It takes no memory.
+    pub fn into_receipts(self) -> Vec<Receipt>
+        ensures { result.items ≡ self }
+    {
+        let Pass {
+            receipts,
+            share: _share,
+        } = self;
+        receipts
+    }
 }
 
 /// Tells that the ledger has counted as many messages as the passes have receipts, where no pass is missing: beside

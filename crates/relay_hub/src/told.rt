@@ -1,7 +1,7 @@
 //! Whether receipts are what a node has accepted. It takes no memory.
-ghost use Rattle.std.specs.Prelude.{◌≡◌, ◌↔◌, ◌+◌, ◌≤◌, ◌<◌, ◌*◌, ℕ, length, IsTrue};
+ghost use Rattle.std.specs.Prelude.{◌≡◌, ◌↔◌, ◌+◌, ◌≤◌, ◌<◌, ℕ, IsTrue, if◌then◌else◌};
 ghost use Rattle.std.specs.List.{AllByRecursion};
-ghost use Rattle.relay_hub.specs.Receipts.{AreReceipts, AreTrueOf, IsTrueOf, Rise, times, times_in};
+ghost use Rattle.relay_hub.specs.Receipts.{AreReceipts, AreTrueOf, IsRising, IsTrueOf, Rise, times, times_in};
 
 use crate::opening::Opening;
 use crate::pass::Pass;
@@ -24,41 +24,37 @@ fn rise(receipts: &[Receipt], least: u64, bound: u64) -> bool
     true
 }
 
-/// How many of the receipts have a number.
-fn times_in(receipts: &[Receipt], number: u64) -> usize
-    ensures { result ≡ times_in number receipts.now }
+/// Whether one of the receipts has a number. Their numbers rise, and so no two have the same.
+fn has_number(receipts: &[Receipt], number: u64) -> bool
+    requires { IsRising receipts.now }
+    ensures { times_in number receipts.now ≡ (if result then 1 else 0) }
 {
-    let mut times = 0;
-    for receipt in receipts {
-        if receipt.number == number {
-            times += 1;
-        }
-    }
-    times
+    receipts
+        .binary_search_by_key(&number, |receipt| receipt.number)
+        .is_ok()
 }
 
-/// Whether just one receipt of all passes has a number.
+/// Whether just one receipt of all passes has a number. The numbers of each pass rise.
 fn comes_once<J: Opening>(passes: &[Pass<J>], number: u64) -> bool
+    requires { AllByRecursion IsRising passes.now }
     ensures { IsTrue result ↔ (times number passes.now ≡ 1) }
 {
     let mut found = false;
     for pass in passes {
-        match times_in(pass.receipts(), number) {
-            0 => {}
-            1 => {
-                if found {
-                    return false;
-                }
-                found = true;
+        if has_number(pass.receipts(), number) {
+            if found {
+                return false;
             }
-            _ => return false,
+            found = true;
         }
     }
     found
 }
 
-/// Whether each number from the first on, and below a bound, is that of just one receipt of all passes.
+/// Whether each number from the first on, and below a bound, is that of just one receipt of all passes. The numbers of
+/// each pass rise.
 fn each_comes_once<J: Opening>(passes: &[Pass<J>], first: u64, bound: u64) -> bool
+    requires { AllByRecursion IsRising passes.now }
     ensures { IsTrue result ↔ ((number : ℕ) → first ≤ number → number < bound → times number passes.now ≡ 1) }
 {
     for number in first..bound {
@@ -126,7 +122,9 @@ pub(crate) fn are_receipts<D: Disk, J: Opening>(
     ensures { IsTrue result ↔ AreReceipts first node.now.records.queue passes.now }
 {
     let next = node.next_number();
-    each_rises(passes, first, next)
-        && are_all_true(node, passes)
-        && each_comes_once(passes, first, next)
+    // Only in passes that rise a number is looked for by halves.
+    if !each_rises(passes, first, next) {
+        return false;
+    }
+    are_all_true(node, passes) && each_comes_once(passes, first, next)
 }

@@ -1,0 +1,107 @@
+-- What a link of a thread has done: a dialogue, and a receipt for each offer that was queued.
+use Rattle.std.specs.Prelude.{◌≡◌, ◌≢◌, ◌⊎◌, ℕ, suc, Option, List, [], ◌∷◌, ◌++◌, length, Bool, true, false, Result, MatchResult}
+use Rattle.std.specs.Io.KnownBytes.{Appends, Consumes, IsAtEnd}
+use Rattle.relay_routes.specs.declared.config.Config.{Config}
+use Rattle.relay_server.specs.declared.offer.Answer.{Answer}
+use Rattle.relay_server.specs.declared.offer.Answer.TheVariants.{Queued, Full}
+use Rattle.relay_server.specs.declared.session.Session.{Session}
+use Rattle.relay_server.specs.Dialogue.{Offered, Said, IsDialogue}
+use Rattle.relay_server.specs.Session.{IsClosed, Stands}
+use Rattle.relay_server.specs.Setup.{setup_of_config}
+use Rattle.relay_server.specs.State.{Closed}
+use Rattle.relay_links.specs.declared.fault.LinkFault.{LinkFault}
+use Rattle.relay_links.specs.declared.fault.LinkFault.TheVariants.{Input, Output, NoMemory, Full as NoNumber, Device}
+use Rattle.relay_hub.specs.declared.receipt.Receipt.{Receipt}
+use Rattle.relay_hub.specs.Admission.{IsReceiptOf}
+
+-- where a link begins: what its reader still has and its writer holds, and the receipts of its thread
+pub record LinkStart : Type 0 where
+  pub left : Option (List ℕ)
+  pub held : Option (List ℕ)
+  pub receipts : List Receipt
+
+abbrev pub link_start : Option (List ℕ) → Option (List ℕ) → List Receipt → LinkStart
+link_start left held receipts = record { left = left; held = held; receipts = receipts }
+
+-- Each answer is that of the offer at its place, which a client at this address gave, and these are the receipts of
+-- those that were queued, in order; an offer behind them has no answer.
+abbrev pub AreNoted : List ℕ → ℕ → List Answer → List Offered → List Receipt → Type 0
+AreNoted peer at [] offers [] = Unit {0}
+AreNoted peer at [] offers (receipt ∷ receipts) = ⊥
+AreNoted peer at (answer ∷ answers) [] receipts = ⊥
+AreNoted peer at (Full ∷ answers) (offer ∷ offers) receipts = AreNoted peer at answers offers receipts
+AreNoted peer at (Queued number ∷ answers) (offer ∷ offers) [] = ⊥
+AreNoted peer at (Queued number ∷ answers) (offer ∷ offers) (receipt ∷ receipts) =
+    IsReceiptOf offer peer at number receipt × AreNoted peer at answers offers receipts
+
+-- something was said on the session, of which an offer may be open
+abbrev pub IsStanding : Config → Session → Type 0
+IsStanding config session = (said : Said) × Stands (setup_of_config config) session said
+
+-- the hub refused to take an offer
+abbrev pub IsOfHub : LinkFault → Type 0
+IsOfHub fault = (fault ≡ Device) ⊎ (fault ≡ NoNumber)
+
+-- The words below are of a link of this configuration, with a client at this address, from its start on, at a moment.
+module _ (config : Config) (peer : List ℕ) (at : ℕ) (start : LinkStart) where
+  -- behind the receipts of before stand those of the offers that were queued by these answers, in order
+  pub record HasNoted (offers : List Offered) (answers : List Answer) (receipts : List Receipt) : Type 0 where
+    pub added : List Receipt
+    pub noted : AreNoted peer at answers offers added
+    pub receipts_are : receipts ≡ start.receipts ++ added
+
+  -- So far the session has said what was written and these octets, which are to be written, and has read what was read
+  -- but for those that wait.
+  pub record HasSaid (session : Session) (left held : Option (List ℕ)) (waiting out : List ℕ) (receipts : List Receipt)
+      : Type 0 where
+    pub said : Said
+    pub stands : Stands (setup_of_config config) session said
+    pub read : Consumes start.left left (said.input ++ waiting)
+    pub before : List ℕ
+    pub output : said.output ≡ before ++ out
+    pub written : Appends start.held held before
+    pub noted : HasNoted said.offers said.answers receipts
+
+  -- what was read and written is a dialogue, closed or up to the end of the input, and each of its offers has an answer
+  pub record HasServed (left held : Option (List ℕ)) (receipts : List Receipt) : Type 0 where
+    pub said : Said
+    pub dialogue : IsDialogue (setup_of_config config) said
+    pub read : Consumes start.left left said.input
+    pub written : Appends start.held held said.output
+    pub ended : (dialogue.state ≡ Closed) ⊎ IsAtEnd left
+    pub answered : length said.offers ≡ length said.answers
+    pub noted : HasNoted said.offers said.answers receipts
+
+  -- What was written is a beginning of the output of a dialogue, whose input is a beginning of what was read: all of it
+  -- where nothing more could be read. Where the hub has refused an offer, it is the last, and has no answer. Where
+  -- memory ran out behind the hub's answer to an offer, that isn't told, and counts for the receipts.
+  pub record HasBegun (left held : Option (List ℕ)) (receipts : List Receipt) (fault : LinkFault) : Type 0 where
+    pub said : Said
+    pub dialogue : IsDialogue (setup_of_config config) said
+    pub unread : List ℕ
+    pub read : Consumes start.left left (said.input ++ unread)
+    pub front : List ℕ
+    pub unwritten : List ℕ
+    pub output : said.output ≡ front ++ unwritten
+    pub whole : fault ≡ Input → unwritten ≡ []
+    pub written : Appends start.held held front
+    pub unanswered : IsOfHub fault → length said.offers ≡ suc (length said.answers)
+    pub untold : List Answer
+    pub told : fault ≢ NoMemory → untold ≡ []
+    pub noted : HasNoted said.offers (said.answers ++ untold) receipts
+
+  -- a link has ended, well or by a fault
+  abbrev pub HasEnded : Option (List ℕ) → Option (List ℕ) → List Receipt → Result (Unit {0}) LinkFault → Type 0
+  HasEnded left held receipts result =
+      MatchResult result (λ _. HasServed left held receipts) (HasBegun left held receipts)
+
+  -- the link goes on, or has come to its end
+  abbrev pub GoesOn : Session → Option (List ℕ) → Option (List ℕ) → List ℕ → List Receipt → Bool → Type 0
+  GoesOn session left held waiting receipts true = HasServed left held receipts
+  GoesOn session left held waiting receipts false = HasSaid session left held waiting [] receipts
+
+  -- a link has gone on, or has ended, well or by a fault
+  abbrev pub HasGone : Session → Option (List ℕ) → Option (List ℕ) → List ℕ → List Receipt → Result Bool LinkFault
+      → Type 0
+  HasGone session left held waiting receipts result =
+      MatchResult result (GoesOn session left held waiting receipts) (HasBegun left held receipts)

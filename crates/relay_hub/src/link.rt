@@ -1,0 +1,259 @@
+//! A link of a thread: its session is the thread's own, and the node is locked for each offer alone.
+ghost use Rattle.std.specs.Prelude.{◌≡◌, ◌≤◌, ◌<◌, [], ℕ, List, Option, drop, length, true, false, IfOk, OnOk, MatchResult};
+ghost use Rattle.relay_server.specs.Session.{HasOffer, IsClosed, open_offers};
+ghost use Rattle.relay_node.specs.Node.{HasHistory};
+ghost use Rattle.relay_hub.specs.Link.{HasBegun, HasEnded, HasGone, HasSaid, IsStanding, LinkStart, link_start};
+
+use crate::hub::Hub;
+use crate::opening::Opening;
+use crate::pass::Pass;
+use relay_disk::Disk;
+use relay_links::send::send;
+use relay_links::{LinkFault, link_fault, read_block};
+use relay_routes::Config;
+use relay_server::{Next, Session};
+use relay_trace::Moment;
+use std::alloc::Global;
+use std::io::{ErrorKind, Read, Write};
+use std::sync::Wait;
+
+/// How many reads a link does at most: 2^40.
+const READS: u64 = 1_099_511_627_776;
+
+/// What a link works by.
+#[derive(Drop)]
+struct Terms<'a> {
+    alloc: Global,
+    config: &'a Config,
+    /// The IPv4 address of the client.
+    peer: [u8; 4],
+    /// When its mail counts as accepted.
+    at: Moment,
+}
+
+/// Serves a client: writes the greeting, reads commands and mail from `reader`, and writes the replies to `writer`, all
+/// of them before the next read and behind each message. Each message is given to the hub, and only those that it queued
+/// add their receipts to the pass, in order. It ends at a close, and at the end of the input; and where the hub refuses
+/// to take a message, without another octet. Where memory runs out behind the hub's answer, the client isn't told of it,
+/// and the message stays queued. All mail counts as accepted at `now`.
+pub fn hub_link<D: Disk, J: Opening, T: Wait, R: Read, W: Write>(
+    rt: &T,
+    alloc: Global,
+    hub: &Hub<D, J>,
+    pass: &mut Pass<J>,
+    config: &Config,
+    peer: [u8; 4],
+    reader: &mut R,
+    writer: &mut W,
+    now: Moment,
+) -> Result<(), LinkFault>
+    ensures { HasEnded config.now peer now
+        (link_start (R.remaining reader.old) (W.contents writer.old) pass.old)
+        (R.remaining reader.new) (W.contents writer.new) pass.new result }
+{
+    let terms = Terms {
+        alloc,
+        config,
+        peer,
+        at: now,
+    };
+    let (mut session, greeting) = Session::new(alloc, config)?;
+    send(writer, greeting.as_slice())?;
+    converse(rt, hub, pass, &terms, &mut session, reader, writer)
+}
+
+/// Goes on behind what was said, up to a close or the end of the input.
+fn converse<D: Disk, J: Opening, T: Wait, R: Read, W: Write>(
+    rt: &T,
+    hub: &Hub<D, J>,
+    pass: &mut Pass<J>,
+    terms: &Terms<'_>,
+    session: &mut Session,
+    reader: &mut R,
+    writer: &mut W,
+) -> Result<(), LinkFault>
+    requires { HasHistory terms.now.config.now session.old }
+    ensures { (start : LinkStart)
+        → HasSaid terms.now.config.now terms.now.peer terms.now.at start session.old (R.remaining reader.old)
+        (W.contents writer.old) [] [] pass.old
+        → HasEnded terms.now.config.now terms.now.peer terms.now.at start (R.remaining reader.new)
+        (W.contents writer.new) pass.new result }
+{
+    let mut block = read_block(terms.alloc)?;
+    for _ in 0..READS {
+        if exchange_block(
+            rt,
+            hub,
+            pass,
+            terms,
+            session,
+            block.as_mut_slice(),
+            reader,
+            writer,
+        )? {
+            return Ok(());
+        }
+    }
+    Err(LinkFault::Input)
+}
+
+/// Reads once into the block, and answers what was read. It tells whether the link has come to its end: by a close, or
+/// by the end of the input. A read that was interrupted has read nothing.
+fn exchange_block<D: Disk, J: Opening, T: Wait, R: Read, W: Write>(
+    rt: &T,
+    hub: &Hub<D, J>,
+    pass: &mut Pass<J>,
+    terms: &Terms<'_>,
+    session: &mut Session,
+    block: &mut [u8],
+    reader: &mut R,
+    writer: &mut W,
+) -> Result<bool, LinkFault>
+    requires room { 0 < length block.old }
+    requires history { HasHistory terms.now.config.now session.old }
+    ensures goes_on { (start : LinkStart)
+        → HasSaid terms.now.config.now terms.now.peer terms.now.at start session.old (R.remaining reader.old)
+        (W.contents writer.old) [] [] pass.old
+        → HasGone terms.now.config.now terms.now.peer terms.now.at start session.new (R.remaining reader.new)
+        (W.contents writer.new) [] pass.new result }
+    ensures block { length block.new ≡ length block.old }
+    ensures history { IfOk result (λ is_last. is_last ≡ false → HasHistory terms.now.config.now session.new) }
+{
+    let count = match reader.read(block) {
+        Ok(0) => return Ok(true),
+        Ok(count) => count,
+        Err(error) => {
+            if error.kind() == ErrorKind::Interrupted {
+                return Ok(false);
+            }
+            return Err(LinkFault::Input);
+        }
+    };
+    answer_block(rt, hub, pass, terms, session, &block[..count], writer)
+}
+
+/// Answers octets that were read, all of them or up to a close. It tells whether there was one.
+fn answer_block<D: Disk, J: Opening, T: Wait, W: Write>(
+    rt: &T,
+    hub: &Hub<D, J>,
+    pass: &mut Pass<J>,
+    terms: &Terms<'_>,
+    session: &mut Session,
+    octets: &[u8],
+    writer: &mut W,
+) -> Result<bool, LinkFault>
+    requires { HasHistory terms.now.config.now session.old }
+    ensures goes_on { (start : LinkStart) (left : Option (List ℕ))
+        → HasSaid terms.now.config.now terms.now.peer terms.now.at start session.old left (W.contents writer.old)
+        octets.now [] pass.old
+        → HasGone terms.now.config.now terms.now.peer terms.now.at start session.new left (W.contents writer.new)
+        [] pass.new result }
+    ensures history { IfOk result (λ is_last. is_last ≡ false → HasHistory terms.now.config.now session.new) }
+{
+    let mut used = 0;
+    while used < octets.len() {
+        if answer(rt, hub, pass, terms, session, octets, &mut used, writer)? {
+            return Ok(true);
+        }
+    }
+    Ok(false)
+}
+
+/// Answers octets behind those that are used, all of them or up to an offer or a close. It tells whether there was a
+/// close.
+fn answer<D: Disk, J: Opening, T: Wait, W: Write>(
+    rt: &T,
+    hub: &Hub<D, J>,
+    pass: &mut Pass<J>,
+    terms: &Terms<'_>,
+    session: &mut Session,
+    octets: &[u8],
+    used: &mut usize,
+    writer: &mut W,
+) -> Result<bool, LinkFault>
+    requires used { used.old < length octets.now }
+    requires history { HasHistory terms.now.config.now session.old }
+    ensures goes_on { (start : LinkStart) (left : Option (List ℕ))
+        → HasSaid terms.now.config.now terms.now.peer terms.now.at start session.old left (W.contents writer.old)
+        (drop used.old octets.now) [] pass.old
+        → HasGone terms.now.config.now terms.now.peer terms.now.at start session.new left (W.contents writer.new)
+        (drop used.new octets.now) pass.new result }
+    ensures used { IfOk result (λ is_last. (used.new ≤ length octets.now)
+        × (is_last ≡ false → used.old < used.new)) }
+    ensures history { IfOk result (λ is_last. is_last ≡ false → HasHistory terms.now.config.now session.new) }
+{
+    let mut out = Vec::new(terms.alloc);
+    let is_last = hear(rt, hub, pass, terms, session, octets, used, &mut out)?;
+    send(writer, out.as_slice())?;
+    Ok(is_last)
+}
+
+/// Hears octets behind those that are used, all of them or up to an offer or a close, and puts the replies behind
+/// `out`. It tells whether there was a close.
+fn hear<D: Disk, J: Opening, T: Wait>(
+    rt: &T,
+    hub: &Hub<D, J>,
+    pass: &mut Pass<J>,
+    terms: &Terms<'_>,
+    session: &mut Session,
+    octets: &[u8],
+    used: &mut usize,
+    out: &mut Vec<u8>,
+) -> Result<bool, LinkFault>
+    requires used { used.old < length octets.now }
+    requires history { HasHistory terms.now.config.now session.old }
+    ensures hears { (start : LinkStart) (left held : Option (List ℕ))
+        → HasSaid terms.now.config.now terms.now.peer terms.now.at start session.old left held
+        (drop used.old octets.now) out.old.items pass.old
+        → MatchResult result
+        (λ _. HasSaid terms.now.config.now terms.now.peer terms.now.at start session.new left held
+        (drop used.new octets.now) out.new.items pass.new)
+        (HasBegun terms.now.config.now terms.now.peer terms.now.at start left held pass.new) }
+    ensures used { IfOk result (λ is_last. (used.new ≤ length octets.now)
+        × (is_last ≡ false → used.old < used.new)) }
+    ensures history { IfOk result (λ is_last. HasHistory terms.now.config.now session.new
+        × (is_last ≡ true → IsClosed session.new)) }
+{
+    match session.hear(&terms.config.routes, octets, used, out) {
+        Ok(Next::More) => Ok(false),
+        Ok(Next::Close) => Ok(true),
+        Ok(Next::Offer) => match take_offer(rt, hub, pass, terms, session, out) {
+            Ok(()) => Ok(false),
+            Err(fault) => Err(fault),
+        },
+        Err(_) => Err(LinkFault::NoMemory),
+    }
+}
+
+/// Gives the open offer to the hub, and puts the reply behind `out`.
+fn take_offer<D: Disk, J: Opening, T: Wait>(
+    rt: &T,
+    hub: &Hub<D, J>,
+    pass: &mut Pass<J>,
+    terms: &Terms<'_>,
+    session: &mut Session,
+    out: &mut Vec<u8>,
+) -> Result<(), LinkFault>
+    requires offer { HasOffer session.old }
+    requires stands { IsStanding terms.now.config.now session.old }
+    ensures takes { (start : LinkStart) (left held : Option (List ℕ)) (waiting : List ℕ)
+        → HasSaid terms.now.config.now terms.now.peer terms.now.at start session.old left held waiting
+        out.old.items pass.old
+        → MatchResult result
+        (λ _. HasSaid terms.now.config.now terms.now.peer terms.now.at start session.new left held waiting
+        out.new.items pass.new)
+        (HasBegun terms.now.config.now terms.now.peer terms.now.at start left held pass.new) }
+    ensures history { OnOk result (HasHistory terms.now.config.now session.new) }
+{
+    let Some(offer) = session.offer() else {
+        unreachable!()
+    };
+    let answer = match hub.admit(rt, pass, &offer, terms.peer, terms.at) {
+        Ok(answer) => answer,
+        Err(fault) => return Err(link_fault(fault)),
+    };
+    match session.reply(answer, out) {
+        Ok(()) => Ok(()),
+        Err(_) => Err(LinkFault::NoMemory),
+    }
+}
