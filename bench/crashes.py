@@ -1,9 +1,11 @@
 #!/usr/bin/env python3
 """Kills `relayd serve` (SIGKILL) at 30 moments of a fixed seed while messages come in and go on, and opens the spool
-again each time: every message whose 250 the client has read is in `list`, or the sink has been given it. At last a
+again each time: every message whose 250 a client has read is in `list`, or the sink has been given it. At last a
 push takes all that is left to the sink.
 
-    bench/crashes.py build/relayd
+    bench/crashes.py build/relayd [WORKERS]
+
+With WORKERS so many clients hand in at once, and the relay serves so many side by side.
 
 The system goes on, and keeps what was written and not synced: what a loss of power leaves isn't seen here.
 """
@@ -30,28 +32,32 @@ LONGEST = 0.3
 TOKEN = re.compile(rb"\r\nSubject: (\d+)\r\n")
 
 
+# How many messages one client gives at most.
+SHARE = 1000000
+
+
 class Feeder:
     """Hands in messages, each with a number of its own as its subject, and writes down which were answered 250, and
     as which number they were queued."""
 
-    def __init__(self, port, chance):
-        self.port, self.chance = port, chance
+    def __init__(self, port, place, most):
+        self.port, self.place, self.most, self.chance = port, place, most, random.Random(place)
         self.given, self.answered = 0, {}
 
     def feed(self):
-        """Messages until the relay is gone, up to five at a connection."""
+        """Messages until the relay is gone, up to so many at a connection."""
         try:
             while True:
                 with smtplib.SMTP("127.0.0.1", self.port, "client.example", PATIENCE) as client:
                     client.ehlo()
-                    for _ in range(self.chance.randint(1, 5)):
+                    for _ in range(self.chance.randint(1, self.most)):
                         self.hand_in(client)
         except (OSError, smtplib.SMTPException):
             pass
 
     def hand_in(self, client):
         self.given += 1
-        token = self.given
+        token = self.place * SHARE + self.given
         content = b"Subject: %d\r\n\r\n%b.\r\n" % (token, b"x" * self.chance.randint(0, 20000))
         client.mail("a@example.org")
         client.rcpt("b@example.org")
@@ -83,36 +89,48 @@ def push_rest(relay, sink, folder):
     source = HERE.parent / "tests/later_clock.c"
     subprocess.run(["cc", "-shared", "-fPIC", "-O1", "-o", shim, source], check=True)
     relay.environment.update(LD_PRELOAD=str(shim), LATER="86400")
-    relay.run("push")
+    same("the end of the push", relay.ended(900, "push").returncode, 0)
     same("list at last", relay.held(), [])
 
 
-def run(program, folder, sink):
+def feed_all(feeders):
+    """Messages of all clients until the relay is gone."""
+    threads = [threading.Thread(target=feeder.feed) for feeder in feeders]
+    for thread in threads:
+        thread.start()
+    for thread in threads:
+        thread.join()
+
+
+def run(program, folder, sink, workers):
     relay = Relay(program, folder, {"example.org": ("next.example", sink.port)})
     relay.run("init")
     chance = random.Random(24)
-    feeder = Feeder(relay.port, chance)
+    feeders = [Feeder(relay.port, place, 5 if workers == 1 else 2) for place in range(workers)]
+    answered = {}
     for moment in range(1, MOMENTS + 1):
-        process = relay.start("--rounds", "1000000")
-        timer = threading.Timer(chance.uniform(0, LONGEST), process.kill)
+        process = relay.start("--rounds", "1000000", *["--workers", str(workers)] * (workers > 1))
+        timer = threading.Timer(chance.uniform(0, LONGEST * (1 + workers / 64)), process.kill)
         timer.start()
-        feeder.feed()
+        feed_all(feeders)
         timer.join()
         process.communicate()
-        look(relay, sink, feeder.answered, moment)
+        for feeder in feeders:
+            answered.update(feeder.answered)
+        look(relay, sink, answered, moment)
     push_rest(relay, sink, folder)
     counts = tokens_at(sink)
-    same("messages that never came", [token for token in feeder.answered if token not in counts], [])
+    same("messages that never came", [token for token in answered if token not in counts], [])
     same("breaches at the sink", sink.breaches, [])
-    more = sum(count - 1 for count in counts.values())
-    print(f"crashes: {MOMENTS} kills, {feeder.given} messages begun, {len(feeder.answered)} answered 250, none lost; "
+    more, given = sum(count - 1 for count in counts.values()), sum(feeder.given for feeder in feeders)
+    print(f"crashes: {MOMENTS} kills, {workers} at once, {given} messages begun, {len(answered)} answered 250, none lost; "
           f"the sink was given {len(counts)}, and {more} of them once more")
 
 
 def main():
     with tempfile.TemporaryDirectory() as folder, Sink() as sink:
         try:
-            run(os.path.realpath(sys.argv[1]), pathlib.Path(folder), sink)
+            run(os.path.realpath(sys.argv[1]), pathlib.Path(folder), sink, int((sys.argv + ["1"])[2]))
         except Difference as difference:
             sys.exit(f"crashes: {difference}")
 

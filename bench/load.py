@@ -4,7 +4,7 @@ in the same runs, and beside Postfix where tests/interop.sh has unpacked it.
 
     bench/load.py build/relayd [FIGURE ..]
 
-The figures are kept, connections, large, push and bounded; all where none is given.
+The figures are kept, workers, connections, large, push and bounded; all where none is given.
 DISK (build) is the folder whose device is measured, RUNS (5) how many runs a median is of, QUEUE (10000) how many
 messages a push sends, MANY (100000) how many messages go through one spool for the figure bounded, PACKAGES (build/interop) where Postfix is looked for. The client is bench/client.c and the next
 hop bench/sink.c; what they take counts. With FLOOR=1 the same is measured of bench/floor.c, a relay that does the least:
@@ -155,6 +155,22 @@ class Bench:
         same("messages in the spool", len(relay.held()), count)
         return seconds, relay
 
+    def side_by_side(self, workers, count, size):
+        """Seconds of so many messages at each of so many connections, which are served side by side, to the last reply of
+        them all; and how much longer the slowest of them took than the median. The relay is killed then."""
+        relay = self.new_relay(9)
+        process = relay.start("--workers", str(workers))
+        begun = time.perf_counter()
+        clients = [Client(self.folder, relay.port, count, size, "kept") for _ in range(workers)]
+        seconds = [client.seconds() for client in clients]
+        ended = time.perf_counter()
+        process.kill()
+        process.communicate()
+        for client in clients:
+            client.close()
+        same("messages in the spool", len(relay.held()), workers * count)
+        return ended - begun, max(seconds) / statistics.median(seconds)
+
     def one_a_connection(self, count, size):
         """Seconds of so many connections with a message each, and of handing each message on behind it."""
         sink = Sink(self.folder, count)
@@ -278,6 +294,22 @@ def tell_kept(bench, packages):
                 "two bare syncs", postfix if packages else None)
 
 
+def tell_workers(bench, _packages):
+    for workers, count in ((1, 500), (8, 100), (64, 25)):
+        spreads = []
+
+        def measure(relays):
+            seconds, spread = relays.side_by_side(workers, count, 1024)
+            spreads.append(spread)
+            return seconds
+
+        amount = workers * count
+        runs = interleaved(lambda: measure(bench), lambda: bare_pairs(bench.folder, [ACCEPT] * amount))
+        tell(f"serve --workers {workers}: messages of 1 KiB at kept sessions", amount / median_of(runs, lambda run: run[0]),
+             "messages/s", (median_of(runs, lambda run: run[1] / run[0]), "two bare syncs"))
+        print(f"  the slowest session took {max(spreads):.2f} times the median at most", flush=True)
+
+
 def tell_one_a_connection(bench, _packages):
     tell_beside(bench, "serve: messages of 1 KiB, one a connection, sent on", 300, "messages/s",
                 lambda relays: relays.one_a_connection(300, 1024),
@@ -308,6 +340,7 @@ def tell_bounded(bench, _packages):
 
 FIGURES = {
     "kept": tell_kept,
+    "workers": tell_workers,
     "connections": tell_one_a_connection,
     "large": tell_large,
     "push": tell_push,

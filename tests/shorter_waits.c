@@ -1,5 +1,5 @@
-// Divides how long a socket waits to read and to write in the program that it is preloaded into by 300, and adds each as
-// it was asked for, in seconds, to the file that WAITS names. Where LATER is set, its clock is set forward by so many seconds.
+// Divides how long a socket waits to read and to write in the program that it is preloaded into by 300, or by what SHORTER
+// says, and adds each as it was asked for, in seconds, to the file that WAITS names. Where LATER is set, its clock is set forward by so many seconds.
 #define _GNU_SOURCE
 #include <stdio.h>
 #include <stdlib.h>
@@ -22,10 +22,11 @@ static void write_down(int option, long seconds)
 int setsockopt(int socket, int level, int option, const void *value, socklen_t size)
 {
 	struct timeval shorter;
+	const char *divisor = getenv("SHORTER");
 	if (level == SOL_SOCKET && (option == SO_RCVTIMEO || option == SO_SNDTIMEO) && size == sizeof shorter) {
 		shorter = *(const struct timeval *)value;
 		write_down(option, shorter.tv_sec);
-		shorter.tv_sec /= 300;
+		shorter.tv_sec /= divisor ? atol(divisor) : 300;
 		value = &shorter;
 	}
 	return (int)syscall(SYS_setsockopt, socket, level, option, value, size);

@@ -1,2 +1,2 @@
-mod RoundsLemmas
+mod NumberLemmas
 mod ShapeLemmas

@@ -34,12 +34,18 @@ rounds_rule =
     record (new_rule (codes "rounds"))
     { long = Some (codes "rounds"); action = Some Set; parser = Some (Unsigned 1 1000000) }
 
+-- profile: `--workers W`, from 1 to 64
+abbrev pub workers_rule : Rule
+workers_rule =
+    record (new_rule (codes "workers"))
+    { long = Some (codes "workers"); action = Some Set; parser = Some (Unsigned 1 64) }
+
 -- profile: `--log`
 abbrev pub log_rule : Rule
 log_rule = record (new_rule (codes "log")) { long = Some (codes "log"); action = Some SetTrue }
 
 abbrev pub serving : App
-serving = with_rule (with_rule (configured (codes "serve")) rounds_rule) log_rule
+serving = with_rule (with_rule (with_rule (configured (codes "serve")) rounds_rule) workers_rule) log_rule
 
 abbrev pub pushing : App
 pushing = with_rule (configured (codes "push")) log_rule
@@ -73,20 +79,24 @@ pub data Asked : Type 0 where
   AskedInit : Text → Asked
   AskedList : Text → Asked
   AskedCompact : Text → Asked
-  AskedServe : Text → ℕ → Bool → Asked
+  AskedServe : Text → ℕ → ℕ → Bool → Asked
   AskedPush : Text → Bool → Asked
 
 -- the file behind `--config`; the argument reader refuses words without one
 abbrev pub config_in : List Row → Text
 config_in rows = unwrap_or (first_of (codes "config") rows) []
 
--- the number that a text says, where it is one from 1 to 1,000,000; the argument reader refuses other texts
-abbrev pub rounds_of : Text → ℕ
-rounds_of text = if is_unsigned_in 1 1000000 text then digits_value 10 (without_leading_plus text) else 1
+-- the number that a text says, where it is one from 1 to the most; the argument reader refuses other texts
+abbrev pub number_of : ℕ → Text → ℕ
+number_of most text = if is_unsigned_in 1 most text then digits_value 10 (without_leading_plus text) else 1
 
--- how many connections are asked for: 1 where none is said
+-- how many rounds are asked for: 1 where nothing is said
 abbrev pub rounds_in : List Row → ℕ
-rounds_in rows = option_map_or rounds_of (first_of (codes "rounds") rows) 1
+rounds_in rows = option_map_or (number_of 1000000) (first_of (codes "rounds") rows) 1
+
+-- how many connections a round is to take: 1 where nothing is said
+abbrev pub workers_in : List Row → ℕ
+workers_in rows = option_map_or (number_of 64) (first_of (codes "workers") rows) 1
 
 -- a log is asked for
 abbrev pub is_logged_in : List Row → Bool
@@ -97,7 +107,7 @@ asked_by name rows =
     if bytes_eq name (codes "init") then AskedInit (config_in rows)
     else if bytes_eq name (codes "list") then AskedList (config_in rows)
     else if bytes_eq name (codes "compact") then AskedCompact (config_in rows)
-    else if bytes_eq name (codes "serve") then AskedServe (config_in rows) (rounds_in rows) (is_logged_in rows)
+    else if bytes_eq name (codes "serve") then AskedServe (config_in rows) (rounds_in rows) (workers_in rows) (is_logged_in rows)
     else if bytes_eq name (codes "push") then AskedPush (config_in rows) (is_logged_in rows)
     else if bytes_eq name (codes "play") then AskedPlay
     else AskedSession
@@ -118,15 +128,15 @@ asked Play = AskedPlay
 asked (Init file) = AskedInit file.now
 asked (ListHeld file) = AskedList file.now
 asked (Compact file) = AskedCompact file.now
-asked (Serve file rounds log) = AskedServe file.now rounds log
+asked (Serve file rounds workers log) = AskedServe file.now rounds workers log
 asked (Push file log) = AskedPush file.now log
 
 -- the words of a subcommand with the file `c`, and more
 abbrev pub words_of : Text → Text → List Text → List Text
 words_of name subcommand more = name ∷ subcommand ∷ codes "--config" ∷ codes "c" ∷ more
 
--- `serve` and `push` are taken with a file. A number of rounds is one from 1 to 1,000,000, and 1 where none is said;
--- `push` has none.
+-- `serve` and `push` are taken with a file. A number of rounds is one from 1 to 1,000,000, one of workers from 1 to 64,
+-- and each is 1 where none is said; `push` has neither.
 abbrev pub ServesAndPushes : Text → Type 0
 ServesAndPushes name =
     (faults_in (words_of name (codes "serve") (codes "--rounds" ∷ codes "1000000" ∷ [])) ≡ [])
@@ -134,9 +144,15 @@ ServesAndPushes name =
     × (faults_in (words_of name (codes "serve") (codes "--rounds" ∷ codes "0" ∷ [])) ≡ ValueValidation ∷ [])
     × (faults_in (name ∷ codes "serve" ∷ []) ≡ MissingRequiredArgument ∷ [])
     × (faults_in (words_of name (codes "push") (codes "--rounds" ∷ codes "1" ∷ [])) ≡ UnknownArgument ∷ [])
-    × (asked_in (words_of name (codes "serve") []) ≡ AskedServe (codes "c") 1 false)
+    × (faults_in (words_of name (codes "serve") (codes "--workers" ∷ codes "64" ∷ [])) ≡ [])
+    × (faults_in (words_of name (codes "serve") (codes "--workers" ∷ codes "65" ∷ [])) ≡ ValueValidation ∷ [])
+    × (faults_in (words_of name (codes "serve") (codes "--workers" ∷ codes "0" ∷ [])) ≡ ValueValidation ∷ [])
+    × (faults_in (words_of name (codes "push") (codes "--workers" ∷ codes "1" ∷ [])) ≡ UnknownArgument ∷ [])
+    × (asked_in (words_of name (codes "serve") []) ≡ AskedServe (codes "c") 1 1 false)
     × (asked_in (words_of name (codes "serve") (codes "--log" ∷ codes "--rounds" ∷ codes "25" ∷ []))
-    ≡ AskedServe (codes "c") 25 true)
+    ≡ AskedServe (codes "c") 25 1 true)
+    × (asked_in (words_of name (codes "serve") (codes "--workers" ∷ codes "8" ∷ codes "--rounds" ∷ codes "3" ∷ []))
+    ≡ AskedServe (codes "c") 3 8 false)
     × (asked_in (words_of name (codes "push") []) ≡ AskedPush (codes "c") false)
 
 -- `compact` is taken with a file, and not without one

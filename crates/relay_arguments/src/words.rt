@@ -1,9 +1,10 @@
-ghost use Rattle.std.specs.Prelude.{◌≡◌, codes, false, map, IfOk};
+ghost use Rattle.std.specs.Prelude.{◌≡◌, ◌≤◌, codes, false, map, IfOk};
 ghost use Rattle.clap.specs.Words.{FailsBy, app_of, found_of, new_app, rows_of, rule_of, subcommand_rows_of};
 ghost use Rattle.relay_arguments.specs.Arguments.{WordsAreTaken, asked, asked_by, asked_in, asked_of, config_in};
 ghost use Rattle.relay_arguments.specs.Arguments.{config_rule, configured, faults_in, is_logged_in, log_rule};
-ghost use Rattle.relay_arguments.specs.Arguments.{over_files, pushing, relayd, rounds_in, rounds_of, rounds_rule};
+ghost use Rattle.relay_arguments.specs.Arguments.{number_of, over_files, pushing, relayd, rounds_in, rounds_rule};
 ghost use Rattle.relay_arguments.specs.Arguments.{serving, with_compact, without_files, without_subcommands};
+ghost use Rattle.relay_arguments.specs.Arguments.{workers_in, workers_rule};
 
 use clap::builder::ValueParser;
 use clap::{Arg, ArgAction, ArgMatches, Command, Error};
@@ -27,8 +28,10 @@ pub enum Subcommand<'a> {
     Serve {
         /// The file of the configuration.
         file: &'a str,
-        /// How many connections are served, 1 to 1,000,000.
+        /// How many rounds of connections are served, 1 to 1,000,000.
         rounds: u32,
+        /// How many connections a round takes, 1 to 64.
+        workers: u8,
         /// Whether standard error says what was done.
         log: bool,
     },
@@ -41,8 +44,11 @@ pub enum Subcommand<'a> {
     },
 }
 
-/// The most connections of one run.
+/// The most rounds of one run.
 const MOST_ROUNDS: u64 = 1_000_000;
+
+/// The most connections of one round.
+const MOST_WORKERS: u64 = 64;
 
 /// The subcommand that the words name, the program's own name first, and the file behind its
 /// `--config`. An error has a text for the user: of what is wrong with the words, or the help that
@@ -79,6 +85,7 @@ fn named<'a>(name: &str, matches: &ArgMatches<'a>) -> Subcommand<'a>
         Subcommand::Serve {
             file: config(matches),
             rounds: rounds(matches),
+            workers: workers(matches),
             log: is_logged(matches),
         }
     } else if name == "push" {
@@ -100,28 +107,40 @@ fn config<'a>(matches: &ArgMatches<'a>) -> &'a str
     matches.get_str("config").unwrap_or("")
 }
 
-/// How many connections `--rounds` asks for: 1 where it isn't given.
+/// How many rounds `--rounds` asks for: 1 where it isn't given.
 fn rounds(matches: &ArgMatches<'_>) -> u32
     ensures { result ≡ rounds_in (rows_of (found_of matches.now)) }
 {
     match matches.get_str("rounds") {
-        Some(text) => rounds_of(text),
+        Some(text) => number_of(text, MOST_ROUNDS) as u32,
+        None => 1,
+    }
+}
+
+/// How many connections a round takes by `--workers`: 1 where it isn't given.
+fn workers(matches: &ArgMatches<'_>) -> u8
+    ensures { result ≡ workers_in (rows_of (found_of matches.now)) }
+{
+    match matches.get_str("workers") {
+        Some(text) => number_of(text, MOST_WORKERS) as u8,
         None => 1,
     }
 }
 
 /// The number that a text says, where it is one from 1 to the most; the argument reader refuses other texts.
-fn rounds_of(text: &str) -> u32
-    ensures { result ≡ rounds_of text.now }
+fn number_of(text: &str, most: u64) -> u64
+    requires { 1 ≤ most }
+    ensures number { result ≡ number_of most text.now }
+    ensures within { result ≤ most }
 {
     match text.parse::<u64>() {
-        Ok(rounds) => {
-            if rounds < 1 {
+        Ok(number) => {
+            if number < 1 {
                 1
-            } else if MOST_ROUNDS < rounds {
+            } else if most < number {
                 1
             } else {
-                rounds as u32
+                number
             }
         }
         Err(_) => 1,
@@ -229,16 +248,17 @@ fn with_file<'a>(alloc: Global, name: &'a str, about: &'a str) -> Result<Command
         .arg(file_argument(alloc))
 }
 
-/// `serve --config FILE [--rounds N] [--log]`. It fails where memory runs out.
+/// `serve --config FILE [--rounds N] [--workers W] [--log]`. It fails where memory runs out.
 fn serve<'a>(alloc: Global) -> Result<Command<'a>, AllocError>
     ensures { IfOk result (λ command. app_of command ≡ serving) }
 {
     with_file(
         alloc,
         "serve",
-        "Serves clients one after another, and hands on their mail",
+        "Serves clients in rounds, and hands on their mail behind each",
     )?
     .arg(rounds_argument(alloc))?
+    .arg(workers_argument(alloc))?
     .arg(log_argument(alloc))
 }
 
@@ -275,7 +295,21 @@ fn rounds_argument<'a>(alloc: Global) -> Arg<'a>
         .long("rounds")
         .action(ArgAction::Set)
         .value_parser(ValueParser::unsigned(1, MOST_ROUNDS))
-        .help("How many connections are served, 1 to 1,000,000; 1 where it isn't given")
+        .help("How many rounds of clients are served, 1 to 1,000,000; 1 where it isn't given")
+}
+
+/// `--workers W`
+fn workers_argument<'a>(alloc: Global) -> Arg<'a>
+    ensures rule { rule_of result ≡ workers_rule }
+    ensures local { result.global ≡ false }
+{
+    Arg::new(alloc, "workers")
+        .long("workers")
+        .action(ArgAction::Set)
+        .value_parser(ValueParser::unsigned(1, MOST_WORKERS))
+        .help(
+            "How many clients a round waits for and serves at once, 1 to 64; 1 where it isn't given",
+        )
 }
 
 /// `--log`

@@ -12,9 +12,18 @@ use std::net::SocketAddrV4;
 /// The most recipients of a message.
 const RECIPIENT_LIMIT: u8 = 100;
 
+/// The messages that the node has taken on a connection.
+#[derive(Clone, Copy, Debug)]
+pub enum Messages<'a> {
+    /// Those from this number on: no other connection was served meanwhile.
+    From(u64),
+    /// Those of these numbers.
+    Numbered(&'a [u64]),
+}
+
 /// The connection of a client that has ended.
 #[derive(Clone, Copy, Debug)]
-pub struct Connection {
+pub struct Connection<'a> {
     /// The client's address and port.
     pub peer: SocketAddrV4,
     /// How it has ended.
@@ -23,17 +32,17 @@ pub struct Connection {
     pub octets: u64,
     /// How many of its replies have refused something.
     pub refusals: u64,
-    /// The number of the first message that was taken on it, if one was.
-    pub first: u64,
+    /// What was taken on it.
+    pub messages: Messages<'a>,
 }
 
 /// Says how a connection has ended, how many octets were read on it, how many commands and contents were refused, and
-/// of each message that the node has
-/// taken on it the number and how many recipients it has. No attempt was made for them yet.
+/// of each message that the node has taken on it the number and how many recipients it has. No attempt was made for
+/// them yet.
 pub(crate) fn client_text<D: Disk>(
     alloc: Global,
     node: &Node<D>,
-    connection: &Connection,
+    connection: &Connection<'_>,
 ) -> io::Result<Vec<u8>> {
     let mut text = Vec::new(alloc);
     write!(text, "relayd: client {} ", connection.peer)?;
@@ -46,21 +55,49 @@ pub(crate) fn client_text<D: Disk>(
         ", {} octets, {} refused",
         connection.octets, connection.refusals
     )?;
-    write_messages(&mut text, node, connection.first)?;
+    write_messages(&mut text, node, connection.messages)?;
     Ok(text)
 }
 
-/// Writes the messages from this number on.
-fn write_messages<D: Disk>(text: &mut Vec<u8>, node: &Node<D>, first: u64) -> io::Result<()> {
-    let next = node.next_number();
-    if next <= first {
-        return write!(text, ", no message");
+/// Says that the connection of a client was closed before anything was read or written on it.
+pub(crate) fn unserved_text(alloc: Global, peer: SocketAddrV4) -> io::Result<Vec<u8>> {
+    let mut text = Vec::new(alloc);
+    write!(
+        text,
+        "relayd: client {peer} not served: no thread or no memory"
+    )?;
+    Ok(text)
+}
+
+/// Writes each message, or that there is none.
+fn write_messages<D: Disk>(
+    text: &mut Vec<u8>,
+    node: &Node<D>,
+    messages: Messages<'_>,
+) -> io::Result<()> {
+    let begun = text.len();
+    match messages {
+        Messages::From(first) => {
+            for number in first..node.next_number() {
+                write_message(text, node, number)?;
+            }
+        }
+        Messages::Numbered(numbers) => {
+            for number in numbers {
+                write_message(text, node, *number)?;
+            }
+        }
     }
-    for number in first..next {
-        write!(text, ", message {number}")?;
-        write_recipients(text, recipients(node, number))?;
+    if text.len() == begun {
+        write!(text, ", no message")?;
     }
     Ok(())
+}
+
+/// Writes the number of a message and how many recipients it has.
+fn write_message<D: Disk>(text: &mut Vec<u8>, node: &Node<D>, number: u64) -> io::Result<()> {
+    write!(text, ", message {number}")?;
+    write_recipients(text, recipients(node, number))
 }
 
 /// Writes how many recipients a message has, where that is known.

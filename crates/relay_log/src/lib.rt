@@ -12,7 +12,7 @@ mod log;
 mod replies;
 
 pub use attempt_line::Attempt;
-pub use client_line::Connection;
+pub use client_line::{Connection, Messages};
 pub use client_writer::ClientWriter;
 pub use clock::clock_moment;
 pub use hop_link::{HopReader, HopWriter, Loss, Why};

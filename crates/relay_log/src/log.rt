@@ -1,6 +1,6 @@
 //! What was done, for a postmaster.
 use crate::attempt_line::{Attempt, attempt_text};
-use crate::client_line::{Connection, client_text};
+use crate::client_line::{Connection, client_text, unserved_text};
 use crate::line::printable;
 use relay_disk::Disk;
 use relay_node::Node;
@@ -37,9 +37,16 @@ impl<'a, E: Write> Log<'a, E> {
     }
 
     /// Says how the connection of a client has ended, and which messages the node has taken on it.
-    pub fn client<D: Disk>(&mut self, node: &Node<D>, connection: &Connection) {
+    pub fn client<D: Disk>(&mut self, node: &Node<D>, connection: &Connection<'_>) {
         if self.speaks {
             self.say(client_text(self.alloc, node, connection));
+        }
+    }
+
+    /// Says that a client was cut off unheard: there was no thread, or no memory, to serve it.
+    pub fn unserved(&mut self, peer: SocketAddrV4) {
+        if self.speaks {
+            self.say(unserved_text(self.alloc, peer));
         }
     }
 

@@ -1,3 +1,4 @@
 pub mod Compacting
 pub mod Fault
 pub mod Pushing
+pub mod Workers

@@ -49,6 +49,9 @@ pub enum Fault {
     /// memory was left for a connection to a next hop.
     #[error("socket")]
     Socket,
+    /// What the threads of a round were told of their mail isn't what the node has taken.
+    #[error("receipts")]
+    Receipts,
 }
 
 impl Fault {

@@ -11,9 +11,10 @@ mod pushing;
 mod serving;
 mod settings;
 mod sockets;
+mod workers;
 
 pub use compacting::compact;
 pub use fault::Fault;
 pub use listing::{init, list};
 pub use pushing::push;
-pub use serving::serve;
+pub use serving::{ServeOptions, serve};

@@ -1,4 +1,4 @@
-//! A relay that serves its clients one after another, and hands on what they brought.
+//! A relay that serves its clients, one after another or so many side by side, and hands on what they brought.
 ghost use Rattle.std.specs.Prelude.{◌≡◌, List};
 ghost use Rattle.relay_book.specs.declared.change.Change.{Change};
 ghost use Rattle.relay_links.specs.Link.{LinkHasEnded, start_at};
@@ -8,11 +8,12 @@ use crate::compacting::compact_behind;
 use crate::fault::Fault;
 use crate::gathering::gathering;
 use crate::pushing::push_due;
-use crate::settings::{configuration, locked_node};
+use crate::settings::{configurations, locked_node};
 use crate::sockets::{listener, next_client};
+use crate::workers::{MOST_WORKERS, OCTET_LIMIT, Service};
 use relay_disk::{Disk, FileDisk};
 use relay_links::{LinkFault, serve_link};
-use relay_log::{ClientWriter, Connection, Log, clock_moment};
+use relay_log::{ClientWriter, Connection, Log, Messages, clock_moment};
 use relay_node::{Node, NodeFault};
 use relay_trace::Moment;
 use std::alloc::Global;
@@ -20,44 +21,80 @@ use std::fs::File;
 use std::io::{Read, Write};
 use std::net::{Net, SocketAddrV4, TcpListener, TcpStream};
 use std::rt::{Clock, Files};
+use std::sync::Wait;
+use std::thread::Threads;
 
-/// How many octets may be read on a connection. A link does 2^40 reads at most, of 65,536 octets each, so this
-/// ends none: the count of what is left tells what was read.
-const OCTET_LIMIT: u64 = u64::MAX;
+/// How clients are served.
+#[derive(Clone, Copy, Debug)]
+pub struct ServeOptions {
+    /// How many rounds, 1 to 1,000,000; behind each the work that is due is done.
+    pub rounds: u32,
+    /// How many clients a round takes, 1 to 64; more count as 64. Where it is more than one, each is served by a thread of
+    /// its own, and none before all have connected.
+    pub workers: u8,
+    /// Whether a line is written for each thing that was done.
+    pub log: bool,
+}
 
-/// Serves so many connections one after another, each to its end, and behind each does the work that is
-/// due, once, and writes the spool anew where much of it has gone. What that work leads to waits for the next. The
-/// files of the spool are taken for this process alone, and a line for each work goes to `writer`; where it `logs`, a line for each thing that was done goes to
-/// `errors`. Faults are looked for in this order: the configuration file, its content, the spool, the listener. A
-/// connection that breaks ends alone. A client that can't be had counts as none; where 64 in a row can't, that is the
-/// fault of a socket.
+/// Serves clients in rounds: in each round so many clients as the options say, each to its end; behind it the work that is
+/// due is done, once, and the spool is written anew where much of it has gone. What that work leads to waits for the next
+/// round. The files of the spool are taken for this process alone, and a line for each work goes to `writer`; with
+/// `options.log` a line for each thing that was done goes to `errors`. Faults are looked for in this order: the
+/// configuration file, its content, the spool, the listener. A connection that breaks ends alone. A client that can't be
+/// had counts as none; where 64 in a row can't, that is the fault of a socket.
 pub fn serve<
-    R: Files<File = File> + Clock + Net<Listener = TcpListener, Stream = TcpStream>,
+    R: Files<File = File>
+        + Clock
+        + Net<Listener = TcpListener, Stream = TcpStream>
+        + Threads
+        + Wait
+        + Sync,
     W: Write,
     E: Write,
 >(
     alloc: Global,
     rt: &R,
     path: &str,
-    rounds: u32,
+    options: ServeOptions,
     writer: &mut W,
     errors: &mut E,
-    logs: bool,
 ) -> Result<(), Fault> {
-    let config = configuration(alloc, rt, path)?;
+    let (config, shared) = configurations(alloc, rt, path)?;
     let at = config.listen;
     let mut node = locked_node(alloc, rt, config)?;
     let listener = listener(rt, at)?;
     let mut lines = gathering(alloc, writer)?;
-    let mut log = Log::new(alloc, errors, logs);
+    let mut log = Log::new(alloc, errors, options.log);
     log.listens(at);
-    for _ in 0..rounds {
-        let (stream, peer) = next_client(rt, &listener)?;
-        let was_full = serve_stream(alloc, rt, &mut node, stream, peer, &mut log)?;
+    for _ in 0..options.rounds {
+        let (served, was_full) = if options.workers < 2 {
+            let was_full = serve_next(alloc, rt, &mut node, &listener, &mut log)?;
+            (node, was_full)
+        } else {
+            let service = Service {
+                alloc,
+                rt,
+                config: &shared,
+            };
+            service.serve_next(node, &listener, options.workers.min(MOST_WORKERS), &mut log)?
+        };
+        node = served;
         push_behind(alloc, rt, &mut node, &mut lines, &mut log)?;
         compact_behind(&mut node, was_full, &mut log)?;
     }
     Ok(())
+}
+
+/// Serves the next client: whether mail was refused because the spool is full.
+fn serve_next<C: Clock, E: Write>(
+    alloc: Global,
+    clock: &C,
+    node: &mut Node<FileDisk>,
+    listener: &TcpListener,
+    log: &mut Log<'_, E>,
+) -> Result<bool, Fault> {
+    let (stream, peer) = next_client(clock, listener)?;
+    serve_stream(alloc, clock, node, stream, peer, log)
 }
 
 /// Does the work that is due. Where memory, or a descriptor for a connection, is wanting, the push ends alone.
@@ -106,7 +143,7 @@ fn serve_stream<C: Clock, E: Write>(
         end,
         octets: OCTET_LIMIT - reader.limit(),
         refusals: writer.refusals(),
-        first,
+        messages: Messages::From(first),
     };
     log.client(node, &connection);
     match end {

@@ -20,6 +20,22 @@ pub(crate) fn configuration<F: Files<File = File>>(
     }
 }
 
+/// The configuration in the file at this path, twice over one reading: a node keeps one for itself.
+pub(crate) fn configurations<F: Files<File = File>>(
+    alloc: Global,
+    files: &F,
+    path: &str,
+) -> Result<(Config, Config), Fault> {
+    match text_of(alloc, files, path) {
+        Ok(text) => {
+            let first = Config::read(alloc, text.as_str())?;
+            let second = Config::read(alloc, text.as_str())?;
+            Ok((first, second))
+        }
+        Err(error) => Err(Fault::of_input(&error)),
+    }
+}
+
 fn text_of<F: Files<File = File>>(alloc: Global, files: &F, path: &str) -> io::Result<String> {
     io::read_to_string(alloc, File::open(files, path)?)
 }

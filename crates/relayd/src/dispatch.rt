@@ -8,7 +8,7 @@ use clap::Error;
 use clap::error::ErrorKind;
 use relay_arguments::{Subcommand, arguments};
 use relay_play::play;
-use relay_service::{compact, init, list, push, serve};
+use relay_service::{ServeOptions, compact, init, list, push, serve};
 use std::alloc::Global;
 use std::convert::AsStr;
 use std::fmt::Display;
@@ -16,6 +16,8 @@ use std::fs::File;
 use std::io::{self, Read, Write};
 use std::net::{Net, TcpListener, TcpStream};
 use std::rt::{Clock, Files};
+use std::sync::Wait;
+use std::thread::Threads;
 
 /// The status of a run that did what it was asked for.
 const DONE: u8 = 0;
@@ -31,7 +33,12 @@ const WRONG_ARGUMENTS: u8 = 2;
 /// argument reader's text on `errors`. `--help` writes that reader's text on `writer`, and is done.
 pub fn command<
     S: AsStr,
-    F: Files<File = File> + Clock + Net<Listener = TcpListener, Stream = TcpStream>,
+    F: Files<File = File>
+        + Clock
+        + Net<Listener = TcpListener, Stream = TcpStream>
+        + Threads
+        + Wait
+        + Sync,
     R: Read,
     W: Write,
     E: Write,
@@ -53,9 +60,20 @@ pub fn command<
         Ok(Subcommand::Init(file)) => ended(init(alloc, system, file), errors),
         Ok(Subcommand::List(file)) => ended(list(alloc, system, file, writer), errors),
         Ok(Subcommand::Compact(file)) => ended(compact(alloc, system, file, writer), errors),
-        Ok(Subcommand::Serve { file, rounds, log }) => {
-            let end = serve(alloc, system, file, rounds, writer, errors, log);
-            ended(end, errors)
+        Ok(
+            Subcommand::Serve {
+                file,
+                rounds,
+                workers,
+                log,
+            },
+        ) => {
+            let options = ServeOptions {
+                rounds,
+                workers,
+                log,
+            };
+            ended(serve(alloc, system, file, options, writer, errors), errors)
         }
         Ok(Subcommand::Push { file, log }) => {
             let end = push(alloc, system, file, writer, errors, log);

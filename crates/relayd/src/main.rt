@@ -11,26 +11,23 @@ use dispatch::{command, refuse_streams, refuse_words};
 use std::process::ExitCode;
 use std::{env, io};
 
+/// Before any file is opened the standard streams are held.
 fn main(rt: HostRuntime) -> ExitCode {
-    ExitCode::from(run(&rt))
-}
-
-/// Runs the program, and answers its status. Before any file is opened the standard streams are held.
-fn run(rt: &HostRuntime) -> u8 {
-    if hold_standard_streams(rt).is_err() {
-        return refuse_streams(&mut rt.stderr());
+    if hold_standard_streams(&rt).is_err() {
+        return ExitCode::from(refuse_streams(&mut rt.stderr()));
     }
-    match given_words(rt) {
+    let status = match given_words(&rt) {
         Ok(words) => command(
             rt.alloc(),
-            rt,
+            &rt,
             words.as_slice(),
             &mut rt.stdin(),
             &mut rt.stdout(),
             &mut rt.stderr(),
         ),
         Err(error) => refuse_words(&error, &mut rt.stderr()),
-    }
+    };
+    ExitCode::from(status)
 }
 
 /// The words that the program is started with, its own name first. It fails where memory runs out,
