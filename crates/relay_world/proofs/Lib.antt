@@ -53,6 +53,8 @@ mod InventedLemmas
 mod ForbiddenLemmas
 mod TransferLemmas
 mod CopiesLemmas
+mod ReceivedLemmas
+mod ChainLemmas
 mod GrowthLemmas
 mod PromiseLemmas
 mod CrashLemmas

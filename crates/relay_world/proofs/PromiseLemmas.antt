@@ -15,6 +15,7 @@ use Rattle.relay_world.specs.HopLinks.{AreLinkedToHops, IsLinkedToHop, LeadsTo}
 use Rattle.relay_world.specs.Once.{IsTriedOnce}
 use Rattle.relay_world.specs.Promise.{HasCome, HasEnded, IsHeld, IsPassedOn, KeepsPromise, PromiseIsKept}
 use Rattle.relay_world.specs.World.{Host, World}
+use Rattle.relay_world.proofs.ChainLemmas.{short_chains}
 use Rattle.relay_world.proofs.ChildrenLemmas.{at_most_one_child}
 use Rattle.relay_world.proofs.ContentLemmas.{content_is_kept}
 use Rattle.relay_world.proofs.CopiesLemmas.{copies_are_few}
@@ -74,6 +75,7 @@ module _ {D : Type 0} (honest : Type 0) (words : DiskWords D) (world : World D) 
     copies = λ node message place. copies_are_few honest words world lists bound once node message place;
     content = λ number place link attempt host changes accept is client at stands accepted.
         content_is_kept honest words world lists bound number place link attempt host changes accept is client at stands accepted;
+    chains = short_chains honest words world lists bound;
   }
 
 pub promise_is_kept : {D : Type 0} (honest : Type 0) (words : DiskWords D)

@@ -15,6 +15,7 @@ pub mod Causes
 pub mod Invented
 pub mod Forbidden
 pub mod Copies
+pub mod Chain
 pub mod Growth
 pub mod Promise
 pub mod Crashes

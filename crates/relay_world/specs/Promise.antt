@@ -1,4 +1,4 @@
--- What two relays promise of mail, whatever happens (RFC 5321, section 6.1).
+-- What relays promise of mail, whatever happens (RFC 5321, section 6.1).
 use Rattle.std.specs.Prelude.{◌≡◌, ◌≢◌, ◌⊎◌, ◌<◌, ℕ, Bool, List, [], Some, slice_get}
 use Rattle.relay_disk.specs.Device.{DiskWords}
 use Rattle.relay_book.specs.declared.change.Accept.{Accept}
@@ -11,6 +11,7 @@ use Rattle.relay_world.specs.declared.attempt.Attempt.{Attempt}
 use Rattle.relay_world.specs.declared.link.Link.{Link}
 use Rattle.relay_world.specs.Bound.{IsBound, StandsAt}
 use Rattle.relay_world.specs.Causes.{GaveVerdict, HadNoHop}
+use Rattle.relay_world.specs.Chain.{KeepsChainsShort}
 use Rattle.relay_world.specs.Children.{HasOneChild, IsAttempt, children_of}
 use Rattle.relay_world.specs.Content.{PassesOnly}
 use Rattle.relay_world.specs.Copies.{HasFewCopies}
@@ -75,6 +76,8 @@ pub record KeepsPromise {D : Type 0} (honest : Type 0) (words : DiskWords D) (wo
       → slice_get world.attempts place ≡ Some attempt → StandsAt world lists attempt.node host changes
       → message_at changes attempt.message ≡ Some accept
       → PassesOnly world lists number link host attempt accept
+  -- mail that goes from node to node is accepted 100 times at most
+  pub chains : KeepsChainsShort world lists
 
 -- Behind any number of events, on honest disks, relays that were bound, tried each place once, and had the links that
 -- they were meant to have keep the promise, and have all that they had recorded, told, written and read.

@@ -1,5 +1,6 @@
 //! What two relays say to each other of each place: what a node has recorded of it is so at its next hop.
 ghost use Rattle.relay_world.specs.Causes.{LeavingIsCaused};
+ghost use Rattle.relay_world.specs.Chain.{ChainsAreShort};
 ghost use Rattle.relay_world.specs.Copies.{CopiesAreFew};
 ghost use Rattle.relay_world.specs.CrashRuns.{CompactingHappens, CrashingHappens, CrashingKeepsOnce, RestingCrashHappens};
 ghost use Rattle.relay_world.specs.Growth.{GrownListsBegin, RunsGrow};
@@ -90,6 +91,12 @@ pub fn leading_elsewhere_breaks<D: Disk>()
 /// Of a message's place as many copies are made as one, and one for each reply that was lost, or fewer.
 pub fn copies_are_few<D: Disk>()
     ensures { CopiesAreFew D.honest D.words }
+{}
+
+/// A child has one `Received:` field more than its parent, and what is accepted has 99 at most: so no chain of children
+/// has more than 100 accepts.
+pub fn chains_are_short<D: Disk>()
+    ensures { ChainsAreShort D.honest D.words }
 {}
 
 /// Behind any number of events the nodes have the records that they had, the ledger its lines, and links what was
