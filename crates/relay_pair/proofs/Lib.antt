@@ -32,8 +32,10 @@ mod LossLemmas
 mod MarkLemmas
 mod NamedLemmas
 mod NamesLemmas
+mod NetworkLemmas
 mod OutsideLemmas
 mod PlaceLemmas
+mod ProfileLemmas
 mod PutLemmas
 mod ReadDoneLemmas
 mod ReadLemmas

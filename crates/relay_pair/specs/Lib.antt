@@ -13,6 +13,7 @@ pub mod Hear
 pub mod Host
 pub mod Marks
 pub mod Named
+pub mod Network
 pub mod Open
 pub mod Promise
 pub mod Relays

@@ -1,6 +1,6 @@
-//! The two relays that a pair begins with.
+//! The relays that a pair begins with.
 ghost use Rattle.std.specs.Prelude.{◌≡◌, IfOk};
-ghost use Rattle.relay_pair.specs.Begin.{IsNew, begun_by};
+ghost use Rattle.relay_pair.specs.Begin.{IsNew, begun_with};
 ghost use Rattle.relay_pair.specs.Relays.{world_of};
 
 use crate::host::{Host, HostState};
@@ -9,7 +9,7 @@ use relay_disk::{Disk, Disks};
 use relay_node::{Node, NotOpened};
 use relay_routes::Config;
 use relay_trace::Moment;
-use std::alloc::{AllocError, Global};
+use std::alloc::Global;
 
 impl<D: Disk> Host<D> {
     /// A node that begins, on two disks of size 0. It fails where memory runs out, or a disk fails or isn't empty.
@@ -33,27 +33,20 @@ impl<D: Disk> Host<D> {
 }
 
 impl<D: Disk + Drop> Relays<D> {
-    /// Two relays without links, at the moment 0. It fails where memory runs out.
-    pub(crate) fn of_hosts(
-        alloc: Global,
-        first: Host<D>,
-        second: Host<D>,
-    ) -> Result<Self, AllocError>
-        ensures { IfOk result (λ relays. world_of relays ≡ begun_by first second) }
+    /// Relays without links, at the moment 0. It takes no memory.
+    pub(crate) fn of_hosts(alloc: Global, hosts: Vec<Host<D>>) -> Self
+        ensures { world_of result ≡ begun_with hosts.items }
     {
         let Ok(clock) = Moment::new(0) else {
             unreachable!()
         };
-        let mut hosts = Vec::new(alloc);
-        hosts.push(first)?;
-        hosts.push(second)?;
-        Ok(Relays {
+        Relays {
             alloc,
             hosts,
             links: Vec::new(alloc),
             attempts: Vec::new(alloc),
             ledger: Vec::new(alloc),
             clock,
-        })
+        }
     }
 }

@@ -1,4 +1,4 @@
-//! Two relays that run, and keep their promise of mail.
+//! Relays that run, and keep their promise of mail.
 #![tactic(auto)]
 
 mod act;
@@ -24,6 +24,7 @@ mod links;
 mod lost;
 mod marks;
 mod named;
+mod network;
 mod opened;
 mod pair;
 mod profile;
@@ -40,5 +41,6 @@ mod work;
 
 pub use event::Event;
 pub use fault::PairFault;
+pub use network::NetFault;
 pub use pair::Pair;
 pub use seen::Seen;

@@ -1,27 +1,31 @@
-//! Two relays that run.
-ghost use Rattle.std.specs.Prelude.{◌≡◌, IfOk};
-ghost use Rattle.relay_pair.specs.Begin.{HasBegun};
+//! Relays that run.
+ghost use Rattle.std.specs.Prelude.{◌≡◌, ◌≤◌, IfErr, IfOk, List};
+ghost use Rattle.relay_pair.specs.Begin.{AreNew, HasBegun, HasBegunAsMany, HasBegunAsTwo, begun_with};
 ghost use Rattle.relay_pair.specs.Copied.{CountsCopies};
 ghost use Rattle.relay_pair.specs.Marks.{marks_from};
+ghost use Rattle.relay_pair.specs.Network.{AreNetwork, HaveOneHost, IsNoNetwork};
 ghost use Rattle.relay_pair.specs.Promise.{HasHappened, KeepsItsPromise};
 ghost use Rattle.relay_pair.specs.Relays.{AreBound};
 ghost use Rattle.relay_pair.specs.Step.{Steps, StepsEach};
+ghost use Rattle.relay_routes.specs.declared.config.Config.{Config as Configuration};
 ghost use Rattle.relay_world.specs.Copies.{lost_replies_of};
 
 use crate::event::Event;
 use crate::fault::PairFault;
 use crate::host::Host;
 use crate::lost::lost_replies;
-use crate::profile::{first_profile, second_profile};
+use crate::network::{NetFault, begin_hosts, fault_of_network};
+use crate::profile::{first_profile, profiles_of, second_profile};
 use crate::relays::Relays;
 use crate::seen::Seen;
 use relay_disk::{Disk, Disks, MemoryDisk, Reboot};
+use relay_routes::Config;
 use relay_world::passing::{hop_links_at_first, once_at_first, promise_is_kept};
 use relay_world::{Attempt, Line, Link};
 use std::alloc::{AllocError, Global};
 use std::marker::Model;
 
-/// Two relays, the links between them and to outside, and what has come of their mail.
+/// Relays, the links among them and to outside, and what has come of their mail.
 pub struct Pair<D: Disk> {
     relays: Relays<D>,
 }
@@ -48,17 +52,46 @@ impl Pair<MemoryDisk> {
     /// Two relays on disks in memory, at the moment 0: node 0 is `a.example` at 10.0.0.1, node 1 `b.example` at
     /// 10.0.0.2, each with the routes that it has in a play. It fails where memory runs out.
     pub fn new(alloc: Global) -> Result<Self, AllocError>
-        ensures { IfOk result (HasBegun ⟦<MemoryDisk as Disk>⟧.honest ⟦<MemoryDisk as Disk>⟧.words) }
+        ensures { IfOk result (HasBegunAsTwo ⟦<MemoryDisk as Disk>⟧.honest ⟦<MemoryDisk as Disk>⟧.words) }
     {
-        let first = Disks {
-            first: MemoryDisk::new(alloc),
-            second: MemoryDisk::new(alloc),
-        };
-        let second = Disks {
-            first: MemoryDisk::new(alloc),
-            second: MemoryDisk::new(alloc),
-        };
-        Pair::begin(alloc, first, second)
+        let mut configs = Vec::new(alloc);
+        configs.push(first_profile(alloc)?)?;
+        configs.push(second_profile(alloc)?)?;
+        match Pair::network(alloc, configs) {
+            Ok(pair) => Ok(pair),
+            // Two configurations with hosts of their own, neither of which sends home: memory alone is wanting.
+            Err(_) => Err(AllocError),
+        }
+    }
+
+    /// So many relays on disks in memory, at the moment 0: node 0 is `a.example` at 10.0.0.1, node 1 `b.example` at
+    /// 10.0.0.2, and so on, each with the routes that it has in a play of so many. It fails where memory runs out.
+    pub fn nodes(alloc: Global, count: usize) -> Result<Self, AllocError>
+        requires { count ≤ 16 }
+        ensures { IfOk result (HasBegunAsMany ⟦<MemoryDisk as Disk>⟧.honest ⟦<MemoryDisk as Disk>⟧.words count) }
+    {
+        match Pair::network(alloc, profiles_of(alloc, count)?) {
+            Ok(pair) => Ok(pair),
+            // There are so many, with hosts of their own, and none sends home: memory alone is wanting.
+            Err(_) => Err(AllocError),
+        }
+    }
+
+    /// Relays of these configurations on disks in memory, at the moment 0. There are 2 to 16, and each has the address
+    /// of its place in place of its own: 10.0.0.1 is that of the first, which is node 0. A hop whose name is a node's
+    /// host is that node, and every other is outside.
+    pub fn network(alloc: Global, configs: Vec<Config>) -> Result<Self, NetFault>
+        ensures begun { IfOk result (λ pair. AreNetwork configs.items
+            × HasBegun ⟦<MemoryDisk as Disk>⟧.honest ⟦<MemoryDisk as Disk>⟧.words configs.items pair) }
+        ensures refused { IfErr result (IsNoNetwork configs.items) }
+    {
+        if let Some(fault) = fault_of_network(configs.as_slice()) {
+            return Err(fault);
+        }
+        match begin_hosts(alloc, configs) {
+            Ok(hosts) => Ok(Pair::of_hosts(alloc, hosts)),
+            Err(_) => Err(NetFault::NoMemory),
+        }
     }
 }
 
@@ -66,18 +99,30 @@ impl<D: Disk + Drop> Pair<D> {
     /// The same two relays, each on two disks, which are empty. It fails where memory runs out, and where a disk fails or
     /// isn't empty.
     pub fn begin(alloc: Global, first: Disks<D>, second: Disks<D>) -> Result<Self, AllocError>
-        ensures { IfOk result (HasBegun D.Disk.honest D.Disk.words) }
+        ensures { IfOk result (HasBegunAsTwo D.Disk.honest D.Disk.words) }
     {
-        once_at_first::<D>();
-        hop_links_at_first::<D>();
         let Ok(first) = Host::create(alloc, first_profile(alloc)?, first) else {
             return Err(AllocError);
         };
         let Ok(second) = Host::create(alloc, second_profile(alloc)?, second) else {
             return Err(AllocError);
         };
-        let relays = Relays::of_hosts(alloc, first, second)?;
-        Ok(Pair { relays })
+        let mut hosts = Vec::new(alloc);
+        hosts.push(first)?;
+        hosts.push(second)?;
+        Ok(Pair::of_hosts(alloc, hosts))
+    }
+
+    /// The relays of hosts that have just begun, no two of which have one name. It takes no memory.
+    fn of_hosts(alloc: Global, hosts: Vec<Host<D>>) -> Self
+        requires { (configs : List Configuration) × AreNew D.Disk.honest D.Disk.words 0 configs hosts.items × ¬ HaveOneHost configs }
+        ensures { result ≡ begun_with hosts.items }
+    {
+        once_at_first::<D>();
+        hop_links_at_first::<D>();
+        Pair {
+            relays: Relays::of_hosts(alloc, hosts),
+        }
     }
 }
 

@@ -1,8 +1,8 @@
-//! The configurations of the two relays that a pair begins with.
-ghost use Rattle.std.specs.Prelude.{◌≡◌, codes, IfOk, OnOk};
+//! The configurations of the relays of a play: of the two that a pair begins with, and of any number of them.
+ghost use Rattle.std.specs.Prelude.{◌≡◌, ◌<◌, ◌≤◌, [], ◌∷◌, ◌++◌, codes, IfOk, OnOk};
 ghost use Rattle.relay_envelope.specs.HostName.{IsHostName};
-ghost use Rattle.relay_pair.specs.Begin.{IsProfile, first_address, first_routes, mail_at, second_address, second_routes};
-ghost use Rattle.relay_routes.specs.Routes.{with_route};
+ghost use Rattle.relay_pair.specs.Begin.{AreProfiles, IsProfile, address_of, first_routes, host_of, mail_at, node_behind, route_to, route_to_node, routes_among, routes_of_the_rest, routes_to_others, second_routes};
+ghost use Rattle.relay_routes.specs.Routes.{in_lower_case, with_route};
 
 use relay_routes::{Config, Hop, HostName, SpoolPath, Table};
 use std::alloc::{AllocError, Global};
@@ -25,7 +25,7 @@ const OUTSIDE: [u8; 4] = [192, 0, 2, 1];
 
 /// The configuration of node a. It fails where memory runs out.
 pub(crate) fn first_profile(alloc: Global) -> Result<Config, AllocError>
-    ensures { IfOk result (IsProfile (codes "a.example") first_address first_routes) }
+    ensures { IfOk result (IsProfile (codes "a.example") (address_of 0) first_routes) }
 {
     let host = host_name(alloc, b"a.example")?;
     let mut routes = Table::new(alloc, host.copy(alloc)?);
@@ -38,7 +38,7 @@ pub(crate) fn first_profile(alloc: Global) -> Result<Config, AllocError>
 
 /// The configuration of node b. It fails where memory runs out.
 pub(crate) fn second_profile(alloc: Global) -> Result<Config, AllocError>
-    ensures { IfOk result (IsProfile (codes "b.example") second_address second_routes) }
+    ensures { IfOk result (IsProfile (codes "b.example") (address_of 1) second_routes) }
 {
     let host = host_name(alloc, b"b.example")?;
     let mut routes = Table::new(alloc, host.copy(alloc)?);
@@ -48,6 +48,123 @@ pub(crate) fn second_profile(alloc: Global) -> Result<Config, AllocError>
     add_route(alloc, &mut routes, b"c.example", b"out.example", OUTSIDE)?;
     add_route(alloc, &mut routes, b"out.example", b"out.example", OUTSIDE)?;
     profile(alloc, host, SECOND, routes)
+}
+
+/// The configurations of the nodes of a play of so many. It fails where memory runs out.
+pub(crate) fn profiles_of(alloc: Global, count: usize) -> Result<Vec<Config>, AllocError>
+    requires { count ≤ 16 }
+    ensures { IfOk result (λ configs. AreProfiles count configs.items) }
+{
+    let mut configs = Vec::new(alloc);
+    for node in 0..count {
+        configs.push(profile_among(alloc, count, node)?)?;
+    }
+    Ok(configs)
+}
+
+/// The configuration of a node of a play of so many. It fails where memory runs out.
+#[tactic(auto, using(crate::proofs::ProfileLemmas::is_host_name))]
+pub(crate) fn profile_among(alloc: Global, count: usize, node: usize) -> Result<Config, AllocError>
+    requires node { node < count }
+    requires count { count ≤ 16 }
+    ensures { IfOk result (IsProfile (host_of node) (address_of node) (routes_among count node)) }
+{
+    let host = host_name(alloc, &host_of(node))?;
+    let mut routes = Table::new(alloc, host.copy(alloc)?);
+    add_others(alloc, &mut routes, count, node)?;
+    add_rest(alloc, &mut routes, count, node)?;
+    profile(alloc, host, address_of(node), routes)
+}
+
+/// Adds the routes of a node to the others of so many, to a table without routes.
+#[tactic(auto, using(crate::proofs::ProfileLemmas::own_left_out, crate::proofs::ProfileLemmas::other_added))]
+fn add_others(
+    alloc: Global,
+    routes: &mut Table,
+    count: usize,
+    node: usize,
+) -> Result<(), AllocError>
+    requires count { count ≤ 16 }
+    requires empty { routes.old.routes ≡ [] }
+    ensures host { routes.new.host ≡ routes.old.host }
+    ensures routes { OnOk result (routes.new.routes ≡ routes_to_others count node) }
+{
+    for other in 0..count {
+        if other != node {
+            add_node(alloc, routes, other)?;
+        }
+    }
+    Ok(())
+}
+
+/// Adds the route to a node.
+#[tactic(auto, using(crate::proofs::ProfileLemmas::is_host_name, crate::proofs::ProfileLemmas::host_in_lower_case))]
+fn add_node(alloc: Global, routes: &mut Table, node: usize) -> Result<(), AllocError>
+    requires { node < 16 }
+    ensures host { routes.new.host ≡ routes.old.host }
+    ensures route { OnOk result (routes.new.routes ≡ routes.old.routes ++ route_to_node node ∷ []) }
+{
+    let name = host_of(node);
+    add_lowered(alloc, routes, &name, &name, address_of(node))
+}
+
+/// Adds the routes of a node of so many that don't go to the others by their hosts.
+#[tactic(auto, using(crate::proofs::ProfileLemmas::is_host_name, crate::proofs::ProfileLemmas::host_in_lower_case, crate::proofs::ProfileLemmas::three_more))]
+fn add_rest(alloc: Global, routes: &mut Table, count: usize, node: usize) -> Result<(), AllocError>
+    requires node { node < count }
+    requires count { count ≤ 16 }
+    ensures host { routes.new.host ≡ routes.old.host }
+    ensures routes { OnOk result (routes.new.routes ≡ routes.old.routes ++ routes_of_the_rest count node) }
+{
+    let next = node_behind(count, node);
+    let (name, address) = (host_of(next), address_of(next));
+    add_lowered(alloc, routes, b"loop.example", &name, address)?;
+    add_lowered(alloc, routes, &host_of(node), b"out.example", OUTSIDE)?;
+    add_lowered(alloc, routes, b"out.example", b"out.example", OUTSIDE)?;
+    Ok(())
+}
+
+/// Adds a route as [`add_route`] does, of a domain that is in lower case already.
+fn add_lowered(
+    alloc: Global,
+    routes: &mut Table,
+    domain: &[u8],
+    name: &[u8],
+    address: [u8; 4],
+) -> Result<(), AllocError>
+    requires name { IsHostName name.now }
+    requires domain { in_lower_case domain.now ≡ domain.now }
+    ensures host { routes.new.host ≡ routes.old.host }
+    ensures route { OnOk result (routes.new.routes ≡ routes.old.routes ++ route_to domain.now name.now address ∷ []) }
+{
+    add_route(alloc, routes, domain, name, address)
+}
+
+/// The node behind a node of so many, each by its place: that of the last is the first.
+fn node_behind(count: usize, node: usize) -> usize
+    requires { node < count }
+    ensures value { result ≡ node_behind count node }
+    ensures within { result < count }
+{
+    if node + 1 < count { node + 1 } else { 0 }
+}
+
+/// The host of a node, by its place: `a.example` is that of the first.
+fn host_of(node: usize) -> [u8; 9]
+    requires { node < 16 }
+    ensures { result ≡ host_of node }
+{
+    let mut host = *b"a.example";
+    host[0] += node as u8;
+    host
+}
+
+/// The address of a node, by its place: 10.0.0.1 is that of the first.
+pub(crate) fn address_of(node: usize) -> [u8; 4]
+    requires { node < 16 }
+    ensures { result ≡ address_of node }
+{
+    [10, 0, 0, node as u8 + 1]
 }
 
 /// A configuration of this host and its routes, with the limits that one has where it gives none.
@@ -113,7 +230,7 @@ fn host_name(alloc: Global, name: &[u8]) -> Result<HostName, AllocError>
 }
 
 /// The port of mail, at an address.
-fn mail_at(address: [u8; 4]) -> SocketAddrV4
+pub(crate) fn mail_at(address: [u8; 4]) -> SocketAddrV4
     ensures { result ≡ mail_at address }
 {
     let [first, second, third, fourth] = address;

@@ -1,0 +1,129 @@
+//! Networks of relays: the configurations that make one, and how its nodes begin.
+ghost use Rattle.std.specs.Prelude.{◌≡◌, ◌<◌, ◌≤◌, IfOk, MatchBool, MatchOption, length};
+ghost use Rattle.relay_pair.specs.Begin.{AreNew, at_place};
+ghost use Rattle.relay_pair.specs.Network.{AreNetwork, HasOwnHop, HaveOneHost, IsHostBefore, IsNoNetwork, SendsHome};
+
+use crate::host::Host;
+use crate::profile::{address_of, mail_at};
+use relay_disk::{Disk, Disks, MemoryDisk};
+use relay_routes::Config;
+use std::alloc::{AllocError, Global};
+use thiserror::Error;
+
+/// The fewest nodes of a network.
+const FEWEST: usize = 2;
+
+/// The most nodes of a network.
+const MOST: usize = 16;
+
+/// Why no network is made of configurations. The first of them answers, but for want of memory, which comes last.
+#[derive(Clone, Copy, Debug, PartialEq, Eq, Error)]
+pub enum NetFault {
+    /// Memory ran out.
+    #[error("NoMemory")]
+    NoMemory,
+    /// There are fewer than 2 of them, or more than 16.
+    #[error("BadCount")]
+    BadCount,
+    /// Two of them have one host.
+    #[error("SameHost")]
+    SameHost,
+    /// The table of one sends to its own host.
+    #[error("OwnHop")]
+    OwnHop,
+}
+
+/// Why configurations make no network, if they make none.
+pub(crate) fn fault_of_network(configs: &[Config]) -> Option<NetFault>
+    ensures { MatchOption result (AreNetwork configs.now) (IsNoNetwork configs.now) }
+{
+    if configs.len() < FEWEST || configs.len() > MOST {
+        return Some(NetFault::BadCount);
+    }
+    if have_one_host(configs) {
+        return Some(NetFault::SameHost);
+    }
+    if has_own_hop(configs) {
+        return Some(NetFault::OwnHop);
+    }
+    None
+}
+
+/// Whether two configurations have one host.
+fn have_one_host(configs: &[Config]) -> bool
+    ensures { MatchBool result (HaveOneHost configs.now) (¬ HaveOneHost configs.now) }
+{
+    for other in 1..configs.len() {
+        if is_host_before(configs, other) {
+            return true;
+        }
+    }
+    false
+}
+
+/// Whether one of the configurations before this place has the host of the one there.
+fn is_host_before(configs: &[Config], other: usize) -> bool
+    requires { other < length configs.now }
+    ensures { MatchBool result (IsHostBefore configs.now other) (¬ IsHostBefore configs.now other) }
+{
+    for one in 0..other {
+        if configs[one].host.as_slice() == configs[other].host.as_slice() {
+            return true;
+        }
+    }
+    false
+}
+
+/// Whether the table of a configuration sends to its own host.
+fn has_own_hop(configs: &[Config]) -> bool
+    ensures { MatchBool result (HasOwnHop configs.now) (¬ HasOwnHop configs.now) }
+{
+    for at in 0..configs.len() {
+        if sends_home(&configs[at]) {
+            return true;
+        }
+    }
+    false
+}
+
+/// Whether the table of this configuration sends to its own host.
+#[tactic(auto, using(crate::proofs::NetworkLemmas::sends_home, crate::proofs::NetworkLemmas::sends_elsewhere))]
+fn sends_home(config: &Config) -> bool
+    ensures { MatchBool result (SendsHome config.now) (¬ SendsHome config.now) }
+{
+    config.routes.place_of(config.host.as_slice()).is_some()
+}
+
+/// The nodes of a network, each on two disks in memory. It fails where memory runs out.
+pub(crate) fn begin_hosts(
+    alloc: Global,
+    configs: Vec<Config>,
+) -> Result<Vec<Host<MemoryDisk>>, AllocError>
+    requires { length configs.items ≤ 16 }
+    ensures { IfOk result (λ hosts. AreNew ⟦<MemoryDisk as Disk>⟧.honest ⟦<MemoryDisk as Disk>⟧.words 0 configs.items
+        hosts.items) }
+{
+    let mut hosts = Vec::new(alloc);
+    for config in configs {
+        let disks = Disks {
+            first: MemoryDisk::new(alloc),
+            second: MemoryDisk::new(alloc),
+        };
+        let config = at_place(config, hosts.len());
+        let Ok(host) = Host::create(alloc, config, disks) else {
+            return Err(AllocError);
+        };
+        hosts.push(host)?;
+    }
+    Ok(hosts)
+}
+
+/// The configuration as the node at this place has it: with the address of that place.
+fn at_place(config: Config, place: usize) -> Config
+    requires { place < 16 }
+    ensures { result ≡ at_place place config }
+{
+    let mut config = config;
+    config.listen = mail_at(address_of(place));
+    config
+}
