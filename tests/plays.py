@@ -1,8 +1,8 @@
 #!/usr/bin/env python3
-"""Plays scripts of two relays with `relayd play`: those of docs/plays/, whose output stands beside each; each refusal, in its
-order; faults of a script and of the streams; a message that goes round in a circle until it has too many Received fields; a
-stop whose telling stops the other node; spools that are written anew between any two lines; and how long a circle and 10,000
-carries take. It ends at the first difference.
+"""Plays scripts of relays with `relayd play`: those of docs/plays/, whose output stands beside each, also with `nodes 2` before
+the first; each refusal, in its order; faults of a script and of the streams; a message that goes round in a circle of two and of
+three nodes until it has too many Received fields; a stop whose telling stops the other node; spools that are written anew between
+any two lines; and how long circles, 10,000 carries, and 1,000 messages among sixteen nodes take. It ends at the first difference.
 
     tests/plays.py build/relayd
 """
@@ -18,6 +18,7 @@ from relay_program import Difference, PATIENCE, same
 HERE = pathlib.Path(__file__).resolve().parent
 PLAYS = HERE.parent / "docs" / "plays"
 
+LETTERS = "abcdefghijklmnop"
 GREETED = r"link {} out 220 {}.example ESMTP relay ready\r\n"
 MAIL = r"EHLO x\r\nMAIL FROM:<s@out.example>\r\nRCPT TO:<r@{}>\r\nDATA\r\nhi\r\n.\r\n"
 QUEUED = r"250-{0}.example\r\n250-PIPELINING\r\n250-CHUNKING\r\n250 DSN\r\n250 sender OK\r\n250 recipient OK\r\n" \
@@ -55,6 +56,10 @@ class Play:
         self.process.stdin.close()
         self.process.wait(PATIENCE)
         self.process.stdout.close()
+
+    def tell(self, line):
+        """Writes a line of which nothing is seen."""
+        self.process.stdin.write(line + "\n")
 
     def say(self, line):
         self.process.stdin.write(line + "\n")
@@ -219,6 +224,18 @@ def cascade(program):
 def faults(program):
     for script, wanted in [
         (b"connect c\n", (1, b"", b"relayd: script line 1\n")),
+        (b"copies c 1 0\n", (1, b"", b"relayd: script line 1\n")),
+        (b"lost p 1 0\n", (1, b"", b"relayd: script line 1\n")),
+        (b"connect q\n", (1, b"", b"relayd: script line 1\n")),
+        (b"nodes 1\n", (1, b"", b"relayd: script line 1\n")),
+        (b"\n# x\nnodes 17\n", (1, b"", b"relayd: script line 3\n")),
+        (b"nodes 2\nnodes 2\n", (1, b"", b"relayd: script line 2\n")),
+        (b"tick 1\nnodes 2\n", (1, b"now 1\n", b"relayd: script line 2\n")),
+        (b"ledger\nnodes 2\n", (1, b"", b"relayd: script line 2\n")),
+        (b"nodes 2\nconnect c\n", (1, b"", b"relayd: script line 2\n")),
+        (b"nodes 3\ncompact c\ngive d\n", (1, b"compact c size 36\n", b"relayd: script line 3\n")),
+        (b"nodes 16\ncompact p\nstop q 0 0\n", (1, b"compact p size 36\n", b"relayd: script line 3\n")),
+        (b"# x\n\nnodes 3\n# y\ncompact c\nmarks\n", (0, b"compact c size 36\n", b"")),
         (b"\n# x\n\nconnect  a\n", (1, b"", b"relayd: script line 4\n")),
         (b"tick 1\ntick 253370764800\n", (1, b"now 1\n", b"relayd: script line 2\n")),
         (b"tick 7", (0, b"now 7\n", b"")),
@@ -255,34 +272,68 @@ def shown(script):
     return f"the script {script!r}"
 
 
-def circle(program):
-    """A message for `loop.example`: 50 accepts by each node, then 554, the end and its report."""
+def networks(program):
+    """The play of a lost reply by two nodes that `nodes` tells of, and the greeting of each of sixteen."""
+    script = PLAYS / "lost_reply.play"
+    same("nodes 2", run(program, b"nodes 2\n" + script.read_bytes()), (0, script.with_suffix(".seen").read_bytes(), b""))
+    played(program, [("nodes 16", [])] + [(f"connect {one}", GREETED.format(at + 1, one)) for at, one in enumerate(LETTERS)])
+
+
+def attempt(play, node, other):
+    """The first attempt of a node, whose hop is another node, to its end: the node that refused the content, if it did, and how
+    many carries it took."""
+    link, refused, carries = play.say(f"give {node}").split()[-1], None, 0
+    for turn in range(40):
+        reader = (node, other)[turn % 2]
+        line = play.say(f"carry {link} {reader} 100000")
+        carries += 1
+        if "554 too many Received fields" in line:
+            refused = reader
+        if line.endswith(" end") and reader == other:
+            break
+    return refused, carries
+
+
+def circle(program, nodes):
+    """A message for `loop.example`: 100 accepts by the nodes in turn, then 554 by the next one, the end and its report."""
     began = time.monotonic()
     with Play(program) as play:
+        if nodes != 2:
+            play.tell(f"nodes {nodes}")
         play.say("connect a")
         play.say("send 1 " + MAIL.format("loop.example"))
         same("the first accept", play.say("carry 1 a 1000")[-9:], " change 1")
-        node, refused, carries = "a", None, 0
+        at, refused, carries = 0, None, 0
         while refused is None:
-            start = play.say(f"give {node}")
-            link, other = start.split()[-1], "b" if node == "a" else "a"
-            for turn in range(40):
-                reader = (node, other)[turn % 2]
-                line = play.say(f"carry {link} {reader} 100000")
-                carries += 1
-                if "554 too many Received fields" in line:
-                    refused = reader
-                if line.endswith(" end") and reader == other:
-                    break
-            node = other
+            refused, taken = attempt(play, LETTERS[at], LETTERS[(at + 1) % nodes])
+            at, carries = (at + 1) % nodes, carries + taken
         ledger = play.lines("ledger")
         accepts = [line.split()[1] for line in ledger if line.startswith("accept")]
-        same("accepts", (len(accepts), accepts.count("a"), accepts.count("b")), (100, 50, 50))
-        same("who refused", refused, "a")
-        same("the last line", ledger[-1].split()[:2] + ledger[-1].split()[3:5], ["end", "b", "0", "failed"])
+        same("accepts", accepts, [LETTERS[turn % nodes] for turn in range(100)])
+        last = LETTERS[99 % nodes]
+        same("who refused", refused, LETTERS[100 % nodes])
+        same("the last line", ledger[-1].split()[:2] + ledger[-1].split()[3:5], ["end", last, "0", "failed"])
         report = ledger[-1].split()[-1]
-        same("marks", play.lines("marks"), [f"b {report} 0"])
+        same("marks", play.lines("marks"), [f"{last} {report} 0"])
     return carries, time.monotonic() - began
+
+
+def crowd(program):
+    """1,008 messages among sixteen nodes, 63 from each to the next."""
+    began = time.monotonic()
+    with Play(program) as play:
+        play.tell("nodes 16")
+        for at, node in enumerate(LETTERS):
+            same("a link", play.say(f"connect {node}"), GREETED.format(at + 1, node))
+            for number in range(63):
+                play.say(f"send {at + 1} " + MAIL.format(f"{LETTERS[(at + 1) % 16]}.example"))
+                same("an accept", play.say(f"carry {at + 1} {node} 1000").endswith(f" change {number + 1}"), True)
+        for at, node in enumerate(LETTERS):
+            for _ in range(63):
+                attempt(play, node, LETTERS[(at + 1) % 16])
+        ledger = [line.split()[0] for line in play.lines("ledger")]
+        same("accepts and transfers", (ledger.count("accept"), ledger.count("transfer")), (2016, 1008))
+    return time.monotonic() - began
 
 
 def carries(program):
@@ -301,11 +352,12 @@ def carries(program):
 
 def main(program):
     program = str(pathlib.Path(program).resolve())
-    for check in (scripts, undone, compactions, refusals, too_many, too_many_attempts, no_route, cascade, faults):
+    for check in (scripts, undone, compactions, refusals, too_many, too_many_attempts, no_route, cascade, faults, networks):
         check(program)
-    count, seconds = circle(program)
-    print(f"ok: plays: scripts, compactions, refusals, stops, faults; a circle of {count} carries in {seconds:.2f} s, "
-          f"10,000 carries in {carries(program):.2f} s")
+    circle(program, 3)
+    count, seconds = circle(program, 2)
+    print(f"ok: plays: scripts, compactions, refusals, stops, faults, networks; a circle of {count} carries in {seconds:.2f} s, "
+          f"10,000 carries in {carries(program):.2f} s, 1,008 messages among 16 nodes in {crowd(program):.2f} s")
 
 
 if __name__ == "__main__":

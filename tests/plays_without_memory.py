@@ -1,7 +1,7 @@
 #!/usr/bin/env python3
 """Plays the scripts of docs/plays/ once for each allocation of the program, which is refused. The play goes on behind it or
 says that there was no memory; and each recipient that a node acknowledged is held in the end, or was handed on, or has ended,
-once both nodes were stopped and opened again. Then a node that can't be opened, for want of memory: each event that it
+once all nodes were stopped and opened again. Then a node that can't be opened, for want of memory: each event that it
 refuses, in its order, and what it says once it is opened. And a carry for which there is no memory: before the node's call
 nothing changes, and in it or behind it, where what the node wrote can't be put on the link, that link breaks, and what the
 node recorded stands in the ledger. It ends at the first difference.
@@ -18,13 +18,12 @@ import tempfile
 sys.dont_write_bytecode = True
 
 from plays import GREETED, MAIL, QUEUED
+from random_plays import nodes_of
 from relay_program import Difference, PATIENCE, same
 
 HERE = pathlib.Path(__file__).resolve().parent
 PLAYS = HERE.parent / "docs" / "plays"
-# Twice: a node that can't be opened for want of memory is down until its next stop, and `marks` leaves it out.
-ENDING = b"stop a 0 0\nstop b 0 0\nmarks\nledger\n" * 2
-ACCEPTED = re.compile(r"^node ([ab]) link \d+ used \d+ out .*250 queued as (\d+)\\r\\n", re.MULTILINE)
+ACCEPTED = re.compile(r"^node ([a-p]) link \d+ used \d+ out .*250 queued as (\d+)\\r\\n", re.MULTILINE)
 # What stands before node a stops, while it is down, and behind its next stop: each line with what is to be seen of it.
 BEFORE = [
     ("connect b", GREETED.format(1, "b")),
@@ -58,6 +57,13 @@ AGAIN = [
     ("give b", "start b 1 a.example link 5"),
     ("give a", "start a 1 b.example link 6"),
 ]
+
+
+def ending(script):
+    """Stops each node of a script, and asks what they have. Twice: a node that can't be opened for want of memory is down until
+    its next stop, and `marks` leaves it out."""
+    stops = "".join(f"stop {node} 0 0\n" for node in nodes_of(script.decode().splitlines()))
+    return f"{stops}marks\nledger\n".encode() * 2
 
 
 def play(program, script, number, shim, mark):
@@ -136,7 +142,7 @@ def main(program):
             while True:
                 number += 1
                 mark.unlink(missing_ok=True)
-                look(f"{script.name}, allocation {number}", *play(program, script.read_bytes() + ENDING, number, shim, mark))
+                look(f"{script.name}, allocation {number}", *play(program, script.read_bytes() + ending(script.read_bytes()), number, shim, mark))
                 if not mark.exists():
                     break
             same(f"{script.name}: whether allocations were refused", number > 100, True)

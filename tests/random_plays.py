@@ -20,17 +20,24 @@ from relay_program import Difference, PATIENCE
 EVENTS = 60
 # Says 0 and nothing else, whatever was played: it ends the lines of the event before it.
 END_OF_LINES = "copies a 999999999 0"
-OTHER = {"a": "b", "b": "a"}
-HOSTS = {"a.example": "a", "b.example": "b"}
+LETTERS = "abcdefghijklmnop"
+HOSTS = {f"{letter}.example": letter for letter in LETTERS}
 DOMAINS = ["a.example", "b.example", "c.example", "loop.example", "out.example", "nowhere.example"]
 PEOPLE = ["r", "s", '"q r"', "postmaster"]
-MARKS = re.compile(r"([ab]) (\d+) (\d+)")
-ACCEPT = re.compile(r"accept ([ab]) (\d+) (\d+) link (\d+)")
-LEFT = re.compile(r"(transfer|end) ([ab]) (\d+) (\d+) (?:failed )?link (\d+) report (\d+)")
+MARKS = re.compile(r"([a-p]) (\d+) (\d+)")
+ACCEPT = re.compile(r"accept ([a-p]) (\d+) (\d+) link (\d+)")
+LEFT = re.compile(r"(transfer|end) ([a-p]) (\d+) (\d+) (?:failed )?link (\d+) report (\d+)")
 # What an event may print.
 PRINTED = re.compile(
-    r"link \d+ out .*|ok|node [ab] link \d+ used \d+ out .*?( change \d+)?( end)?|start [ab] \d+ \S+ link \d+"
-    r"|noroute [ab] \d+ change \d+|compact [ab] size \d+|broken \d+|now \d+|stopped [ab]|armed [ab]|refused [A-Z][A-Za-z]+")
+    r"link \d+ out .*|ok|node [a-p] link \d+ used \d+ out .*?( change \d+)?( end)?|start [a-p] \d+ \S+ link \d+"
+    r"|noroute [a-p] \d+ change \d+|compact [a-p] size \d+|broken \d+|now \d+|stopped [a-p]|armed [a-p]|refused [A-Z][A-Za-z]+")
+
+
+def nodes_of(lines):
+    """The letters of the nodes of a script: two, or as many as its first line that says something tells."""
+    said = [line for line in lines if line and not line.startswith("#")]
+    count = re.fullmatch(r"nodes (\d+)", said[0]) if said else None
+    return LETTERS[:int(count[1])] if count else "ab"
 
 
 def escaped(octets):
@@ -70,7 +77,7 @@ def told_at_once(program, events, messages, places):
     """What each event prints, and what answers a question behind them, of a play whose lines are all told at once, in which a
     node has so many messages at most, of so many places."""
     questions = ["ledger", "marks"]
-    questions += [f"{word} {node} {number} {place}" for word in ("copies", "lost") for node in "ab"
+    questions += [f"{word} {node} {number} {place}" for word in ("copies", "lost") for node in nodes_of(events)
                   for number in range(1, messages + 1) for place in range(places)]
     script = "".join(f"{line}\n{END_OF_LINES}\n" for line in [*events, *questions])
     done = subprocess.run([program, "play"], input=script, capture_output=True, text=True, timeout=PATIENCE)

@@ -1,4 +1,4 @@
-//! A play of two relays: a script of what happens to them, read line by line, and for each line what is seen of it.
+//! A play of relays: a script of what happens to them, read line by line, and for each line what is seen of it.
 #![tactic(auto)]
 
 mod fault;

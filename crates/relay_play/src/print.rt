@@ -8,10 +8,8 @@ use std::io::{self, Write};
 
 /// The letter of a node: `a` for the first.
 pub(crate) fn letter(node: usize) -> char {
-    match node {
-        0 => 'a',
-        _ => 'b',
-    }
+    // A play has 16 at most, up to the letter p.
+    char::from(b'a' + node.min(15) as u8)
 }
 
 /// Adds the line of what is seen of an event.

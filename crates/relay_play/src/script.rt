@@ -8,7 +8,7 @@ use crate::show::{show_copies, show_ledger, show_lost, show_marks};
 use bstr::ByteSlice;
 use relay_disk::MemoryDisk;
 use relay_pair::Pair;
-use relay_script::{ScriptLine, script_line};
+use relay_script::{Event, NodeCount, NodeIndex, ScriptLine, script_line};
 use std::alloc::Global;
 use std::io::{ErrorKind, Read, Write};
 use std::mem;
@@ -19,19 +19,25 @@ const BLOCK: usize = 65_536;
 /// How many times a reader is read at most: 2^40.
 const READS: u64 = 1_099_511_627_776;
 
-/// A play that goes on: its relays, how many lines of its script were read, and the octets of a line whose end hasn't
-/// come.
+/// How many relays a play has whose script doesn't say so.
+const NODES: usize = 2;
+
+/// A play that goes on: its relays and how many they are, whether a line was read that says something, how many lines of
+/// its script were read, and the octets of a line whose end hasn't come.
 #[derive(Drop)]
 struct Player {
     alloc: Global,
     pair: Pair<MemoryDisk>,
+    nodes: usize,
+    has_begun: bool,
     lines: u64,
     begun: Vec<u8>,
 }
 
-/// Plays a script of two relays from `reader`, over disks in memory, and writes what is seen of each line to `writer`,
-/// before it reads on. A line ends at LF, and the last one where the input does. It ends well only with the whole
-/// script read; else it ends at the first line that isn't one, or at its 2^40th read as by a fault of the reader.
+/// Plays a script of relays from `reader`, over disks in memory, and writes what is seen of each line to `writer`, before
+/// it reads on. The relays are two, or as many as the first line that says something tells (`nodes`). A line ends at LF,
+/// and the last one where the input does. It ends well only with the whole script read; else it ends at the first line
+/// that isn't one, or names a node that doesn't play, or at its 2^40th read as by a fault of the reader.
 pub fn play<R: Read, W: Write>(
     alloc: Global,
     reader: &mut R,
@@ -42,6 +48,8 @@ pub fn play<R: Read, W: Write>(
     let mut player = Player {
         alloc,
         pair: Pair::new(alloc)?,
+        nodes: NODES,
+        has_begun: false,
         lines: 0,
         begun: Vec::new(alloc),
     };
@@ -134,13 +142,41 @@ impl Player {
         Ok(())
     }
 
-    /// Plays a line, which comes without its LF, and adds what is seen of it.
+    /// Plays a line, which comes without its LF, and adds what is seen of it. How many nodes play is said by the first
+    /// line that says something, or not at all, and a line names none but these.
     fn play_line(&mut self, line: &[u8], seen: &mut Vec<u8>) -> Result<(), PlayFault> {
         let Some(said) = script_line(self.alloc, line)? else {
             return Err(PlayFault::Line(self.lines));
         };
-        let shown = match said {
+        match said {
             ScriptLine::Skipped => Ok(()),
+            ScriptLine::Nodes { count } => self.take_nodes(count),
+            said => self.play_said(said, seen),
+        }
+    }
+
+    /// So many nodes play, where nothing was said before.
+    fn take_nodes(&mut self, nodes: NodeCount) -> Result<(), PlayFault> {
+        if self.has_begun {
+            return Err(PlayFault::Line(self.lines));
+        }
+        let count = nodes.count();
+        self.pair = Pair::nodes(self.alloc, count)?;
+        self.nodes = count;
+        self.has_begun = true;
+        Ok(())
+    }
+
+    /// Plays what a line says, and adds what is seen of it.
+    fn play_said(&mut self, said: ScriptLine, seen: &mut Vec<u8>) -> Result<(), PlayFault> {
+        if names_other(&said, self.nodes) {
+            return Err(PlayFault::Line(self.lines));
+        }
+        self.has_begun = true;
+        let shown = match said {
+            // Of them nothing is seen.
+            ScriptLine::Skipped => Ok(()),
+            ScriptLine::Nodes { .. } => Ok(()),
             ScriptLine::Event(event) => happen(&mut self.pair, event, seen),
             ScriptLine::Ledger => show_ledger(&self.pair, seen),
             ScriptLine::Marks => show_marks(self.alloc, &self.pair, seen),
@@ -157,5 +193,27 @@ impl Player {
         };
         // Octets in memory fail to be written by want of memory alone.
         shown.map_err(|_| PlayFault::NoMemory)
+    }
+}
+
+/// Whether a line names a node that isn't one of so many.
+fn names_other(said: &ScriptLine, nodes: usize) -> bool {
+    match node_of(said) {
+        Some(node) => node.index() >= nodes,
+        None => false,
+    }
+}
+
+/// The node that a line names, if it names one.
+fn node_of(said: &ScriptLine) -> Option<NodeIndex> {
+    match said {
+        ScriptLine::Event(Event::Connect { node }) => Some(*node),
+        ScriptLine::Event(Event::Carry { node, .. }) => Some(*node),
+        ScriptLine::Event(Event::Give { node }) => Some(*node),
+        ScriptLine::Event(Event::Compact { node }) => Some(*node),
+        ScriptLine::Event(Event::Stop { node, .. }) => Some(*node),
+        ScriptLine::Copies { node, .. } => Some(*node),
+        ScriptLine::Lost { node, .. } => Some(*node),
+        _ => None,
     }
 }

@@ -1,6 +1,6 @@
 //! What comes of a row of scripts: `LINE` and a line of a script, or `TEXT` and octets in decimal, of which the
 //! text that spells them is written.
-use relay_script::{Event, NODE_COUNT, NodeIndex, ScriptLine, push_text, script_line};
+use relay_script::{Event, MOST_NODES, NodeIndex, ScriptLine, push_text, script_line};
 use std::alloc::{AllocError, Global};
 use std::test::Fail;
 
@@ -17,7 +17,7 @@ pub fn say_octets(rt: &HostRuntime, alloc: Global) -> Result<(), Fail> {
 
 /// Names each node.
 pub fn say_nodes(rt: &HostRuntime) -> Result<(), Fail> {
-    for index in 0..NODE_COUNT {
+    for index in 0..MOST_NODES {
         let node = NodeIndex::new(index);
         println!(rt; "node {}: {}", node.index(), char::from(node.letter()))?;
     }
@@ -47,6 +47,7 @@ fn outcome_of_line(alloc: Global, line: &[u8]) -> Result<String, Fail> {
 fn outcome_of(alloc: Global, said: ScriptLine) -> Result<String, AllocError> {
     match said {
         ScriptLine::Skipped => String::from_str(alloc, "skipped"),
+        ScriptLine::Nodes { count } => format!(in alloc; "{} nodes", count.count()),
         ScriptLine::Event(event) => outcome_of_event(alloc, &event),
         ScriptLine::Ledger => String::from_str(alloc, "ledger"),
         ScriptLine::Marks => String::from_str(alloc, "marks"),

@@ -1,4 +1,4 @@
--- Numbers and moments: what their words are.
+-- Numbers, counts of nodes and moments: what their words are.
 use Rattle.std.proofs.Common.{◌≡◌, ℕ, ◌<◌, ◌≤◌, ◌^◌, lit≤, true, false, List, length, Option, Some, Result, refl, sym, ap, subst, ◌∙◌, arith, rules, nat_le}
 use Rattle.std.proofs.lemmas.Bool.{and_parts, and_from, false≢true, leb-true, le-leb}
 use Rattle.std.proofs.lemmas.List.Sums.{list_all-from_AllPass, AllPass-from_list_all}
@@ -13,11 +13,11 @@ use Rattle.std.specs.Result.{result_ok}
 use Rattle.std.specs.Str.{IsUtf8}
 use Rattle.std.specs.Str.Parse.{digits_value, ParsesUnsigned}
 use Rattle.relay_trace.specs.DateTime.{last_second}
-use Rattle.relay_script.specs.Word.{IsNumber}
+use Rattle.relay_script.specs.Word.{IsNumber, most_nodes}
 use Rattle.relay_script.specs.Line.{Operand, IsOperand}
-use Rattle.relay_script.specs.Line.Operand.{Node, Number, Time, Text}
+use Rattle.relay_script.specs.Line.Operand.{Node, Number, Count, Time, Text}
 use Rattle.relay_script.specs.Reading.{are_number_digits, kind_of, LacksOperand}
-use Rattle.relay_script.specs.Reading.Kind.{NumberKind, TimeKind}
+use Rattle.relay_script.specs.Reading.Kind.{NumberKind, CountKind, TimeKind}
 
 -- 1 to 18 digits are a number
 is_number : (word : List ℕ) → are_number_digits word ≡ true → IsNumber word (digits_value 10 word)
@@ -47,6 +47,7 @@ no_number word other = record { absent = λ operand kind is. lacks operand kind 
     lacks : (operand : Operand) → kind_of operand ≡ NumberKind → IsOperand word operand → ⊥
     lacks (Node index) kind is = cc
     lacks (Number number) kind is = false≢true (sym other ∙ are_digits word number is)
+    lacks (Count count) kind is = cc
     lacks (Time seconds) kind is = cc
     lacks (Text octets) kind is = cc
 
@@ -85,6 +86,7 @@ no_moment word other = record { absent = λ operand kind is. lacks operand kind 
     lacks : (operand : Operand) → kind_of operand ≡ TimeKind → IsOperand word operand → ⊥
     lacks (Node index) kind is = cc
     lacks (Number number) kind is = cc
+    lacks (Count count) kind is = cc
     lacks (Time seconds) kind is = other.absent (Number seconds) refl is.number
     lacks (Text octets) kind is = cc
 
@@ -96,6 +98,32 @@ late_moment word number late_is late = record { absent = λ operand kind is. lac
     lacks : (operand : Operand) → kind_of operand ≡ TimeKind → IsOperand word operand → ⊥
     lacks (Node index) kind is = cc
     lacks (Number other) kind is = cc
+    lacks (Count count) kind is = cc
     lacks (Time seconds) kind is = let same : number ≡ seconds = sym late_is.value ∙ is.number.value in omega
         (arith, same, late, is.within)
+    lacks (Text octets) kind is = cc
+
+pub no_count : (word : List ℕ) → LacksOperand NumberKind word → LacksOperand CountKind word
+no_count word other = record { absent = λ operand kind is. lacks operand kind is }
+  where
+    lacks : (operand : Operand) → kind_of operand ≡ CountKind → IsOperand word operand → ⊥
+    lacks (Node index) kind is = cc
+    lacks (Number number) kind is = cc
+    lacks (Count count) kind is = other.absent (Number count) refl is.number
+    lacks (Time seconds) kind is = cc
+    lacks (Text octets) kind is = cc
+
+-- fewer than 2 nodes, or more than 16, are none
+pub other_count : (word : List ℕ) (number : ℕ) → IsOperand word (Number number) → is_in_range 2 most_nodes number ≡ false
+    → LacksOperand CountKind word
+other_count word number other_is other = record { absent = λ operand kind is. lacks operand kind is }
+  where
+    lacks : (operand : Operand) → kind_of operand ≡ CountKind → IsOperand word operand → ⊥
+    lacks (Node index) kind is = cc
+    lacks (Number more) kind is = cc
+    lacks (Count count) kind is =
+        let same : number ≡ count = sym other_is.value ∙ is.number.value in
+        let within = and_from (nat_le 2 count) (nat_le count most_nodes) (le-leb 2 count is.some) (le-leb count most_nodes is.within) in
+        false≢true (sym other ∙ ap (is_in_range 2 most_nodes) same ∙ within)
+    lacks (Time seconds) kind is = cc
     lacks (Text octets) kind is = cc

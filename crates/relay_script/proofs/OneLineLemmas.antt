@@ -4,11 +4,11 @@ use Rattle.std.proofs.lemmas.Bool.{and_parts}
 use Rattle.std.proofs.lemmas.List.{append_cancel_left}
 use Rattle.std.specs.List.{join_with_byte}
 use Rattle.relay_script.specs.Line.{Operand, IsOperand, SpellsWords, Spells, IsSkipped, TextTellsLine}
-use Rattle.relay_script.specs.Line.Operand.{Node, Number, Time, Text}
+use Rattle.relay_script.specs.Line.Operand.{Node, Number, Count, Time, Text}
 use Rattle.relay_script.specs.Reading.{kind_of, SpellsOperands}
 use Rattle.relay_script.specs.declared.event.Event.TheVariants.{Connect, Send, Carry, Break, Tick, Give, Compact, Stop}
 use Rattle.relay_script.specs.declared.event.ScriptLine.{ScriptLine}
-use Rattle.relay_script.specs.declared.event.ScriptLine.TheVariants.{Skipped, Event as Happens, Ledger, Marks, Copies, Lost}
+use Rattle.relay_script.specs.declared.event.ScriptLine.TheVariants.{Skipped, Nodes, Event as Happens, Ledger, Marks, Copies, Lost}
 use Rattle.relay_script.proofs.TextLemmas.{text_tells_octets}
 use Rattle.relay_script.proofs.WordLemmas.{one_cut}
 use Rattle.relay_script.proofs.OperandLemmas.{is_word_kind, cut_of, first_and_more, word_of_one}
@@ -17,6 +17,7 @@ use Rattle.relay_script.proofs.LineLemmas.{behind_keyword}
 -- a line's keyword
 abbrev keyword_of : ScriptLine → List ℕ
 keyword_of Skipped = []
+keyword_of (Nodes count) = codes "nodes"
 keyword_of (Happens (Connect node)) = codes "connect"
 keyword_of (Happens (Send link octets)) = codes "send"
 keyword_of (Happens (Carry link node count)) = codes "carry"
@@ -33,6 +34,7 @@ keyword_of (Lost node number place) = codes "lost"
 -- a line's operands
 abbrev operands_of : ScriptLine → List Operand
 operands_of Skipped = []
+operands_of (Nodes count) = Count count ∷ []
 operands_of (Happens (Connect node)) = Node node ∷ []
 operands_of (Happens (Send link octets)) = Number link ∷ Text octets ∷ []
 operands_of (Happens (Carry link node count)) = Number link ∷ Node node ∷ Number count ∷ []
@@ -53,6 +55,7 @@ pub data Form (text : List ℕ) (line : ScriptLine) : Type 0 where
 
 form_of : (text : List ℕ) (line : ScriptLine) → Spells text line → Form text line
 form_of text Skipped is = Empty refl is
+form_of text (Nodes count) is = Worded (omega arith) is
 form_of text (Happens (Connect node)) is = Worded (omega arith) is
 form_of text (Happens (Send link octets)) is = Worded (omega arith) is
 form_of text (Happens (Carry link node count)) is = Worded (omega arith) is
@@ -75,6 +78,7 @@ abbrev number_in : List Operand → ℕ
 number_in [] = 0
 number_in (Node index ∷ operands) = index
 number_in (Number number ∷ operands) = number
+number_in (Count count ∷ operands) = count
 number_in (Time seconds ∷ operands) = seconds
 number_in (Text octets ∷ operands) = 0
 
@@ -82,6 +86,7 @@ abbrev octets_in : List Operand → List ℕ
 octets_in [] = []
 octets_in (Node index ∷ operands) = []
 octets_in (Number number ∷ operands) = []
+octets_in (Count count ∷ operands) = []
 octets_in (Time seconds ∷ operands) = []
 octets_in (Text octets ∷ operands) = octets
 
@@ -94,7 +99,8 @@ line_of : ℕ → List Operand → ScriptLine
 line_of front operands =
     let next = behind_first operands in
     let last = behind_first next in
-    if front == front_of (codes "connect") then Happens (Connect (number_in operands))
+    if front == front_of (codes "nodes") then Nodes (number_in operands)
+    else if front == front_of (codes "connect") then Happens (Connect (number_in operands))
     else if front == front_of (codes "send") then Happens (Send (number_in operands) (octets_in next))
     else if front == front_of (codes "carry") then Happens (Carry (number_in operands) (number_in next) (number_in last))
     else if front == front_of (codes "break") then Happens (Break (number_in operands))
@@ -111,6 +117,7 @@ line_of front operands =
 line_is : (line : ScriptLine) → line_of (front_of (keyword_of line)) (operands_of line) ≡ line
 unfolding line_of
 line_is Skipped = refl
+line_is (Nodes count) = refl
 line_is (Happens (Connect node)) = refl
 line_is (Happens (Send link octets)) = refl
 line_is (Happens (Carry link node count)) = refl
@@ -128,6 +135,7 @@ line_is (Lost node number place) = refl
 keyword_is : (line : ScriptLine) → keyword_of (line_of (front_of (keyword_of line)) []) ≡ keyword_of line
 unfolding line_of
 keyword_is Skipped = refl
+keyword_is (Nodes count) = refl
 keyword_is (Happens (Connect node)) = refl
 keyword_is (Happens (Send link octets)) = refl
 keyword_is (Happens (Carry link node count)) = refl
@@ -145,6 +153,7 @@ kinds_are : (line : ScriptLine)
     → map kind_of (operands_of (line_of (front_of (keyword_of line)) [])) ≡ map kind_of (operands_of line)
 unfolding line_of
 kinds_are Skipped = refl
+kinds_are (Nodes count) = refl
 kinds_are (Happens (Connect node)) = refl
 kinds_are (Happens (Send link octets)) = refl
 kinds_are (Happens (Carry link node count)) = refl
@@ -162,6 +171,7 @@ kinds_are (Lost node number place) = refl
 front_append : (line : ScriptLine) → 98 ≤ get_or (keyword_of line) 0 0 → (tail : List ℕ)
     → front_of (keyword_of line ++ tail) ≡ front_of (keyword_of line)
 front_append Skipped some tail = absurd (omega arith)
+front_append (Nodes count) some tail = refl
 front_append (Happens (Connect node)) some tail = refl
 front_append (Happens (Send link octets)) some tail = refl
 front_append (Happens (Carry link node count)) some tail = refl
@@ -183,6 +193,7 @@ are_words_but_last (first ∷ second ∷ more) = is_word_kind (kind_of first) &&
 
 line_has_words : (line : ScriptLine) → are_words_but_last (operands_of line) ≡ true
 line_has_words Skipped = refl
+line_has_words (Nodes count) = refl
 line_has_words (Happens (Connect node)) = refl
 line_has_words (Happens (Send link octets)) = refl
 line_has_words (Happens (Carry link node count)) = refl
@@ -204,18 +215,27 @@ same_operand word (Node index) (Node next) kind is also =
     let letters : 97 + index ≡ 97 + next = ap (λ l. get_or l 0 0) (sym is.letter ∙ also.letter) in
     ap Node (omega (arith, letters))
 same_operand word (Node index) (Number number) kind is also = cc
+same_operand word (Node index) (Count count) kind is also = cc
 same_operand word (Node index) (Time seconds) kind is also = cc
 same_operand word (Node index) (Text octets) kind is also = cc
 same_operand word (Number number) (Node index) kind is also = cc
 same_operand word (Number number) (Number other) kind is also = ap Number (sym is.value ∙ also.value)
+same_operand word (Number number) (Count count) kind is also = cc
 same_operand word (Number number) (Time seconds) kind is also = cc
 same_operand word (Number number) (Text octets) kind is also = cc
+same_operand word (Count count) (Node index) kind is also = cc
+same_operand word (Count count) (Number number) kind is also = cc
+same_operand word (Count count) (Count other) kind is also = ap Count (sym is.number.value ∙ also.number.value)
+same_operand word (Count count) (Time seconds) kind is also = cc
+same_operand word (Count count) (Text octets) kind is also = cc
 same_operand word (Time seconds) (Node index) kind is also = cc
 same_operand word (Time seconds) (Number number) kind is also = cc
+same_operand word (Time seconds) (Count count) kind is also = cc
 same_operand word (Time seconds) (Time other) kind is also = ap Time (sym is.number.value ∙ also.number.value)
 same_operand word (Time seconds) (Text octets) kind is also = cc
 same_operand word (Text octets) (Node index) kind is also = cc
 same_operand word (Text octets) (Number number) kind is also = cc
+same_operand word (Text octets) (Count count) kind is also = cc
 same_operand word (Text octets) (Time seconds) kind is also = cc
 same_operand word (Text octets) (Text others) kind is also = ap Text (text_tells_octets word octets others is also)
 

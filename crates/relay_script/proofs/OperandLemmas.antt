@@ -6,15 +6,16 @@ use Rattle.std.proofs.lemmas.List.Sums.{list_all-from_AllPass}
 use Rattle.std.specs.Char.{is_ascii_digit}
 use Rattle.std.specs.List.{join_with_byte, list_all}
 use Rattle.relay_script.specs.Line.{Operand, IsOperand, AreOperands}
-use Rattle.relay_script.specs.Line.Operand.{Node, Number, Time, Text}
+use Rattle.relay_script.specs.Line.Operand.{Node, Number, Count, Time, Text}
 use Rattle.relay_script.specs.Reading.{kind_of, Kind, CutsWord, HasNoSpace, LacksOperand, LacksOperands, SpellsOperands, is_no_space}
-use Rattle.relay_script.specs.Reading.Kind.{NodeKind, NumberKind, TimeKind, TextKind}
+use Rattle.relay_script.specs.Reading.Kind.{NodeKind, NumberKind, CountKind, TimeKind, TextKind}
 use Rattle.relay_script.proofs.WordLemmas.{one_cut, space_stands}
 
 -- a kind of operands whose words have no space
 abbrev pub is_word_kind : Kind → Bool
 is_word_kind NodeKind = true
 is_word_kind NumberKind = true
+is_word_kind CountKind = true
 is_word_kind TimeKind = true
 is_word_kind TextKind = false
 
@@ -38,6 +39,7 @@ word_free : (word : List ℕ) (operand : Operand) (kind : Kind) → is_word_kind
 word_free word (Node index) kind is_word same is =
     ap (list_all is_no_space) is.letter ∙ and_from (is_no_space (97 + index)) true (letter_free index) refl
 word_free word (Number number) kind is_word same is = digits_free word (list_all-from_AllPass is_ascii_digit word is.digits)
+word_free word (Count count) kind is_word same is = digits_free word (list_all-from_AllPass is_ascii_digit word is.number.digits)
 word_free word (Time seconds) kind is_word same is = digits_free word (list_all-from_AllPass is_ascii_digit word is.number.digits)
 word_free word (Text octets) kind is_word same is = absurd (false≢true (ap is_word_kind same ∙ is_word))
 

@@ -6,7 +6,7 @@ use Rattle.std.proofs.lemmas.List.Elements.{All-head, All-tail, All-push}
 use Rattle.std.specs.List.{All}
 use Rattle.relay_script.specs.Text.{spelled, spelled_octet, SpellsOctets, TextTellsOctets}
 use Rattle.relay_script.specs.Line.{Operand, IsOperand}
-use Rattle.relay_script.specs.Line.Operand.{Node, Number, Time, Text}
+use Rattle.relay_script.specs.Line.Operand.{Node, Number, Count, Time, Text}
 use Rattle.relay_script.specs.Reading.{BeginsWithOctet, BeginsWithNoOctet, kind_of, LacksOperand}
 use Rattle.relay_script.specs.Reading.Kind.{TextKind}
 use Rattle.relay_script.proofs.OctetLemmas.{by_kind, one_octet, none_empty}
@@ -80,6 +80,7 @@ no_text text done rest read none some = record { absent = λ operand kind is. la
     lacks : (operand : Operand) → kind_of operand ≡ TextKind → IsOperand text operand → ⊥
     lacks (Node index) kind is = cc
     lacks (Number number) kind is = cc
+    lacks (Count count) kind is = cc
     lacks (Time seconds) kind is = cc
     lacks (Text octets) kind is = stops done octets rest read.are_octets is.are_octets (sym is.text_is ∙ read.text_is) none some
 

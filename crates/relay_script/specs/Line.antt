@@ -2,16 +2,17 @@
 use Rattle.std.specs.Prelude.{◌≡◌, ℕ, List, [], ◌∷◌, codes, ⊤}
 use Rattle.std.specs.List.{join_with_byte}
 use Rattle.relay_script.specs.Text.{SpellsOctets}
-use Rattle.relay_script.specs.Word.{IsMoment, IsNode, IsNumber}
+use Rattle.relay_script.specs.Word.{IsMoment, IsNode, IsNodeCount, IsNumber}
 use Rattle.relay_script.specs.declared.event.Event.{Event}
 use Rattle.relay_script.specs.declared.event.Event.TheVariants.{Connect, Send, Carry, Break, Tick, Give, Compact, Stop}
 use Rattle.relay_script.specs.declared.event.ScriptLine.{ScriptLine}
-use Rattle.relay_script.specs.declared.event.ScriptLine.TheVariants.{Skipped, Event as Happens, Ledger, Marks, Copies, Lost}
+use Rattle.relay_script.specs.declared.event.ScriptLine.TheVariants.{Skipped, Nodes, Event as Happens, Ledger, Marks, Copies, Lost}
 
 -- what stands behind a keyword
 pub data Operand : Type 0 where
   Node : ℕ → Operand
   Number : ℕ → Operand
+  Count : ℕ → Operand
   Time : ℕ → Operand
   Text : List ℕ → Operand
 
@@ -19,6 +20,7 @@ pub data Operand : Type 0 where
 abbrev pub IsOperand : List ℕ → Operand → Type 0
 IsOperand word (Node index) = IsNode word index
 IsOperand word (Number number) = IsNumber word number
+IsOperand word (Count count) = IsNodeCount word count
 IsOperand word (Time seconds) = IsMoment word seconds
 IsOperand word (Text octets) = SpellsOctets word octets
 
@@ -56,6 +58,7 @@ IsSkipped (octet ∷ rest) = octet ≡ 35
 -- the text spells a line
 abbrev pub Spells : List ℕ → ScriptLine → Type 0
 Spells text Skipped = IsSkipped text
+Spells text (Nodes count) = SpellsWords text (codes "nodes") (Count count ∷ [])
 Spells text (Happens event) = SpellsEvent text event
 Spells text Ledger = SpellsWords text (codes "ledger") []
 Spells text Marks = SpellsWords text (codes "marks") []

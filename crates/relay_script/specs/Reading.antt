@@ -5,12 +5,13 @@ use Rattle.std.specs.Char.{is_ascii_digit}
 use Rattle.std.specs.Int.{is_in_range}
 use Rattle.relay_script.specs.Text.{digit_of, is_plain, spelled_octet}
 use Rattle.relay_script.specs.Line.{Operand, IsOperand, AreOperands, SpellsWords}
-use Rattle.relay_script.specs.Line.Operand.{Node, Number, Time, Text}
+use Rattle.relay_script.specs.Line.Operand.{Node, Number, Count, Time, Text}
 
 -- the kinds of operands
 pub data Kind : Type 0 where
   NodeKind : Kind
   NumberKind : Kind
+  CountKind : Kind
   TimeKind : Kind
   TextKind : Kind
 
@@ -18,6 +19,7 @@ pub data Kind : Type 0 where
 abbrev pub kind_of : Operand → Kind
 kind_of (Node index) = NodeKind
 kind_of (Number number) = NumberKind
+kind_of (Count count) = CountKind
 kind_of (Time seconds) = TimeKind
 kind_of (Text octets) = TextKind
 

@@ -1,3 +1,4 @@
+use crate::node_count::NodeCount;
 use crate::node_index::NodeIndex;
 use relay_octets::Octets;
 use relay_trace::Moment;
@@ -50,6 +51,10 @@ pub enum Event {
 pub enum ScriptLine {
     /// The line says nothing: it is empty, or a remark that `#` begins.
     Skipped,
+    /// So many nodes play.
+    Nodes {
+        count: NodeCount,
+    },
     /// Something happens.
     Event(Event),
     /// Asks for the ledger.

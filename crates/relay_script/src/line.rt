@@ -7,7 +7,8 @@ ghost use Rattle.relay_script.specs.Reading.Kind.{NumberKind, TextKind};
 
 use crate::event::{Event, ScriptLine};
 use crate::operands::{
-    moment_behind, node_and_numbers_behind, node_behind, node_within_numbers_behind, number_behind,
+    count_behind, moment_behind, node_and_numbers_behind, node_behind, node_within_numbers_behind,
+    number_behind,
 };
 use crate::text::read_text;
 use crate::word::{behind, cut_word, read_number};
@@ -21,6 +22,9 @@ pub fn script_line(alloc: Global, line: &[u8]) -> Result<Option<ScriptLine>, All
 {
     if is_skipped(line) {
         return Ok(Some(ScriptLine::Skipped));
+    }
+    if let Some(count) = count_behind(b"nodes", line) {
+        return Ok(Some(ScriptLine::Nodes { count }));
     }
     if let Some(question) = read_question(line) {
         return Ok(Some(question));

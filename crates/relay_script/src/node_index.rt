@@ -1,9 +1,9 @@
 use std::marker::Model;
 
-/// How many nodes play.
-pub const NODE_COUNT: usize = 2;
+/// How many nodes play at most.
+pub const MOST_NODES: usize = 16;
 
-/// A node of a play, by its number: 0 for the node `a`, 1 for the node `b`.
+/// A node of a play, by its number: 0 for the node `a`, 1 for the node `b`, and so on to 15 for `p`.
 #[derive(Clone, Copy, Debug, PartialEq, Eq)]
 pub struct NodeIndex {
     index: usize,
@@ -11,24 +11,24 @@ pub struct NodeIndex {
 
 impl Model for NodeIndex {
     ghost use Rattle.std.specs.Prelude.{ℕ, ◌<◌};
-    ghost use Rattle.relay_script.specs.Word.{node_count};
+    ghost use Rattle.relay_script.specs.Word.{most_nodes};
 
     ghost Value = { ℕ };
 
     ghost view = { λ node. node.index };
 
-    ghost invariant = { λ node. node.index < node_count };
+    ghost invariant = { λ node. node.index < most_nodes };
 
     ghost inverse = { λ index. record { index = index } };
 }
 
 impl NodeIndex {
     ghost use Rattle.std.specs.Prelude.{◌≡◌, ◌<◌, ◌+◌};
-    ghost use Rattle.relay_script.specs.Word.{node_count};
+    ghost use Rattle.relay_script.specs.Word.{most_nodes};
 
     /// The node of that number.
     pub fn new(index: usize) -> Self
-        requires { index < node_count }
+        requires { index < most_nodes }
         ensures { result ≡ index }
     {
         NodeIndex { index }
@@ -37,7 +37,7 @@ impl NodeIndex {
     /// The node's number.
     pub fn index(self) -> usize
         ensures value { result ≡ self }
-        ensures within { result < node_count }
+        ensures within { result < most_nodes }
     {
         self.index
     }

@@ -1,12 +1,13 @@
 //! The operands behind a keyword, one space apart.
 ghost use Rattle.std.specs.Prelude.{[], ◌∷◌, MatchOption};
 ghost use Rattle.relay_script.specs.Line.{SpellsWords};
-ghost use Rattle.relay_script.specs.Line.Operand.{Node, Number, Time};
+ghost use Rattle.relay_script.specs.Line.Operand.{Count, Node, Number, Time};
 ghost use Rattle.relay_script.specs.Reading.{LacksOperands, LacksWords, SpellsOperands};
-ghost use Rattle.relay_script.specs.Reading.Kind.{NodeKind, NumberKind, TimeKind};
+ghost use Rattle.relay_script.specs.Reading.Kind.{CountKind, NodeKind, NumberKind, TimeKind};
 
+use crate::node_count::NodeCount;
 use crate::node_index::NodeIndex;
-use crate::word::{behind, cut_word, read_moment, read_node, read_number};
+use crate::word::{behind, cut_word, read_count, read_moment, read_node, read_number};
 use relay_trace::Moment;
 
 /// A node behind the keyword.
@@ -27,6 +28,16 @@ pub(crate) fn number_behind(keyword: &[u8], line: &[u8]) -> Option<u64>
 {
     let word = behind(keyword, line)?;
     read_number(word)
+}
+
+/// A count of nodes behind the keyword.
+#[tactic(auto, using(crate::proofs::LineLemmas::no_words_behind))]
+pub(crate) fn count_behind(keyword: &[u8], line: &[u8]) -> Option<NodeCount>
+    ensures { MatchOption result (LacksWords keyword.now (CountKind ∷ []) line.now)
+        (λ count. SpellsWords line.now keyword.now (Count count ∷ [])) }
+{
+    let word = behind(keyword, line)?;
+    read_count(word)
 }
 
 /// A moment behind the keyword.

@@ -1,13 +1,14 @@
 //! The words of a line.
-ghost use Rattle.std.specs.Prelude.{◌≡◌, IsTrue, MatchOption, Some, None};
+ghost use Rattle.std.specs.Prelude.{◌≡◌, [], ◌∷◌, IsTrue, MatchOption, Some, None};
 ghost use Rattle.std.specs.Char.{is_ascii_digit};
 ghost use Rattle.std.specs.List.{list_all};
 ghost use Rattle.relay_script.specs.Line.{IsOperand};
-ghost use Rattle.relay_script.specs.Line.Operand.{Node, Number, Time};
+ghost use Rattle.relay_script.specs.Line.Operand.{Count, Node, Number, Time};
 ghost use Rattle.relay_script.specs.Reading.{are_number_digits, CutsWord, HasNoSpace, IsNotBehind, LacksOperand, StandsBehind};
-ghost use Rattle.relay_script.specs.Reading.Kind.{NodeKind, NumberKind, TimeKind};
+ghost use Rattle.relay_script.specs.Reading.Kind.{CountKind, NodeKind, NumberKind, TimeKind};
 
-use crate::node_index::NodeIndex;
+use crate::node_count::NodeCount;
+use crate::node_index::{MOST_NODES, NodeIndex};
 use relay_trace::Moment;
 use std::str;
 
@@ -41,8 +42,17 @@ pub(crate) fn read_node(word: &[u8]) -> Option<NodeIndex>
     ensures { MatchOption result (LacksOperand NodeKind word.now) (λ node. IsOperand word.now (Node node)) }
 {
     match word {
-        [b'a'] => Some(NodeIndex::new(0)),
-        [b'b'] => Some(NodeIndex::new(1)),
+        [letter] => node_of_letter(*letter),
+        _ => None,
+    }
+}
+
+/// The node of a letter, `a` to `p`.
+fn node_of_letter(letter: u8) -> Option<NodeIndex>
+    ensures { MatchOption result (LacksOperand NodeKind (letter ∷ [])) (λ node. IsOperand (letter ∷ []) (Node node)) }
+{
+    match letter {
+        b'a'..=b'p' => Some(NodeIndex::new((letter - b'a') as usize)),
         _ => None,
     }
 }
@@ -77,6 +87,19 @@ fn are_digits(text: &[u8]) -> bool
     ensures { result ≡ list_all is_ascii_digit text.now }
 {
     text.iter().all(|octet| octet.is_ascii_digit())
+}
+
+/// How many nodes a word says, 2 to 16.
+#[tactic(auto, using(crate::proofs::NumberLemmas::no_count, crate::proofs::NumberLemmas::other_count))]
+pub(crate) fn read_count(word: &[u8]) -> Option<NodeCount>
+    ensures { MatchOption result (LacksOperand CountKind word.now) (λ count. IsOperand word.now (Count count)) }
+{
+    let count = read_number(word)?;
+    if (2..=MOST_NODES as u64).contains(&count) {
+        Some(NodeCount::new(count as usize))
+    } else {
+        None
+    }
 }
 
 /// The moment whose seconds from 1970 a word writes.
