@@ -20,6 +20,8 @@ test:
 	tests/want_of_descriptors.py build/relayd
 	tests/fault_lines.sh build/relayd
 	tests/two_relays.py build/relayd
+	tests/workers.py build/relayd
+	bench/crashes.py build/relayd 64
 	tests/compaction.py build/relayd
 	tests/plays.py build/relayd
 	tests/plays_without_memory.py build/relayd
@@ -31,6 +33,7 @@ test:
 	tests/dialogues_of_a_node.sh crates/relay_node_tests/out/relay_node_tests
 	tests/attempts_of_a_node.py crates/relay_node_tests/out/relay_node_tests
 	tests/node_without_memory.sh crates/relay_node_tests/out/relay_node_tests
+	tests/hub_without_memory.sh crates/relay_hub_tests/out/relay_hub_tests
 	tests/spool_on_a_file.sh crates/relay_spool_tests/out/relay_spool_tests
 	tests/reports_read_by_python.py crates/relay_book_tests/out/relay_book_tests
 	tail -n 1 build/gate.log
@@ -58,6 +61,7 @@ bench: relayd relay_bench
 load: relayd
 	bench/load.py build/relayd
 	bench/crashes.py build/relayd
+	bench/crashes.py build/relayd 64
 
 # Counts the instructions of the same with callgrind, which valgrind brings.
 instructions: relayd relay_bench
