@@ -84,7 +84,7 @@ def nobody_is_greeted_before_all_have_come(program, folder, sink):
 def each_of_64_has_its_reply_whatever_the_others_do(program, folder, sink):
     """32 give mail, 31 are cut off in their text, and one says nothing."""
     relay = new_relay(program, folder, sink)
-    preload(relay, folder, "shorter_waits", SHORTER="60")
+    preload(relay, folder, "shorter_waits", SHORTER="25")
     log = []
     with relay.serving("--workers", "64", log=log) as lines, clients_of(relay, 64) as links:
         names = ["{}:{}".format(*link.getsockname()) for link in links]
@@ -97,7 +97,7 @@ def each_of_64_has_its_reply_whatever_the_others_do(program, folder, sink):
         same("numbers", sorted(numbers), list(range(1, 33)))
         for link in whole:
             link.sendall(b"QUIT\r\n")
-        # It is given up behind 300 seconds divided by 60.
+        # It is given up behind 300 seconds divided by 25.
         same("what the silent one is told", ended_as(silent), b"220 relay.example ESMTP relay ready\r\n")
         for link in whole:
             same("behind QUIT", ended_as(link), b"221 relay.example closing\r\n")
