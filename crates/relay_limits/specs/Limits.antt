@@ -1,0 +1,61 @@
+-- What a configuration says of a relay's limits: a number for each, or the first fault.
+use Rattle.std.specs.Prelude.{◌≡◌, ℕ, ◌≤◌, List, codes, Option, Some, None, Result, Ok, Err, pos}
+use Rattle.toml.specs.Data.{Data, Members, integer, get_member}
+use Rattle.relay_limits.specs.declared.limit.Limit.{Limit}
+use Rattle.relay_limits.specs.declared.limit.Limit.TheVariants.{SessionsPerClient, AttemptsPerHop, ClientTimeout}
+use Rattle.relay_limits.specs.declared.limits.Limits.{Limits}
+
+-- each key as a document has it
+abbrev pub limit_text : Limit → List ℕ
+limit_text SessionsPerClient = codes "sessions_per_client"
+limit_text AttemptsPerHop = codes "attempts_per_hop"
+limit_text ClientTimeout = codes "client_timeout"
+
+-- profile: the most that each may be, of 64 sessions, 64 attempts and an hour
+abbrev pub most_of : Limit → ℕ
+most_of SessionsPerClient = 64
+most_of AttemptsPerHop = 64
+most_of ClientTimeout = 3600
+
+-- profile: what each is where nothing is said; a client is waited for five minutes (RFC 5321, 4.5.3.2.7)
+abbrev pub default_of : Limit → ℕ
+default_of SessionsPerClient = 16
+default_of AttemptsPerHop = 4
+default_of ClientTimeout = 300
+
+-- what a document has at a key
+abbrev pub value_of : Limit → Members → Option Data
+value_of limit document = get_member (limit_text limit) document
+
+-- the value is this number, from 1 to the most that the limit may be
+abbrev pub GivesNumber : Limit → Data → ℕ → Type 0
+GivesNumber limit value number = (value ≡ integer (pos number)) × (1 ≤ number) × (number ≤ most_of limit)
+
+-- a value that is there gives this number, or it is bad; where none is, this is the number otherwise
+abbrev pub ReadsLimit : Limit → Option Data → Result ℕ Limit → Type 0
+ReadsLimit limit None result = result ≡ Ok (default_of limit)
+ReadsLimit limit (Some value) (Ok number) = GivesNumber limit value number
+ReadsLimit limit (Some value) (Err fault) = (fault ≡ limit) × ((number : ℕ) → ¬ GivesNumber limit value number)
+
+-- the document says this of the limit
+abbrev pub SaysOf : Members → Limit → Result ℕ Limit → Type 0
+SaysOf document limit = ReadsLimit limit (value_of limit document)
+
+-- the document says these limits
+pub record Says (document : Members) (limits : Limits) : Type 0 where
+  pub sessions : SaysOf document SessionsPerClient (Ok limits.sessions_per_client)
+  pub attempts : SaysOf document AttemptsPerHop (Ok limits.attempts_per_hop)
+  pub timeout : SaysOf document ClientTimeout (Ok limits.client_timeout)
+
+-- the document says some number of the limit
+pub record IsGood (document : Members) (limit : Limit) : Type 0 where
+  pub number : ℕ
+  pub says : SaysOf document limit (Ok number)
+
+-- the first fault of a document: the keys are looked at in this order, and those before are good
+pub data FirstFault (document : Members) (fault : Limit) : Type 0 where
+  at_sessions : SaysOf document SessionsPerClient (Err fault) → FirstFault document fault
+  at_attempts : IsGood document SessionsPerClient → SaysOf document AttemptsPerHop (Err fault)
+      → FirstFault document fault
+  at_timeout : IsGood document SessionsPerClient → IsGood document AttemptsPerHop
+      → SaysOf document ClientTimeout (Err fault) → FirstFault document fault

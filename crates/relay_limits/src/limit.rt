@@ -1,0 +1,59 @@
+ghost use Rattle.std.specs.Prelude.{◌≡◌, ◌≤◌, ◌<◌};
+ghost use Rattle.relay_limits.specs.Limits.{default_of, limit_text, most_of};
+
+use std::fmt;
+
+/// A key of a configuration that bounds what a relay does at once, in the order in which they are looked at.
+#[derive(Clone, Copy, Debug, Drop, PartialEq, Eq)]
+pub enum Limit {
+    /// The most sessions of one client's address at a time.
+    SessionsPerClient,
+    /// The most attempts at one next hop's address at a time.
+    AttemptsPerHop,
+    /// How long a client is waited for, in seconds (RFC 5321, 4.5.3.2.7).
+    ClientTimeout,
+}
+
+impl Limit {
+    /// The key as a document has it.
+    pub fn text(self) -> &'static str
+        ensures { result.now ≡ limit_text self }
+    {
+        match self {
+            Limit::SessionsPerClient => "sessions_per_client",
+            Limit::AttemptsPerHop => "attempts_per_hop",
+            Limit::ClientTimeout => "client_timeout",
+        }
+    }
+
+    /// The most that it may be; the least is 1.
+    pub(crate) fn most(self) -> u16
+        ensures most { result ≡ most_of self }
+    {
+        match self {
+            Limit::SessionsPerClient | Limit::AttemptsPerHop => 64,
+            Limit::ClientTimeout => 3_600,
+        }
+    }
+
+    /// What it is where a document says nothing of it.
+    pub(crate) fn default(self) -> u16
+        ensures default { result ≡ default_of self }
+    {
+        match self {
+            Limit::SessionsPerClient => 16,
+            Limit::AttemptsPerHop => 4,
+            Limit::ClientTimeout => 300,
+        }
+    }
+}
+
+impl fmt::Display for Limit {
+    ghost use Rattle.std.specs.Prelude.{Some};
+
+    ghost output = { λ limit. Some (limit_text limit) };
+
+    fn fmt<W: fmt::Write>(&self, f: &mut fmt::Formatter<W>) -> fmt::Result {
+        f.write_str(self.text())
+    }
+}

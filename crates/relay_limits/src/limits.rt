@@ -1,0 +1,57 @@
+ghost use Rattle.std.specs.Prelude.{◌≡◌, ◌≤◌, ℕ, Ok, Err, IfOk, IfErr, option_map};
+ghost use Rattle.toml.specs.View.{table_view, view};
+ghost use Rattle.relay_limits.specs.Limits.{FirstFault, ReadsLimit, Says, most_of, value_of};
+
+use crate::limit::Limit;
+use toml::Value;
+
+/// What bounds a relay that serves many clients at once.
+#[derive(Clone, Copy, Debug, Drop, PartialEq, Eq)]
+pub struct Limits {
+    /// The most sessions of one client's address at a time, 1 to 64.
+    pub sessions_per_client: u8,
+    /// The most attempts at one next hop's address at a time, 1 to 64.
+    pub attempts_per_hop: u8,
+    /// How long a client is waited for, in seconds, 1 to 3,600.
+    pub client_timeout: u16,
+}
+
+impl Limits {
+    /// The limits that a document says, or the first of them, in the order of [`Limit`], whose value is no integer from
+    /// 1 to its most. Where they are missing, `sessions_per_client` is 16, `attempts_per_hop` 4 and `client_timeout`
+    /// 300; other keys are ignored. It takes no memory.
+    pub fn of_document(document: &toml::Table) -> Result<Limits, Limit>
+        ensures ok { IfOk result (Says (table_view document.now)) }
+        ensures err { IfErr result (FirstFault (table_view document.now)) }
+    {
+        let sessions_per_client = read_limit(document, Limit::SessionsPerClient)?;
+        let attempts_per_hop = read_limit(document, Limit::AttemptsPerHop)?;
+        let client_timeout = read_limit(document, Limit::ClientTimeout)?;
+        Ok(Limits {
+            sessions_per_client: sessions_per_client as u8,
+            attempts_per_hop: attempts_per_hop as u8,
+            client_timeout,
+        })
+    }
+}
+
+/// The number that a document says of a limit: what it is otherwise where nothing is said.
+fn read_limit(document: &toml::Table, limit: Limit) -> Result<u16, Limit>
+    ensures reads { ReadsLimit limit (value_of limit (table_view document.now)) result }
+    ensures within { IfOk result (λ number. number ≤ most_of limit) }
+{
+    match member(document, limit) {
+        None => Ok(limit.default()),
+        Some(value) => match value.as_integer() {
+            Some(number) if 1 <= number && number <= limit.most() as i64 => Ok(number as u16),
+            _ => Err(limit),
+        },
+    }
+}
+
+/// The value of a limit's key.
+fn member(document: &toml::Table, limit: Limit) -> Option<&Value>
+    ensures { value_of limit (table_view document.now) ≡ option_map (λ value. view value.now) result }
+{
+    document.get(limit.text())
+}
