@@ -11,7 +11,7 @@ use Rattle.clap.specs.declared.builder.value_parser.ValueParser.TheVariants.{Uns
 use Rattle.clap.specs.declared.error.kind.ErrorKind.TheVariants.{DisplayHelp, MissingRequiredArgument}
 use Rattle.clap.specs.declared.error.kind.ErrorKind.TheVariants.{MissingSubcommand, UnknownArgument, ValueValidation}
 use Rattle.relay_arguments.specs.declared.words.Subcommand.{Subcommand}
-use Rattle.relay_arguments.specs.declared.words.Subcommand.TheVariants.{Session, Play, Init, List as ListHeld, Compact, Serve, Push}
+use Rattle.relay_arguments.specs.declared.words.Subcommand.TheVariants.{Session, Play, Init, List as ListHeld, Compact, Run, Serve, Push}
 
 -- a program that wants a subcommand, and has none for help
 abbrev pub without_subcommands : App
@@ -44,6 +44,14 @@ workers_rule =
 abbrev pub log_rule : Rule
 log_rule = record (new_rule (codes "log")) { long = Some (codes "log"); action = Some SetTrue }
 
+-- profile: `--quiet`
+abbrev pub quiet_rule : Rule
+quiet_rule = record (new_rule (codes "quiet")) { long = Some (codes "quiet"); action = Some SetTrue }
+
+-- the subcommand that runs until its process is ended
+abbrev pub running : App
+running = with_rule (configured (codes "run")) quiet_rule
+
 abbrev pub serving : App
 serving = with_rule (with_rule (with_rule (configured (codes "serve")) rounds_rule) workers_rule) log_rule
 
@@ -64,9 +72,13 @@ over_files =
 abbrev pub with_compact : App
 with_compact = with_subcommand over_files (configured (codes "compact")).top
 
+-- and with the one that runs until its process is ended
+abbrev pub with_run : App
+with_run = with_subcommand with_compact running.top
+
 -- the program and its subcommands
 abbrev pub relayd : App
-relayd = with_subcommand (with_subcommand with_compact serving.top) pushing.top
+relayd = with_subcommand (with_subcommand with_run serving.top) pushing.top
 
 -- the kinds of error that the words may have; none where they name a subcommand as it is to be named
 abbrev pub faults_in : List Text → Kinds
@@ -79,6 +91,7 @@ pub data Asked : Type 0 where
   AskedInit : Text → Asked
   AskedList : Text → Asked
   AskedCompact : Text → Asked
+  AskedRun : Text → Bool → Asked
   AskedServe : Text → ℕ → ℕ → Bool → Asked
   AskedPush : Text → Bool → Asked
 
@@ -98,17 +111,19 @@ rounds_in rows = option_map_or (number_of 1000000) (first_of (codes "rounds") ro
 abbrev pub workers_in : List Row → ℕ
 workers_in rows = option_map_or (number_of 64) (first_of (codes "workers") rows) 1
 
--- a log is asked for
-abbrev pub is_logged_in : List Row → Bool
-is_logged_in rows = option_map_or (λ text. bytes_eq text (codes "true")) (first_of (codes "log") rows) false
+-- a switch of this name was given
+abbrev pub is_given_in : Text → List Row → Bool
+is_given_in switch rows = option_map_or (λ text. bytes_eq text (codes "true")) (first_of switch rows) false
 
 abbrev pub asked_by : Text → List Row → Asked
 asked_by name rows =
     if bytes_eq name (codes "init") then AskedInit (config_in rows)
     else if bytes_eq name (codes "list") then AskedList (config_in rows)
     else if bytes_eq name (codes "compact") then AskedCompact (config_in rows)
-    else if bytes_eq name (codes "serve") then AskedServe (config_in rows) (rounds_in rows) (workers_in rows) (is_logged_in rows)
-    else if bytes_eq name (codes "push") then AskedPush (config_in rows) (is_logged_in rows)
+    else if bytes_eq name (codes "run") then AskedRun (config_in rows) (is_given_in (codes "quiet") rows)
+    else if bytes_eq name (codes "serve")
+    then AskedServe (config_in rows) (rounds_in rows) (workers_in rows) (is_given_in (codes "log") rows)
+    else if bytes_eq name (codes "push") then AskedPush (config_in rows) (is_given_in (codes "log") rows)
     else if bytes_eq name (codes "play") then AskedPlay
     else AskedSession
 
@@ -128,6 +143,7 @@ asked Play = AskedPlay
 asked (Init file) = AskedInit file.now
 asked (ListHeld file) = AskedList file.now
 asked (Compact file) = AskedCompact file.now
+asked (Run file quiet) = AskedRun file.now quiet
 asked (Serve file rounds workers log) = AskedServe file.now rounds workers log
 asked (Push file log) = AskedPush file.now log
 
@@ -162,6 +178,15 @@ Compacts name =
     × (asked_in (words_of name (codes "compact") []) ≡ AskedCompact (codes "c"))
     × (faults_in (name ∷ codes "compact" ∷ []) ≡ MissingRequiredArgument ∷ [])
 
+-- `run` is taken with a file, and not without one; it may be quiet, and knows no rounds
+abbrev pub Runs : Text → Type 0
+Runs name =
+    (faults_in (words_of name (codes "run") []) ≡ [])
+    × (faults_in (name ∷ codes "run" ∷ []) ≡ MissingRequiredArgument ∷ [])
+    × (faults_in (words_of name (codes "run") (codes "--rounds" ∷ codes "1" ∷ [])) ≡ UnknownArgument ∷ [])
+    × (asked_in (words_of name (codes "run") []) ≡ AskedRun (codes "c") false)
+    × (asked_in (words_of name (codes "run") (codes "--quiet" ∷ [])) ≡ AskedRun (codes "c") true)
+
 -- `session` and `play` alone are taken, and so are `init` and `list` with a file; without a subcommand, without the
 -- file and with a further word they aren't; `--help` asks for help
 abbrev pub WordsAreTaken : Type 0
@@ -181,6 +206,7 @@ WordsAreTaken =
     × (asked_in (name ∷ codes "play" ∷ []) ≡ AskedPlay)
     × ServesAndPushes name
     × Compacts name
+    × Runs name
 
 -- the argument reader finds no fault in the words, and they ask for a session
 abbrev pub AskForSession : List Text → Type 0

@@ -1,9 +1,10 @@
 ghost use Rattle.std.specs.Prelude.{◌≡◌, ◌≤◌, codes, false, map, IfOk};
 ghost use Rattle.clap.specs.Words.{FailsBy, app_of, found_of, new_app, rows_of, rule_of, subcommand_rows_of};
 ghost use Rattle.relay_arguments.specs.Arguments.{WordsAreTaken, asked, asked_by, asked_in, asked_of, config_in};
-ghost use Rattle.relay_arguments.specs.Arguments.{config_rule, configured, faults_in, is_logged_in, log_rule};
-ghost use Rattle.relay_arguments.specs.Arguments.{number_of, over_files, pushing, relayd, rounds_in, rounds_rule};
-ghost use Rattle.relay_arguments.specs.Arguments.{serving, with_compact, without_files, without_subcommands};
+ghost use Rattle.relay_arguments.specs.Arguments.{config_rule, configured, faults_in, is_given_in, log_rule};
+ghost use Rattle.relay_arguments.specs.Arguments.{number_of, over_files, pushing, quiet_rule, relayd, rounds_in};
+ghost use Rattle.relay_arguments.specs.Arguments.{rounds_rule, running, serving, with_compact, with_run};
+ghost use Rattle.relay_arguments.specs.Arguments.{without_files, without_subcommands};
 ghost use Rattle.relay_arguments.specs.Arguments.{workers_in, workers_rule};
 
 use clap::builder::ValueParser;
@@ -24,7 +25,14 @@ pub enum Subcommand<'a> {
     List(&'a str),
     /// The spool is written anew, by the configuration in this file.
     Compact(&'a str),
-    /// Clients are served, and their mail is handed on.
+    /// Clients are served and mail is handed on, until the process is ended.
+    Run {
+        /// The file of the configuration.
+        file: &'a str,
+        /// Whether standard error says nothing of what was done.
+        quiet: bool,
+    },
+    /// Clients are served in rounds, and their mail is handed on behind each.
     Serve {
         /// The file of the configuration.
         file: &'a str,
@@ -81,17 +89,22 @@ fn named<'a>(name: &str, matches: &ArgMatches<'a>) -> Subcommand<'a>
         Subcommand::List(config(matches))
     } else if name == "compact" {
         Subcommand::Compact(config(matches))
+    } else if name == "run" {
+        Subcommand::Run {
+            file: config(matches),
+            quiet: is_given(matches, "quiet"),
+        }
     } else if name == "serve" {
         Subcommand::Serve {
             file: config(matches),
             rounds: rounds(matches),
             workers: workers(matches),
-            log: is_logged(matches),
+            log: is_given(matches, "log"),
         }
     } else if name == "push" {
         Subcommand::Push {
             file: config(matches),
-            log: is_logged(matches),
+            log: is_given(matches, "log"),
         }
     } else if name == "play" {
         Subcommand::Play
@@ -147,11 +160,11 @@ fn number_of(text: &str, most: u64) -> u64
     }
 }
 
-/// Whether `--log` was given.
-fn is_logged(matches: &ArgMatches<'_>) -> bool
-    ensures { result ≡ is_logged_in (rows_of (found_of matches.now)) }
+/// Whether the switch of this name was given.
+fn is_given(matches: &ArgMatches<'_>, switch: &str) -> bool
+    ensures { result ≡ is_given_in switch.now (rows_of (found_of matches.now)) }
 {
-    match matches.get_str("log") {
+    match matches.get_str(switch) {
         Some(text) => text == "true",
         None => false,
     }
@@ -162,11 +175,20 @@ fn program<'a>(alloc: Global) -> Result<Command<'a>, AllocError>
     ensures { IfOk result (λ command. app_of command ≡ relayd) }
 {
     // Each subcommand is made when it is added, so that few are at hand where memory runs out.
-    let with_compact = with_compact(alloc)?;
+    let with_run = with_run(alloc)?;
     let serve = serve(alloc)?;
-    let with_serve = with_compact.subcommand(serve)?;
+    let with_serve = with_run.subcommand(serve)?;
     let push = push(alloc)?;
     with_serve.subcommand(push)
+}
+
+/// The program with its subcommands but `serve` and `push`. It fails where memory runs out.
+fn with_run<'a>(alloc: Global) -> Result<Command<'a>, AllocError>
+    ensures { IfOk result (λ command. app_of command ≡ with_run) }
+{
+    let with_compact = with_compact(alloc)?;
+    let run = run(alloc)?;
+    with_compact.subcommand(run)
 }
 
 /// The program with its subcommands that need no socket. It fails where memory runs out.
@@ -248,6 +270,18 @@ fn with_file<'a>(alloc: Global, name: &'a str, about: &'a str) -> Result<Command
         .arg(file_argument(alloc))
 }
 
+/// `run --config FILE [--quiet]`. It fails where memory runs out.
+fn run<'a>(alloc: Global) -> Result<Command<'a>, AllocError>
+    ensures { IfOk result (λ command. app_of command ≡ running) }
+{
+    with_file(
+        alloc,
+        "run",
+        "Takes mail from many clients at once and hands it on, until the process is ended",
+    )?
+    .arg(quiet_argument(alloc))
+}
+
 /// `serve --config FILE [--rounds N] [--workers W] [--log]`. It fails where memory runs out.
 fn serve<'a>(alloc: Global) -> Result<Command<'a>, AllocError>
     ensures { IfOk result (λ command. app_of command ≡ serving) }
@@ -321,6 +355,17 @@ fn log_argument<'a>(alloc: Global) -> Arg<'a>
         .long("log")
         .action(ArgAction::SetTrue)
         .help("Says on standard error what was done")
+}
+
+/// `--quiet`
+fn quiet_argument<'a>(alloc: Global) -> Arg<'a>
+    ensures rule { rule_of result ≡ quiet_rule }
+    ensures local { result.global ≡ false }
+{
+    Arg::new(alloc, "quiet")
+        .long("quiet")
+        .action(ArgAction::SetTrue)
+        .help("Says nothing on standard error of what was done")
 }
 
 /// The law that says of some words, written out, what is wrong with them and what they ask for.
