@@ -3,6 +3,7 @@ use Rattle.relay_spool.specs.declared.fault.SpoolFault.{SpoolFault}
 use Rattle.relay_spool.specs.declared.fault.SpoolFault.TheVariants as spool_fault
 use Rattle.relay_routes.specs.declared.fault.ConfigFault.{ConfigFault}
 use Rattle.relay_routes.specs.declared.fault.ConfigFault.TheVariants as config_fault
+use Rattle.relay_limits.specs.declared.limit.Limit.{Limit}
 use Rattle.relay_records.specs.declared.fault.Cause.{Cause}
 use Rattle.relay_records.specs.declared.fault.Cause.TheVariants.{Spool, BadRecord as NoFittingRecord}
 use Rattle.relay_records.specs.declared.fault.NodeFault.{NodeFault}
@@ -10,8 +11,8 @@ use Rattle.relay_records.specs.declared.fault.NodeFault.TheVariants as node_faul
 use Rattle.relay_links.specs.declared.fault.LinkFault.{LinkFault}
 use Rattle.relay_links.specs.declared.fault.LinkFault.TheVariants as link_fault
 use Rattle.relay_service.specs.declared.fault.Fault.{Fault}
-use Rattle.relay_service.specs.declared.fault.Fault.TheVariants.{Config, NotASpool, Damaged, NotEmpty, Full, NoSecond}
-use Rattle.relay_service.specs.declared.fault.Fault.TheVariants.{BadRecord, Device, NoMemory, Input, Output}
+use Rattle.relay_service.specs.declared.fault.Fault.TheVariants.{Config, Limit as BadLimit, NotASpool, Damaged, NotEmpty, Full}
+use Rattle.relay_service.specs.declared.fault.Fault.TheVariants.{NoSecond, BadRecord, Device, NoMemory, Input, Output}
 
 -- want of memory is one fault, wherever it comes
 abbrev pub fault_of_config : ConfigFault → Fault
@@ -19,6 +20,10 @@ fault_of_config config_fault.NotToml = Config config_fault.NotToml
 fault_of_config (config_fault.Missing key) = Config (config_fault.Missing key)
 fault_of_config (config_fault.BadValue key) = Config (config_fault.BadValue key)
 fault_of_config config_fault.NoMemory = NoMemory
+
+-- a value that this limit may not have
+abbrev pub fault_of_limit : Limit → Fault
+fault_of_limit limit = BadLimit limit
 
 abbrev pub fault_of_spool : SpoolFault → Fault
 fault_of_spool spool_fault.Device = Device

@@ -1,5 +1,6 @@
 ghost use Rattle.std.specs.Prelude.{◌≡◌, ◌⊎◌};
 
+use relay_limits::Limit;
 use relay_links::LinkFault;
 use relay_node::{Cause, NodeFault};
 use relay_routes::ConfigFault;
@@ -14,6 +15,9 @@ pub enum Fault {
     /// The configuration file says nothing that can be run by.
     #[error("config {0}")]
     Config(ConfigFault),
+    /// The configuration file has a value that this limit may not have.
+    #[error("config BadValue {0}")]
+    Limit(Limit),
     /// The spool's file holds something else.
     #[error("spool NotASpool")]
     NotASpool,
@@ -109,6 +113,17 @@ impl From<ConfigFault> for Fault {
             ConfigFault::NoMemory => Fault::NoMemory,
             other => Fault::Config(other),
         }
+    }
+}
+
+impl From<Limit> for Fault {
+    ghost use Rattle.std.specs.Prelude.{◌≡◌};
+    ghost use Rattle.relay_service.specs.Fault.{fault_of_limit};
+
+    ghost from_gives = { λ given fault. fault ≡ fault_of_limit given };
+
+    fn from(limit: Limit) -> Fault {
+        Fault::Limit(limit)
     }
 }
 
