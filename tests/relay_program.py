@@ -1,7 +1,9 @@
-"""A relayd in a folder of its own, for tests: its configuration, its subcommands, and `serve` beside them."""
+"""A relayd in a folder of its own, for tests: its configuration, its subcommands, and `serve` or `run` beside them."""
 import contextlib
 import os
 import pathlib
+import select
+import signal
 import socket
 import subprocess
 import time
@@ -23,6 +25,15 @@ def shown(value):
 def same(what, found, wanted):
     if found != wanted:
         raise Difference(f"{what}: {shown(found)}, and not {shown(wanted)}")
+
+
+def until(what, holds, seconds=PATIENCE):
+    """Waits until it holds."""
+    ends = time.monotonic() + seconds
+    while not holds():
+        if time.monotonic() > ends:
+            raise Difference(f"{what}: not within {seconds} seconds")
+        time.sleep(0.01)
 
 
 def free_port():
@@ -47,7 +58,7 @@ class Relay:
         self.host, self.limits, self.port = host, limits, free_port()
         self.folder.mkdir(exist_ok=True)
         self.file, self.spool = self.folder / "relayd.toml", self.folder / "relay.spool"
-        self.second = self.folder / "relay.spool.2"
+        self.second, self.log = self.folder / "relay.spool.2", self.folder / "log"
         self.environment = dict(os.environ)
         self.route(routes)
 
@@ -124,3 +135,30 @@ class Relay:
             process.wait()
             process.stdout.close()
             process.stderr.close()
+
+    def begin(self, *words, **options):
+        """A process of `run` that is ready; its log goes to a file, or where the options say."""
+        with self.log.open("ab") as log:
+            options = {"stdout": subprocess.PIPE, "stderr": log, "env": self.environment, **options}
+            process = subprocess.Popen(self.words("run", *words), **options)
+        ready = select.select([process.stdout], [], [], PATIENCE)[0]
+        line = process.stdout.readline() if ready else b""
+        if line != f"ready {self.host} 127.0.0.1:{self.port}\n".encode():
+            process.kill()
+            raise Difference(f"relayd run isn't ready: {process.wait()}, {line}, {self.log.read_bytes()[-500:]}")
+        return process
+
+    @contextlib.contextmanager
+    def running(self, *words, **options):
+        """`run` beside what is done within. It has to run on up to the end, where a signal ends it at once."""
+        process = self.begin(*words, **options)
+        try:
+            yield process
+            same("relayd run goes on", process.poll(), None)
+            process.terminate()
+            same("a signal ends relayd run", process.wait(PATIENCE), -signal.SIGTERM)
+            same("relayd run prints behind `ready`", process.stdout.read(), b"")
+        finally:
+            process.kill()
+            process.wait()
+            process.stdout.close()

@@ -1,0 +1,393 @@
+#!/usr/bin/env python3
+"""Runs `relayd run` over 127.0.0.1: many clients at once, some of which are slow, silent or flood, next hops that are
+away or hang, kills, and few descriptors. It ends at the first difference.
+
+    tests/run.py build/relayd [ROW..]
+
+With the names of rows it runs these alone. What has to be prompt may take as many times as long as TIMES says in the
+environment (2 where it says nothing).
+"""
+import contextlib
+import os
+import pathlib
+import random
+import re
+import resource
+import smtplib
+import socket
+import subprocess
+import sys
+import tempfile
+import threading
+import time
+
+sys.dont_write_bytecode = True
+
+from mail_checks import CONTENT, CONTENTS, behind_mark, hand_in, one_message
+from relay_program import Difference, PATIENCE, free_port, same, until
+from running_relay import SOON, TEXT, TIMES, Client, Feeder, Field, beside, clients_of, greeted, hop_that_hangs
+from running_relay import is_at_rest, no_later, number_of, resident, slowest, tokens_at
+
+TOO_MANY = b"421 relay.example too many connections, closing\r\n"
+TIMEOUT = b"421 relay.example timeout, closing\r\n"
+MOMENT = re.compile(rb"\d{4}-\d\d-\d\dT\d\d:\d\d:\d\d(\.\d+)?Z [ -~]+")
+KILLS = 8
+
+
+# The rows. Each says in its name what holds.
+
+
+def a_message_comes_in_and_goes_on(field):
+    relay = field.relay()
+    with relay.running() as process:
+        for number, content in enumerate(CONTENTS, 1):
+            same("refused", hand_in(relay, content), {})
+            field.sink.wait_for(1, PATIENCE)
+            stored = one_message(field.sink).content
+            # Each message is a change, and what came of it is the next.
+            same("the content", behind_mark(stored, "relay.example", 2 * number - 1), content)
+            until("an empty list", lambda: relay.held() == [])
+        is_at_rest(process, "without mail and clients")
+
+
+def its_log_says_when_and_quiet_says_nothing(field):
+    relay = field.relay()
+    for words in ([], ["--quiet"]):
+        relay.log.unlink(missing_ok=True)
+        with relay.running(*words):
+            hand_in(relay)
+            field.arrived(1)
+            until("an empty list", lambda: relay.held() == [])
+        lines = relay.log.read_bytes().splitlines()
+        same("lines without a moment", [line for line in lines if not MOMENT.fullmatch(line)], [])
+        same(f"run {words} has a log", len(lines) >= 2, words == [])
+
+
+def sixty_four_sessions_stand_side_by_side(field):
+    relay = field.relay(sessions_per_client=64)
+    with relay.running(), clients_of(relay, 64) as clients:
+        for client in clients:
+            client.ask_for_text()
+        # The last first: none waits for another.
+        numbers = [number_of(client.say(TEXT)) for client in reversed(clients)]
+        same("numbers that were given twice", len(numbers) - len(set(numbers)), 0)
+        field.arrived(64)
+        until("an empty list", lambda: relay.held() == [])
+
+
+def the_next_of_one_address_is_sent_away(field):
+    relay = field.relay()
+    with relay.running(), clients_of(relay, 16) as clients:
+        with Client(relay) as client:
+            same("the 17th", client.rest(), TOO_MANY)
+        with clients_of(relay, 16, "127.0.0.2") as others:
+            with Client(relay, "127.0.0.2") as client:
+                same("the 17th of another address", client.rest(), TOO_MANY)
+            others[0].hand_in()
+        same("QUIT", clients[3].say(b"QUIT\r\n")[:4], "221 ")
+        same("behind QUIT", clients[3].rest(), b"")
+        clients[3].__exit__()
+        until("room for one more", lambda: greeted(relay))
+        clients[0].hand_in()
+        field.arrived(2)
+
+
+def the_65th_is_sent_away(field):
+    relay = field.relay(sessions_per_client=64)
+    with relay.running(), clients_of(relay, 32), clients_of(relay, 32, "127.0.0.2") as others:
+        for address in ("127.0.0.1", "127.0.0.3"):
+            with Client(relay, address) as client:
+                same("the 65th", client.rest(), TOO_MANY)
+        others[31].hand_in()
+        field.arrived(1)
+
+
+def commands_and_chunks_come_in_one_piece(field):
+    relay = field.relay()
+    group = b"MAIL FROM:<a@example.org>\r\nRCPT TO:<b@example.org>\r\n"
+    with relay.running(), clients_of(relay, 1) as [client]:
+        first = group + b"BDAT 7\r\nchunk\r\nBDAT 8 LAST\r\nthe 2nd\n" + group + b"DATA\r\n"
+        client.link.sendall(first)
+        codes = [client.reply()[:4] for _ in range(7)]
+        same("the replies", codes, ["250 "] * 6 + ["354 "])
+        client.link.sendall(TEXT + group + b"DATA\r\n")
+        same("the reply to the text", number_of(client.reply()) > 1, True)
+        same("the replies", [client.reply()[:4] for _ in range(3)], ["250 ", "250 ", "354 "])
+        # Octet by octet.
+        client.link.setsockopt(socket.IPPROTO_TCP, socket.TCP_NODELAY, 1)
+        for octet in TEXT + b"QUIT\r\n":
+            client.link.sendall(bytes([octet]))
+        number_of(client.reply())
+        same("the end", client.rest(), b"221 relay.example closing\r\n")
+    contents = sorted(message.content.split(b"\r\n", 3)[3] for message in field.arrived(3))
+    text = TEXT[:-len(b".\r\n")]
+    same("the contents", contents, sorted([b"chunk\r\nthe 2nd\n", text, text]))
+
+
+def slow_clients_hold_up_nobody(field):
+    relay = field.relay()
+
+    def drip(done):
+        with Client(relay) as client:
+            client.begin()
+            for octet in b"MAIL FROM:<a@example.org>\r\n" * 100:
+                client.link.sendall(bytes([octet]))
+                if done.wait(1):
+                    return
+
+    with relay.running(), clients_of(relay, 5) as [client, *silent]:
+        alone = slowest(client, 20)
+        silent[0].link.sendall(b"NO")
+        silent[1].ask_for_text()
+        silent[1].link.sendall(b"x" * 100000)
+        with beside(drip):
+            no_later(client, alone, 60, "slow and silent clients")
+        field.arrived(80)
+
+
+def a_silent_client_is_told_and_left(field):
+    relay = field.relay(client_timeout=1)
+    with relay.running(), clients_of(relay, 3) as clients:
+        clients[1].link.sendall(b"NOO")
+        clients[2].ask_for_text()
+        clients[2].link.sendall(TEXT[:-3])
+        begun = time.monotonic()
+        same("what they are told", [client.rest() for client in clients], [TIMEOUT] * 3)
+        waited = time.monotonic() - begun
+        if not 0.5 < waited < 2 + TIMES:
+            raise Difference(f"they are waited for {waited:.1f} s")
+        same("list", relay.held(), [])
+        hand_in(relay)
+        field.arrived(1)
+
+
+def a_flood_that_nobody_reads_costs_nothing(field):
+    """The flood's client reads none of its replies, so the relay reads none of its octets in the end."""
+    relay = field.relay()
+
+    def flood(done):
+        with Client(relay) as client:
+            client.link.setblocking(False)
+            while not done.wait(0.001):
+                with contextlib.suppress(BlockingIOError):
+                    client.link.send(b"NOOP\r\n" * 10000)
+
+    with relay.running() as process, clients_of(relay, 1) as [client]:
+        alone = slowest(client, 20)
+        before = resident(process)
+        with beside(flood), beside(flood):
+            no_later(client, alone, 60, "two floods")
+            time.sleep(1)
+            grown = resident(process) - before
+            is_at_rest(process, "beside floods that are held up")
+        if grown > 4 << 20:
+            raise Difference(f"two floods cost {grown} octets")
+        field.arrived(80)
+
+
+def the_reply_to_quit_arrives_whole(field):
+    """What stands behind QUIT is never looked at, and yet no reset eats the reply."""
+    relay = field.relay()
+    with relay.running():
+        for size in [0, 6, 60000] * 10:
+            with Client(relay) as client:
+                client.begin()
+                client.link.sendall(b"QUIT\r\n" + b"NOOP\r\n" * (size // 6))
+                same(f"QUIT with {size} octets behind", client.rest(), b"221 relay.example closing\r\n")
+
+
+def the_end_of_the_input_leaves_what_was_answered(field):
+    relay = field.relay()
+    with relay.running(), clients_of(relay, 1) as [client]:
+        client.link.sendall(b"NOOP\r\n" * 5000)
+        client.link.shutdown(socket.SHUT_WR)
+        same("the replies", client.rest().count(b"\r\n"), 5000)
+
+
+def a_hop_that_is_away_holds_up_no_other(field):
+    relay = field.relay(more={"example.net": ("away.example", free_port())})
+    with relay.running(), clients_of(relay, 1) as [client]:
+        waiting = [client.hand_in("c@example.net") for _ in range(10)]
+        client.hand_in()
+        field.arrived(1, SOON)
+        until("a list of those that wait", lambda: [row[0] for row in relay.held()] == waiting)
+        same("their paths", {row[2] for row in relay.held()}, {"<c@example.net>"})
+
+
+def a_hop_that_hangs_holds_up_no_other(field):
+    with hop_that_hangs() as (port, taken):
+        relay = field.relay(more={"example.net": ("hangs.example", port)}, attempts_per_hop=3)
+        with relay.running() as process, clients_of(relay, 1) as [client]:
+            for _ in range(10):
+                client.hand_in("c@example.net")
+            client.hand_in()
+            field.arrived(1, SOON)
+            is_at_rest(process, "beside a hop that hangs")
+            same("connections to the hop that hangs", len(taken), 3)
+            same("list", len(relay.held()), 10)
+
+
+def two_runs_send_to_each_other(field):
+    first, second = field.relay("first", "first.example"), field.relay("second", "second.example")
+    sink = ("next.example", field.sink.port)
+    first.route({"first.example": sink, "second.example": ("second.example", second.port)})
+    second.route({"second.example": sink, "first.example": ("first.example", first.port)})
+    with first.running(), second.running(), clients_of(first, 1) as [to_first], clients_of(second, 1) as [to_second]:
+        for _ in range(20):
+            to_first.hand_in("b@second.example")
+            to_second.hand_in("b@first.example")
+        field.arrived(40)
+        until("two empty lists", lambda: first.held() == [] and second.held() == [])
+
+
+def room_is_made_without_a_restart(field):
+    """Four times as much as the spool may have, whose mail goes on at once."""
+    relay = field.relay(spool_limit=100000)
+
+    def is_taken():
+        return client.say(b"x" * 9000 + b"\r\n.\r\n").startswith("250 ")
+
+    with relay.running(), clients_of(relay, 1) as [client]:
+        for number in range(1, 41):
+            client.ask_for_text()
+            while not is_taken():
+                time.sleep(0.05)
+                client.ask_for_text()
+            field.sink.wait_for(number, PATIENCE)
+        field.arrived(40)
+        until("an empty list", lambda: relay.held() == [])
+
+
+def a_kill_loses_nothing(field):
+    """Under eight sessions, with passing on and, by the spool's limit, with compaction."""
+    relay, chance, answered = field.relay(spool_limit=400000), random.Random(43), {}
+    for kill in range(KILLS):
+        process = relay.begin()
+        feeders = [Feeder(relay, (kill * 8 + at) * 10000) for at in range(8)]
+        for feeder in feeders:
+            feeder.start()
+        time.sleep(chance.uniform(0.05, 0.6))
+        process.kill()
+        process.communicate()
+        for feeder in feeders:
+            feeder.join()
+            answered.update(feeder.answered)
+        held, gone = {row[0] for row in relay.held()}, tokens_at(field.sink)
+        lost = [token for token, number in answered.items() if number not in held and token not in gone]
+        same(f"messages lost behind kill {kill}", lost, [])
+    same("numbers given twice", len(answered) - len(set(answered.values())), 0)
+    if len(answered) < 10 * KILLS:
+        raise Difference(f"only {len(answered)} messages were answered 250")
+    with relay.running():
+        until("an empty list", lambda: relay.held() == [])
+    same("messages that never came", set(answered) - tokens_at(field.sink), set())
+
+
+def few_descriptors_keep_clients_waiting_alone(field):
+    """200 connections, 40 at a time, where there are 32 descriptors for all."""
+    relay, firsts = field.relay(sessions_per_client=64), []
+
+    def visit():
+        for _ in range(5):
+            with Client(relay) as client:
+                firsts.append(client.reply()[:4])
+                time.sleep(0.02)
+
+    def few():
+        resource.setrlimit(resource.RLIMIT_NOFILE, (32, 32))
+
+    with relay.running(preexec_fn=few) as process:
+        threads = [threading.Thread(target=visit) for _ in range(40)]
+        for thread in threads:
+            thread.start()
+        for thread in threads:
+            thread.join()
+        same("connections that heard something", len(firsts), 200)
+        same("what they heard", set(firsts) <= {"220 ", "421 "}, True)
+        with contextlib.ExitStack() as stack:
+            for _ in range(40):
+                stack.enter_context(Client(relay))
+            is_at_rest(process, "without descriptors")
+        until("room for one more", lambda: greeted(relay))
+        is_at_rest(process, "behind 240 connections")
+        hand_in(relay)
+        field.arrived(1)
+
+
+def its_faults_end_it_before_it_is_ready(field):
+    relay = field.relay()
+    for key, value in [("client_timeout", 0), ("client_timeout", 3601), ("client_timeout", '"300"'),
+                       ("sessions_per_client", 65), ("sessions_per_client", 0), ("attempts_per_hop", 65)]:
+        bad = field.relay(f"{key}-{value}".replace('"', ""), client_timeout=300)
+        bad.limits = {"client_timeout": 300, key: value}
+        bad.route({"example.org": ("next.example", field.sink.port)})
+        same(f"{key} = {value}", bad.refused("run"), (1, f"relayd: config BadValue {key}"))
+        # The other subcommands don't look at it.
+        same("list", bad.held(), [])
+    with socket.create_server(("127.0.0.1", relay.port)):
+        same("a port that is taken", relay.refused("run"), (1, "relayd: socket"))
+    with relay.running():
+        for words in (["run"], ["compact"], ["push"]):
+            same(f"{words[0]} beside run", relay.refused(*words), (1, "relayd: device"))
+    relay.forget()
+    same("no spool", relay.refused("run"), (1, "relayd: spool NotASpool"))
+
+
+def a_closed_standard_error_stops_nothing(field):
+    relay = field.relay()
+    with relay.running(preexec_fn=lambda: os.close(2)):
+        hand_in(relay)
+        same("the content", behind_mark(field.arrived(1)[0].content, "relay.example", 1), CONTENT)
+        until("an empty list", lambda: relay.held() == [])
+    reader, writer = os.pipe()
+    try:
+        with relay.running(stderr=writer):
+            os.close(reader)
+            hand_in(relay)
+            hand_in(relay)
+            field.arrived(2)
+    finally:
+        os.close(writer)
+
+
+ROWS = [
+    a_message_comes_in_and_goes_on,
+    its_log_says_when_and_quiet_says_nothing,
+    sixty_four_sessions_stand_side_by_side,
+    the_next_of_one_address_is_sent_away,
+    the_65th_is_sent_away,
+    commands_and_chunks_come_in_one_piece,
+    slow_clients_hold_up_nobody,
+    a_silent_client_is_told_and_left,
+    a_flood_that_nobody_reads_costs_nothing,
+    the_reply_to_quit_arrives_whole,
+    the_end_of_the_input_leaves_what_was_answered,
+    a_hop_that_is_away_holds_up_no_other,
+    a_hop_that_hangs_holds_up_no_other,
+    two_runs_send_to_each_other,
+    room_is_made_without_a_restart,
+    a_kill_loses_nothing,
+    few_descriptors_keep_clients_waiting_alone,
+    its_faults_end_it_before_it_is_ready,
+    a_closed_standard_error_stops_nothing,
+]
+
+
+def main():
+    program, *names = sys.argv[1:]
+    rows = [row for row in ROWS if not names or row.__name__ in names]
+    for row in rows:
+        begun = time.monotonic()
+        with tempfile.TemporaryDirectory() as folder:
+            field = Field(os.path.realpath(program), pathlib.Path(folder))
+            try:
+                row(field)
+                field.close()
+            except (Difference, OSError, subprocess.SubprocessError, smtplib.SMTPException) as difference:
+                sys.exit(f"run: {row.__name__}: {type(difference).__name__}: {difference}")
+        if names:
+            print(f"run: {row.__name__}: {time.monotonic() - begun:.1f} s")
+    print(f"run: {len(rows)} rows, each as it has to be")
+
+
+main()

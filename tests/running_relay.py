@@ -1,0 +1,202 @@
+"""Clients, next hops and figures of a process for the rows that run `relayd run` (tests/run.py)."""
+import contextlib
+import os
+import pathlib
+import re
+import smtplib
+import socket
+import threading
+import time
+
+from relay_program import Difference, PATIENCE, Relay, same
+from smtp_sink import Sink
+
+# What has to be prompt may take so many times as long, since others may be at work on the machine.
+TIMES = float(os.environ.get("TIMES", "2"))
+# How much longer a reply may take beside others' work, and a message to a hop that is there, in seconds.
+PROMPT, SOON = 0.1 * TIMES, 1.0 * TIMES
+TEXT = b"Subject: side by side\r\n\r\ntext\r\n.\r\n"
+
+
+class Field:
+    """A folder, a sink, and relays whose mail for example.org goes to it."""
+
+    def __init__(self, program, folder):
+        self.program, self.folder, self.sink = program, folder, Sink()
+
+    def relay(self, name="relay", host="relay.example", more=None, **limits):
+        """A relay with a new spool, and with these routes and limits beside."""
+        routes = {"example.org": ("next.example", self.sink.port), **(more or {})}
+        relay = Relay(self.program, self.folder / name, routes, host, **limits)
+        relay.run("init")
+        return relay
+
+    def arrived(self, count, seconds=PATIENCE):
+        """So many messages, which have to come in that time."""
+        self.sink.wait_for(count, seconds)
+        messages = self.sink.take_all()
+        same("messages at the sink", len(messages), count)
+        return messages
+
+    def close(self):
+        self.sink.close()
+        same("breaches at the sink", self.sink.breaches, [])
+
+
+class Client:
+    """A client at a connection of its own, from an address of this machine, that reads reply behind reply."""
+
+    def __init__(self, relay, address="127.0.0.1"):
+        self.link = socket.create_connection(("127.0.0.1", relay.port), PATIENCE, (address, 0))
+        self.replies = self.link.makefile("rb")
+
+    def __enter__(self):
+        return self
+
+    def __exit__(self, *failure):
+        self.replies.close()
+        self.link.close()
+
+    def reply(self):
+        """The last line of a reply."""
+        line = self.replies.readline()
+        while line[3:4] == b"-":
+            line = self.replies.readline()
+        return line.decode().rstrip("\r\n")
+
+    def say(self, octets):
+        self.link.sendall(octets)
+        return self.reply()
+
+    def begin(self):
+        """The greeting, and EHLO."""
+        same("the greeting", self.reply()[:4], "220 ")
+        same("the reply to EHLO", self.say(b"EHLO client.example\r\n")[:4], "250 ")
+
+    def ask_for_text(self, path="b@example.org"):
+        same("the reply to MAIL", self.say(b"MAIL FROM:<a@example.org>\r\n")[:4], "250 ")
+        same("the reply to RCPT", self.say(f"RCPT TO:<{path}>\r\n".encode())[:4], "250 ")
+        same("the reply to DATA", self.say(b"DATA\r\n")[:4], "354 ")
+
+    def hand_in(self, path="b@example.org", text=TEXT):
+        """A message; the number that it was queued as."""
+        self.ask_for_text(path)
+        return number_of(self.say(text))
+
+    def rest(self):
+        """What is still to come up to the connection's end, which may be no reset."""
+        return self.replies.read()
+
+
+def number_of(reply):
+    if not reply.startswith("250 queued as "):
+        raise Difference(f"a message is answered {reply}")
+    return int(reply.split()[-1])
+
+
+@contextlib.contextmanager
+def clients_of(relay, count, address="127.0.0.1"):
+    """So many clients that were greeted, in order."""
+    with contextlib.ExitStack() as stack:
+        clients = []
+        for _ in range(count):
+            clients.append(stack.enter_context(Client(relay, address)))
+            clients[-1].begin()
+        yield clients
+
+
+@contextlib.contextmanager
+def beside(work):
+    """Something that goes on beside what is done within, told by an event when to end."""
+    done = threading.Event()
+    thread = threading.Thread(target=work, args=(done,))
+    thread.start()
+    try:
+        yield
+    finally:
+        done.set()
+        thread.join()
+
+
+@contextlib.contextmanager
+def hop_that_hangs():
+    """A listener that takes connections and says nothing: its port, and what it took so far."""
+    with contextlib.ExitStack() as stack:
+        listener, taken = stack.enter_context(socket.create_server(("127.0.0.1", 0), backlog=128)), []
+        listener.settimeout(0.05)
+
+        def take(done):
+            while not done.is_set():
+                with contextlib.suppress(TimeoutError):
+                    taken.append(stack.enter_context(listener.accept()[0]))
+
+        with beside(take):
+            yield listener.getsockname()[1], taken
+
+
+def slowest(client, count):
+    """The longest that one of so many messages waits for its 250, in seconds."""
+    waits = []
+    for _ in range(count):
+        client.ask_for_text()
+        begun = time.monotonic()
+        number_of(client.say(TEXT))
+        waits.append(time.monotonic() - begun)
+    return max(waits)
+
+
+def no_later(client, alone, count, what):
+    """A client's replies, which come no later than without the others by more than what is prompt."""
+    wait = slowest(client, count)
+    if wait > alone + PROMPT:
+        raise Difference(f"a message waits {wait:.3f} s for its 250 beside {what}, and {alone:.3f} s without")
+
+
+def resident(process):
+    """The memory of a process, in octets (VmRSS)."""
+    text = pathlib.Path(f"/proc/{process.pid}/status").read_text()
+    return int(re.search(r"VmRSS:\s+(\d+) kB", text)[1]) * 1024
+
+
+def worked(process):
+    """The processor time of a process so far, in seconds."""
+    fields = pathlib.Path(f"/proc/{process.pid}/stat").read_text().rsplit(")", 1)[1].split()
+    return (int(fields[11]) + int(fields[12])) / os.sysconf("SC_CLK_TCK")
+
+
+def is_at_rest(process, what):
+    """It does next to nothing in a second."""
+    before = worked(process)
+    time.sleep(1)
+    spent = worked(process) - before
+    if spent > 0.1:
+        raise Difference(f"relayd run works {spent:.2f} s of a second {what}")
+
+
+def greeted(relay):
+    with Client(relay) as client:
+        return client.reply().startswith("220 ")
+
+
+class Feeder(threading.Thread):
+    """Hands in messages, each with a number of its own as its subject, until the relay is gone: those that were
+    answered 250, and as which number they were queued."""
+
+    def __init__(self, relay, place):
+        super().__init__()
+        self.relay, self.place, self.answered = relay, place, {}
+
+    def run(self):
+        with contextlib.suppress(OSError, smtplib.SMTPException):
+            with smtplib.SMTP("127.0.0.1", self.relay.port, "client.example", PATIENCE) as client:
+                client.ehlo()
+                for token in range(self.place, self.place + 10000):
+                    client.mail("a@example.org")
+                    client.rcpt("b@example.org")
+                    code, text = client.data(b"Subject: %d\r\n\r\n%b\r\n" % (token, b"x" * 4000))
+                    if code == 250:
+                        self.answered[token] = int(text.split()[-1])
+
+
+def tokens_at(sink):
+    return {int(re.search(rb"\r\nSubject: (\d+)\r\n", message.content)[1]) for message in list(sink.messages)}
