@@ -8,11 +8,12 @@ import pathlib
 import smtplib
 import sys
 import tempfile
+import time
 
 sys.dont_write_bytecode = True
 sys.path.insert(0, str(pathlib.Path(__file__).resolve().parent.parent / "tests"))
 
-from relay_program import PATIENCE, Difference, Relay, free_port, same
+from relay_program import PATIENCE, Difference, Relay, free_port, same, until
 
 MESSAGE = b"From: a@example.org\r\nTo: b@example.org\r\nSubject: hello\r\n\r\nA first message.\r\n"
 
@@ -33,16 +34,16 @@ def main(program):
         first = Relay(program, folder / "first", to_second, host="first.example")
         for relay in (first, second):
             relay.run("init")
-        at_first, at_second = [], []
-        with second.serving(log=at_second) as printed_second, first.serving(log=at_first) as printed_first:
+        with second.running(), first.running():
             with smtplib.SMTP("127.0.0.1", first.port, "client.example", timeout=PATIENCE) as client:
                 client.sendmail("a@example.org", ["b@example.org"], MESSAGE)
+            # The second has tried to hand it on once its recipient is put off.
+            until("a message that waits", lambda: [row[3] > time.time() for row in second.held()] == [True])
+            until("an empty list", lambda: first.held() == [])
         print(f"== A message, from a client to first.example at port {first.port}, and on to second.example at port "
-              f"{second.port}.")
-        show("first.example logged, with `serve --log`:", at_first)
-        show("and printed of its push:", printed_first)
-        show("second.example logged:", at_second)
-        show("and printed, since nobody listens at store.example:", printed_second)
+              f"{second.port}; both by `run`, up to a signal.")
+        show("first.example logged:", first.log.read_text().splitlines())
+        show("second.example logged, and nobody listens at store.example:", second.log.read_text().splitlines())
         show("What waits at first.example, by `relayd list`:", first.run("list") or ["nothing: second.example has it"])
         show("What waits at second.example (message, place, path, due in seconds from 1970):", second.run("list"))
         same("list of the first", first.held(), [])
