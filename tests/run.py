@@ -26,7 +26,7 @@ sys.dont_write_bytecode = True
 from mail_checks import CONTENT, CONTENTS, behind_mark, hand_in, one_message
 from relay_program import Difference, PATIENCE, free_port, same, until
 from running_relay import SOON, TEXT, TIMES, Client, Feeder, Field, beside, clients_of, greeted, hop_that_hangs
-from running_relay import is_at_rest, no_later, number_of, resident, slowest, tokens_at
+from running_relay import comes_to_rest, no_later, number_of, resident, slowest, tokens_at
 
 TOO_MANY = b"421 relay.example too many connections, closing\r\n"
 TIMEOUT = b"421 relay.example timeout, closing\r\n"
@@ -44,10 +44,12 @@ def a_message_comes_in_and_goes_on(field):
             same("refused", hand_in(relay, content), {})
             field.sink.wait_for(1, PATIENCE)
             stored = one_message(field.sink).content
-            # Each message is a change, and what came of it is the next.
-            same("the content", behind_mark(stored, "relay.example", 2 * number - 1), content)
+            # Each message is a change, and what came of it is the next. smtplib puts a period before a lone LF's line
+            # too, and nothing takes it off.
+            wanted = re.sub(rb"(?<!\r)\n\.", b"\n..", content)
+            same("the content", behind_mark(stored, "relay.example", 2 * number - 1), wanted)
             until("an empty list", lambda: relay.held() == [])
-        is_at_rest(process, "without mail and clients")
+        comes_to_rest(process, "without mail and clients")
 
 
 def its_log_says_when_and_quiet_says_nothing(field):
@@ -119,8 +121,9 @@ def commands_and_chunks_come_in_one_piece(field):
             client.link.sendall(bytes([octet]))
         number_of(client.reply())
         same("the end", client.rest(), b"221 relay.example closing\r\n")
-    contents = sorted(message.content.split(b"\r\n", 3)[3] for message in field.arrived(3))
+        contents = sorted(message.content.split(b"\r\n", 3)[3] for message in field.arrived(3))
     text = TEXT[:-len(b".\r\n")]
+    # A next hop that takes chunks is given the first as it came.
     same("the contents", contents, sorted([b"chunk\r\nthe 2nd\n", text, text]))
 
 
@@ -177,9 +180,9 @@ def a_flood_that_nobody_reads_costs_nothing(field):
         before = resident(process)
         with beside(flood), beside(flood):
             no_later(client, alone, 60, "two floods")
-            time.sleep(1)
+            # The system holds some megabytes of octets, which are answered first.
+            comes_to_rest(process, "beside floods that are held up")
             grown = resident(process) - before
-            is_at_rest(process, "beside floods that are held up")
         if grown > 4 << 20:
             raise Difference(f"two floods cost {grown} octets")
         field.arrived(80)
@@ -222,7 +225,7 @@ def a_hop_that_hangs_holds_up_no_other(field):
                 client.hand_in("c@example.net")
             client.hand_in()
             field.arrived(1, SOON)
-            is_at_rest(process, "beside a hop that hangs")
+            comes_to_rest(process, "beside a hop that hangs")
             same("connections to the hop that hangs", len(taken), 3)
             same("list", len(relay.held()), 10)
 
@@ -307,9 +310,9 @@ def few_descriptors_keep_clients_waiting_alone(field):
         with contextlib.ExitStack() as stack:
             for _ in range(40):
                 stack.enter_context(Client(relay))
-            is_at_rest(process, "without descriptors")
+            comes_to_rest(process, "without descriptors")
         until("room for one more", lambda: greeted(relay))
-        is_at_rest(process, "behind 240 connections")
+        comes_to_rest(process, "behind 240 connections")
         hand_in(relay)
         field.arrived(1)
 

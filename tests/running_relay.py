@@ -164,13 +164,16 @@ def worked(process):
     return (int(fields[11]) + int(fields[12])) / os.sysconf("SC_CLK_TCK")
 
 
-def is_at_rest(process, what):
-    """It does next to nothing in a second."""
-    before = worked(process)
-    time.sleep(1)
-    spent = worked(process) - before
-    if spent > 0.1:
-        raise Difference(f"relayd run works {spent:.2f} s of a second {what}")
+def comes_to_rest(process, what):
+    """It does next to nothing in a second, once it has done what there is to do."""
+    ends = time.monotonic() + PATIENCE
+    spent = 1
+    while spent > 0.1:
+        if time.monotonic() > ends:
+            raise Difference(f"relayd run works {spent:.2f} s of a second {what}")
+        before = worked(process)
+        time.sleep(1)
+        spent = worked(process) - before
 
 
 def greeted(relay):
