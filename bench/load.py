@@ -4,10 +4,11 @@ in the same runs, and beside Postfix where tests/interop.sh has unpacked it.
 
     bench/load.py build/relayd [FIGURE ..]
 
-The figures are kept, workers, connections, large, push and bounded; all where none is given.
+The figures are kept, workers, run, connections, large, push and bounded; all where none is given.
 DISK (build) is the folder whose device is measured, RUNS (5) how many runs a median is of, QUEUE (10000) how many
-messages a push sends, MANY (100000) how many messages go through one spool for the figure bounded, PACKAGES (build/interop) where Postfix is looked for. The client is bench/client.c and the next
-hop bench/sink.c; what they take counts. With FLOOR=1 the same is measured of bench/floor.c, a relay that does the least:
+messages a push sends, MANY (100000) how many messages go through one spool for the figure bounded, PACKAGES
+(build/interop) where Postfix is looked for. The client is bench/client.c and the next hop bench/sink.c; what they take
+counts. With FLOOR=1 the same is measured of bench/floor.c, a relay that does the least:
 what it doesn't reach, no relay does on this machine. With SYNC_WAIT each sync takes so many microseconds more, the bare
 ones too: many a machine's disk answers a sync from a cache, which no disk does that keeps what it has synced.
 """
@@ -124,6 +125,18 @@ class ReleasingPostfix(Postfix):
         return files
 
 
+def hand_in_side_by_side(folder, port, clients, count, size):
+    """Seconds of so many messages at each of so many connections side by side, to the last reply of them all; and how much
+    longer the slowest of them took than the median."""
+    begun = time.perf_counter()
+    handing = [Client(folder, port, count, size, "kept") for _ in range(clients)]
+    seconds = [client.seconds() for client in handing]
+    ended = time.perf_counter()
+    for client in handing:
+        client.close()
+    return ended - begun, max(seconds) / statistics.median(seconds)
+
+
 class Bench:
     """A folder on the measured disk, and the relay that is measured there: our own, or the floor."""
 
@@ -136,10 +149,10 @@ class Bench:
         folder.mkdir()
         self.floor = Bench(built("floor", folder), folder, Floor)
 
-    def new_relay(self, port):
+    def new_relay(self, port, **limits):
         self.count += 1
         folder = self.folder / f"relay{self.count}"
-        relay = self.make(self.program, folder, {"out.example": ("next.example", port)})
+        relay = self.make(self.program, folder, {"out.example": ("next.example", port)}, **limits)
         relay.run("init")
         return relay
 
@@ -160,16 +173,35 @@ class Bench:
         them all; and how much longer the slowest of them took than the median. The relay is killed then."""
         relay = self.new_relay(9)
         process = relay.start("--workers", str(workers))
-        begun = time.perf_counter()
-        clients = [Client(self.folder, relay.port, count, size, "kept") for _ in range(workers)]
-        seconds = [client.seconds() for client in clients]
+        seconds, spread = hand_in_side_by_side(self.folder, relay.port, workers, count, size)
+        process.kill()
+        process.communicate()
+        same("messages in the spool", len(relay.held()), workers * count)
+        return seconds, spread
+
+    def run_side_by_side(self, sessions, count, size):
+        """What `side_by_side` measures, of `run`, which holds what it takes: nobody listens at its next hop."""
+        relay = self.new_relay(9, sessions_per_client=64)
+        process = relay.begin("--quiet")
+        seconds, spread = hand_in_side_by_side(self.folder, relay.port, sessions, count, size)
+        process.kill()
+        process.communicate()
+        same("messages in the spool", len(relay.held()), sessions * count)
+        return seconds, spread
+
+    def run_passing_on(self, sessions, count, size):
+        """Seconds of so many messages at each of so many connections, from the first octet to where `run` has handed all of
+        them on to a sink."""
+        amount = sessions * count
+        sink = Sink(self.folder, amount)
+        relay = self.new_relay(sink.port, sessions_per_client=64)
+        process, begun = relay.begin("--quiet"), time.perf_counter()
+        hand_in_side_by_side(self.folder, relay.port, sessions, count, size)
+        sink.wait()
         ended = time.perf_counter()
         process.kill()
         process.communicate()
-        for client in clients:
-            client.close()
-        same("messages in the spool", len(relay.held()), workers * count)
-        return ended - begun, max(seconds) / statistics.median(seconds)
+        return ended - begun
 
     def one_a_connection(self, count, size):
         """Seconds of so many connections with a message each, and of handing each message on behind it."""
@@ -241,6 +273,11 @@ class Bench:
             client.close()
         return seconds
 
+    def postfix_side_by_side(self, packages, clients, count, size):
+        """What `side_by_side` measures, of Postfix, but for the spread."""
+        with contextlib.closing(HoldingPostfix(packages, 9, 9, self.postfix_spool())) as server:
+            return hand_in_side_by_side(self.folder, server.port, clients, count, size)[0]
+
     def postfix_pushed(self, packages, count, size):
         """Seconds from where Postfix listens to the end of its delivery of so many queued messages, at connections
         side by side."""
@@ -294,20 +331,50 @@ def tell_kept(bench, packages):
                 "two bare syncs", postfix if packages else None)
 
 
-def tell_workers(bench, _packages):
+def tell_side_by_side(name, amount, ours, measures):
+    """So many messages by ours, which gives seconds and spread, beside each of these measures."""
+    spreads = []
+
+    def seconds_of_ours():
+        seconds, spread = ours()
+        spreads.append(spread)
+        return seconds
+
+    runs = interleaved(seconds_of_ours, *measures.values())
+    ratios = [(median_of(runs, lambda run: run[at] / run[0]), label) for at, label in enumerate(measures, 1)]
+    tell(name, amount / median_of(runs, lambda run: run[0]), "messages/s", *ratios)
+    print(f"  the slowest session took {max(spreads):.2f} times the median at most", flush=True)
+
+
+def measures_beside(bench, packages, sessions, count):
+    """Bare syncs, and Postfix where it is to be had; at one session the floor too, which serves one at a time."""
+    amount = sessions * count
+    measures = {"two bare syncs": lambda: bare_pairs(bench.folder, [ACCEPT] * amount)}
+    if sessions == 1 and bench.floor:
+        measures["the floor"] = lambda: bench.floor.kept(amount, 1024)[0]
+    if packages:
+        measures["Postfix"] = lambda: bench.postfix_side_by_side(packages, sessions, count, 1024)
+    return measures
+
+
+def tell_workers(bench, packages):
     for workers, count in ((1, 500), (8, 100), (64, 25)):
-        spreads = []
+        measures = measures_beside(bench, packages, workers, count)
+        if workers == 1:
+            measures["serve"] = lambda: bench.kept(count, 1024)[0]
+        tell_side_by_side(f"serve --workers {workers}: messages of 1 KiB at kept sessions", workers * count,
+                          lambda: bench.side_by_side(workers, count, 1024), measures)
 
-        def measure(relays):
-            seconds, spread = relays.side_by_side(workers, count, 1024)
-            spreads.append(spread)
-            return seconds
 
-        amount = workers * count
-        runs = interleaved(lambda: measure(bench), lambda: bare_pairs(bench.folder, [ACCEPT] * amount))
-        tell(f"serve --workers {workers}: messages of 1 KiB at kept sessions", amount / median_of(runs, lambda run: run[0]),
-             "messages/s", (median_of(runs, lambda run: run[1] / run[0]), "two bare syncs"))
-        print(f"  the slowest session took {max(spreads):.2f} times the median at most", flush=True)
+def tell_run(bench, packages):
+    """What `run` takes beside `serve` with as many workers and the others; and what it hands on meanwhile."""
+    for sessions, count in ((1, 500), (8, 100), (64, 25)):
+        serve = {f"serve --workers {sessions}": lambda: bench.side_by_side(sessions, count, 1024)[0]}
+        tell_side_by_side(f"run: messages of 1 KiB at {sessions} kept sessions", sessions * count,
+                          lambda: bench.run_side_by_side(sessions, count, 1024),
+                          serve | measures_beside(bench, packages, sessions, count))
+        passing = statistics.median(bench.run_passing_on(sessions, count, 1024) for _ in range(RUNS))
+        tell("  and handed on meanwhile, to the last", sessions * count / passing, "messages/s")
 
 
 def tell_one_a_connection(bench, _packages):
@@ -341,6 +408,7 @@ def tell_bounded(bench, _packages):
 FIGURES = {
     "kept": tell_kept,
     "workers": tell_workers,
+    "run": tell_run,
     "connections": tell_one_a_connection,
     "large": tell_large,
     "push": tell_push,

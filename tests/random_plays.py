@@ -27,6 +27,7 @@ PEOPLE = ["r", "s", '"q r"', "postmaster"]
 MARKS = re.compile(r"([a-p]) (\d+) (\d+)")
 ACCEPT = re.compile(r"accept ([a-p]) (\d+) (\d+) link (\d+)")
 LEFT = re.compile(r"(transfer|end) ([a-p]) (\d+) (\d+) (?:failed )?link (\d+) report (\d+)")
+DELAYED = re.compile(r"delay ([a-p]) (\d+) (\d+) link (\d+) report (\d+)")
 # What an event may print.
 PRINTED = re.compile(
     r"link \d+ out .*|ok|node [a-p] link \d+ used \d+ out .*?( change \d+)?( end)?|start [a-p] \d+ \S+ link \d+"
@@ -166,16 +167,23 @@ class Judge:
                 self.few_copies(node, number, place, copies, lost)
 
     def read(self, ledger):
-        """The messages of a ledger, reports among them, each with its places and its link; and the places that left."""
-        taken, left = {}, {}
+        """The messages of a ledger, reports among them, each with its places and its link; and the places that left. A place
+        is told as delayed once, and before it leaves."""
+        taken, left, delayed = {}, {}, set()
         for line in ledger:
-            accept, gone = ACCEPT.fullmatch(line), LEFT.fullmatch(line)
-            self.require(accept or gone, f"the ledger says `{line}`")
+            accept, gone, late = ACCEPT.fullmatch(line), LEFT.fullmatch(line), DELAYED.fullmatch(line)
+            self.require(accept or gone or late, f"the ledger says `{line}`")
             if accept:
                 node, number, places, link = accept[1], *map(int, accept.groups()[1:])
                 self.require((node, number) not in taken, f"{line}: for the second time")
                 self.require(self.links[link].server == node, f"{line}: that link isn't this node's")
                 taken[node, number] = places, link
+            elif late:
+                node, number, place, _, report = late[1], *map(int, late.groups()[1:])
+                self.require((node, number, place) not in delayed | left.keys(), f"{line}: for the second time, or too late")
+                self.require(report > number, f"{line}: without a report")
+                delayed.add((node, number, place))
+                taken[node, report] = 1, 0
             else:
                 way, node, number, place, link, report = gone[1], gone[2], *map(int, gone.groups()[2:])
                 self.require((node, number, place) not in left, f"{line}: for the second time")
