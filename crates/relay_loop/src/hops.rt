@@ -34,12 +34,7 @@ pub struct Answered {
 impl<D: Disk> Relay<D> {
     /// Begins an attempt, as [`Node::start`](relay_node::Node::start), whose connection stands: nothing waits to be
     /// written to it. At a fault nothing is changed.
-    pub fn start(
-        &mut self,
-        message: u64,
-        hop: &HostName,
-        now: Moment,
-    ) -> Result<Started, NodeFault>
+    pub fn start(&mut self, message: u64, hop: &HostName, now: Moment) -> Result<Started, NodeFault>
         ensures starts { (changes : List Change) → Keeps D.honest D.words self.old.node.records changes
             → IfOk result (StartsTo changes message hop.now now self.old self.new) }
         ensures begins { IfOk result (Starts self.old.node.config.host self.old.node.config.routes message

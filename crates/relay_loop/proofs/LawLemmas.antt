@@ -1,0 +1,71 @@
+-- What stays of the connections of a relay.
+use Rattle.std.proofs.Common.{◌≡◌, ◌∙◌, ◌∷◌, ◌++◌, [], ℕ, List, Option, sym, subst}
+use Rattle.relay_slots.specs.Slots.{slot_at}
+use Rattle.relay_routes.specs.declared.config.Config.{Config}
+use Rattle.relay_attempts.specs.declared.runs.Run.{Run}
+use Rattle.relay_attempts.specs.Reply.{Told}
+use Rattle.relay_server.specs.Dialogue.{Said}
+use Rattle.relay_server.specs.Setup.{setup_of_config}
+use Rattle.relay_server.proofs.Theorems.{what_stands_is_a_dialogue}
+use Rattle.relay_book.specs.declared.change.Change.{Change}
+use Rattle.relay_node.specs.Attempts.{Tells}
+use Rattle.relay_node.specs.Node.{SessionHasSaid}
+use Rattle.relay_node.proofs.Theorems.{told_stays}
+use Rattle.relay_loop.specs.Accepted.{AreAccepted}
+use Rattle.relay_loop.specs.Laws.{HandsStay, HandsStayWith, TalksAreDialogues, TalksStay}
+use Rattle.relay_loop.proofs.AcceptedLemmas.{accepted_stays}
+
+pub talks_are_dialogues : {D : Type 0} → TalksAreDialogues D
+talks_are_dialogues changes relay session peer said written t = (
+  what_stands_is_a_dialogue (setup_of_config relay.node.config) t.seat.seat.session said t.seat.says.stands,
+  (t.waiting, t.output),
+)
+
+pub talks_stay : {D : Type 0} → TalksStay D
+talks_stay changes added old new session peer said written seats clients config t = record {
+  seat = record {
+    seat = t.seat.seat;
+    at = seats ∙ t.seat.at;
+    peer_is = t.seat.peer_is;
+    says = subst (λ (c : Config). SessionHasSaid (setup_of_config c) t.seat.seat.session said) (sym config) t.seat.says;
+  };
+  waiting = t.waiting;
+  connection = clients ∙ t.connection;
+  output = t.output;
+  accepted = subst (λ (c : Config). AreAccepted c peer (changes ++ added) said) (sym config) (accepted_stays old.node.config peer changes added said t.accepted);
+}
+
+-- what is told of an attempt stays while it does
+same_tells : (host : List ℕ) (changes : List Change) (old new : List (Option Run)) (number : ℕ) (told : Told) → slot_at new number ≡ slot_at old number → Tells host changes old number told → Tells host changes new number told
+same_tells host changes old new number told same t = record {
+  run = t.run;
+  at = same ∙ t.at;
+  its_message = t.its_message;
+  its_hop = t.its_hop;
+  its_places = t.its_places;
+  accept = t.accept;
+  accepted = t.accepted;
+  envelope_is = t.envelope_is;
+  text_is = t.text_is;
+  follows = t.follows;
+}
+
+pub hands_stay : {D : Type 0} → HandsStay D
+hands_stay changes old new attempt told written attempts hops config t = record {
+  tells =
+      subst (λ (c : Config). Tells c.host changes new.node.attempts attempt told) (sym config)
+      (same_tells old.node.config.host changes old.node.attempts new.node.attempts attempt told attempts t.tells);
+  waiting = t.waiting;
+  connection = hops ∙ t.connection;
+  output = t.output;
+}
+
+pub hands_stay_with : {D : Type 0} → HandsStayWith D
+hands_stay_with changes change old new attempt told written fitting attempts hops config t = record {
+  tells =
+      subst (λ (c : Config). Tells c.host (changes ++ change ∷ []) new.node.attempts attempt told) (sym config)
+      (told_stays old.node.config.host changes change old.node.attempts new.node.attempts attempt told fitting attempts t.tells);
+  waiting = t.waiting;
+  connection = hops ∙ t.connection;
+  output = t.output;
+}
