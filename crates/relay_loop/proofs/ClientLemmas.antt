@@ -1,5 +1,5 @@
 -- What a call of the node does to the connection of a client.
-use Rattle.std.proofs.Common.{◌≡◌, ℕ, ◌+◌, Bool, true, false, List, [], ◌∷◌, ◌++◌, length, take, drop, Option, None, Some, refl, sym, ap, ◌∙◌, subst, append_assoc, append-nil, take-append-drop, arith}
+use Rattle.std.proofs.Common.{◌≡◌, ℕ, ◌+◌, Bool, true, false, List, [], ◌∷◌, ◌++◌, length, take, drop, Option, None, Some, Result, Err, refl, sym, ap, ◌∙◌, subst, append_assoc, append-nil, take-append-drop, arith}
 use Rattle.std.specs.Option.{option_map}
 use Rattle.relay_disk.specs.Device.{DiskWords}
 use Rattle.relay_slots.specs.Slots.{slot_at}
@@ -11,6 +11,7 @@ use Rattle.relay_server.specs.Setup.{setup_of_config}
 use Rattle.relay_server.proofs.Theorems.{offers_are_answered}
 use Rattle.relay_book.specs.declared.change.Change.{Change}
 use Rattle.relay_book.specs.declared.change.Change.TheVariants as change
+use Rattle.relay_records.specs.declared.fault.NodeFault.{NodeFault}
 use Rattle.relay_records.specs.Records.{Keeps, Kept}
 use Rattle.relay_node.specs.declared.receive.Received.{Received}
 use Rattle.relay_node.specs.Acceptance.{IsAcceptOf, acceptance_by}
@@ -22,6 +23,10 @@ use Rattle.relay_loop.specs.Clients.{GoesOn, HasLeft, IsHeardFrom, IsSetTo, Read
 use Rattle.relay_loop.specs.Outboxes.{octets_of, unwritten_at}
 use Rattle.relay_loop.specs.Relay.{RelayState}
 use Rattle.relay_loop.proofs.AcceptedLemmas.{accepted_alike, accepted_more, change_last}
+
+-- a fault of one answer, as that of another
+pub err_of : {A B : Type 0} (fault other : NodeFault) → ◌≡◌ {A = Result A NodeFault} (Err fault) (Err other) → ◌≡◌ {A = Result B NodeFault} (Err fault) (Err other)
+err_of fault other e = let is : fault ≡ other = cc in ap (λ (x : NodeFault). Err x) is
 
 -- what waits where a connection stands
 pub waits_there : (connections : List (Option (List ℕ))) (number : ℕ) (waiting : List ℕ) → slot_at connections number ≡ Some waiting → unwritten_at connections number ≡ waiting

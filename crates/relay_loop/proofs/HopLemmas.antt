@@ -8,7 +8,7 @@ use Rattle.relay_attempts.specs.AddedOutcome.{AddsOutcome}
 use Rattle.relay_attempts.specs.Reply.{IsItsCourse, Told, outcome_at, told_more}
 use Rattle.relay_attempts.specs.declared.reply.Replied.{Replied}
 use Rattle.relay_attempts.specs.declared.start.Started.{Started}
-use Rattle.relay_node.specs.Attempts.{Begins, Replies as NodeReplies, RepliesBy as NodeRepliesBy, Tells}
+use Rattle.relay_node.specs.Attempts.{Begins, Replies as NodeReplies, RepliesBy as NodeRepliesBy, Tells, begun_with}
 use Rattle.relay_node.specs.Node.{NodeState}
 use Rattle.relay_loop.specs.declared.hops.Answered.{Answered}
 use Rattle.relay_loop.specs.Hops.{HandsTo, IsAnsweredBy, IsSetTo, Replies, RepliesBy, StartsTo}
@@ -34,7 +34,7 @@ pub starts_to : {D : Type 0} (changes : List Change) (message : ℕ) (hop : List
 starts_to changes message hop now old new started same there b = record {
   begins = b;
   hands = record {
-    tells = subst (λ host. Tells host changes new.node.attempts started.attempt _) (sym (ap (λ config. config.host) same)) b.tells;
+    tells = subst (λ host. Tells host changes new.node.attempts started.attempt (begun_with message hop started.places.items b.message)) (sym (ap (λ config. config.host) same)) b.tells;
     waiting = [];
     connection = there;
     output = refl;
