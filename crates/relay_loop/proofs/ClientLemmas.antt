@@ -1,12 +1,11 @@
 -- What a call of the node does to the connection of a client.
-use Rattle.std.proofs.Common.{◌≡◌, ℕ, ◌+◌, Bool, true, false, List, [], ◌∷◌, ◌++◌, length, take, drop, Option, None, Some, Result, Err, refl, sym, ap, ◌∙◌, subst, append_assoc, append-nil, take-append-drop, arith}
+use Rattle.std.proofs.Common.{◌≡◌, ℕ, Bool, true, false, List, [], ◌∷◌, ◌++◌, length, take, drop, Option, None, Some, Result, Err, refl, sym, ap, ◌∙◌, subst, append_assoc, append-nil, take-append-drop, arith}
 use Rattle.std.specs.Option.{option_map}
 use Rattle.relay_disk.specs.Device.{DiskWords}
 use Rattle.relay_slots.specs.Slots.{slot_at}
 use Rattle.relay_routes.specs.declared.config.Config.{Config}
 use Rattle.relay_server.specs.declared.offer.Answer.TheVariants.{Queued}
 use Rattle.relay_server.specs.Dialogue.{Said}
-use Rattle.relay_server.specs.Session.{open_offers}
 use Rattle.relay_server.specs.Setup.{setup_of_config}
 use Rattle.relay_server.proofs.Theorems.{offers_are_answered}
 use Rattle.relay_book.specs.declared.change.Change.{Change}
@@ -19,7 +18,7 @@ use Rattle.relay_node.specs.Node.{HasClosed, NodeState, Makes, Receives, SeatHas
 use Rattle.relay_node.proofs.Theorems.{queued_grows}
 use Rattle.relay_loop.specs.declared.clients.Heard.{Heard}
 use Rattle.relay_loop.specs.Accepted.{AreAccepted, GrowsBy}
-use Rattle.relay_loop.specs.Clients.{GoesOn, HasLeft, IsHeardFrom, IsSetTo, Reads, TalksTo}
+use Rattle.relay_loop.specs.Clients.{GoesOn, IsHeardFrom, IsSetTo, Reads, TalksTo}
 use Rattle.relay_loop.specs.Outboxes.{octets_of, unwritten_at}
 use Rattle.relay_loop.specs.Relay.{RelayState}
 use Rattle.relay_loop.proofs.AcceptedLemmas.{accepted_alike, accepted_more, change_last}

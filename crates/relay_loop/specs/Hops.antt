@@ -5,7 +5,6 @@ use Rattle.relay_disk.specs.Disks.{FailsNot}
 use Rattle.relay_slots.specs.Slots.{slot_at}
 use Rattle.relay_book.specs.declared.change.Change.{Change}
 use Rattle.relay_book.specs.declared.change.Verdict.{Verdict}
-use Rattle.relay_records.specs.Records.{Keeps}
 use Rattle.relay_records.specs.declared.fault.NodeFault.{NodeFault}
 use Rattle.relay_records.specs.declared.fault.NodeFault.TheVariants.{Unknown}
 use Rattle.relay_attempts.specs.AddedOutcome.{AddsOutcome}

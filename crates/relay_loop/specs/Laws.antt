@@ -1,5 +1,5 @@
 -- What is true of the connections of a relay, whatever calls are made.
-use Rattle.std.specs.Prelude.{◌≡◌, ℕ, List, [], ◌∷◌, ◌++◌}
+use Rattle.std.specs.Prelude.{◌≡◌, ◌≢◌, ◌⊎◌, ℕ, List, [], ◌∷◌, ◌++◌}
 use Rattle.relay_octets.specs.Beginning.{Begins}
 use Rattle.relay_slots.specs.Slots.{slot_at}
 use Rattle.relay_attempts.specs.Reply.{Told}
@@ -9,7 +9,7 @@ use Rattle.relay_book.specs.declared.change.Change.{Change}
 use Rattle.relay_book.specs.Queue.{Fitting}
 use Rattle.relay_loop.specs.Clients.{TalksTo}
 use Rattle.relay_loop.specs.Hops.{HandsTo}
-use Rattle.relay_loop.specs.Relay.{RelayState}
+use Rattle.relay_loop.specs.Relay.{OnlyClient, OnlyHop, RelayState}
 
 -- What was said to a client is a dialogue, and what was written to it is a beginning of its output.
 abbrev pub TalksAreDialogues : Type 0 → Type 0
@@ -28,19 +28,33 @@ TalksStay D =
     → slot_at new.clients session ≡ slot_at old.clients session → new.node.config ≡ old.node.config
     → TalksTo changes old session peer said written → TalksTo (changes ++ added) new session peer said written
 
--- To a next hop mail is handed on as before, as long as its attempt, its connection and the configuration are the same.
+-- So it is where a call was on another session, or on an attempt.
+abbrev pub OthersTalk : Type 0 → Type 0
+OthersTalk D =
+    (changes added : List Change) (old new : RelayState D) (called session : ℕ) (peer : List ℕ) (said : Said)
+    (written : List ℕ)
+    → (OnlyClient old new called × (session ≢ called)) ⊎ OnlyHop old new called
+    → TalksTo changes old session peer said written → TalksTo (changes ++ added) new session peer said written
+
+-- the list of changes is the same, or has grown by a change that fits
+abbrev pub StaysOrGrows : List Change → List Change → Type 0
+StaysOrGrows changes later =
+    (later ≡ changes) ⊎ ((change : Change) × (later ≡ changes ++ change ∷ []) × Fitting later)
+
+-- To a next hop mail is handed on as before while changes are added, as long as its attempt, its connection and the
+-- configuration are the same.
 abbrev pub HandsStay : Type 0 → Type 0
 HandsStay D =
-    (changes : List Change) (old new : RelayState D) (attempt : ℕ) (told : Told) (written : List ℕ)
+    (changes later : List Change) (old new : RelayState D) (attempt : ℕ) (told : Told) (written : List ℕ)
+    → StaysOrGrows changes later
     → slot_at new.node.attempts attempt ≡ slot_at old.node.attempts attempt
     → slot_at new.hops attempt ≡ slot_at old.hops attempt → new.node.config ≡ old.node.config
-    → HandsTo changes old attempt told written → HandsTo changes new attempt told written
+    → HandsTo changes old attempt told written → HandsTo later new attempt told written
 
--- So it is while a change is added.
-abbrev pub HandsStayWith : Type 0 → Type 0
-HandsStayWith D =
-    (changes : List Change) (change : Change) (old new : RelayState D) (attempt : ℕ) (told : Told) (written : List ℕ)
-    → Fitting (changes ++ change ∷ [])
-    → slot_at new.node.attempts attempt ≡ slot_at old.node.attempts attempt
-    → slot_at new.hops attempt ≡ slot_at old.hops attempt → new.node.config ≡ old.node.config
-    → HandsTo changes old attempt told written → HandsTo (changes ++ change ∷ []) new attempt told written
+-- So it is where a call was on another attempt, or on a session.
+abbrev pub OthersHand : Type 0 → Type 0
+OthersHand D =
+    (changes later : List Change) (old new : RelayState D) (called attempt : ℕ) (told : Told) (written : List ℕ)
+    → StaysOrGrows changes later
+    → (OnlyHop old new called × (attempt ≢ called)) ⊎ OnlyClient old new called
+    → HandsTo changes old attempt told written → HandsTo later new attempt told written

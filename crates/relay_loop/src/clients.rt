@@ -79,6 +79,9 @@ impl<D: Disk> Relay<D> {
         ensures used { IfOk result (UsesOctets D.words session (length piece.now) self.old self.new) }
         ensures only { OnlyClient self.old self.new session }
         ensures refused { RefusesToRead D.words session self.old self.new result }
+        ensures unknown { slot_at self.old.clients session ≡ None → result ≡ Err NodeFault.Unknown }
+        ensures stopped { self.old.node.records.spool.live ≡ false
+            → slot_at self.old.clients session ≡ Some [] → result ≡ Err NodeFault.Stopped }
     {
         let Some(waiting) = self.clients.waiting(session) else {
             return Err(NodeFault::Unknown);
@@ -135,6 +138,9 @@ impl<D: Disk> Relay<D> {
         ensures only { OnlyClient self.old self.new session }
         ensures records { self.new.node.records ≡ self.old.node.records }
         ensures refused { IfErr result (RefusesToEnd session self.old self.new) }
+        ensures unknown { slot_at self.old.clients session ≡ None → result ≡ Err NodeFault.Unknown }
+        ensures stopped { self.old.node.records.spool.live ≡ false
+            → slot_at self.old.clients session ≢ None → result ≡ Err NodeFault.Stopped }
     {
         let Some(outbox) = self.clients.take(session) else {
             return Err(NodeFault::Unknown);

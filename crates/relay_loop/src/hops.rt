@@ -82,6 +82,9 @@ impl<D: Disk> Relay<D> {
         ensures used { IfOk result (UsesReply D.words now attempt (length piece.now) self.old self.new) }
         ensures only { OnlyHop self.old self.new attempt }
         ensures refused { RefusesHop D.words attempt self.old self.new result }
+        ensures unknown { slot_at self.old.hops attempt ≡ None → result ≡ Err NodeFault.Unknown }
+        ensures stopped { self.old.node.records.spool.live ≡ false
+            → slot_at self.old.hops attempt ≡ Some [] → result ≡ Err NodeFault.Stopped }
     {
         let Some(waiting) = self.hops.waiting(attempt) else {
             return Err(NodeFault::Unknown);
@@ -146,6 +149,9 @@ impl<D: Disk> Relay<D> {
         ensures gone { slot_at self.new.hops attempt ≡ None }
         ensures only { OnlyHop self.old self.new attempt }
         ensures refused { RefusesHop D.words attempt self.old self.new result }
+        ensures unknown { slot_at self.old.hops attempt ≡ None → result ≡ Err NodeFault.Unknown }
+        ensures stopped { self.old.node.records.spool.live ≡ false
+            → slot_at self.old.hops attempt ≢ None → result ≡ Err NodeFault.Stopped }
     {
         let Some(_unwritten) = self.hops.take(attempt) else {
             return Err(NodeFault::Unknown);

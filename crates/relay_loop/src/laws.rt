@@ -1,5 +1,5 @@
 //! What is true of the connections of a relay, whatever calls are made.
-ghost use Rattle.relay_loop.specs.Laws.{HandsStay, HandsStayWith, TalksAreDialogues, TalksStay};
+ghost use Rattle.relay_loop.specs.Laws.{HandsStay, OthersHand, OthersTalk, TalksAreDialogues, TalksStay};
 
 /// What was said to a client is a dialogue, and what was written to it begins its output.
 pub fn talks_are_dialogues<D>()
@@ -11,12 +11,18 @@ pub fn talks_stay<D>()
     ensures { TalksStay D }
 {}
 
-/// To a next hop mail is handed on as before, as long as its attempt and its connection are the same.
+/// A call on a session, or on an attempt, leaves what is said to all other clients.
+pub fn others_talk<D>()
+    ensures { OthersTalk D }
+{}
+
+/// To a next hop mail is handed on as before while changes are added, as long as its attempt and its connection are the
+/// same.
 pub fn hands_stay<D>()
     ensures { HandsStay D }
 {}
 
-/// So it is while a change is added.
-pub fn hands_stay_with<D>()
-    ensures { HandsStayWith D }
+/// A call on an attempt, or on a session, leaves what is handed on to all other next hops.
+pub fn others_hand<D>()
+    ensures { OthersHand D }
 {}

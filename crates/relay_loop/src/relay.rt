@@ -1,4 +1,4 @@
-ghost use Rattle.std.specs.Prelude.{◌≡◌, ◌^◌, ◌+◌, ◌-◌, List, None, Err, IfErr, IfOk, MatchResult, OnOk, length, min, false};
+ghost use Rattle.std.specs.Prelude.{◌≡◌, List, None, Err, IfErr, IfOk, MatchResult, OnOk, false};
 ghost use Rattle.relay_attempts.specs.Outcomes.{AddsUnroutable, CutsUnroutable, EndsUnroutable, RefusesToGiveUp};
 ghost use Rattle.relay_book.specs.declared.change.Change.{Change};
 ghost use Rattle.relay_book.specs.StandsFor.{StandsFor};
