@@ -1,0 +1,6 @@
+mod OutboxLemmas
+mod AcceptedLemmas
+mod ClientLemmas
+mod HopLemmas
+mod LawLemmas
+pub mod Theorems

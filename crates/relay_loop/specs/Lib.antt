@@ -1,0 +1,7 @@
+pub mod Outboxes
+pub mod Closing
+pub mod Relay
+pub mod Accepted
+pub mod Clients
+pub mod Hops
+pub mod Laws

@@ -1,0 +1,180 @@
+//! The connections of clients.
+ghost use Rattle.std.specs.Prelude.{◌≡◌, ◌≢◌, ◌↔◌, ◌≤◌, ◌<◌, ◌++◌, ℕ, [], None, Some, List, Err, IfErr, IfOk, Ok, OnOk, drop, false, length, take, true};
+ghost use Rattle.std.specs.Option.{option_map};
+ghost use Rattle.relay_book.specs.declared.change.Change.{Change};
+ghost use Rattle.relay_loop.specs.Clients.{IsHeardFrom, IsSetTo, Reads, RefusesToEnd, RefusesToRead, TalksTo, UsesOctets};
+ghost use Rattle.relay_loop.specs.Outboxes.{unwritten_at};
+ghost use Rattle.relay_loop.specs.Relay.{OnlyClient};
+ghost use Rattle.relay_node.specs.Node.{CutsTalk, RefusesToConnect, greeted_by};
+ghost use Rattle.relay_node.specs.Room.{ComesToOffer};
+ghost use Rattle.relay_records.specs.Records.{Keeps};
+ghost use Rattle.relay_server.specs.Dialogue.{Said};
+ghost use Rattle.relay_server.specs.Setup.{setup_of_config};
+ghost use Rattle.relay_slots.specs.Slots.{IsFull, IsLeastFree, OthersStay, slot_at};
+ghost use Rattle.relay_slots.specs.declared.slots.TheConstants.{SLOT_COUNT};
+
+use crate::outbox::Outbox;
+use crate::outboxes::Outboxes;
+use crate::relay::Relay;
+use relay_disk::Disk;
+use relay_node::Received;
+use relay_records::NodeFault;
+use relay_trace::Moment;
+
+/// What was done with octets of a client.
+#[derive(Debug, Drop)]
+pub struct Heard {
+    /// How many octets of the piece were used.
+    pub used: usize,
+    /// The number of the change that was made, if one was.
+    pub change: Option<u64>,
+    /// The session has closed, and its number is free: these are the last octets of its connection, which the relay
+    /// has no more.
+    pub last: Option<Outbox>,
+}
+
+impl<D: Disk> Relay<D> {
+    /// Opens a session for a client at this address, under the least free number, which is the answer. Its greeting
+    /// waits to be written. The first fault in this order is answered, and nothing is changed then: `Stopped`,
+    /// `TooMany` where 64 sessions are open, and want of memory.
+    pub fn accept(&mut self, peer: [u8; 4]) -> Result<usize, NodeFault>
+        ensures talks { IfOk result (λ session. (changes : List Change) → TalksTo changes self.new session peer
+            (greeted_by (unwritten_at self.new.clients session)) []) }
+        ensures free { IfOk result (IsLeastFree self.old.node.seats) }
+        ensures only { IfOk result (OnlyClient self.old self.new) }
+        ensures records { self.new.node.records ≡ self.old.node.records }
+        ensures refused { IfErr result (RefusesToConnect self.old.node self.new.node) }
+        ensures unchanged { IfErr result (λ _. (self.new.clients ≡ self.old.clients)
+            × (self.new.hops ≡ self.old.hops)) }
+        ensures stopped { (result ≡ Err NodeFault.Stopped) ↔ (self.old.node.records.spool.live ≡ false) }
+        ensures too_many { (result ≡ Err NodeFault.TooMany)
+            ↔ ((self.old.node.records.spool.live ≡ true) × IsFull self.old.node.seats) }
+    {
+        let connected = self.node.connect(peer)?;
+        self.clients
+            .put(connected.session, Outbox::new(connected.out));
+        Ok(connected.session)
+    }
+
+    /// Uses octets of a client, all of them or up to a change or a close; what they lead to waits to be written. While
+    /// octets wait to be written to the connection none is used, and nothing changes. Otherwise it is a
+    /// [`Node::receive`](relay_node::Node::receive), whose faults are answered. `Unknown` is answered first, where no
+    /// such connection stands. At a fault the connection is gone.
+    pub fn read(&mut self, session: usize, piece: &[u8], now: Moment) -> Result<Heard, NodeFault>
+        ensures reads { (changes : List Change) (peer : List ℕ) (said : Said) (written : List ℕ)
+            → Keeps D.honest D.words self.old.node.records changes
+            → TalksTo changes self.old session peer said written → unwritten_at self.old.clients session ≡ []
+            → IfOk result (Reads D.honest D.words changes session peer now said written piece.now
+            self.old self.new) }
+        ensures waits { unwritten_at self.old.clients session ≢ []
+            → (result ≡ Ok (record { used = 0; change = None; last = None })) × (self.new ≡ self.old) }
+        ensures cut { (changes : List Change) (peer : List ℕ) (said : Said) (written : List ℕ)
+            → Keeps D.honest D.words self.old.node.records changes
+            → TalksTo changes self.old session peer said written → result ≡ Err NodeFault.Stopped
+            → CutsTalk D.honest D.words self.old.node.config changes peer now said piece.now
+            self.old.node.records self.new.node.records }
+        ensures full { (changes : List Change) (peer : List ℕ) (said : Said) (written : List ℕ)
+            → TalksTo changes self.old session peer said written → result ≡ Err NodeFault.Full
+            → ComesToOffer (setup_of_config self.old.node.config) said piece.now }
+        ensures used { IfOk result (UsesOctets D.words session (length piece.now) self.old self.new) }
+        ensures only { OnlyClient self.old self.new session }
+        ensures refused { RefusesToRead D.words session self.old self.new result }
+        ensures unknown { slot_at self.old.clients session ≡ None → result ≡ Err NodeFault.Unknown }
+        ensures stopped { self.old.node.records.spool.live ≡ false
+            → slot_at self.old.clients session ≡ Some [] → result ≡ Err NodeFault.Stopped }
+    {
+        let Some(waiting) = self.clients.waiting(session) else {
+            return Err(NodeFault::Unknown);
+        };
+        if !waiting.is_empty() {
+            return Ok(Heard {
+                used: 0,
+                change: None,
+                last: None,
+            });
+        }
+        match self.node.receive(session, piece, now) {
+            Ok(received) => Ok(set_by(&mut self.clients, session, received)),
+            Err(fault) => {
+                self.clients.remove(session);
+                Err(fault)
+            }
+        }
+    }
+
+    /// What waits to be written to a client; nothing where no such connection stands.
+    pub fn to_client(&self, session: usize) -> &[u8]
+        ensures { result.now ≡ unwritten_at self.now.clients session }
+    {
+        self.clients.to_write(session)
+    }
+
+    /// So many of the octets that wait for a client were written. It takes no memory.
+    pub fn wrote_to_client(&mut self, session: usize, count: usize)
+        requires { count ≤ length (unwritten_at self.old.clients session) }
+        ensures talks { (changes : List Change) (peer : List ℕ) (said : Said) (written : List ℕ)
+            → TalksTo changes self.old session peer said written
+            → TalksTo changes self.new session peer said
+            (written ++ take count (unwritten_at self.old.clients session)) }
+        ensures left { slot_at self.new.clients session
+            ≡ option_map (drop count) (slot_at self.old.clients session) }
+        ensures others { OthersStay self.old.clients self.new.clients session }
+        ensures rest { (self.new.node ≡ self.old.node) × (self.new.hops ≡ self.old.hops) }
+    {
+        self.clients.wrote(session, count);
+    }
+
+    /// Ends the session of a client, whose input has come to its end, or whom the relay cuts off. Its connection is
+    /// gone, and what still waits for it comes back. An offer that isn't whole is dropped with it. `Unknown` is
+    /// answered where there is no such connection or session, and `Stopped` by a node that is stopped; the connection
+    /// is gone then too. It takes no memory.
+    pub fn end_client(&mut self, session: usize) -> Result<Outbox, NodeFault>
+        ensures last { IfOk result (λ last. slot_at self.old.clients session ≡ Some last) }
+        ensures talked { (changes : List Change) (peer : List ℕ) (said : Said) (written : List ℕ)
+            → TalksTo changes self.old session peer said written
+            → IfOk result (λ last. said.output ≡ written ++ last) }
+        ensures gone { slot_at self.new.clients session ≡ None }
+        ensures seat { OnOk result (slot_at self.new.node.seats session ≡ None) }
+        ensures only { OnlyClient self.old self.new session }
+        ensures records { self.new.node.records ≡ self.old.node.records }
+        ensures refused { IfErr result (RefusesToEnd session self.old self.new) }
+        ensures unknown { slot_at self.old.clients session ≡ None → result ≡ Err NodeFault.Unknown }
+        ensures stopped { self.old.node.records.spool.live ≡ false
+            → slot_at self.old.clients session ≢ None → result ≡ Err NodeFault.Stopped }
+    {
+        let Some(outbox) = self.clients.take(session) else {
+            return Err(NodeFault::Unknown);
+        };
+        self.node.ended(session)?;
+        Ok(outbox)
+    }
+}
+
+/// Sets a connection by what was received: what that leads to waits to be written, or comes back where it closed.
+fn set_by(clients: &mut Outboxes, session: usize, received: Received) -> Heard
+    requires { session < SLOT_COUNT }
+    ensures heard { IsHeardFrom received result }
+    ensures set { IsSetTo received.close session received.out.items result.last clients.new }
+    ensures others { OthersStay clients.old clients.new session }
+{
+    let Received {
+        used,
+        out,
+        change,
+        close,
+    } = received;
+    if close {
+        clients.remove(session);
+        return Heard {
+            used,
+            change,
+            last: Some(Outbox::new(out)),
+        };
+    }
+    clients.put(session, Outbox::new(out));
+    Heard {
+        used,
+        change,
+        last: None,
+    }
+}

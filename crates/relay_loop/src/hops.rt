@@ -1,0 +1,186 @@
+//! The connections to next hops.
+ghost use Rattle.std.specs.Prelude.{◌≡◌, ◌≢◌, ◌↔◌, ◌≤◌, ◌<◌, ◌++◌, ℕ, [], None, Some, List, Err, IfErr, IfOk, Ok, drop, false, length, take};
+ghost use Rattle.std.specs.Option.{option_map};
+ghost use Rattle.relay_attempts.specs.Attempts.{RefusesToStart, Starts};
+ghost use Rattle.relay_attempts.specs.Reply.{CutsLoss, CutsReply, EndsBy, HasNoRoomAtEnd, HasNoRoomAtLoss, IsLost, Told};
+ghost use Rattle.relay_book.specs.declared.change.Change.{Change};
+ghost use Rattle.relay_loop.specs.Hops.{HandsTo, IsAnsweredBy, IsSetTo, RefusesHop, Replies, StartsTo, UsesReply};
+ghost use Rattle.relay_loop.specs.Outboxes.{unwritten_at};
+ghost use Rattle.relay_loop.specs.Relay.{OnlyHop};
+ghost use Rattle.relay_records.specs.Records.{Keeps};
+ghost use Rattle.relay_slots.specs.Slots.{OthersStay, slot_at};
+ghost use Rattle.relay_slots.specs.declared.slots.TheConstants.{SLOT_COUNT};
+
+use crate::outbox::Outbox;
+use crate::outboxes::Outboxes;
+use crate::relay::Relay;
+use relay_disk::Disk;
+use relay_node::{Replied, Started};
+use relay_records::NodeFault;
+use relay_routes::HostName;
+use relay_trace::Moment;
+
+/// What was done with octets of a next hop.
+#[derive(Debug, Drop)]
+pub struct Answered {
+    /// How many octets of the piece were used.
+    pub used: usize,
+    /// The number of the change that was made, where the attempt has ended.
+    pub change: Option<u64>,
+    /// The last octets of its connection, which the relay has no more, where the attempt has ended.
+    pub last: Option<Outbox>,
+}
+
+impl<D: Disk> Relay<D> {
+    /// Begins an attempt, as [`Node::start`](relay_node::Node::start), whose connection stands: nothing waits to be
+    /// written to it. At a fault nothing is changed.
+    pub fn start(&mut self, message: u64, hop: &HostName, now: Moment) -> Result<Started, NodeFault>
+        ensures starts { (changes : List Change) → Keeps D.honest D.words self.old.node.records changes
+            → IfOk result (StartsTo changes message hop.now now self.old self.new) }
+        ensures begins { IfOk result (Starts self.old.node.config.host self.old.node.config.routes message
+            hop.now now self.old.node.records.queue self.old.node.attempts self.new.node.attempts) }
+        ensures connection { IfOk result (λ started. slot_at self.new.hops started.attempt ≡ Some []) }
+        ensures only { IfOk result (λ started. OnlyHop self.old self.new started.attempt) }
+        ensures records { self.new.node.records ≡ self.old.node.records }
+        ensures refused { IfErr result (RefusesToStart self.old.node.config.host self.old.node.config.routes
+            message hop.now now self.old.node.records self.old.node.attempts) }
+        ensures unchanged { IfErr result (λ _. self.new ≡ self.old) }
+        ensures stopped { (result ≡ Err NodeFault.Stopped) ↔ (self.old.node.records.spool.live ≡ false) }
+    {
+        let started = self.node.start(message, hop, now)?;
+        self.hops
+            .put(started.attempt, Outbox::new(Vec::new(self.alloc)));
+        Ok(started)
+    }
+
+    /// Uses octets that the next hop of an attempt wrote, all of them or up to the attempt's end; what they lead to
+    /// waits to be written. While octets wait to be written to the connection none is used, and nothing changes.
+    /// Otherwise it is a [`Node::reply`](relay_node::Node::reply), whose faults are answered. `Unknown` is answered
+    /// first, where no such connection stands. At a fault the connection is gone.
+    pub fn reply(
+        &mut self,
+        attempt: usize,
+        piece: &[u8],
+        now: Moment,
+    ) -> Result<Answered, NodeFault>
+        ensures replies { (changes : List Change) (told : Told) (written : List ℕ)
+            → Keeps D.honest D.words self.old.node.records changes
+            → HandsTo changes self.old attempt told written → unwritten_at self.old.hops attempt ≡ []
+            → IfOk result (Replies D.honest D.words changes attempt now told written piece.now
+            self.old self.new) }
+        ensures waits { unwritten_at self.old.hops attempt ≢ []
+            → (result ≡ Ok (record { used = 0; change = None; last = None })) × (self.new ≡ self.old) }
+        ensures cut { (changes : List Change) (told : Told) (written : List ℕ)
+            → Keeps D.honest D.words self.old.node.records changes
+            → HandsTo changes self.old attempt told written → result ≡ Err NodeFault.Stopped
+            → CutsReply D.honest D.words self.old.node.config.host now changes attempt told piece.now
+            self.new.node.records }
+        ensures full { (changes : List Change) (told : Told) (written : List ℕ)
+            → Keeps D.honest D.words self.old.node.records changes
+            → HandsTo changes self.old attempt told written → result ≡ Err NodeFault.Full
+            → HasNoRoomAtEnd self.old.node.config.host now told piece.now self.old.node.records }
+        ensures used { IfOk result (UsesReply D.words now attempt (length piece.now) self.old self.new) }
+        ensures only { OnlyHop self.old self.new attempt }
+        ensures refused { RefusesHop D.words attempt self.old self.new result }
+        ensures unknown { slot_at self.old.hops attempt ≡ None → result ≡ Err NodeFault.Unknown }
+        ensures stopped { self.old.node.records.spool.live ≡ false
+            → slot_at self.old.hops attempt ≡ Some [] → result ≡ Err NodeFault.Stopped }
+    {
+        let Some(waiting) = self.hops.waiting(attempt) else {
+            return Err(NodeFault::Unknown);
+        };
+        if !waiting.is_empty() {
+            return Ok(Answered {
+                used: 0,
+                change: None,
+                last: None,
+            });
+        }
+        match self.node.reply(attempt, piece, now) {
+            Ok(replied) => Ok(set_by(&mut self.hops, attempt, replied)),
+            Err(fault) => {
+                self.hops.remove(attempt);
+                Err(fault)
+            }
+        }
+    }
+
+    /// What waits to be written to the next hop of an attempt; nothing where no such connection stands.
+    pub fn to_hop(&self, attempt: usize) -> &[u8]
+        ensures { result.now ≡ unwritten_at self.now.hops attempt }
+    {
+        self.hops.to_write(attempt)
+    }
+
+    /// So many of the octets that wait for the next hop of an attempt were written. It takes no memory.
+    pub fn wrote_to_hop(&mut self, attempt: usize, count: usize)
+        requires { count ≤ length (unwritten_at self.old.hops attempt) }
+        ensures hands { (changes : List Change) (told : Told) (written : List ℕ)
+            → HandsTo changes self.old attempt told written
+            → HandsTo changes self.new attempt told
+            (written ++ take count (unwritten_at self.old.hops attempt)) }
+        ensures left { slot_at self.new.hops attempt ≡ option_map (drop count) (slot_at self.old.hops attempt) }
+        ensures others { OthersStay self.old.hops self.new.hops attempt }
+        ensures rest { (self.new.node ≡ self.old.node) × (self.new.clients ≡ self.old.clients) }
+    {
+        self.hops.wrote(attempt, count);
+    }
+
+    /// Ends an attempt whose connection is lost, as [`Node::lost`](relay_node::Node::lost): the number of the change
+    /// that says so. `Unknown` is answered first, where no such connection stands. The connection is gone, whatever is
+    /// answered.
+    pub fn lose(&mut self, attempt: usize, now: Moment) -> Result<u64, NodeFault>
+        ensures lost { (changes : List Change) (told : Told) (written : List ℕ)
+            → Keeps D.honest D.words self.old.node.records changes
+            → HandsTo changes self.old attempt told written
+            → IfOk result (IsLost D.honest D.words self.old.node.config.host now changes attempt told
+            self.new.node.records self.new.node.attempts) }
+        ensures cut { (changes : List Change) (told : Told) (written : List ℕ)
+            → Keeps D.honest D.words self.old.node.records changes
+            → HandsTo changes self.old attempt told written → result ≡ Err NodeFault.Stopped
+            → CutsLoss D.honest D.words self.old.node.config.host now changes attempt told
+            self.new.node.records }
+        ensures full { (changes : List Change) (told : Told) (written : List ℕ)
+            → Keeps D.honest D.words self.old.node.records changes
+            → HandsTo changes self.old attempt told written → result ≡ Err NodeFault.Full
+            → HasNoRoomAtLoss self.old.node.config.host now told self.old.node.records }
+        ensures ends { IfOk result (EndsBy D.words self.old.node.config.host now attempt
+            self.old.node.attempts self.new.node.attempts self.old.node.records self.new.node.records) }
+        ensures gone { slot_at self.new.hops attempt ≡ None }
+        ensures only { OnlyHop self.old self.new attempt }
+        ensures refused { RefusesHop D.words attempt self.old self.new result }
+        ensures unknown { slot_at self.old.hops attempt ≡ None → result ≡ Err NodeFault.Unknown }
+        ensures stopped { self.old.node.records.spool.live ≡ false
+            → slot_at self.old.hops attempt ≢ None → result ≡ Err NodeFault.Stopped }
+    {
+        let Some(_unwritten) = self.hops.take(attempt) else {
+            return Err(NodeFault::Unknown);
+        };
+        self.node.lost(attempt, now)
+    }
+}
+
+/// Sets a connection by what was replied: what that leads to waits to be written, or comes back where the attempt has
+/// ended.
+fn set_by(hops: &mut Outboxes, attempt: usize, replied: Replied) -> Answered
+    requires { attempt < SLOT_COUNT }
+    ensures answered { IsAnsweredBy replied result }
+    ensures set { IsSetTo replied.change attempt replied.out.items result.last hops.new }
+    ensures others { OthersStay hops.old hops.new attempt }
+{
+    let Replied { used, out, change } = replied;
+    if change.is_some() {
+        hops.remove(attempt);
+        return Answered {
+            used,
+            change,
+            last: Some(Outbox::new(out)),
+        };
+    }
+    hops.put(attempt, Outbox::new(out));
+    Answered {
+        used,
+        change,
+        last: None,
+    }
+}

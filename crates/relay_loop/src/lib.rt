@@ -1,0 +1,16 @@
+//! A node and the connections of its sessions and attempts, without a socket: octets in, octets to write out.
+#![tactic(auto)]
+
+mod clients;
+mod closing;
+mod hops;
+pub mod laws;
+mod outbox;
+mod outboxes;
+mod relay;
+
+pub use clients::Heard;
+pub use closing::{Closing, closing_line};
+pub use hops::Answered;
+pub use outbox::Outbox;
+pub use relay::Relay;

@@ -1,0 +1,150 @@
+ghost use Rattle.std.specs.Prelude.{◌≡◌, List, None, Err, IfErr, IfOk, MatchResult, OnOk, false};
+ghost use Rattle.relay_attempts.specs.Outcomes.{AddsUnroutable, CutsUnroutable, EndsUnroutable, RefusesToGiveUp};
+ghost use Rattle.relay_book.specs.declared.change.Change.{Change};
+ghost use Rattle.relay_book.specs.StandsFor.{StandsFor};
+ghost use Rattle.relay_node.specs.Compaction.{RefusesToCompact};
+ghost use Rattle.relay_records.specs.Records.{Compacts, Halted, Keeps};
+ghost use Rattle.relay_slots.specs.Slots.{AreFree};
+ghost use Rattle.relay_spool.specs.Pair.{HasBodies};
+ghost use Rattle.relay_spool.specs.Spool.{AtEachMoment};
+
+use crate::outboxes::Outboxes;
+use relay_disk::Disk;
+use relay_node::Node;
+use relay_records::{NodeFault, Noted};
+use relay_trace::Moment;
+use std::alloc::Global;
+use std::marker::Model;
+
+/// A node, and the connections of its sessions and of its attempts: the connection of a session stands under the
+/// session's number, that of an attempt under the attempt's. It knows no socket: whoever holds them hands it what was
+/// read, and writes what waits. No octet of a connection is used while something waits to be written to it.
+///
+/// Where the device fails, the node is stopped: all connections are to be dropped then, and its disks opened again.
+pub struct Relay<D: Disk> {
+    pub(crate) alloc: Global,
+    pub(crate) node: Node<D>,
+    pub(crate) clients: Outboxes,
+    pub(crate) hops: Outboxes,
+}
+
+// Written out, so that what drops a relay calls this, and doesn't look into its parts.
+impl<D: Disk + Drop> Drop for Relay<D> {
+    fn drop(self) {
+        let Relay {
+            alloc: _,
+            node: _node,
+            clients: _clients,
+            hops: _hops,
+        } = self;
+    }
+}
+
+impl<D: Disk> Model for Relay<D> {
+    ghost use Rattle.relay_loop.specs.Relay.{RelayState};
+
+    ghost Value = { RelayState D };
+
+    ghost view = { λ relay. record {
+      node = relay.node;
+      clients = relay.clients;
+      hops = relay.hops;
+    } };
+}
+
+impl<D: Disk> Relay<D> {
+    /// A relay of a node, without a connection. Where memory runs out, the node comes back.
+    pub fn new(alloc: Global, node: Node<D>) -> Result<Self, Node<D>>
+        ensures { MatchResult result
+            (λ relay. (relay.node ≡ node) × AreFree relay.clients × AreFree relay.hops)
+            (λ refused. refused ≡ node) }
+    {
+        let Ok(clients) = Outboxes::new(alloc) else {
+            return Err(node);
+        };
+        let Ok(hops) = Outboxes::new(alloc) else {
+            return Err(node);
+        };
+        Ok(Relay {
+            alloc,
+            node,
+            clients,
+            hops,
+        })
+    }
+
+    /// The node.
+    pub fn node(&self) -> &Node<D>
+        ensures { result.now ≡ self.now.node }
+    {
+        &self.node
+    }
+
+    /// The node, live or stopped. All connections are dropped. It takes no memory.
+    pub fn into_node(self) -> Node<D>
+        ensures { result ≡ self.node }
+    {
+        let Relay {
+            alloc: _,
+            node,
+            clients: _clients,
+            hops: _hops,
+        } = self;
+        node
+    }
+
+    /// As [`Node::take_noted`].
+    pub fn take_noted(&mut self) -> Option<Noted>
+        ensures noted { result ≡ self.old.node.records.noted }
+        ensures node { self.new.node
+            ≡ record self.old.node { records = record self.old.node.records { noted = None } } }
+        ensures connections { (self.new.clients ≡ self.old.clients) × (self.new.hops ≡ self.old.hops) }
+    {
+        self.node.take_noted()
+    }
+
+    /// As [`Node::compact`]. All connections stay.
+    pub fn compact(&mut self) -> Result<(usize, usize), NodeFault>
+        ensures kept { (changes : List Change) → Keeps D.honest D.words self.old.node.records changes
+            → OnOk result (Keeps D.honest D.words self.new.node.records changes) }
+        ensures cut { (changes : List Change) → Keeps D.honest D.words self.old.node.records changes
+            → result ≡ Err NodeFault.Stopped → Halted D.honest D.words self.new.node.records changes None }
+        // A stop at any moment of the call leaves the changes as they were.
+        ensures stop { (changes : List Change) → Keeps D.honest D.words self.old.node.records changes → D.honest
+            → AtEachMoment D.words self.old.node.records.spool.disk self.new.node.records.spool.disk
+            (HasBodies (λ bodies. StandsFor bodies changes)) }
+        ensures compacts { OnOk result (Compacts D.honest D.words self.old.node.records self.new.node.records) }
+        ensures sizes { IfOk result (λ sizes. (sizes.0 ≡ self.old.node.records.spool.size)
+            × (sizes.1 ≡ self.new.node.records.spool.size)) }
+        ensures rest { (self.new.node.config ≡ self.old.node.config) × (self.new.node.seats ≡ self.old.node.seats)
+            × (self.new.node.attempts ≡ self.old.node.attempts)
+            × (self.new.node.records.queue ≡ self.old.node.records.queue)
+            × (self.new.node.records.noted ≡ self.old.node.records.noted) }
+        ensures connections { (self.new.clients ≡ self.old.clients) × (self.new.hops ≡ self.old.hops) }
+        ensures refused { RefusesToCompact D.words self.old.node self.new.node result }
+    {
+        self.node.compact()
+    }
+
+    /// As [`Node::give_up_unroutable`]. All connections stay.
+    pub fn give_up_unroutable(&mut self, message: u64, now: Moment) -> Result<u64, NodeFault>
+        ensures gives_up { (changes : List Change) → Keeps D.honest D.words self.old.node.records changes
+            → IfOk result (AddsUnroutable D.honest D.words self.old.node.config.host self.old.node.config.routes
+            message now changes self.old.node.records self.new.node.records) }
+        ensures cut { (changes : List Change) → Keeps D.honest D.words self.old.node.records changes
+            → result ≡ Err NodeFault.Stopped
+            → CutsUnroutable D.honest D.words self.old.node.config.host self.old.node.config.routes message now
+            changes self.old.node.records self.new.node.records }
+        ensures ends { IfOk result (EndsUnroutable D.words self.old.node.config.host self.old.node.config.routes
+            message now self.old.node.records self.new.node.records) }
+        ensures rest { (self.new.node.config ≡ self.old.node.config) × (self.new.node.seats ≡ self.old.node.seats)
+            × (self.new.node.attempts ≡ self.old.node.attempts) }
+        ensures connections { (self.new.clients ≡ self.old.clients) × (self.new.hops ≡ self.old.hops) }
+        ensures refused { IfErr result (RefusesToGiveUp D.words self.old.node.config.host
+            self.old.node.config.routes message now self.old.node.records self.new.node.records) }
+        ensures stopped { self.old.node.records.spool.live ≡ false
+            → (result ≡ Err NodeFault.Stopped) × (self.new.node ≡ self.old.node) }
+    {
+        self.node.give_up_unroutable(message, now)
+    }
+}
