@@ -1,5 +1,6 @@
 //! What is true of the connections of a relay, whatever calls are made.
-ghost use Rattle.relay_loop.specs.Laws.{HandsStay, OthersHand, OthersTalk, QueuedAreAccepted, TalksAreDialogues, TalksStay};
+ghost use Rattle.relay_loop.specs.Laws.{HandsStay, OthersHand};
+ghost use Rattle.relay_loop.specs.Laws.{OthersTalk, QueuedAreAccepted, TalksAreDialogues, TalksStay};
 
 /// What was said to a client is a dialogue, and what was written to it begins its output.
 pub fn talks_are_dialogues<D>()

@@ -1,5 +1,5 @@
-//! A relay over memory at the first moment. Each call of it stands here alone, in a function without clauses: what calls
-//! these sees none of their contracts.
+//! A relay over memory at the first moment. Each call of it stands here alone, in a function without clauses: what
+//! calls these sees none of their contracts.
 use relay_disk::{Disks, MemoryDisk};
 use relay_loop::{Answered, Heard, Outbox, Relay};
 use relay_node::{Node, NodeFault, Work};
