@@ -1,5 +1,5 @@
 -- Offers that were accepted stay so while changes are added.
-use Rattle.std.proofs.Common.{◌≡◌, ◌<◌, ℕ, zero, suc, ◌+◌, List, [], ◌∷◌, ◌++◌, length, Some, refl, sym, ◌∙◌, ap, subst, slice_get, append-nil, arith}
+use Rattle.std.proofs.Common.{◌≡◌, ◌<◌, ℕ, zero, suc, ◌+◌, List, [], ◌∷◌, ◌++◌, length, Some, refl, sym, ◌∙◌, ap, subst, slice_get, slice_index_or, append-nil, arith}
 use Rattle.std.proofs.lemmas.Option.{slice_get_within}
 use Rattle.relay_routes.specs.declared.config.Config.{Config}
 use Rattle.relay_server.specs.Dialogue.{Offered, Said}
@@ -36,6 +36,12 @@ module _ (config : Config) (peer : List ℕ) where
     record { at = each.0.at; accept = each.0.accept; is_accept = each.0.is_accept; change_is = change_stays changes added one.0 _ each.0.change_is },
     accepted_as_stays changes added queued each.1,
   )
+
+  -- one of those that are accepted
+  pub one_of : (changes : List Change) (queued : List (ℕ × Offered)) (k number : ℕ) (offer : Offered) → AreAcceptedAs config peer changes queued → k < length queued → slice_index_or queued k (number, offer) ≡ (number, offer) → IsAcceptedAs config peer changes number offer
+  one_of changes [] k number offer each low is = absurd (omega (arith, low))
+  one_of changes (one ∷ queued) zero number offer each low is = subst (λ (x : ℕ × Offered). IsAcceptedAs config peer changes x.0 x.1) is each.0
+  one_of changes (one ∷ queued) (suc k) number offer each low is = one_of changes queued k number offer each.1 (omega (arith, low)) is
 
   pub accepted_stays : (changes added : List Change) (said : Said) → AreAccepted config peer changes said → AreAccepted config peer (changes ++ added) said
   accepted_stays changes added said each = accepted_as_stays changes added (queued_in said) each

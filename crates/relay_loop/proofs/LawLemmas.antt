@@ -1,5 +1,5 @@
 -- What stays of the connections of a relay.
-use Rattle.std.proofs.Common.{◌≡◌, ◌∙◌, ◌∷◌, ◌++◌, [], ℕ, List, Option, inl, inr, ap, sym, subst}
+use Rattle.std.proofs.Common.{◌≡◌, ◌∙◌, ◌++◌, ℕ, List, Option, inl, inr, ap, sym, subst}
 use Rattle.relay_slots.specs.Slots.{slot_at}
 use Rattle.relay_routes.specs.declared.config.Config.{Config}
 use Rattle.relay_attempts.specs.declared.runs.Run.{Run}
@@ -10,16 +10,20 @@ use Rattle.relay_book.specs.declared.change.Change.{Change}
 use Rattle.relay_book.specs.Queue.{Fitting}
 use Rattle.relay_node.specs.Attempts.{Tells}
 use Rattle.relay_node.specs.Node.{SessionHasSaid}
+use Rattle.relay_node.specs.Queued.{queued_in}
 use Rattle.relay_node.proofs.Theorems.{told_stays}
 use Rattle.relay_loop.specs.Accepted.{AreAccepted}
-use Rattle.relay_loop.specs.Laws.{HandsStay, OthersHand, OthersTalk, StaysOrGrows, TalksAreDialogues, TalksStay}
-use Rattle.relay_loop.proofs.AcceptedLemmas.{accepted_stays}
+use Rattle.relay_loop.specs.Laws.{HandsStay, OthersHand, OthersTalk, QueuedAreAccepted, StaysOrGrows, TalksAreDialogues, TalksStay}
+use Rattle.relay_loop.proofs.AcceptedLemmas.{accepted_stays, one_of}
 
 pub talks_are_dialogues : {D : Type 0} → TalksAreDialogues D
 talks_are_dialogues changes relay session peer said written t = (
   what_stands_is_a_dialogue (setup_of_config relay.node.config) t.seat.seat.session said t.seat.says.stands,
   (t.waiting, t.output),
 )
+
+pub queued_are_accepted : {D : Type 0} → QueuedAreAccepted D
+queued_are_accepted changes relay session peer said written t number offer (k, low, is) = one_of relay.node.config peer changes (queued_in said) k number offer t.accepted low is
 
 pub talks_stay : {D : Type 0} → TalksStay D
 talks_stay changes added old new session peer said written seats clients config t = record {

@@ -61,8 +61,8 @@ module _ {D : Type 0} (honest : Type 0) (words : DiskWords D) (changes : List Ch
     pub keeps : Keeps honest words new.node.records list
     pub goes_on : GoesOn list new session peer later written heard.last
 
--- Octets of a piece of this length were used: where a change was made, one at least, and where nothing waited, no change
--- was made and nothing closed, all. No call of the device has failed.
+-- Octets of a piece of this length were used: where a change was made, one at least, and where nothing waited, no
+-- change was made and nothing closed, all. No call of the device has failed.
 pub record UsesOctets {D : Type 0} (words : DiskWords D) (session len : ℕ) (old new : RelayState D) (heard : Heard)
     : Type 0 where
   pub within : heard.used ≤ len

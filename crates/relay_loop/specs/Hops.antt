@@ -81,8 +81,9 @@ pub record UsesReply {D : Type 0} (words : DiskWords D) (now attempt len : ℕ) 
 abbrev pub IsUnknown : {D : Type 0} → RelayState D → ℕ → Type 0
 IsUnknown relay attempt = (slot_at relay.hops attempt ≡ None) ⊎ (slot_at relay.node.attempts attempt ≡ None)
 
--- A reply to an attempt, or the loss of its connection, is refused so: the connection is gone, and a node that is stopped
--- is unchanged. A live one leaves what its own call does, as if the attempt were unknown where only the connection is.
+-- A reply to an attempt, or the loss of its connection, is refused so: the connection is gone, and a node that is
+-- stopped is unchanged. A live one leaves what its own call does, as if the attempt were unknown where only the
+-- connection is.
 pub record RefusesHop {D T : Type 0} (words : DiskWords D) (attempt : ℕ) (old new : RelayState D)
     (result : Result T NodeFault)
     : Type 0 where

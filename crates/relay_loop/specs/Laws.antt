@@ -1,12 +1,15 @@
 -- What is true of the connections of a relay, whatever calls are made.
 use Rattle.std.specs.Prelude.{◌≡◌, ◌≢◌, ◌⊎◌, ℕ, List, [], ◌∷◌, ◌++◌}
+use Rattle.std.specs.List.{Contains}
 use Rattle.relay_octets.specs.Beginning.{Begins}
 use Rattle.relay_slots.specs.Slots.{slot_at}
 use Rattle.relay_attempts.specs.Reply.{Told}
-use Rattle.relay_server.specs.Dialogue.{IsDialogue, Said}
+use Rattle.relay_server.specs.Dialogue.{IsDialogue, Offered, Said}
 use Rattle.relay_server.specs.Setup.{setup_of_config}
 use Rattle.relay_book.specs.declared.change.Change.{Change}
 use Rattle.relay_book.specs.Queue.{Fitting}
+use Rattle.relay_node.specs.Queued.{queued_in}
+use Rattle.relay_loop.specs.Accepted.{IsAcceptedAs}
 use Rattle.relay_loop.specs.Clients.{TalksTo}
 use Rattle.relay_loop.specs.Hops.{HandsTo}
 use Rattle.relay_loop.specs.Relay.{OnlyClient, OnlyHop, RelayState}
@@ -17,6 +20,14 @@ TalksAreDialogues D =
     (changes : List Change) (relay : RelayState D) (session : ℕ) (peer : List ℕ) (said : Said) (written : List ℕ)
     → TalksTo changes relay session peer said written
     → IsDialogue (setup_of_config relay.node.config) said × Begins written said.output
+
+-- Each offer of a client that was answered by a number is accepted by the change of that number.
+abbrev pub QueuedAreAccepted : Type 0 → Type 0
+QueuedAreAccepted D =
+    (changes : List Change) (relay : RelayState D) (session : ℕ) (peer : List ℕ) (said : Said) (written : List ℕ)
+    → TalksTo changes relay session peer said written → (number : ℕ) (offer : Offered)
+    → Contains {X = ℕ × Offered} (queued_in said) (number, offer)
+    → IsAcceptedAs relay.node.config peer changes number offer
 
 -- A client is talked to as before while changes are added, as long as its session, its connection and the configuration
 -- are the same.

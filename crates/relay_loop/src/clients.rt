@@ -1,8 +1,10 @@
 //! The connections of clients.
-ghost use Rattle.std.specs.Prelude.{◌≡◌, ◌≢◌, ◌↔◌, ◌≤◌, ◌<◌, ◌++◌, ℕ, [], None, Some, List, Err, IfErr, IfOk, Ok, OnOk, drop, false, length, take, true};
+ghost use Rattle.std.specs.Prelude.{◌≡◌, ◌≢◌, ◌↔◌, ◌≤◌, ◌<◌, ◌++◌, ℕ, [], None, Some, List, true, false};
+ghost use Rattle.std.specs.Prelude.{Err, IfErr, IfOk, Ok, OnOk, drop, length, take};
 ghost use Rattle.std.specs.Option.{option_map};
 ghost use Rattle.relay_book.specs.declared.change.Change.{Change};
-ghost use Rattle.relay_loop.specs.Clients.{IsHeardFrom, IsSetTo, Reads, RefusesToEnd, RefusesToRead, TalksTo, UsesOctets};
+ghost use Rattle.relay_loop.specs.Clients.{IsHeardFrom, IsSetTo, Reads, RefusesToEnd, RefusesToRead};
+ghost use Rattle.relay_loop.specs.Clients.{TalksTo, UsesOctets};
 ghost use Rattle.relay_loop.specs.Outboxes.{unwritten_at};
 ghost use Rattle.relay_loop.specs.Relay.{OnlyClient};
 ghost use Rattle.relay_node.specs.Node.{CutsTalk, RefusesToConnect, greeted_by};

@@ -1,8 +1,10 @@
 //! The connections to next hops.
-ghost use Rattle.std.specs.Prelude.{◌≡◌, ◌≢◌, ◌↔◌, ◌≤◌, ◌<◌, ◌++◌, ℕ, [], None, Some, List, Err, IfErr, IfOk, Ok, drop, false, length, take};
+ghost use Rattle.std.specs.Prelude.{◌≡◌, ◌≢◌, ◌↔◌, ◌≤◌, ◌<◌, ◌++◌, ℕ, [], None, Some, List, false};
+ghost use Rattle.std.specs.Prelude.{Err, IfErr, IfOk, Ok, drop, length, take};
 ghost use Rattle.std.specs.Option.{option_map};
 ghost use Rattle.relay_attempts.specs.Attempts.{RefusesToStart, Starts};
-ghost use Rattle.relay_attempts.specs.Reply.{CutsLoss, CutsReply, EndsBy, HasNoRoomAtEnd, HasNoRoomAtLoss, IsLost, Told};
+ghost use Rattle.relay_attempts.specs.Reply.{CutsLoss, CutsReply, EndsBy, HasNoRoomAtEnd, HasNoRoomAtLoss};
+ghost use Rattle.relay_attempts.specs.Reply.{IsLost, Told};
 ghost use Rattle.relay_book.specs.declared.change.Change.{Change};
 ghost use Rattle.relay_loop.specs.Hops.{HandsTo, IsAnsweredBy, IsSetTo, RefusesHop, Replies, StartsTo, UsesReply};
 ghost use Rattle.relay_loop.specs.Outboxes.{unwritten_at};

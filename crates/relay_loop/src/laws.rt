@@ -1,9 +1,15 @@
 //! What is true of the connections of a relay, whatever calls are made.
-ghost use Rattle.relay_loop.specs.Laws.{HandsStay, OthersHand, OthersTalk, TalksAreDialogues, TalksStay};
+ghost use Rattle.relay_loop.specs.Laws.{HandsStay, OthersHand};
+ghost use Rattle.relay_loop.specs.Laws.{OthersTalk, QueuedAreAccepted, TalksAreDialogues, TalksStay};
 
 /// What was said to a client is a dialogue, and what was written to it begins its output.
 pub fn talks_are_dialogues<D>()
     ensures { TalksAreDialogues D }
+{}
+
+/// Each offer of a client that was answered by a number is accepted by the change of that number.
+pub fn queued_are_accepted<D>()
+    ensures { QueuedAreAccepted D }
 {}
 
 /// A client is talked to as before while changes are added, as long as its session and its connection are the same.

@@ -1,0 +1,63 @@
+//! A relay over memory, without a socket: scenes of clients side by side, of one that reads nothing or says its octets
+//! one by one, of next hops that take the mail or are lost, and of a device that fails. Each scene has a line.
+#![tactic(auto)]
+
+mod clients;
+mod closing;
+mod hops;
+mod mail;
+mod setup;
+mod talk;
+
+use clients::{
+    a_client_that_ends_gets_what_waits, a_client_that_reads_nothing_is_not_heard,
+    a_failed_device_ends_the_session, octets_one_by_one_are_the_same, the_65th_client_is_refused,
+    two_clients_side_by_side,
+};
+use closing::the_relay_closes_by_421;
+use hops::{
+    a_hop_takes_the_mail, a_hop_that_is_lost_keeps_the_mail, an_attempt_waits_for_its_commands,
+};
+use std::io::{self, Print};
+use std::test::Fail;
+
+fn main(rt: HostRuntime) -> Result<(), Fail> {
+    show_clients(&rt)?;
+    show_hops(&rt)
+}
+
+/// Prints a line for each scene of clients.
+fn show_clients(rt: &HostRuntime) -> Result<(), Fail> {
+    let holds = two_clients_side_by_side(rt.alloc())?;
+    say(rt, "two clients side by side", holds)?;
+    let holds = octets_one_by_one_are_the_same(rt.alloc())?;
+    say(rt, "octets one by one are the same", holds)?;
+    let holds = a_client_that_reads_nothing_is_not_heard(rt.alloc())?;
+    say(rt, "a client that reads nothing is not heard", holds)?;
+    let holds = a_client_that_ends_gets_what_waits(rt.alloc())?;
+    say(rt, "a client that ends gets what waits", holds)?;
+    let holds = the_65th_client_is_refused(rt.alloc())?;
+    say(rt, "the 65th client is refused", holds)?;
+    let holds = a_failed_device_ends_the_session(rt.alloc())?;
+    say(rt, "a failed device ends the session", holds)?;
+    let holds = the_relay_closes_by_421(rt.alloc())?;
+    say(rt, "the relay closes by 421", holds)?;
+    Ok(())
+}
+
+/// Prints a line for each scene of next hops.
+fn show_hops(rt: &HostRuntime) -> Result<(), Fail> {
+    let holds = a_hop_takes_the_mail(rt.alloc())?;
+    say(rt, "a hop takes the mail", holds)?;
+    let holds = an_attempt_waits_for_its_commands(rt.alloc())?;
+    say(rt, "an attempt waits for its commands", holds)?;
+    let holds = a_hop_that_is_lost_keeps_the_mail(rt.alloc())?;
+    say(rt, "a hop that is lost keeps the mail", holds)?;
+    Ok(())
+}
+
+/// Prints the line of a scene.
+fn say(rt: &impl Print, scene: &str, holds: bool) -> io::Result<()> {
+    let end = if holds { "so it is" } else { "it is otherwise" };
+    println!(rt; "{scene}: {end}")
+}

@@ -1,0 +1,148 @@
+//! A relay over memory at the first moment. Each call of it stands here alone, in a function without clauses: what
+//! calls these sees none of their contracts.
+use relay_disk::{Disks, MemoryDisk};
+use relay_loop::{Answered, Heard, Outbox, Relay};
+use relay_node::{Node, NodeFault, Work};
+use relay_routes::{Config, HostName};
+use relay_trace::Moment;
+use std::alloc::{AllocError, Global};
+use std::test::Fail;
+
+/// A relay on disks in memory.
+pub type MemoryRelay = Relay<MemoryDisk>;
+
+const CONFIGURATION: &str = "host = \"relay.example\"
+listen = \"127.0.0.1:2525\"
+spool = \"relay.spool\"
+[routes]
+\"example.org\" = { name = \"next.example\", at = \"127.0.0.1:2526\" }
+";
+
+/// The address of each client.
+const CLIENT: [u8; 4] = [127, 0, 0, 1];
+
+/// The first moment.
+fn first_moment() -> Moment {
+    match Moment::new(0) {
+        Ok(moment) => moment,
+        Err(_) => unreachable!(),
+    }
+}
+
+/// A node without changes.
+fn empty_node(alloc: Global) -> Result<Node<MemoryDisk>, Fail> {
+    let Ok(config) = Config::read(alloc, CONFIGURATION) else {
+        return Err(Fail::new("no configuration"));
+    };
+    let disks = Disks {
+        first: MemoryDisk::new(alloc),
+        second: MemoryDisk::new(alloc),
+    };
+    match Node::create(alloc, config, disks) {
+        Ok(node) => Ok(node),
+        Err(_) => Err(Fail::new("not created")),
+    }
+}
+
+fn relay_of(alloc: Global, node: Node<MemoryDisk>) -> Result<MemoryRelay, Fail> {
+    match Relay::new(alloc, node) {
+        Ok(relay) => Ok(relay),
+        Err(_) => Err(Fail::new("no memory")),
+    }
+}
+
+/// A relay without changes.
+pub(crate) fn empty_relay(alloc: Global) -> Result<MemoryRelay, Fail> {
+    let node = empty_node(alloc)?;
+    relay_of(alloc, node)
+}
+
+/// A relay without changes whose device takes no call any more.
+pub(crate) fn failing_relay(alloc: Global) -> Result<MemoryRelay, Fail> {
+    let mut node = empty_node(alloc)?;
+    node.fuse(0);
+    relay_of(alloc, node)
+}
+
+/// The number of a new client's session.
+pub(crate) fn accept(relay: &mut MemoryRelay) -> Result<usize, NodeFault> {
+    relay.accept(CLIENT)
+}
+
+pub(crate) fn read(
+    relay: &mut MemoryRelay,
+    session: usize,
+    piece: &[u8],
+) -> Result<Heard, NodeFault> {
+    relay.read(session, piece, first_moment())
+}
+
+pub(crate) fn end_client(relay: &mut MemoryRelay, session: usize) -> Result<Outbox, NodeFault> {
+    relay.end_client(session)
+}
+
+/// Writes all that waits for a client at the end of the octets.
+pub(crate) fn write_to_client(
+    relay: &mut MemoryRelay,
+    session: usize,
+    octets: &mut Vec<u8>,
+) -> Result<(), AllocError> {
+    let waiting = relay.to_client(session);
+    octets.extend_from_slice(waiting)?;
+    let count = waiting.len();
+    relay.wrote_to_client(session, count);
+    Ok(())
+}
+
+pub(crate) fn reply(
+    relay: &mut MemoryRelay,
+    attempt: usize,
+    piece: &[u8],
+) -> Result<Answered, NodeFault> {
+    relay.reply(attempt, piece, first_moment())
+}
+
+pub(crate) fn lose(relay: &mut MemoryRelay, attempt: usize) -> Result<u64, NodeFault> {
+    relay.lose(attempt, first_moment())
+}
+
+/// Writes all that waits for a next hop at the end of the octets.
+pub(crate) fn write_to_hop(
+    relay: &mut MemoryRelay,
+    attempt: usize,
+    octets: &mut Vec<u8>,
+) -> Result<(), AllocError> {
+    let waiting = relay.to_hop(attempt);
+    octets.extend_from_slice(waiting)?;
+    let count = waiting.len();
+    relay.wrote_to_hop(attempt, count);
+    Ok(())
+}
+
+/// The number of the attempt that begins for the one work that is due.
+pub(crate) fn begin(alloc: Global, relay: &mut MemoryRelay) -> Result<usize, Fail> {
+    for work in due(alloc, relay)?.as_slice() {
+        if let Work::Try(message, hop) = work {
+            return Ok(start(relay, *message, hop)?);
+        }
+    }
+    Err(Fail::new("nothing is due"))
+}
+
+fn due(alloc: Global, relay: &MemoryRelay) -> Result<Vec<Work>, NodeFault> {
+    relay.node().due(alloc, first_moment())
+}
+
+fn start(relay: &mut MemoryRelay, message: u64, hop: &HostName) -> Result<usize, NodeFault> {
+    Ok(relay.start(message, hop, first_moment())?.attempt)
+}
+
+/// How many changes there are.
+pub(crate) fn count_changes(relay: &MemoryRelay) -> u64 {
+    relay.node().next_number().saturating_sub(1)
+}
+
+/// How many places are held.
+pub(crate) fn count_held(alloc: Global, relay: &MemoryRelay) -> Result<usize, NodeFault> {
+    Ok(relay.node().marks(alloc)?.len())
+}
