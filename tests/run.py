@@ -67,14 +67,19 @@ def its_log_says_when_and_quiet_says_nothing(field):
 
 def sixty_four_sessions_stand_side_by_side(field):
     relay = field.relay(sessions_per_client=64)
-    with relay.running(), clients_of(relay, 64) as clients:
-        for client in clients:
-            client.ask_for_text()
-        # The last first: none waits for another.
-        numbers = [number_of(client.say(TEXT)) for client in reversed(clients)]
-        same("numbers that were given twice", len(numbers) - len(set(numbers)), 0)
-        field.arrived(64)
-        until("an empty list", lambda: relay.held() == [])
+    with relay.running() as process:
+        before = resident(process)
+        with clients_of(relay, 64) as clients:
+            grown = resident(process) - before
+            if grown > 8 << 20:
+                raise Difference(f"64 idle sessions cost {grown} octets")
+            for client in clients:
+                client.ask_for_text()
+            # The last first: none waits for another.
+            numbers = [number_of(client.say(TEXT)) for client in reversed(clients)]
+            same("numbers that were given twice", len(numbers) - len(set(numbers)), 0)
+            field.arrived(64)
+            until("an empty list", lambda: relay.held() == [])
 
 
 def the_next_of_one_address_is_sent_away(field):
@@ -143,6 +148,8 @@ def slow_clients_hold_up_nobody(field):
         silent[0].link.sendall(b"NO")
         silent[1].ask_for_text()
         silent[1].link.sendall(b"x" * 100000)
+        # A line that has no end.
+        silent[2].link.sendall(b"x" * 10_000_000)
         with beside(drip):
             no_later(client, alone, 60, "slow and silent clients")
         field.arrived(80)
