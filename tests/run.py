@@ -67,14 +67,19 @@ def its_log_says_when_and_quiet_says_nothing(field):
 
 def sixty_four_sessions_stand_side_by_side(field):
     relay = field.relay(sessions_per_client=64)
-    with relay.running(), clients_of(relay, 64) as clients:
-        for client in clients:
-            client.ask_for_text()
-        # The last first: none waits for another.
-        numbers = [number_of(client.say(TEXT)) for client in reversed(clients)]
-        same("numbers that were given twice", len(numbers) - len(set(numbers)), 0)
-        field.arrived(64)
-        until("an empty list", lambda: relay.held() == [])
+    with relay.running() as process:
+        before = resident(process)
+        with clients_of(relay, 64) as clients:
+            grown = resident(process) - before
+            if grown > 8 << 20:
+                raise Difference(f"64 idle sessions cost {grown} octets")
+            for client in clients:
+                client.ask_for_text()
+            # The last first: none waits for another.
+            numbers = [number_of(client.say(TEXT)) for client in reversed(clients)]
+            same("numbers that were given twice", len(numbers) - len(set(numbers)), 0)
+            field.arrived(64)
+            until("an empty list", lambda: relay.held() == [])
 
 
 def the_next_of_one_address_is_sent_away(field):
@@ -143,6 +148,8 @@ def slow_clients_hold_up_nobody(field):
         silent[0].link.sendall(b"NO")
         silent[1].ask_for_text()
         silent[1].link.sendall(b"x" * 100000)
+        # A line that has no end.
+        silent[2].link.sendall(b"x" * 10_000_000)
         with beside(drip):
             no_later(client, alone, 60, "slow and silent clients")
         field.arrived(80)
@@ -170,6 +177,8 @@ def a_flood_that_nobody_reads_costs_nothing(field):
 
     def flood(done):
         with Client(relay) as client:
+            # So the system takes few replies for it.
+            client.link.setsockopt(socket.SOL_SOCKET, socket.SO_RCVBUF, 1 << 16)
             client.link.setblocking(False)
             while not done.wait(0.001):
                 with contextlib.suppress(BlockingIOError):
@@ -279,7 +288,7 @@ def a_kill_loses_nothing(field):
         lost = [token for token, number in answered.items() if number not in held and token not in gone]
         same(f"messages lost behind kill {kill}", lost, [])
     same("numbers given twice", len(answered) - len(set(answered.values())), 0)
-    if len(answered) < 10 * KILLS:
+    if len(answered) < 2 * KILLS:
         raise Difference(f"only {len(answered)} messages were answered 250")
     with relay.running():
         until("an empty list", lambda: relay.held() == [])

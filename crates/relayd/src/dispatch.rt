@@ -8,6 +8,7 @@ use clap::Error;
 use clap::error::ErrorKind;
 use relay_arguments::{Subcommand, arguments};
 use relay_play::play;
+use relay_run::run;
 use relay_service::{ServeOptions, compact, init, list, push, serve};
 use std::alloc::Global;
 use std::convert::AsStr;
@@ -60,6 +61,10 @@ pub fn command<
         Ok(Subcommand::Init(file)) => ended(init(alloc, system, file), errors),
         Ok(Subcommand::List(file)) => ended(list(alloc, system, file, writer), errors),
         Ok(Subcommand::Compact(file)) => ended(compact(alloc, system, file, writer), errors),
+        Ok(Subcommand::Run { file, quiet }) => {
+            let end = run(alloc, system, file, quiet, writer, errors);
+            ended(end, errors)
+        }
         Ok(
             Subcommand::Serve {
                 file,
