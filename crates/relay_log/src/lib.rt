@@ -10,6 +10,8 @@ mod hop_link;
 mod line;
 mod log;
 mod replies;
+mod run_line;
+mod stamp;
 
 pub use attempt_line::Attempt;
 pub use client_line::{Connection, Messages};
@@ -18,4 +20,4 @@ pub use clock::clock_moment;
 pub use hop_link::{HopReader, HopWriter, Loss, Why};
 pub use line::printable;
 pub use log::Log;
-pub use replies::Deferral;
+pub use replies::{Deferral, Replies};

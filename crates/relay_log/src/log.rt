@@ -2,8 +2,11 @@
 use crate::attempt_line::{Attempt, attempt_text};
 use crate::client_line::{Connection, client_text, unserved_text};
 use crate::line::printable;
+use crate::run_line::{accepted_text, cut_off_text, held_off_text, refused_text};
+use crate::stamp::write_stamp;
 use relay_disk::Disk;
-use relay_node::Node;
+use relay_node::{Node, Noted};
+use relay_trace::Moment;
 use std::alloc::Global;
 use std::fmt::Display;
 use std::io::{self, Write};
@@ -17,6 +20,8 @@ pub struct Log<'a, E: Write> {
     alloc: Global,
     errors: &'a mut E,
     speaks: bool,
+    /// What stands in front of each line, where anything does.
+    moment: Option<Moment>,
 }
 
 impl<'a, E: Write> Log<'a, E> {
@@ -26,6 +31,17 @@ impl<'a, E: Write> Log<'a, E> {
             alloc,
             errors,
             speaks,
+            moment: None,
+        }
+    }
+
+    /// Such a log, whose lines have this moment in front of them, in UTC (RFC 3339).
+    pub fn stamped(alloc: Global, errors: &'a mut E, speaks: bool, moment: Moment) -> Self {
+        Log {
+            alloc,
+            errors,
+            speaks,
+            moment: Some(moment),
         }
     }
 
@@ -64,6 +80,34 @@ impl<'a, E: Write> Log<'a, E> {
         }
     }
 
+    /// Says that mail of a client was accepted, as the node has noted it.
+    pub fn accepted(&mut self, peer: SocketAddrV4, noted: &Noted) {
+        if self.speaks {
+            self.say(accepted_text(self.alloc, peer, noted));
+        }
+    }
+
+    /// Says that a client was told that there are too many connections.
+    pub fn refused(&mut self, peer: SocketAddrV4) {
+        if self.speaks {
+            self.say(refused_text(self.alloc, peer));
+        }
+    }
+
+    /// Says that a client was cut off, since it was silent for too long or took nothing.
+    pub fn cut_off(&mut self, peer: SocketAddrV4) {
+        if self.speaks {
+            self.say(cut_off_text(self.alloc, peer));
+        }
+    }
+
+    /// Says that a next hop couldn't be reached, and is left alone for so many seconds.
+    pub fn held_off(&mut self, at: SocketAddrV4, seconds: u64) {
+        if self.speaks {
+            self.say(held_off_text(self.alloc, at, seconds));
+        }
+    }
+
     /// Whether it was asked to write lines.
     pub fn speaks(&self) -> bool {
         self.speaks
@@ -78,14 +122,24 @@ impl<'a, E: Write> Log<'a, E> {
     fn say(&mut self, text: io::Result<Vec<u8>>) {
         if let Ok(text) = text {
             // Nothing is left to do where this line can't be written.
-            let _ = write_line(self.alloc, self.errors, text.as_slice());
+            let _ = write_line(self.alloc, self.errors, self.moment, text.as_slice());
         }
     }
 }
 
-/// Writes the octets as one line, in one write.
-fn write_line<E: Write>(alloc: Global, errors: &mut E, text: &[u8]) -> io::Result<()> {
-    let mut line = printable(alloc, text)?;
+/// Writes the octets as one line, in one write, behind a moment where there is one.
+fn write_line<E: Write>(
+    alloc: Global,
+    errors: &mut E,
+    moment: Option<Moment>,
+    text: &[u8],
+) -> io::Result<()> {
+    let mut line = Vec::new(alloc);
+    if let Some(moment) = moment {
+        write_stamp(&mut line, moment)?;
+    }
+    let shown = printable(alloc, text)?;
+    line.extend_from_slice(shown.as_slice())?;
     line.push(b'\n')?;
     errors.write_all(line.as_slice())?;
     errors.flush()

@@ -24,7 +24,7 @@ pub enum Deferral {
 /// The last reply of a next hop that puts something off, for the log alone: where memory runs out, none
 /// is told.
 #[derive(Drop)]
-pub(crate) struct Replies {
+pub struct Replies {
     alloc: Global,
     reader: ReplyReader,
     listens: bool,
@@ -33,7 +33,7 @@ pub(crate) struct Replies {
 
 impl Replies {
     /// No reply yet. Where it doesn't listen, none will be told.
-    pub(crate) fn new(alloc: Global, listens: bool) -> Self {
+    pub fn new(alloc: Global, listens: bool) -> Self {
         Replies {
             alloc,
             reader: ReplyReader::new(alloc),
@@ -43,7 +43,7 @@ impl Replies {
     }
 
     /// Takes the next octets that the next hop wrote.
-    pub(crate) fn hear(&mut self, octets: &[u8]) {
+    pub fn hear(&mut self, octets: &[u8]) {
         let mut rest = octets;
         // Each reply has an octet at least.
         for _ in 0..octets.len() {
@@ -56,7 +56,7 @@ impl Replies {
     }
 
     /// The last reply that puts something off, where one came.
-    pub(crate) fn into_deferral(self) -> Option<Deferral> {
+    pub fn into_deferral(self) -> Option<Deferral> {
         self.last
     }
 

@@ -13,8 +13,10 @@ mod settings;
 mod sockets;
 mod workers;
 
-pub use compacting::compact;
+pub use compacting::{compact, is_worth_it};
 pub use fault::Fault;
 pub use listing::{init, list};
 pub use pushing::push;
 pub use serving::{ServeOptions, serve};
+pub use settings::{configuration_text, locked_node};
+pub use sockets::is_want_of_sockets;

@@ -14,10 +14,8 @@ pub(crate) fn configuration<F: Files<File = File>>(
     files: &F,
     path: &str,
 ) -> Result<Config, Fault> {
-    match text_of(alloc, files, path) {
-        Ok(text) => Ok(Config::read(alloc, text.as_str())?),
-        Err(error) => Err(Fault::of_input(&error)),
-    }
+    let text = configuration_text(alloc, files, path)?;
+    Ok(Config::read(alloc, text.as_str())?)
 }
 
 /// The configuration in the file at this path, twice over one reading: a node keeps one for itself.
@@ -26,12 +24,20 @@ pub(crate) fn configurations<F: Files<File = File>>(
     files: &F,
     path: &str,
 ) -> Result<(Config, Config), Fault> {
+    let text = configuration_text(alloc, files, path)?;
+    let first = Config::read(alloc, text.as_str())?;
+    let second = Config::read(alloc, text.as_str())?;
+    Ok((first, second))
+}
+
+/// What stands in the configuration file at this path.
+pub fn configuration_text<F: Files<File = File>>(
+    alloc: Global,
+    files: &F,
+    path: &str,
+) -> Result<String, Fault> {
     match text_of(alloc, files, path) {
-        Ok(text) => {
-            let first = Config::read(alloc, text.as_str())?;
-            let second = Config::read(alloc, text.as_str())?;
-            Ok((first, second))
-        }
+        Ok(text) => Ok(text),
         Err(error) => Err(Fault::of_input(&error)),
     }
 }
@@ -114,7 +120,7 @@ fn lock(disk: &FileDisk) -> Result<(), Fault> {
 }
 
 /// The node of the spool that the configuration names, whose files are taken for this process alone.
-pub(crate) fn locked_node<F: Files<File = File>>(
+pub fn locked_node<F: Files<File = File>>(
     alloc: Global,
     files: &F,
     config: Config,

@@ -88,7 +88,7 @@ pub(crate) fn connect<N: Net<Stream = TcpStream>>(
 
 /// Whether a socket couldn't be had since this process or its system has no descriptor, or no memory, left for
 /// one: then it isn't for the other side.
-pub(crate) fn is_want_of_sockets(error: &io::Error) -> bool {
+pub fn is_want_of_sockets(error: &io::Error) -> bool {
     matches!(
         error.raw_os_error(),
         Some(libc::EMFILE | ENFILE | libc::ENOMEM | ENOBUFS)

@@ -1,0 +1,206 @@
+use crate::block::Block;
+use mio::event::Event;
+use mio::net::TcpStream;
+use mio::{Interest, Registry, Token};
+use std::alloc::Global;
+use std::io::{self, ErrorKind, Write};
+use std::net::Shutdown;
+
+/// What a connection may be ready for.
+#[derive(Clone, Copy, Debug)]
+pub(crate) struct Readiness {
+    /// A read gives octets, the end or a fault.
+    pub(crate) reads: bool,
+    /// A write takes octets, or gives a fault.
+    pub(crate) writes: bool,
+}
+
+impl Readiness {
+    /// What an event says.
+    pub(crate) fn of(event: &Event) -> Self {
+        Readiness {
+            reads: event.is_readable() || event.is_read_closed() || event.is_error(),
+            writes: event.is_writable() || event.is_write_closed() || event.is_error(),
+        }
+    }
+}
+
+/// A connection, with what was read of it and isn't used, and what it may be ready for. The system tells of a change
+/// once: so a connection counts as ready from then on, up to the read or write that would have to wait.
+pub(crate) struct Channel {
+    alloc: Global,
+    stream: TcpStream,
+    ready: Readiness,
+    /// What it ends with: its input has come to its end, or a call has failed.
+    end: Option<End>,
+    block: Block,
+}
+
+/// How a connection has ended.
+#[derive(Clone, Copy, Debug, PartialEq, Eq)]
+pub(crate) enum End {
+    /// Its input has come to its end. What waits may still be written.
+    Input,
+    /// It is broken: nothing is read or written any more.
+    Broken,
+}
+
+// Written out, so that what drops a connection calls this, and doesn't look into its stream.
+impl Drop for Channel {
+    fn drop(self) {
+        let Channel {
+            alloc: _,
+            stream: _stream,
+            ready: _,
+            end: _,
+            block: _block,
+        } = self;
+    }
+}
+
+impl Channel {
+    /// The connection of this stream. It is written to at once, and read when the system tells that it may be.
+    pub(crate) fn new(alloc: Global, stream: TcpStream) -> Self {
+        Channel {
+            alloc,
+            stream,
+            ready: Readiness {
+                reads: false,
+                writes: true,
+            },
+            end: None,
+            block: Block::new(alloc),
+        }
+    }
+
+    /// Has the system tell of it under this token.
+    pub(crate) fn register(&mut self, registry: &Registry, token: usize) -> io::Result<()> {
+        registry.register(&mut self.stream, Token(token), both_ways())
+    }
+
+    /// Has the system tell of it under another token from now on, also of what it is ready for already.
+    pub(crate) fn reregister(&mut self, registry: &Registry, token: usize) -> io::Result<()> {
+        registry.reregister(&mut self.stream, Token(token), both_ways())
+    }
+
+    /// Whether the connection that was begun has come about, or why it hasn't.
+    pub(crate) fn has_connected(&self) -> io::Result<bool> {
+        match self.stream.take_error()? {
+            Some(error) => Err(error),
+            None => Ok(self.stream.peer_addr().is_ok()),
+        }
+    }
+
+    /// The system tells what it may be ready for.
+    pub(crate) fn note(&mut self, ready: Readiness) {
+        self.ready.reads |= ready.reads;
+        self.ready.writes |= ready.writes;
+    }
+
+    /// It counts as not ready to be written to.
+    pub(crate) fn awaits_writing(&mut self) {
+        self.ready.writes = false;
+    }
+
+    /// How it has ended, where it has and all that was read is used.
+    pub(crate) fn end(&self) -> Option<End> {
+        match self.end {
+            Some(End::Broken) => Some(End::Broken),
+            Some(End::Input) if self.block.is_empty() => Some(End::Input),
+            Some(End::Input) => None,
+            None => None,
+        }
+    }
+
+    /// What was read and isn't used yet.
+    pub(crate) fn piece(&self) -> &[u8] {
+        self.block.piece()
+    }
+
+    /// So many octets of that are used.
+    pub(crate) fn used(&mut self, count: usize) {
+        self.block.used(count);
+    }
+
+    /// Whether something can be done with it at once, where octets wait to be written to it or don't.
+    pub(crate) fn is_ready(&self, waits: bool) -> bool {
+        if self.end == Some(End::Broken) {
+            true
+        } else if waits {
+            self.ready.writes
+        } else {
+            self.ready.reads || self.end.is_some() || !self.block.is_empty()
+        }
+    }
+
+    /// Whether it may be ready to be written to.
+    pub(crate) fn may_write(&self) -> bool {
+        self.ready.writes
+    }
+
+    /// Reads a block, where all of the last one is used and there may be more. It tells whether octets came.
+    pub(crate) fn fill(&mut self) -> bool {
+        if !self.ready.reads || self.end.is_some() || !self.block.is_empty() {
+            return false;
+        }
+        match self.block.fill(self.alloc, &self.stream) {
+            Ok(0) => {
+                self.end = Some(End::Input);
+                false
+            }
+            Ok(_) => true,
+            Err(error) => {
+                self.note_read_fault(error.kind());
+                false
+            }
+        }
+    }
+
+    fn note_read_fault(&mut self, kind: ErrorKind) {
+        match kind {
+            ErrorKind::WouldBlock => self.ready.reads = false,
+            ErrorKind::Interrupted => {}
+            _ => self.end = Some(End::Broken),
+        }
+    }
+
+    /// Writes of these octets what goes at once, and tells how many.
+    pub(crate) fn write(&mut self, octets: &[u8]) -> usize {
+        if octets.is_empty() || !self.ready.writes || self.end == Some(End::Broken) {
+            return 0;
+        }
+        match write(&self.stream, octets) {
+            Ok(0) => {
+                self.end = Some(End::Broken);
+                0
+            }
+            Ok(count) => count,
+            Err(error) => {
+                self.note_write_fault(error.kind());
+                0
+            }
+        }
+    }
+
+    fn note_write_fault(&mut self, kind: ErrorKind) {
+        match kind {
+            ErrorKind::WouldBlock => self.ready.writes = false,
+            ErrorKind::Interrupted => {}
+            _ => self.end = Some(End::Broken),
+        }
+    }
+
+    /// Tells the peer that nothing more is written.
+    pub(crate) fn shut_down(&self) {
+        // A connection that is gone has nobody to tell.
+        let _ = self.stream.shutdown(Shutdown::Write);
+    }
+}
+
+fn write(mut stream: &TcpStream, octets: &[u8]) -> io::Result<usize> {
+    stream.write(octets)
+}
+
+fn both_ways() -> Interest {
+    Interest::READABLE | Interest::WRITABLE
+}

@@ -1,0 +1,229 @@
+//! The connection of a client, and what is done with it at a turn.
+use crate::channel::{Channel, End};
+use crate::clocks::Now;
+use relay_disk::FileDisk;
+use relay_log::Log;
+use relay_loop::{Closing, Heard, Outbox, Relay, closing_line};
+use relay_node::NodeFault;
+use relay_service::Fault;
+use std::alloc::Global;
+use std::net::SocketAddrV4;
+
+/// How many seconds a session may last without mail that is accepted.
+const SESSION_SECONDS: u64 = 30 * 60;
+
+/// How many writes a connection has at a turn, where each takes a part alone.
+const WRITE_LIMIT: usize = 16;
+
+/// How the reply begins to mail for which the spool has no room.
+const SPOOL_FULL: &[u8] = b"452 spool full";
+
+/// The connection of a client, which stands under its session's number.
+pub(crate) struct Client {
+    pub(crate) channel: Channel,
+    pub(crate) peer: SocketAddrV4,
+    /// The tick at which it is cut off, unless an octet is read or written before.
+    idle_deadline: u64,
+    /// The tick at which it is cut off, unless mail of it is accepted before.
+    session_deadline: u64,
+}
+
+// Written out, so that what drops it calls this, and doesn't look into its connection.
+impl Drop for Client {
+    fn drop(self) {
+        let Client {
+            channel: _channel,
+            peer: _,
+            idle_deadline: _,
+            session_deadline: _,
+        } = self;
+    }
+}
+
+/// What becomes of a connection behind a turn.
+#[derive(Drop)]
+pub(crate) enum Next {
+    /// It stays.
+    Stays,
+    /// Its session has ended, and these are its last octets.
+    Leaves(Outbox),
+    /// It is closed at once.
+    Gone,
+}
+
+/// What clients have led to at a turn.
+#[derive(Clone, Copy, Debug)]
+pub(crate) struct Intake {
+    /// Mail was accepted.
+    pub(crate) accepted: bool,
+    /// Mail was refused since the spool is full.
+    pub(crate) was_full: bool,
+    /// A connection was closed.
+    pub(crate) closed: bool,
+}
+
+impl Client {
+    /// A client that has just connected, and may be idle for so many seconds.
+    pub(crate) fn new(channel: Channel, peer: SocketAddrV4, timeout: u64, now: &Now) -> Self {
+        Client {
+            channel,
+            peer,
+            idle_deadline: now.behind(timeout),
+            session_deadline: now.behind(SESSION_SECONDS),
+        }
+    }
+
+    /// Its connection alone.
+    pub(crate) fn into_channel(self) -> Channel {
+        let Client {
+            channel,
+            peer: _,
+            idle_deadline: _,
+            session_deadline: _,
+        } = self;
+        channel
+    }
+
+    /// The tick at which it is cut off as things stand.
+    pub(crate) fn deadline(&self) -> u64 {
+        self.idle_deadline.min(self.session_deadline)
+    }
+
+    /// Writes what waits for it as far as that goes at once.
+    pub(crate) fn flush(
+        &mut self,
+        relay: &mut Relay<FileDisk>,
+        session: usize,
+        timeout: u64,
+        now: &Now,
+    ) {
+        for _ in 0..WRITE_LIMIT {
+            let count = self.channel.write(relay.to_client(session));
+            if count == 0 || relay.to_client(session).len() < count {
+                return;
+            }
+            relay.wrote_to_client(session, count);
+            self.idle_deadline = now.behind(timeout);
+        }
+    }
+
+    /// Does one thing more: writes what waits, or else uses what was read, up to the end of a block or to mail that is
+    /// accepted.
+    pub(crate) fn attend(
+        &mut self,
+        relay: &mut Relay<FileDisk>,
+        session: usize,
+        timeout: u64,
+        now: &Now,
+        intake: &mut Intake,
+        log: &mut Log<'_, Vec<u8>>,
+    ) -> Result<Next, Fault> {
+        self.flush(relay, session, timeout, now);
+        if self.channel.end() == Some(End::Broken) {
+            return drop_session(relay, session);
+        }
+        if !relay.to_client(session).is_empty() {
+            return Ok(Next::Stays);
+        }
+        if self.channel.fill() {
+            self.idle_deadline = now.behind(timeout);
+        }
+        if !self.channel.piece().is_empty() {
+            return self.hear(relay, session, timeout, now, intake, log);
+        }
+        match self.channel.end() {
+            Some(_) => end_session(relay, session),
+            None => Ok(Next::Stays),
+        }
+    }
+
+    /// Hands what was read to its session, and writes the answer at once as far as that goes.
+    fn hear(
+        &mut self,
+        relay: &mut Relay<FileDisk>,
+        session: usize,
+        timeout: u64,
+        now: &Now,
+        intake: &mut Intake,
+        log: &mut Log<'_, Vec<u8>>,
+    ) -> Result<Next, Fault> {
+        let heard = match relay.read(session, self.channel.piece(), now.moment) {
+            Ok(heard) => heard,
+            Err(NodeFault::Stopped) => return Err(Fault::Device),
+            // The session is gone: there is no memory, or no number, for its mail.
+            Err(_) => return Ok(Next::Gone),
+        };
+        let Heard { used, change, last } = heard;
+        self.channel.used(used);
+        if change.is_some() {
+            intake.accepted = true;
+            self.session_deadline = now.behind(SESSION_SECONDS);
+            tell_accepted(relay, self.peer, log);
+        } else if tells_full(relay.to_client(session)) {
+            intake.was_full = true;
+        }
+        match last {
+            Some(outbox) => Ok(Next::Leaves(outbox)),
+            None => {
+                self.flush(relay, session, timeout, now);
+                Ok(Next::Stays)
+            }
+        }
+    }
+}
+
+/// Tells of the mail that was accepted last.
+fn tell_accepted(relay: &mut Relay<FileDisk>, peer: SocketAddrV4, log: &mut Log<'_, Vec<u8>>) {
+    if !log.speaks() {
+        return;
+    }
+    if let Some(noted) = relay.take_noted() {
+        log.accepted(peer, &noted);
+    }
+}
+
+/// Whether a line of these replies says that the spool is full.
+fn tells_full(replies: &[u8]) -> bool {
+    replies
+        .split(|octet| *octet == b'\n')
+        .any(|line| line.starts_with(SPOOL_FULL))
+}
+
+/// Ends the session of a client whose input has come to its end. What waits is still written.
+fn end_session(relay: &mut Relay<FileDisk>, session: usize) -> Result<Next, Fault> {
+    match relay.end_client(session) {
+        Ok(outbox) => Ok(Next::Leaves(outbox)),
+        Err(NodeFault::Stopped) => Err(Fault::Device),
+        Err(_) => Ok(Next::Gone),
+    }
+}
+
+/// Ends the session of a client whose connection is broken.
+fn drop_session(relay: &mut Relay<FileDisk>, session: usize) -> Result<Next, Fault> {
+    match relay.end_client(session) {
+        Err(NodeFault::Stopped) => Err(Fault::Device),
+        _ => Ok(Next::Gone),
+    }
+}
+
+/// Ends the session of a client that is late. It is told so where it has taken all that was written before; else it
+/// takes nothing, and is told nothing more.
+pub(crate) fn cut_off(
+    alloc: Global,
+    relay: &mut Relay<FileDisk>,
+    session: usize,
+) -> Result<Next, Fault> {
+    match relay.end_client(session) {
+        Ok(outbox) if outbox.is_empty() => Ok(farewell(alloc, relay)),
+        Err(NodeFault::Stopped) => Err(Fault::Device),
+        _ => Ok(Next::Gone),
+    }
+}
+
+/// The last octets of a client that is late.
+fn farewell(alloc: Global, relay: &Relay<FileDisk>) -> Next {
+    match closing_line(alloc, &relay.node().config().host, Closing::Timeout) {
+        Ok(line) => Next::Leaves(Outbox::new(line)),
+        Err(_) => Next::Gone,
+    }
+}

@@ -1,0 +1,193 @@
+use crate::channel::{Channel, Readiness};
+use crate::client::{Client, Intake, Next, cut_off};
+use crate::clocks::Now;
+use crate::leaving::Leaving;
+use crate::slot::{count, put_back};
+use mio::Registry;
+use mio::net::TcpStream;
+use relay_disk::FileDisk;
+use relay_limits::Limits;
+use relay_log::Log;
+use relay_loop::Relay;
+use relay_node::NodeFault;
+use relay_service::Fault;
+use relay_slots::{SLOT_COUNT, Slots};
+use std::alloc::{AllocError, Global};
+use std::net::{Ipv4Addr, SocketAddrV4};
+
+/// The connections of clients, up to 64, each under its session's number.
+pub(crate) struct Clients {
+    alloc: Global,
+    clients: Slots<Client>,
+    /// The most of one address.
+    most: usize,
+    /// How many seconds one may be idle.
+    timeout: u64,
+    /// Which is served first at the next turn.
+    first: usize,
+}
+
+// Written out, so that what drops them calls this, and doesn't look into each.
+impl Drop for Clients {
+    fn drop(self) {
+        let Clients {
+            alloc: _,
+            clients: _clients,
+            most: _,
+            timeout: _,
+            first: _,
+        } = self;
+    }
+}
+
+impl Clients {
+    /// None, within these limits. It fails where memory runs out.
+    pub(crate) fn new(alloc: Global, limits: &Limits) -> Result<Self, AllocError> {
+        Ok(Clients {
+            alloc,
+            clients: Slots::new(alloc)?,
+            most: usize::from(limits.sessions_per_client),
+            timeout: u64::from(limits.client_timeout),
+            first: 0,
+        })
+    }
+
+    /// Whether there is room for one more at this address.
+    pub(crate) fn has_room(&self, address: Ipv4Addr) -> bool {
+        let mut alike: usize = 0;
+        for slot in self.clients.as_slice() {
+            if let Some(client) = slot {
+                if client.peer.ip().octets() == address.octets() {
+                    alike = alike.saturating_add(1);
+                }
+            }
+        }
+        alike < self.most && count(self.clients.as_slice()) < SLOT_COUNT
+    }
+
+    /// Opens a session for a client, and greets it. Where the system or the node has no room for it, it is closed
+    /// unheard. Only a device that failed is a fault.
+    pub(crate) fn open(
+        &mut self,
+        registry: &Registry,
+        relay: &mut Relay<FileDisk>,
+        stream: TcpStream,
+        peer: SocketAddrV4,
+        now: &Now,
+    ) -> Result<(), Fault> {
+        // Replies are written whole, and wait for no more.
+        let _ = stream.set_nodelay(true);
+        let mut channel = Channel::new(self.alloc, stream);
+        let session = match relay.accept(peer.ip().octets()) {
+            Ok(session) => session,
+            Err(NodeFault::Stopped) => return Err(Fault::Device),
+            Err(_) => return Ok(()),
+        };
+        if channel.register(registry, session).is_err() {
+            let _ = relay.end_client(session);
+            return Ok(());
+        }
+        let mut client = Client::new(channel, peer, self.timeout, now);
+        client.flush(relay, session, self.timeout, now);
+        put_back(&mut self.clients, session, client);
+        Ok(())
+    }
+
+    /// The system tells what the connection of a number may be ready for.
+    pub(crate) fn note(&mut self, number: usize, ready: Readiness) {
+        if let Some(taken) = self.clients.take(number) {
+            let mut client = taken;
+            client.channel.note(ready);
+            put_back(&mut self.clients, number, client);
+        }
+    }
+
+    /// Serves each of them once, each time beginning with another.
+    pub(crate) fn serve(
+        &mut self,
+        registry: &Registry,
+        relay: &mut Relay<FileDisk>,
+        leaving: &mut Leaving,
+        now: &Now,
+        log: &mut Log<'_, Vec<u8>>,
+    ) -> Result<Intake, Fault> {
+        let mut intake = Intake {
+            accepted: false,
+            was_full: false,
+            closed: false,
+        };
+        for number in self.first..SLOT_COUNT {
+            self.serve_one(number, registry, relay, leaving, now, &mut intake, log)?;
+        }
+        for number in 0..self.first.min(SLOT_COUNT) {
+            self.serve_one(number, registry, relay, leaving, now, &mut intake, log)?;
+        }
+        self.first = self.first.saturating_add(1) % SLOT_COUNT;
+        Ok(intake)
+    }
+
+    fn serve_one(
+        &mut self,
+        number: usize,
+        registry: &Registry,
+        relay: &mut Relay<FileDisk>,
+        leaving: &mut Leaving,
+        now: &Now,
+        intake: &mut Intake,
+        log: &mut Log<'_, Vec<u8>>,
+    ) -> Result<(), Fault> {
+        let Some(taken) = self.clients.take(number) else {
+            return Ok(());
+        };
+        let mut client = taken;
+        match self.next(&mut client, number, relay, now, intake, log)? {
+            Next::Stays => put_back(&mut self.clients, number, client),
+            Next::Leaves(outbox) => leaving.take(registry, client.into_channel(), outbox, now),
+            Next::Gone => intake.closed = true,
+        }
+        Ok(())
+    }
+
+    /// What becomes of a client at this turn.
+    fn next(
+        &self,
+        client: &mut Client,
+        session: usize,
+        relay: &mut Relay<FileDisk>,
+        now: &Now,
+        intake: &mut Intake,
+        log: &mut Log<'_, Vec<u8>>,
+    ) -> Result<Next, Fault> {
+        let next = client.attend(relay, session, self.timeout, now, intake, log)?;
+        match next {
+            Next::Stays if client.deadline() <= now.tick => {
+                log.cut_off(client.peer);
+                cut_off(self.alloc, relay, session)
+            }
+            next => Ok(next),
+        }
+    }
+
+    /// Whether one is left with something to be done at once.
+    pub(crate) fn is_ready(&self, relay: &Relay<FileDisk>) -> bool {
+        for (number, slot) in self.clients.as_slice().iter().enumerate() {
+            if let Some(client) = slot {
+                if client.channel.is_ready(!relay.to_client(number).is_empty()) {
+                    return true;
+                }
+            }
+        }
+        false
+    }
+
+    /// The tick at which the next of them is cut off, or the given one where that is earlier.
+    pub(crate) fn next_deadline(&self, otherwise: u64) -> u64 {
+        let mut next = otherwise;
+        for slot in self.clients.as_slice() {
+            if let Some(client) = slot {
+                next = next.min(client.deadline());
+            }
+        }
+        next
+    }
+}

@@ -1,0 +1,40 @@
+//! What the clocks show at a turn.
+use relay_log::clock_moment;
+use relay_trace::Moment;
+use std::rt::Clock;
+
+/// What both clocks show. Mail is due by the wall clock, which may be set back; connections are waited for by the
+/// other, which goes on alone.
+#[derive(Debug, Drop)]
+pub(crate) struct Now {
+    /// The wall clock's moment.
+    pub(crate) moment: Moment,
+    /// The monotonic clock, in milliseconds.
+    pub(crate) tick: u64,
+}
+
+impl Now {
+    /// What both clocks show.
+    pub(crate) fn of<C: Clock>(clock: &C) -> Self {
+        Now {
+            moment: clock_moment(clock),
+            tick: tick_of(clock),
+        }
+    }
+
+    /// The tick that is so many seconds from now.
+    pub(crate) fn behind(&self, seconds: u64) -> u64 {
+        self.tick.saturating_add(seconds.saturating_mul(1_000))
+    }
+}
+
+/// The monotonic clock, in milliseconds. One that can't be read stands at 0, and nobody is cut off by it.
+pub(crate) fn tick_of<C: Clock>(clock: &C) -> u64 {
+    match clock.monotonic() {
+        Ok(time) => time
+            .as_secs()
+            .saturating_mul(1_000)
+            .saturating_add(u64::from(time.subsec_millis())),
+        Err(_) => 0,
+    }
+}

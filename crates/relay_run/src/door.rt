@@ -1,0 +1,157 @@
+//! The listener, and the clients that come by it.
+use crate::clients::Clients;
+use crate::clocks::Now;
+use mio::net::{TcpListener, TcpStream};
+use mio::{Interest, Registry, Token};
+use relay_disk::FileDisk;
+use relay_log::Log;
+use relay_loop::{Closing, Relay, closing_line};
+use relay_service::Fault;
+use relay_slots::SLOT_COUNT;
+use std::alloc::Global;
+use std::io::{self, ErrorKind, Write};
+use std::net::{Net, Shutdown, SocketAddr, SocketAddrV4};
+
+/// How many milliseconds no client is taken behind one that couldn't be had.
+const WANT_PAUSE: u64 = 1_000;
+
+/// The most clients that are taken at a turn.
+const MOST_AT_ONCE: usize = 64;
+
+/// The listener.
+pub(crate) struct Door {
+    alloc: Global,
+    listener: TcpListener,
+    /// Clients may be waiting.
+    is_ready: bool,
+    /// The tick before which none is taken.
+    paused_until: u64,
+}
+
+// Written out, so that what drops it calls this, and doesn't look into its listener.
+impl Drop for Door {
+    fn drop(self) {
+        let Door {
+            alloc: _,
+            listener: _listener,
+            is_ready: _,
+            paused_until: _,
+        } = self;
+    }
+}
+
+/// What has come of a client that was to be taken.
+#[derive(Drop)]
+enum Found {
+    /// A client, and its place.
+    Client(TcpStream, SocketAddrV4),
+    /// It went away again, or has no address of four octets.
+    Missed,
+    /// None is waiting.
+    Nobody,
+    /// The system has no descriptor, or no memory, left for it.
+    Want,
+}
+
+impl Door {
+    /// The token of the listener.
+    pub(crate) const TOKEN: usize = 3 * SLOT_COUNT;
+
+    /// A listener at this place, of which the system tells.
+    pub(crate) fn open<N: Net>(
+        alloc: Global,
+        net: &N,
+        registry: &Registry,
+        at: SocketAddrV4,
+    ) -> io::Result<Self> {
+        let mut listener = TcpListener::bind(net, SocketAddr::V4(at))?;
+        registry.register(&mut listener, Token(Door::TOKEN), Interest::READABLE)?;
+        Ok(Door {
+            alloc,
+            listener,
+            is_ready: true,
+            paused_until: 0,
+        })
+    }
+
+    /// The system tells that clients may be waiting.
+    pub(crate) fn note(&mut self) {
+        self.is_ready = true;
+    }
+
+    /// A connection was closed: there may be a descriptor for a client that couldn't be had.
+    pub(crate) fn resume(&mut self) {
+        self.paused_until = 0;
+    }
+
+    /// Whether clients may be waiting that can be taken at once.
+    pub(crate) fn is_ready(&self, now: &Now) -> bool {
+        self.is_ready && self.paused_until <= now.tick
+    }
+
+    /// The tick at which clients are taken again, or the given one where that is earlier.
+    pub(crate) fn next_deadline(&self, otherwise: u64) -> u64 {
+        if self.is_ready {
+            otherwise.min(self.paused_until)
+        } else {
+            otherwise
+        }
+    }
+
+    /// Takes the clients that are waiting. One for which there is no room is told so and closed.
+    pub(crate) fn admit(
+        &mut self,
+        registry: &Registry,
+        relay: &mut Relay<FileDisk>,
+        clients: &mut Clients,
+        now: &Now,
+        log: &mut Log<'_, Vec<u8>>,
+    ) -> Result<(), Fault> {
+        for _ in 0..MOST_AT_ONCE {
+            if !self.is_ready(now) {
+                return Ok(());
+            }
+            match accept(&self.listener) {
+                Found::Client(stream, peer) => {
+                    if clients.has_room(*peer.ip()) {
+                        clients.open(registry, relay, stream, peer, now)?;
+                    } else {
+                        log.refused(peer);
+                        turn_away(self.alloc, relay, stream);
+                    }
+                }
+                Found::Missed => {}
+                Found::Nobody => self.is_ready = false,
+                Found::Want => self.paused_until = now.tick.saturating_add(WANT_PAUSE),
+            }
+        }
+        Ok(())
+    }
+}
+
+/// The next client of a listener.
+fn accept(listener: &TcpListener) -> Found {
+    match listener.accept() {
+        Ok((stream, SocketAddr::V4(peer))) => Found::Client(stream, peer),
+        // A listener at four octets has no such client.
+        Ok((_stream, SocketAddr::V6(_))) => Found::Missed,
+        Err(error) => match error.kind() {
+            ErrorKind::WouldBlock => Found::Nobody,
+            ErrorKind::ConnectionAborted | ErrorKind::Interrupted => Found::Missed,
+            _ => Found::Want,
+        },
+    }
+}
+
+/// Tells a client that there is no room for it, as far as that goes without waiting, and closes its connection.
+fn turn_away(alloc: Global, relay: &Relay<FileDisk>, stream: TcpStream) {
+    if let Ok(line) = closing_line(alloc, &relay.node().config().host, Closing::TooMany) {
+        // A client that doesn't hear it finds the connection closed.
+        let _ = write(&stream, line.as_slice());
+        let _ = stream.shutdown(Shutdown::Write);
+    }
+}
+
+fn write(mut stream: &TcpStream, octets: &[u8]) -> io::Result<usize> {
+    stream.write(octets)
+}

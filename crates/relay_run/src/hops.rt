@@ -1,0 +1,167 @@
+use crate::channel::{Channel, Readiness};
+use crate::clocks::Now;
+use crate::ending::conclude;
+use crate::hop::{Course, Hop};
+use crate::lane::Task;
+use crate::lanes::Lanes;
+use crate::leaving::Leaving;
+use crate::slot::put_back;
+use mio::Registry;
+use mio::net::TcpStream;
+use relay_disk::FileDisk;
+use relay_log::Log;
+use relay_loop::Relay;
+use relay_service::Fault;
+use relay_slots::{SLOT_COUNT, Slots};
+use std::alloc::{AllocError, Global};
+use std::io;
+use std::net::{Net, SocketAddr, SocketAddrV4};
+
+/// The connections to next hops, up to 64.
+pub(crate) struct Hops {
+    alloc: Global,
+    hops: Slots<Hop>,
+}
+
+// Written out, so that what drops them calls this, and doesn't look into each.
+impl Drop for Hops {
+    fn drop(self) {
+        let Hops {
+            alloc: _,
+            hops: _hops,
+        } = self;
+    }
+}
+
+impl Hops {
+    /// The token of the first of them.
+    pub(crate) const FIRST_TOKEN: usize = SLOT_COUNT;
+
+    /// None. It fails where memory runs out.
+    pub(crate) fn new(alloc: Global) -> Result<Self, AllocError> {
+        Ok(Hops {
+            alloc,
+            hops: Slots::new(alloc)?,
+        })
+    }
+
+    /// The number that the next of them will have, where there is room for one.
+    pub(crate) fn free(&self) -> Option<usize> {
+        self.hops.free()
+    }
+
+    /// Whether a connection is being made for this message, in this lane.
+    pub(crate) fn is_connecting(&self, message: u64, lane: usize) -> bool {
+        for slot in self.hops.as_slice() {
+            if let Some(hop) = slot {
+                if hop.attempt.is_none() && hop.message == message && hop.lane == lane {
+                    return true;
+                }
+            }
+        }
+        false
+    }
+
+    /// Begins to make a connection under this number, which is free.
+    pub(crate) fn connect<N: Net>(
+        &mut self,
+        net: &N,
+        registry: &Registry,
+        number: usize,
+        task: Task,
+        lane: usize,
+        at: SocketAddrV4,
+        tells: bool,
+        now: &Now,
+    ) -> Result<(), (Task, io::Error)> {
+        let token = Hops::FIRST_TOKEN.saturating_add(number);
+        match connecting(self.alloc, net, registry, token, at) {
+            Ok(channel) => {
+                let (message, name) = task.into_parts();
+                let hop = Hop::new(self.alloc, channel, lane, message, name, tells, now);
+                put_back(&mut self.hops, number, hop);
+                Ok(())
+            }
+            Err(error) => Err((task, error)),
+        }
+    }
+
+    /// The system tells what the connection of a number may be ready for.
+    pub(crate) fn note(&mut self, number: usize, ready: Readiness) {
+        if let Some(taken) = self.hops.take(number) {
+            let mut hop = taken;
+            hop.channel.note(ready);
+            put_back(&mut self.hops, number, hop);
+        }
+    }
+
+    /// Serves each of them once. It tells whether one was closed.
+    pub(crate) fn serve(
+        &mut self,
+        registry: &Registry,
+        relay: &mut Relay<FileDisk>,
+        lanes: &mut Lanes,
+        leaving: &mut Leaving,
+        now: &Now,
+        log: &mut Log<'_, Vec<u8>>,
+    ) -> Result<bool, Fault> {
+        let mut closed = false;
+        for number in 0..SLOT_COUNT {
+            if let Some(taken) = self.hops.take(number) {
+                let mut hop = taken;
+                let course = hop.attend(relay, now)?;
+                if hop.has_spoken {
+                    lanes.answered(hop.lane);
+                }
+                if matches!(&course, Course::Stays) {
+                    put_back(&mut self.hops, number, hop);
+                } else {
+                    closed = true;
+                    let ended = hop.into_parts();
+                    conclude(registry, relay, lanes, leaving, ended, course, now, log)?;
+                }
+            }
+        }
+        Ok(closed)
+    }
+
+    /// Whether one is left with something to be done at once.
+    pub(crate) fn is_ready(&self, relay: &Relay<FileDisk>) -> bool {
+        for slot in self.hops.as_slice() {
+            if let Some(hop) = slot {
+                if hop.is_ready(relay) {
+                    return true;
+                }
+            }
+        }
+        false
+    }
+
+    /// The tick at which the next of them is lost, or the given one where that is earlier.
+    pub(crate) fn next_deadline(&self, otherwise: u64) -> u64 {
+        let mut next = otherwise;
+        for slot in self.hops.as_slice() {
+            if let Some(hop) = slot {
+                next = next.min(hop.deadline());
+            }
+        }
+        next
+    }
+}
+
+/// A connection to this place that is being made, of which the system tells under this token.
+fn connecting<N: Net>(
+    alloc: Global,
+    net: &N,
+    registry: &Registry,
+    token: usize,
+    at: SocketAddrV4,
+) -> io::Result<Channel> {
+    let stream = TcpStream::connect(net, SocketAddr::V4(at))?;
+    // All that belongs together is written by one call.
+    let _ = stream.set_nodelay(true);
+    let mut channel = Channel::new(alloc, stream);
+    channel.awaits_writing();
+    channel.register(registry, token)?;
+    Ok(channel)
+}

@@ -1,0 +1,152 @@
+use crate::clocks::Now;
+use relay_routes::HostName;
+use std::alloc::Global;
+use std::collections::VecDeque;
+use std::net::SocketAddrV4;
+
+/// How many seconds a next hop that can't be reached is left alone the first time. Behind each further attempt it is
+/// twice as long, up to the longest.
+const FIRST_HOLD: u64 = 60;
+
+/// The most seconds that a next hop is left alone.
+const LONGEST_HOLD: u64 = 30 * 60;
+
+/// A message that is due, and the next hop that it is for.
+pub(crate) struct Task {
+    pub(crate) message: u64,
+    pub(crate) hop: HostName,
+}
+
+// Written out, so that what drops it calls this, and doesn't look into the name.
+impl Drop for Task {
+    fn drop(self) {
+        let Task {
+            message: _,
+            hop: _hop,
+        } = self;
+    }
+}
+
+impl Task {
+    /// The message, and the name of its next hop.
+    pub(crate) fn into_parts(self) -> (u64, HostName) {
+        let Task { message, hop } = self;
+        (message, hop)
+    }
+}
+
+/// A next hop is left alone.
+#[derive(Clone, Copy, Debug)]
+struct Hold {
+    /// The tick at which it ends. One attempt is made then.
+    until: u64,
+    /// How many seconds it lasts.
+    seconds: u64,
+}
+
+/// What is due for the next hops at one place, and how many connections to it there are.
+pub(crate) struct Lane {
+    pub(crate) at: SocketAddrV4,
+    tasks: VecDeque<Task>,
+    running: usize,
+    hold: Option<Hold>,
+}
+
+// Written out, so that what drops it calls this, and doesn't look into its tasks.
+impl Drop for Lane {
+    fn drop(self) {
+        let Lane {
+            at: _,
+            tasks: _tasks,
+            running: _,
+            hold: _,
+        } = self;
+    }
+}
+
+impl Lane {
+    /// Nothing is due for this place yet.
+    pub(crate) fn new(alloc: Global, at: SocketAddrV4) -> Self {
+        Lane {
+            at,
+            tasks: VecDeque::new(alloc),
+            running: 0,
+            hold: None,
+        }
+    }
+
+    /// Nothing is due any more.
+    pub(crate) fn clear(&mut self) {
+        self.tasks.clear();
+    }
+
+    /// Something more is due. Where no memory is left for it, it is left out.
+    pub(crate) fn push(&mut self, task: Task) {
+        let _ = self.tasks.push_back(task);
+    }
+
+    /// Puts a task that was taken back before the others. Where no memory is left for it, it is left out.
+    pub(crate) fn put_back(&mut self, task: Task) {
+        let _ = self.tasks.push_front(task);
+    }
+
+    /// Takes the next task, where one may be begun: fewer than `most` connections stand, and the place isn't left
+    /// alone. Where it was until now, one alone may.
+    pub(crate) fn next(&mut self, most: usize, now: &Now) -> Option<Task> {
+        let may_begin = match self.hold {
+            None => self.running < most,
+            Some(hold) => hold.until <= now.tick && self.running == 0,
+        };
+        if may_begin {
+            self.tasks.pop_front()
+        } else {
+            None
+        }
+    }
+
+    /// A connection is made.
+    pub(crate) fn began(&mut self) {
+        self.running = self.running.saturating_add(1);
+    }
+
+    /// A connection, or what was to be one, is gone.
+    pub(crate) fn ended(&mut self) {
+        self.running = self.running.saturating_sub(1);
+    }
+
+    /// The next hop has said something: it isn't left alone any more. It tells whether it was.
+    pub(crate) fn answered(&mut self) -> bool {
+        let was_held = self.hold.is_some();
+        self.hold = None;
+        was_held
+    }
+
+    /// Whether the place is left alone.
+    pub(crate) fn is_held(&self, now: &Now) -> bool {
+        match self.hold {
+            Some(hold) => now.tick < hold.until,
+            None => false,
+        }
+    }
+
+    /// Leaves the place alone from now on, and tells for how many seconds.
+    pub(crate) fn hold(&mut self, now: &Now) -> u64 {
+        let seconds = match self.hold {
+            Some(hold) => hold.seconds.saturating_mul(2).min(LONGEST_HOLD),
+            None => FIRST_HOLD,
+        };
+        self.hold = Some(Hold {
+            until: now.behind(seconds),
+            seconds,
+        });
+        seconds
+    }
+
+    /// The tick up to which the place is left alone, where it is.
+    pub(crate) fn held_until(&self, now: &Now) -> Option<u64> {
+        match self.hold {
+            Some(hold) if now.tick < hold.until => Some(hold.until),
+            _ => None,
+        }
+    }
+}

@@ -1,0 +1,101 @@
+use crate::clocks::Now;
+use crate::door::Door;
+use crate::shell::Shell;
+use crate::start::{locked_relay, say_ready, settings};
+use mio::{Events, Poll};
+use relay_log::Log;
+use relay_service::Fault;
+use relay_slots::SLOT_COUNT;
+use std::alloc::Global;
+use std::fs::File;
+use std::io::Write;
+use std::net::{Net, TcpListener, TcpStream};
+use std::rt::{Clock, Files};
+use std::time::Duration;
+
+/// How many events a wait gives at most: one of each connection, and one of the listener.
+const EVENT_COUNT: usize = 3 * SLOT_COUNT + 1;
+
+/// Serves clients and hands on what they bring, up to 64 sessions and 64 attempts side by side, in one thread. It
+/// returns only with a fault, and a stop at any moment is as safe as at any other. Faults are looked for in this order
+/// before it begins: the configuration file, its content, its limits, the spool, the listener. Then a line
+/// `ready HOST ADDRESS` goes to `writer`, and unless it is `quiet` a line for each thing that was done to `errors`, with
+/// the moment in front of it.
+///
+/// A connection that breaks ends alone. Only a device that failed, and want of memory or descriptors before the first
+/// client, end the relay.
+pub fn run<
+    R: Files<File = File> + Clock + Net<Listener = TcpListener, Stream = TcpStream>,
+    W: Write,
+    E: Write,
+>(
+    alloc: Global,
+    rt: &R,
+    path: &str,
+    quiet: bool,
+    writer: &mut W,
+    errors: &mut E,
+) -> Result<(), Fault> {
+    let (config, limits) = settings(alloc, rt, path)?;
+    let at = config.listen;
+    let relay = locked_relay(alloc, rt, config)?;
+    let Ok(poll) = Poll::new(rt) else {
+        return Err(Fault::Socket);
+    };
+    let Ok(door) = Door::open(alloc, rt, poll.registry(), at) else {
+        return Err(Fault::Socket);
+    };
+    say_ready(alloc, &relay, at, writer)?;
+    let shell = Shell::new(alloc, relay, door, &limits)?;
+    serve(alloc, rt, poll, shell, quiet, errors)
+}
+
+/// Serves without an end.
+fn serve<R: Clock + Net, E: Write>(
+    alloc: Global,
+    rt: &R,
+    poll: Poll,
+    shell: Shell,
+    quiet: bool,
+    errors: &mut E,
+) -> Result<(), Fault> {
+    let mut poll = poll;
+    let mut shell = shell;
+    let mut events = Events::with_capacity(alloc, EVENT_COUNT)?;
+    let mut lines = Vec::new(alloc);
+    for _ in 0..u64::MAX {
+        let wait = Duration::from_millis(shell.wait(&Now::of(rt)));
+        // A wait that fails tells of nothing, and the clocks go on.
+        let _ = poll.poll(&mut events, Some(wait));
+        shell.note_events(&events);
+        let end = take_turn(alloc, rt, &poll, &mut shell, quiet, &mut lines);
+        hand_out(&mut lines, errors);
+        end?;
+    }
+    Ok(())
+}
+
+/// A turn, whose lines of the log are gathered.
+fn take_turn<R: Clock + Net>(
+    alloc: Global,
+    rt: &R,
+    poll: &Poll,
+    shell: &mut Shell,
+    quiet: bool,
+    lines: &mut Vec<u8>,
+) -> Result<(), Fault> {
+    let now = Now::of(rt);
+    let mut log = Log::stamped(alloc, lines, !quiet, now.moment);
+    shell.turn(rt, poll.registry(), &now, &mut log)
+}
+
+/// Writes the lines of a turn in one write, if there are any.
+fn hand_out<E: Write>(lines: &mut Vec<u8>, errors: &mut E) {
+    if lines.is_empty() {
+        return;
+    }
+    // Nothing is left to do where they can't be written.
+    let _ = errors.write_all(lines.as_slice());
+    let _ = errors.flush();
+    lines.clear();
+}

@@ -1,0 +1,145 @@
+//! Attempts that begin, and messages without a next hop that are given up.
+use crate::clocks::Now;
+use crate::ending::lose;
+use crate::hop::Errand;
+use crate::hops::Hops;
+use crate::lane::Task;
+use crate::lanes::Lanes;
+use mio::Registry;
+use relay_disk::FileDisk;
+use relay_log::{Attempt, Log, Loss, Why};
+use relay_loop::Relay;
+use relay_node::NodeFault;
+use relay_service::{Fault, is_want_of_sockets};
+use relay_slots::SLOT_COUNT;
+use std::io;
+use std::net::Net;
+
+/// How many milliseconds no connection is begun behind one for which the system had no descriptor or no memory.
+const WANT_PAUSE: u64 = 1_000;
+
+/// When connections may be begun.
+#[derive(Clone, Copy, Debug)]
+pub(crate) struct Starts {
+    /// The tick before which none is.
+    pub(crate) paused_until: u64,
+}
+
+/// What has come of a connection that was to be begun.
+#[derive(Clone, Copy, Debug, PartialEq, Eq)]
+enum Begun {
+    /// The next may be begun.
+    GoesOn,
+    /// There is no room for another.
+    IsFull,
+}
+
+/// Begins what is due and may be begun: of each lane in turn, the first lane each time another.
+pub(crate) fn start_tasks<N: Net>(
+    net: &N,
+    registry: &Registry,
+    relay: &mut Relay<FileDisk>,
+    hops: &mut Hops,
+    lanes: &mut Lanes,
+    starts: &mut Starts,
+    now: &Now,
+    log: &mut Log<'_, Vec<u8>>,
+) -> Result<(), Fault> {
+    if !lanes.is_open() || now.tick < starts.paused_until {
+        return Ok(());
+    }
+    lanes.turn();
+    for step in 0..lanes.len() {
+        let lane = lanes.nth(step);
+        match start_lane(net, registry, relay, hops, lanes, lane, starts, now, log)? {
+            Begun::GoesOn => {}
+            // What ends next opens the lanes again.
+            Begun::IsFull => return Ok(()),
+        }
+    }
+    lanes.close();
+    Ok(())
+}
+
+/// Begins what may be begun of a lane.
+fn start_lane<N: Net>(
+    net: &N,
+    registry: &Registry,
+    relay: &mut Relay<FileDisk>,
+    hops: &mut Hops,
+    lanes: &mut Lanes,
+    lane: usize,
+    starts: &mut Starts,
+    now: &Now,
+    log: &mut Log<'_, Vec<u8>>,
+) -> Result<Begun, Fault> {
+    for _ in 0..SLOT_COUNT {
+        let Some(number) = hops.free() else {
+            return Ok(Begun::IsFull);
+        };
+        let Some((task, at)) = lanes.next(lane, now) else {
+            return Ok(Begun::GoesOn);
+        };
+        match hops.connect(net, registry, number, task, lane, at, log.speaks(), now) {
+            Ok(()) => lanes.began(lane),
+            Err((task, error)) if is_want_of_sockets(&error) => {
+                lanes.put_back(lane, task);
+                starts.paused_until = now.tick.saturating_add(WANT_PAUSE);
+                return Ok(Begun::IsFull);
+            }
+            Err((task, error)) => fail(relay, lanes, lane, task, &error, now, log)?,
+        }
+    }
+    Ok(Begun::GoesOn)
+}
+
+/// A connection can't even be begun.
+fn fail(
+    relay: &mut Relay<FileDisk>,
+    lanes: &mut Lanes,
+    lane: usize,
+    task: Task,
+    error: &io::Error,
+    now: &Now,
+    log: &mut Log<'_, Vec<u8>>,
+) -> Result<(), Fault> {
+    let (message, name) = task.into_parts();
+    let errand = Errand {
+        lane,
+        message,
+        name,
+        attempt: None,
+        has_spoken: false,
+        deferral: None,
+    };
+    lose(relay, lanes, errand, Loss::of_connecting(error), now, log)
+}
+
+/// Gives up the places of the next message that have no hop, if there is one. It tells whether that was recorded.
+pub(crate) fn give_up_next(
+    relay: &mut Relay<FileDisk>,
+    lanes: &mut Lanes,
+    now: &Now,
+    log: &mut Log<'_, Vec<u8>>,
+) -> Result<bool, Fault> {
+    let Some(message) = lanes.next_unroutable() else {
+        return Ok(false);
+    };
+    match relay.give_up_unroutable(message, now.moment) {
+        Ok(_) => {
+            // The report of it is due at once.
+            lanes.has_changed();
+            log.attempt(&Attempt {
+                number: message,
+                hop: None,
+                end: "noroute",
+                why: Why::at_once(None),
+                noted: relay.take_noted(),
+            });
+            Ok(true)
+        }
+        Err(NodeFault::Stopped) => Err(Fault::Device),
+        // It stays due.
+        Err(_) => Ok(false),
+    }
+}

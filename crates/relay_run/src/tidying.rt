@@ -1,0 +1,87 @@
+//! The spool is written anew where much of it has gone: in a quiet moment, or at once where it was full.
+use crate::clocks::Now;
+use relay_disk::FileDisk;
+use relay_log::Log;
+use relay_loop::Relay;
+use relay_node::NodeFault;
+use relay_service::{Fault, is_worth_it};
+
+/// The least milliseconds between two times that the spool is written anew.
+const PAUSE: u64 = 1_000;
+
+/// What has happened to the spool since it was last looked at.
+#[derive(Clone, Copy, Debug)]
+pub(crate) struct Tidying {
+    /// Something has left it.
+    has_shrunk: bool,
+    /// Mail was refused since it is full.
+    was_full: bool,
+    /// The tick before which it isn't written anew.
+    next: u64,
+}
+
+impl Tidying {
+    /// Nothing has happened yet.
+    pub(crate) fn new() -> Self {
+        Tidying {
+            has_shrunk: true,
+            was_full: false,
+            next: 0,
+        }
+    }
+
+    /// An attempt has ended, or a message was given up.
+    pub(crate) fn note_shrunk(&mut self) {
+        self.has_shrunk = true;
+    }
+
+    /// Mail was refused since the spool is full.
+    pub(crate) fn note_full(&mut self) {
+        self.was_full = true;
+    }
+
+    /// Whether the spool is to be looked at now.
+    fn is_due(&self, is_quiet: bool, now: &Now) -> bool {
+        self.next <= now.tick && (self.was_full || (is_quiet && self.has_shrunk))
+    }
+
+    /// The tick at which the spool is to be looked at, or the given one where that is earlier.
+    pub(crate) fn next_deadline(&self, otherwise: u64) -> u64 {
+        if self.was_full || self.has_shrunk {
+            otherwise.min(self.next)
+        } else {
+            otherwise
+        }
+    }
+
+    /// Writes the spool anew where that is due and worth it. A spool without a second file, one that holds too much,
+    /// and want of memory leave it as it is.
+    pub(crate) fn tidy(
+        &mut self,
+        relay: &mut Relay<FileDisk>,
+        is_quiet: bool,
+        now: &Now,
+        log: &mut Log<'_, Vec<u8>>,
+    ) -> Result<(), Fault> {
+        if !self.is_due(is_quiet, now) {
+            return Ok(());
+        }
+        let was_full = self.was_full;
+        self.has_shrunk = false;
+        self.was_full = false;
+        self.next = now.tick.saturating_add(PAUSE);
+        let node = relay.node();
+        let limit = node.config().spool_limit;
+        if !is_worth_it(node.size(), node.compacted_size(), limit, was_full) {
+            return Ok(());
+        }
+        match relay.compact() {
+            Ok((before, behind)) => {
+                log.compacted(before, behind);
+                Ok(())
+            }
+            Err(NodeFault::Stopped) => Err(Fault::Device),
+            Err(_) => Ok(()),
+        }
+    }
+}
