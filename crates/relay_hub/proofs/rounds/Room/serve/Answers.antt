@@ -37,4 +37,4 @@ serve_lanes-lanes-requires g c =
 
 pub returns-clause-out : goal.returns-clause-out
 returns-clause-out g c = λ served together.
-    come_out g.R.Read.remaining g.W.Write.contents c.args.shop.now.config.now c.args.shop.now.at c.args.links.items c.lanes_of-lanes.result.items c.serve_lanes-lanes.result.items c.take_apart-passes.result.0.items c.take_apart-passes.result.1.items served c.lanes_of-lanes.ensures.lanes c.serve_lanes-lanes.ensures.served c.take_apart-passes.ensures.apart together
+    come_out g.J.Opening.has_answered g.R.Read.remaining g.W.Write.contents c.args.shop.now.config.now c.args.shop.now.at c.args.links.items c.lanes_of-lanes.result.items c.serve_lanes-lanes.result.items c.take_apart-passes.result.0.items c.take_apart-passes.result.1.items served c.lanes_of-lanes.ensures.lanes c.serve_lanes-lanes.ensures.served c.take_apart-passes.ensures.apart together
