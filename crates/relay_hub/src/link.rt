@@ -35,8 +35,8 @@ struct Terms<'a> {
 
 /// Serves a client: writes the greeting, reads commands and mail from `reader`, and writes the replies to `writer`, all
 /// of them before the next read and behind each message. Each message is given to the hub, and only those that it queued
-/// add their receipts to the pass, in order. It ends at a close, and at the end of the input; and where the hub refuses
-/// to take a message, without another octet. Where memory runs out behind the hub's answer, the client isn't told of it,
+/// add their receipts to the pass, in order; the client is told what the hub answered. It ends at a close, and at the end
+/// of the input; and where the hub refuses to take a message, without another octet. Where memory runs out behind the hub's answer, the client isn't told of it,
 /// and the message stays queued. All mail counts as accepted at `now`.
 pub fn hub_link<D: Disk, J: Opening, T: Wait, R: Read, W: Write>(
     rt: &T,
