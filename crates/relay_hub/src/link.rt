@@ -276,6 +276,8 @@ fn ask<D: Disk, J: Opening, T: Wait>(
     ensures answered { IfOk result (J.has_answered terms.now.peer terms.now.at (offered offer.now)) }
     ensures refused { IfErr result IsRefusal }
 {
-    hub.admit(rt, pass, offer, terms.peer, terms.at)
-        .map_err(link_fault)
+    match hub.admit(rt, pass, offer, terms.peer, terms.at) {
+        Ok(answer) => Ok(answer),
+        Err(fault) => Err(link_fault(fault)),
+    }
 }

@@ -47,16 +47,16 @@ invariant_of-self g c = (
   answers_still g.D.Disk.honest g.D.Disk.words g.J.Opening.starts c.self.inside.node.config c.admit.new.self.config g.J.Opening.has_answered c.admit.ensures.rest.0 c.self.invariant.4,
 )
 
-pub returns-in-Queued-2-clause-answered : goal.returns-in-Queued-2-clause-answered
-returns-in-Queued-2-clause-answered g c =
+pub returns-in-Queued-clause-answered : goal.returns-in-Queued-clause-answered
+returns-in-Queued-clause-answered g c =
     c.self.invariant.4 c.args.peer c.args.now (offered c.args.offer.now) (Queued c.in-Queued.number)
     (gives g.D.Disk.honest g.D.Disk.words g.J.Opening.starts c.self.inside.queued.total c.self.inside.node.records c.admit.new.self.records c.self.invariant.0
     c.self.inside.node.config c.args.peer c.args.now (offered c.args.offer.now) c.in_ok-answer.answer (Queued c.in-Queued.number) c.in-Queued.is
     (λ dead. ok_is_no_err c.in_ok-answer.answer Stopped (sym c.in_ok-answer.was ∙ (c.admit.ensures.refused.stopped dead).0))
     (λ changes keeps. c.in_ok-answer.ensures.admits changes keeps))
 
-pub returns-in-Full-1-clause-answered : goal.returns-in-Full-1-clause-answered
-returns-in-Full-1-clause-answered g c =
+pub returns-in-Full-clause-answered : goal.returns-in-Full-clause-answered
+returns-in-Full-clause-answered g c =
     c.self.invariant.4 c.args.peer c.args.now (offered c.args.offer.now) Full
     (gives g.D.Disk.honest g.D.Disk.words g.J.Opening.starts c.self.inside.queued.total c.self.inside.node.records c.admit.new.self.records c.self.invariant.0
     c.self.inside.node.config c.args.peer c.args.now (offered c.args.offer.now) c.in_ok-answer.answer Full c.in-Full.is
