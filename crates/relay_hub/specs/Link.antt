@@ -6,7 +6,7 @@ use Rattle.relay_server.specs.declared.offer.Answer.{Answer}
 use Rattle.relay_server.specs.declared.offer.Answer.TheVariants.{Queued, Full}
 use Rattle.relay_server.specs.declared.session.Session.{Session}
 use Rattle.relay_server.specs.Dialogue.{Offered, Said, IsDialogue}
-use Rattle.relay_server.specs.Session.{IsClosed, Stands}
+use Rattle.relay_server.specs.Session.{Stands}
 use Rattle.relay_server.specs.Setup.{setup_of_config}
 use Rattle.relay_server.specs.State.{Closed}
 use Rattle.relay_links.specs.declared.fault.LinkFault.{LinkFault}

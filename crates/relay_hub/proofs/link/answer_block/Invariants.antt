@@ -1,5 +1,5 @@
 -- what was read so far is answered, but for the octets that wait
-use Rattle.std.proofs.Common.{◌≡◌, ◌≤◌, ◌-◌, ℕ, List, [], Option, drop, length}
+use Rattle.std.proofs.Common.{◌≤◌, ◌-◌, ℕ, List, [], Option, drop, length}
 use Rattle.relay_node.specs.Node.{HasHistory}
 use Rattle.relay_hub.specs.Link.{HasSaid, LinkStart}
 use Rattle.relay_hub.proofs.link.answer_block.Given as goal

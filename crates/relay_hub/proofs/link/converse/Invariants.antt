@@ -1,5 +1,5 @@
 -- so far the link has gone on with what was read and written
-use Rattle.std.proofs.Common.{◌≡◌, ◌<◌, [], length}
+use Rattle.std.proofs.Common.{◌<◌, [], length}
 use Rattle.relay_node.specs.Node.{HasHistory}
 use Rattle.relay_hub.specs.Link.{HasSaid, LinkStart}
 use Rattle.relay_hub.proofs.link.converse.Given as goal

@@ -1,5 +1,5 @@
 -- What is heard of octets that wait, and where they come to an offer.
-use Rattle.std.proofs.Common.{◌≡◌, ◌≢◌, ◌∙◌, ◌≤◌, false, true, [], drop, refl, sym, inl, arith}
+use Rattle.std.proofs.Common.{◌≡◌, ◌∙◌, drop, refl, sym, inl}
 use Rattle.relay_server.specs.declared.session.Next.TheVariants as next
 use Rattle.relay_server.specs.Session.{next_of}
 use Rattle.relay_server.specs.Setup.{setup_of_config}

@@ -1,5 +1,5 @@
 -- The open offer and the hub's answer to it.
-use Rattle.std.proofs.Common.{◌≡◌, [], ◌∷◌, rules, sym, refl}
+use Rattle.std.proofs.Common.{◌≡◌, [], ◌∷◌, rules}
 use Rattle.relay_server.specs.Session.{offered, open_offers}
 use Rattle.relay_server.specs.Setup.{setup_of_config}
 use Rattle.relay_server.proofs.Theorems.{open_may_be_stored}

@@ -1,5 +1,5 @@
 -- Links that were given lanes, served, and taken apart.
-use Rattle.std.proofs.Common.{◌≡◌, ◌≤◌, ◌∙◌, length, vec_len, vec_capacity, rules, sym, subst, arith}
+use Rattle.std.proofs.Common.{length, vec_len, vec_capacity, arith}
 use denote.Param.Send.{arg_sync, given_send, given_sync, param_send, param_sync}
 use Rattle.relay_hub.specs.Round.{MayBegin}
 use Rattle.relay_hub.proofs.LaneLemmas.{come_out, idle_of}
