@@ -14,7 +14,7 @@ use Rattle.relay_records.specs.declared.fault.NodeFault.TheVariants.{NoMemory, S
 use Rattle.relay_records.specs.Records.{Keeps, Kept}
 use Rattle.relay_node.specs.Admission.{Admits, CutsOffer, IsAdmitted}
 use Rattle.relay_node.specs.Node.{RefusesToHear}
-use Rattle.relay_hub.specs.Hub.{GrowsBy, HasGrown, HasList, with_accepts}
+use Rattle.relay_hub.specs.Hub.{Answers, Gives, GrowsBy, HasGrown, HasList, with_accepts}
 
 by_life : {P : Type 0} → (b : Bool) → (b ≡ true → P) → (b ≡ false → P) → P
 by_life true live stopped = live refl
@@ -52,6 +52,10 @@ module _ {D : Type 0} (honest : Type 0) (words : DiskWords D) where
     count = sym none;
     list = subst (λ (all : List Change). HasList honest words records all) (sym (append-nil changes)) (keeps_has_list records changes (keeps changes start));
   }
+
+  -- under the same configuration
+  pub answers_still : (starts : List Change → Type 0) (config new_config : Config) (has_answered : List ℕ → ℕ → Offered → Answer → Type 0) → new_config ≡ config → Answers honest words starts config has_answered → Answers honest words starts new_config has_answered
+  answers_still starts config new_config has_answered same answers = subst (λ (c : Config). Answers honest words starts c has_answered) (sym same) answers
 
   module _ (starts : List Change → Type 0) (added : ℕ) (old new : Kept D) (grown : HasGrown honest words starts added old) where
     pub grown_same : new ≡ old → HasGrown honest words starts added new
@@ -117,3 +121,16 @@ module _ {D : Type 0} (honest : Type 0) (words : DiskWords D) where
           → (fault ≡ Stopped → (changes : List Change) → Keeps honest words old changes → CutsOffer honest words config changes peer at offer old new)
           → HasGrown honest words starts added new
       grown_fault fault stopped refused cut = by_life old.spool.live (λ live. grown_refused fault live (refused live) cut) (λ dead. grown_same (stopped dead))
+
+      -- what was answered is what the node gives
+      pub gives : (answer given : Answer) → answer ≡ given → (old.spool.live ≡ false → ⊥)
+          → ((changes : List Change) → Keeps honest words old changes → Admits honest words config changes peer at offer old new answer)
+          → Gives honest words starts config peer at offer given
+      gives answer given is lives admits = record {
+        old = old;
+        new = new;
+        live = by_life old.spool.live (λ is. is) (λ dead. absurd (lives dead));
+        added = added;
+        grown = grown;
+        admits = λ changes keeps. subst (λ (a : Answer). Admits honest words config changes peer at offer old new a) is (admits changes keeps);
+      }

@@ -1,6 +1,8 @@
 -- Rows of lanes, one after another.
-use Rattle.std.proofs.Common.{◌≡◌, ℕ, List, [], ◌∷◌, ◌++◌, Option, Result, length, refl, sym, ap, ◌∙◌, subst, append_assoc, append-nil}
+use Rattle.std.proofs.Common.{◌≡◌, ℕ, List, [], ◌∷◌, ◌++◌, Option, Result, refl, sym, ap, ◌∙◌, subst, append_assoc, append-nil}
 use Rattle.relay_routes.specs.declared.config.Config.{Config}
+use Rattle.relay_server.specs.declared.offer.Answer.{Answer}
+use Rattle.relay_server.specs.Dialogue.{Offered}
 use Rattle.relay_links.specs.declared.fault.LinkFault.{LinkFault}
 use Rattle.relay_hub.specs.declared.receipt.Receipt.{Receipt}
 use Rattle.relay_hub.specs.declared.served.Link.{Link}
@@ -45,20 +47,20 @@ module _ {R W : Type 0} where
   receipts_are (pass ∷ passes) (rest ∷ rests) (one ∷ served) all =
       ap (λ (r : List Receipt). r ∷ receipts_of served) all.0.receipts ∙ ap (λ (l : List (List Receipt)). pass ∷ l) (receipts_are passes rests served all.1)
 
-module _ {R W : Type 0} (remaining : R → Option (List ℕ)) (contents : W → Option (List ℕ)) (config : Config) (at : ℕ) where
+module _ {R W : Type 0} (has_answered : List ℕ → ℕ → Offered → Answer → Type 0) (remaining : R → Option (List ℕ)) (contents : W → Option (List ℕ)) (config : Config) (at : ℕ) where
   -- the same link, told by other words
   moved : (peer peer' : List ℕ) (reader reader' : R) (writer writer' : W) (before before' : List Receipt) (last last' : R) (held held' : W) (receipts receipts' : List Receipt) (ended ended' : Option (Result (Unit {0}) LinkFault))
       → peer ≡ peer' → reader ≡ reader' → writer ≡ writer' → before ≡ before' → last ≡ last' → held ≡ held' → receipts ≡ receipts' → ended ≡ ended'
-      → EndsBy remaining contents config at peer reader writer before last held receipts ended → EndsBy remaining contents config at peer' reader' writer' before' last' held' receipts' ended'
+      → EndsBy has_answered remaining contents config at peer reader writer before last held receipts ended → EndsBy has_answered remaining contents config at peer' reader' writer' before' last' held' receipts' ended'
   moved peer peer' reader reader' writer writer' before before' last last' held held' receipts receipts' ended ended' a b c d e f g h ends =
-      subst (λ (x : List ℕ). EndsBy remaining contents config at x reader' writer' before' last' held' receipts' ended') a
-      (subst (λ (x : R). EndsBy remaining contents config at peer x writer' before' last' held' receipts' ended') b
-      (subst (λ (x : W). EndsBy remaining contents config at peer reader x before' last' held' receipts' ended') c
-      (subst (λ (x : List Receipt). EndsBy remaining contents config at peer reader writer x last' held' receipts' ended') d
-      (subst (λ (x : R). EndsBy remaining contents config at peer reader writer before x held' receipts' ended') e
-      (subst (λ (x : W). EndsBy remaining contents config at peer reader writer before last x receipts' ended') f
-      (subst (λ (x : List Receipt). EndsBy remaining contents config at peer reader writer before last held x ended') g
-      (subst (λ (x : Option (Result (Unit {0}) LinkFault)). EndsBy remaining contents config at peer reader writer before last held receipts x) h ends)))))))
+      subst (λ (x : List ℕ). EndsBy has_answered remaining contents config at x reader' writer' before' last' held' receipts' ended') a
+      (subst (λ (x : R). EndsBy has_answered remaining contents config at peer x writer' before' last' held' receipts' ended') b
+      (subst (λ (x : W). EndsBy has_answered remaining contents config at peer reader x before' last' held' receipts' ended') c
+      (subst (λ (x : List Receipt). EndsBy has_answered remaining contents config at peer reader writer x last' held' receipts' ended') d
+      (subst (λ (x : R). EndsBy has_answered remaining contents config at peer reader writer before x held' receipts' ended') e
+      (subst (λ (x : W). EndsBy has_answered remaining contents config at peer reader writer before last x receipts' ended') f
+      (subst (λ (x : List Receipt). EndsBy has_answered remaining contents config at peer reader writer before last held x ended') g
+      (subst (λ (x : Option (Result (Unit {0}) LinkFault)). EndsBy has_answered remaining contents config at peer reader writer before last held receipts x) h ends)))))))
 
 module _ {J R W : Type 0} where
   -- one lane more
@@ -83,23 +85,23 @@ module _ {J R W : Type 0} where
   apart_on (first ∷ lanes) (other ∷ passes) [] lane pass rest all same is = absurd all
   apart_on (first ∷ lanes) (other ∷ passes) (third ∷ rests) lane pass rest all same is = (all.0, all.1, apart_on lanes passes rests lane pass rest all.2 same is)
 
-module _ {J R W : Type 0} (remaining : R → Option (List ℕ)) (contents : W → Option (List ℕ)) where
-  pub ended_on : (ones : List (Started J R W)) (news : List (Lane J R W)) (one : Started J R W) (new : Lane J R W) → HaveEnded remaining contents ones news → Ends remaining contents one new → HaveEnded remaining contents (ones ++ one ∷ []) (news ++ new ∷ [])
+module _ {J R W : Type 0} (has_answered : List ℕ → ℕ → Offered → Answer → Type 0) (remaining : R → Option (List ℕ)) (contents : W → Option (List ℕ)) where
+  pub ended_on : (ones : List (Started J R W)) (news : List (Lane J R W)) (one : Started J R W) (new : Lane J R W) → HaveEnded has_answered remaining contents ones news → Ends has_answered remaining contents one new → HaveEnded has_answered remaining contents (ones ++ one ∷ []) (news ++ new ∷ [])
   ended_on [] [] one new all is = (is, tt)
   ended_on [] (first ∷ news) one new all is = absurd all
   ended_on (first ∷ ones) [] one new all is = absurd all
   ended_on (first ∷ ones) (other ∷ news) one new all is = (all.0, ended_on ones news one new all.1 is)
 
   module _ (config : Config) (at : ℕ) where
-    pub begun_on : (olds : List (Lane J R W)) (news : List (Started J R W)) (old : Lane J R W) (new : Started J R W) → AreBegun remaining contents config at olds news → IsBegun remaining contents config at old new
-        → AreBegun remaining contents config at (olds ++ old ∷ []) (news ++ new ∷ [])
+    pub begun_on : (olds : List (Lane J R W)) (news : List (Started J R W)) (old : Lane J R W) (new : Started J R W) → AreBegun has_answered remaining contents config at olds news → IsBegun has_answered remaining contents config at old new
+        → AreBegun has_answered remaining contents config at (olds ++ old ∷ []) (news ++ new ∷ [])
     begun_on [] [] old new all is = (is, tt)
     begun_on [] (first ∷ news) old new all is = absurd all
     begun_on (first ∷ olds) [] old new all is = absurd all
     begun_on (first ∷ olds) (other ∷ news) old new all is = (all.0, begun_on olds news old new all.1 is)
 
     -- each lane that began has ended
-    pub all_are_served : (olds : List (Lane J R W)) (ones : List (Started J R W)) (news : List (Lane J R W)) → AreBegun remaining contents config at olds ones → HaveEnded remaining contents ones news → AreServed remaining contents config at olds news
+    pub all_are_served : (olds : List (Lane J R W)) (ones : List (Started J R W)) (news : List (Lane J R W)) → AreBegun has_answered remaining contents config at olds ones → HaveEnded has_answered remaining contents ones news → AreServed has_answered remaining contents config at olds news
     all_are_served [] [] [] begun ended = tt
     all_are_served [] [] (new ∷ news) begun ended = absurd ended
     all_are_served [] (one ∷ ones) news begun ended = absurd begun
@@ -107,17 +109,17 @@ module _ {J R W : Type 0} (remaining : R → Option (List ℕ)) (contents : W �
     all_are_served (old ∷ olds) (one ∷ ones) [] begun ended = absurd ended
     all_are_served (old ∷ olds) (one ∷ ones) (new ∷ news) begun ended = (ended.0 config at old begun.0, all_are_served olds ones news begun.1 ended.1)
 
-    one_comes_out : (link : Link R W) (lane new : Lane J R W) (pass : List Receipt) (rest one : Served R W) → IsLaneOf link lane → IsServed remaining contents config at lane new → pass ≡ new.pass → IsRestOf new rest → IsWith pass rest one → HasComeOut remaining contents config at link one
+    one_comes_out : (link : Link R W) (lane new : Lane J R W) (pass : List Receipt) (rest one : Served R W) → IsLaneOf link lane → IsServed has_answered remaining contents config at lane new → pass ≡ new.pass → IsRestOf new rest → IsWith pass rest one → HasComeOut has_answered remaining contents config at link one
     one_comes_out link lane new pass rest one of served same rest_of with = record {
       peer = with.peer ∙ rest_of.peer ∙ served.peer ∙ of.peer;
       ends =
-          moved remaining contents config at lane.peer link.peer lane.reader link.reader lane.writer link.writer lane.pass [] new.reader one.reader new.writer one.writer new.pass one.receipts.items new.ended one.ended
+          moved has_answered remaining contents config at lane.peer link.peer lane.reader link.reader lane.writer link.writer lane.pass [] new.reader one.reader new.writer one.writer new.pass one.receipts.items new.ended one.ended
           of.peer of.reader of.writer of.pass (sym (with.reader ∙ rest_of.reader)) (sym (with.writer ∙ rest_of.writer)) (sym (with.receipts ∙ same)) (sym (with.ended ∙ rest_of.ended)) served.ends;
     }
 
     -- what the links of a round have come to
-    pub come_out : (links : List (Link R W)) (lanes news : List (Lane J R W)) (passes : List (List Receipt)) (rests served : List (Served R W)) → AreLanesOf links lanes → AreServed remaining contents config at lanes news → AreApart news passes rests → AreTogether passes rests served
-        → HaveComeOut remaining contents config at links served
+    pub come_out : (links : List (Link R W)) (lanes news : List (Lane J R W)) (passes : List (List Receipt)) (rests served : List (Served R W)) → AreLanesOf links lanes → AreServed has_answered remaining contents config at lanes news → AreApart news passes rests → AreTogether passes rests served
+        → HaveComeOut has_answered remaining contents config at links served
     come_out [] [] [] [] [] [] of are apart together = tt
     come_out [] [] [] [] [] (one ∷ served) of are apart together = absurd together
     come_out [] [] [] [] (rest ∷ rests) served of are apart together = absurd apart

@@ -1,5 +1,5 @@
 -- What a link of a thread has done, call by call.
-use Rattle.std.proofs.Common.{◌≡◌, ◌≢◌, ◌≤◌, ◌-◌, ◌+◌, ◌⊎◌, inl, inr, ℕ, suc, List, [], ◌∷◌, ◌++◌, length, Bool, true, false, Option, None, Some, Result, Ok, Err, IsErrAnd, refl, sym, ap, ◌∙◌, subst, append_assoc, append-nil, take, drop, take-append-drop, arith}
+use Rattle.std.proofs.Common.{◌≡◌, ◌≢◌, ◌≤◌, ◌-◌, ◌+◌, ◌⊎◌, inl, inr, ℕ, suc, List, [], ◌∷◌, ◌++◌, length, Bool, true, false, Option, Result, Ok, Err, IsErrAnd, refl, sym, ap, ◌∙◌, subst, append_assoc, append-nil, take, drop, take-append-drop, arith}
 use Rattle.std.proofs.lemmas.List.{drop-drop, length-append}
 use Rattle.std.specs.List.{slice_range}
 use Rattle.std.specs.Io.KnownBytes.{Appends, Consumes, IsAtEnd, Keeps as Known}
@@ -7,10 +7,9 @@ use Rattle.std.proofs.KnownBytes.{Appends-nil, Appends-trans, Consumes-nil, Cons
 use Rattle.relay_routes.specs.declared.config.Config.{Config}
 use Rattle.relay_server.specs.declared.offer.Answer.{Answer}
 use Rattle.relay_server.specs.declared.offer.Answer.TheVariants.{Queued, Full}
-use Rattle.relay_server.specs.declared.reply_table.Row.TheVariants.{Greeting}
 use Rattle.relay_server.specs.declared.session.Next.TheVariants as next
 use Rattle.relay_server.specs.declared.session.Session.{Session}
-use Rattle.relay_server.specs.Dialogue.{IsDialogue, Offered, Said, greeted_only, offered_by, unread_behind}
+use Rattle.relay_server.specs.Dialogue.{Offered, Said, greeted_only, offered_by, unread_behind}
 use Rattle.relay_server.specs.Session.{Answered, Hears, IsClosed, Stands, offers_since, open_offers}
 use Rattle.relay_server.specs.Setup.{setup_of_config}
 use Rattle.relay_server.specs.State.{start as first_state}
@@ -23,7 +22,7 @@ use Rattle.relay_links.specs.declared.fault.LinkFault.TheVariants.{Input, Output
 use Rattle.relay_links.specs.Link.{link_fault_of}
 use Rattle.relay_hub.specs.declared.receipt.Receipt.{Receipt}
 use Rattle.relay_hub.specs.Admission.{IsOfAdmission, IsReceiptOf, Notes}
-use Rattle.relay_hub.specs.Link.{AreNoted, GoesOn, HasBegun, HasEnded, HasGone, HasNoted, HasSaid, HasServed, IsOfHub, LinkStart, link_start}
+use Rattle.relay_hub.specs.Link.{AreNoted, AreOfHub, GoesOn, HasBegun, HasEnded, HasGone, HasNoted, HasSaid, HasServed, IsOfHub, IsRefusal, LinkStart, link_start}
 
 pub more_is_no_offer : next.More ≡ next.Offer → ⊥
 more_is_no_offer e = cc
@@ -44,6 +43,38 @@ next_of_rest octets from to within =
     let sum : from + (to - from) ≡ to = omega (arith, within) in
     sym (take-append-drop (to - from) (drop from octets)) ∙ ap (λ l. slice_range octets from to ++ l) (drop-drop (to - from) from octets ∙ ap (λ n. drop n octets) sum)
 
+-- the hub didn't take an offer, and the link ends by that
+pub refusal_of : (fault : NodeFault) (given : LinkFault) → IsOfAdmission fault → given ≡ link_fault_of fault → IsRefusal given
+refusal_of fault given of_hub is = subst IsRefusal (sym is) (by_fault fault of_hub)
+  where
+    by_fault : (fault : NodeFault) → IsOfAdmission fault → IsRefusal (link_fault_of fault)
+    by_fault node_fault.NoMemory of_hub = tt
+    by_fault node_fault.Stopped of_hub = tt
+    by_fault node_fault.Full of_hub = tt
+    by_fault node_fault.Unknown of_hub = absurd of_hub
+    by_fault node_fault.TooMany of_hub = absurd of_hub
+    by_fault node_fault.NotDue of_hub = absurd of_hub
+    by_fault node_fault.Busy of_hub = absurd of_hub
+    by_fault node_fault.NoSecond of_hub = absurd of_hub
+    by_fault (node_fault.Open cause) of_hub = absurd of_hub
+
+one_less : {A B : Type 0} (x : A) (xs : List A) (y : B) (ys : List B) → length (x ∷ xs) ≡ length (y ∷ ys) → length xs ≡ length ys
+one_less x xs y ys same = omega (arith, same)
+
+module _ (given : Offered → Answer → Type 0) where
+  -- offers without an answer leave the others
+  of_hub_before : (answers : List Answer) (offers more : List Offered) → AreOfHub given answers offers → AreOfHub given answers (offers ++ more)
+  of_hub_before [] offers more all = tt
+  of_hub_before (answer ∷ answers) [] more all = absurd all
+  of_hub_before (answer ∷ answers) (offer ∷ offers) more all = (all.0, of_hub_before answers offers more all.1)
+
+  -- the offer behind those that have an answer has one too
+  of_hub_more : (answers : List Answer) (front : List Offered) (answer : Answer) (offer : Offered) → length front ≡ length answers → AreOfHub given answers (front ++ offer ∷ []) → given offer answer → AreOfHub given (answers ++ answer ∷ []) (front ++ offer ∷ [])
+  of_hub_more [] [] answer offer same all one = (one, tt)
+  of_hub_more [] (first ∷ front) answer offer same all one = absurd (omega (arith, same))
+  of_hub_more (other ∷ answers) [] answer offer same all one = absurd (omega (arith, same))
+  of_hub_more (other ∷ answers) (first ∷ front) answer offer same all one = (all.0, of_hub_more answers front answer offer (one_less first front other answers same) all.1 one)
+
 module _ (peer : List ℕ) (at : ℕ) where
   -- offers without an answer leave the receipts
   noted_before : (answers : List Answer) (offers more : List Offered) (receipts : List Receipt) → AreNoted peer at answers offers receipts → AreNoted peer at answers (offers ++ more) receipts
@@ -54,9 +85,6 @@ module _ (peer : List ℕ) (at : ℕ) where
   noted_before (Full ∷ answers) (offer ∷ offers) more receipts noted = noted_before answers offers more receipts noted
   noted_before (Queued number ∷ answers) (offer ∷ offers) more [] noted = absurd noted
   noted_before (Queued number ∷ answers) (offer ∷ offers) more (receipt ∷ receipts) noted = (noted.0, noted_before answers offers more receipts noted.1)
-
-  one_less : {A B : Type 0} (x : A) (xs : List A) (y : B) (ys : List B) → length (x ∷ xs) ≡ length (y ∷ ys) → length xs ≡ length ys
-  one_less x xs y ys same = omega (arith, same)
 
   -- the offer behind those that have an answer was refused
   noted_full : (answers : List Answer) (front : List Offered) (offer : Offered) (receipts : List Receipt) → length front ≡ length answers → AreNoted peer at answers (front ++ offer ∷ []) receipts → AreNoted peer at (answers ++ Full ∷ []) (front ++ offer ∷ []) receipts
@@ -81,23 +109,25 @@ module _ (peer : List ℕ) (at : ℕ) where
   noted_queued (Queued other ∷ answers) (first ∷ front) offer number (receipt ∷ receipts) last same noted is =
       (noted.0, noted_queued answers front offer number receipts last (one_less first front (Queued other) answers same) noted.1 is)
 
-module _ (config : Config) (peer : List ℕ) (at : ℕ) (start : LinkStart) where
+module _ (has_answered : List ℕ → ℕ → Offered → Answer → Type 0) (config : Config) (peer : List ℕ) (at : ℕ) (start : LinkStart) where
   -- one answer more, of the offer behind those that have theirs
-  noted_more : (answers : List Answer) (front : List Offered) (offer : Offered) (given : Answer) (receipts new : List Receipt) → length front ≡ length answers → HasNoted config peer at start (front ++ offer ∷ []) answers receipts → Notes offer peer at receipts given new
-      → HasNoted config peer at start (front ++ offer ∷ []) (answers ++ given ∷ []) new
-  noted_more answers front offer Full receipts new same h notes = record {
+  noted_more : (answers : List Answer) (front : List Offered) (offer : Offered) (given : Answer) (receipts new : List Receipt) → length front ≡ length answers → HasNoted has_answered config peer at start (front ++ offer ∷ []) answers receipts → Notes offer peer at receipts given new → has_answered peer at offer given
+      → HasNoted has_answered config peer at start (front ++ offer ∷ []) (answers ++ given ∷ []) new
+  noted_more answers front offer Full receipts new same h notes by_hub = record {
+    of_hub = of_hub_more (has_answered peer at) answers front Full offer same h.of_hub by_hub;
     added = h.added;
     noted = noted_full peer at answers front offer h.added same h.noted;
     receipts_are = notes ∙ h.receipts_are;
   }
-  noted_more answers front offer (Queued number) receipts new same h notes = record {
+  noted_more answers front offer (Queued number) receipts new same h notes by_hub = record {
+    of_hub = of_hub_more (has_answered peer at) answers front (Queued number) offer same h.of_hub by_hub;
     added = h.added ++ notes.0 ∷ [];
     noted = noted_queued peer at answers front offer number h.added notes.0 same h.noted notes.1;
     receipts_are = notes.2 ∙ ap (λ l. l ++ notes.0 ∷ []) h.receipts_are ∙ append_assoc start.receipts h.added (notes.0 ∷ []);
   }
 
-  as_told : (offers : List Offered) (answers : List Answer) (receipts : List Receipt) → HasNoted config peer at start offers answers receipts → HasNoted config peer at start offers (answers ++ []) receipts
-  as_told offers answers receipts h = subst (λ (l : List Answer). HasNoted config peer at start offers l receipts) (sym (append-nil answers)) h
+  as_told : (offers : List Offered) (answers : List Answer) (receipts : List Receipt) → HasNoted has_answered config peer at start offers answers receipts → HasNoted has_answered config peer at start offers (answers ++ []) receipts
+  as_told offers answers receipts h = subst (λ (l : List Answer). HasNoted has_answered config peer at start offers l receipts) (sym (append-nil answers)) h
 
   -- of a session with an open offer that is the one without an answer
   one_unanswered : (session : Session) (said : Said) (offer : Offered) → Stands (setup_of_config config) session said → open_offers session ≡ offer ∷ [] → length said.offers ≡ suc (length said.answers)
@@ -113,33 +143,34 @@ module _ (config : Config) (peer : List ℕ) (at : ℕ) (start : LinkStart) wher
       omega (arith, all, zero_open)
 
   -- the open offer has an answer of the hub
-  noted_by_hub : (session : Session) (said : Said) (offer : Offered) (given : Answer) (receipts new : List Receipt) → Stands (setup_of_config config) session said → open_offers session ≡ offer ∷ [] → HasNoted config peer at start said.offers said.answers receipts → Notes offer peer at receipts given new
-      → HasNoted config peer at start said.offers (said.answers ++ given ∷ []) new
-  noted_by_hub session said offer given receipts new s is_open h notes =
+  noted_by_hub : (session : Session) (said : Said) (offer : Offered) (given : Answer) (receipts new : List Receipt) → Stands (setup_of_config config) session said → open_offers session ≡ offer ∷ [] → HasNoted has_answered config peer at start said.offers said.answers receipts → Notes offer peer at receipts given new
+      → has_answered peer at offer given → HasNoted has_answered config peer at start said.offers (said.answers ++ given ∷ []) new
+  noted_by_hub session said offer given receipts new s is_open h notes by_hub =
       let front = offered_by s.turns in
       let parts : said.offers ≡ front ++ offer ∷ [] = s.offers ∙ ap (λ l. front ++ l) is_open in
       let count = one_unanswered session said offer s is_open in
       let long = ap length parts ∙ length-append front (offer ∷ []) in
-      subst (λ (l : List Offered). HasNoted config peer at start l (said.answers ++ given ∷ []) new) (sym parts)
-      (noted_more said.answers front offer given receipts new (omega (arith, count, long)) (subst (λ (l : List Offered). HasNoted config peer at start l said.answers receipts) parts h) notes)
+      subst (λ (l : List Offered). HasNoted has_answered config peer at start l (said.answers ++ given ∷ []) new) (sym parts)
+      (noted_more said.answers front offer given receipts new (omega (arith, count, long)) (subst (λ (l : List Offered). HasNoted has_answered config peer at start l said.answers receipts) parts h) notes by_hub)
 
   -- what was said, written behind what was written before
   said_more : (said written all before out after : List ℕ) → all ≡ said ++ written → said ≡ before ++ out → after ≡ out ++ written → all ≡ before ++ after
   said_more said written all before out after more was is = more ∙ ap (λ l. l ++ written) was ∙ append_assoc before out written ∙ ap (λ l. before ++ l) (sym is)
 
   -- an offer came that has no answer yet, or none
-  noted_still : (said later : Said) (more : List Offered) (receipts : List Receipt) → later.answers ≡ said.answers → later.offers ≡ said.offers ++ more → HasNoted config peer at start said.offers said.answers receipts → HasNoted config peer at start later.offers later.answers receipts
+  noted_still : (said later : Said) (more : List Offered) (receipts : List Receipt) → later.answers ≡ said.answers → later.offers ≡ said.offers ++ more → HasNoted has_answered config peer at start said.offers said.answers receipts → HasNoted has_answered config peer at start later.offers later.answers receipts
   noted_still said later more receipts same_answers more_offers h =
-      subst (λ (l : List Answer). HasNoted config peer at start later.offers l receipts) (sym same_answers)
-      (subst (λ (l : List Offered). HasNoted config peer at start l said.answers receipts) (sym more_offers) (record {
+      subst (λ (l : List Answer). HasNoted has_answered config peer at start later.offers l receipts) (sym same_answers)
+      (subst (λ (l : List Offered). HasNoted has_answered config peer at start l said.answers receipts) (sym more_offers) (record {
+        of_hub = of_hub_before (has_answered peer at) said.answers said.offers more h.of_hub;
         added = h.added;
         noted = noted_before peer at said.answers said.offers more h.added h.noted;
         receipts_are = h.receipts_are;
       }))
 
   -- octets that waited were heard
-  pub heard : (old new : Session) (left held : Option (List ℕ)) (octets : List ℕ) (from to : ℕ) (out new_out : List ℕ) (receipts : List Receipt) → from ≤ to → HasSaid config peer at start old left held (drop from octets) out receipts
-      → ((said : Said) → Stands (setup_of_config config) old said → Hears (setup_of_config config) said old new (slice_range octets from to) out new_out) → HasSaid config peer at start new left held (drop to octets) new_out receipts
+  pub heard : (old new : Session) (left held : Option (List ℕ)) (octets : List ℕ) (from to : ℕ) (out new_out : List ℕ) (receipts : List Receipt) → from ≤ to → HasSaid has_answered config peer at start old left held (drop from octets) out receipts
+      → ((said : Said) → Stands (setup_of_config config) old said → Hears (setup_of_config config) said old new (slice_range octets from to) out new_out) → HasSaid has_answered config peer at start new left held (drop to octets) new_out receipts
   heard old new left held octets from to out new_out receipts within h hears =
       let x = hears h.said h.stands in
       record {
@@ -155,11 +186,11 @@ module _ (config : Config) (peer : List ℕ) (at : ℕ) (start : LinkStart) wher
       }
 
   -- the open offer has its answer
-  pub answered : (old new : Session) (left held : Option (List ℕ)) (waiting out new_out : List ℕ) (receipts new_receipts : List Receipt) (offer : Offered) (given : Answer) → open_offers old ≡ offer ∷ [] → HasSaid config peer at start old left held waiting out receipts
-      → ((said : Said) → Stands (setup_of_config config) old said → Answered (setup_of_config config) said new given out new_out) → Notes offer peer at receipts given new_receipts → HasSaid config peer at start new left held waiting new_out new_receipts
-  answered old new left held waiting out new_out receipts new_receipts offer given is_open h answers notes =
+  pub answered : (old new : Session) (left held : Option (List ℕ)) (waiting out new_out : List ℕ) (receipts new_receipts : List Receipt) (offer : Offered) (given : Answer) → open_offers old ≡ offer ∷ [] → HasSaid has_answered config peer at start old left held waiting out receipts
+      → ((said : Said) → Stands (setup_of_config config) old said → Answered (setup_of_config config) said new given out new_out) → Notes offer peer at receipts given new_receipts → has_answered peer at offer given → HasSaid has_answered config peer at start new left held waiting new_out new_receipts
+  answered old new left held waiting out new_out receipts new_receipts offer given is_open h answers notes by_hub =
       let x = answers h.said h.stands in
-      let hub = noted_by_hub old h.said offer given receipts new_receipts h.stands is_open h.noted notes in
+      let hub = noted_by_hub old h.said offer given receipts new_receipts h.stands is_open h.noted notes by_hub in
       record {
         said = x.later;
         stands = x.stands;
@@ -168,13 +199,13 @@ module _ (config : Config) (peer : List ℕ) (at : ℕ) (start : LinkStart) wher
         output = said_more h.said.output x.more.written x.later.output h.before out new_out x.more.output h.output x.more.out;
         written = h.written;
         noted =
-            subst (λ (l : List Offered). HasNoted config peer at start l x.later.answers new_receipts) (sym x.offers)
-            (subst (λ (l : List Answer). HasNoted config peer at start h.said.offers l new_receipts) (sym x.answers) hub);
+            subst (λ (l : List Offered). HasNoted has_answered config peer at start l x.later.answers new_receipts) (sym x.offers)
+            (subst (λ (l : List Answer). HasNoted has_answered config peer at start h.said.offers l new_receipts) (sym x.answers) hub);
       }
 
   -- what was said is a dialogue, of which these octets weren't written
-  pub breaks : (session : Session) (left held : Option (List ℕ)) (waiting out : List ℕ) (receipts : List Receipt) (fault : LinkFault) → HasSaid config peer at start session left held waiting out receipts → (fault ≡ Input → out ≡ []) → (IsOfHub fault → (offer : Offered) × (open_offers session ≡ offer ∷ []))
-      → HasBegun config peer at start left held receipts fault
+  pub breaks : (session : Session) (left held : Option (List ℕ)) (waiting out : List ℕ) (receipts : List Receipt) (fault : LinkFault) → HasSaid has_answered config peer at start session left held waiting out receipts → (fault ≡ Input → out ≡ []) → (IsOfHub fault → (offer : Offered) × (open_offers session ≡ offer ∷ []))
+      → HasBegun has_answered config peer at start left held receipts fault
   breaks session left held waiting out receipts fault h whole is_open = record {
     said = h.said;
     dialogue = what_stands_is_a_dialogue (setup_of_config config) session h.said h.stands;
@@ -192,8 +223,8 @@ module _ (config : Config) (peer : List ℕ) (at : ℕ) (start : LinkStart) wher
   }
 
   -- a fault of the link's own
-  pub breaks_off : (session : Session) (left held : Option (List ℕ)) (waiting out : List ℕ) (receipts : List Receipt) (fault : LinkFault) → HasSaid config peer at start session left held waiting out receipts → (fault ≡ NoMemory) ⊎ ((fault ≡ Input) × (out ≡ []))
-      → HasBegun config peer at start left held receipts fault
+  pub breaks_off : (session : Session) (left held : Option (List ℕ)) (waiting out : List ℕ) (receipts : List Receipt) (fault : LinkFault) → HasSaid has_answered config peer at start session left held waiting out receipts → (fault ≡ NoMemory) ⊎ ((fault ≡ Input) × (out ≡ []))
+      → HasBegun has_answered config peer at start left held receipts fault
   breaks_off session left held waiting out receipts fault h why = by_cause why
     where
       not_input : (fault : LinkFault) → fault ≡ NoMemory → fault ≡ Input → ⊥
@@ -207,33 +238,28 @@ module _ (config : Config) (peer : List ℕ) (at : ℕ) (start : LinkStart) wher
       not_of_input fault input (inl device) = cc
       not_of_input fault input (inr number) = cc
 
-      by_cause : (fault ≡ NoMemory) ⊎ ((fault ≡ Input) × (out ≡ [])) → HasBegun config peer at start left held receipts fault
+      by_cause : (fault ≡ NoMemory) ⊎ ((fault ≡ Input) × (out ≡ [])) → HasBegun has_answered config peer at start left held receipts fault
       by_cause (inl memory) = breaks session left held waiting out receipts fault h (λ input. absurd (not_input fault memory input)) (λ hub. absurd (not_memory fault memory hub))
       by_cause (inr input) = breaks session left held waiting out receipts fault h (λ _. input.1) (λ hub. absurd (not_of_input fault input.0 hub))
 
-  -- the hub refused to take the open offer
-  refused : (session : Session) (left held : Option (List ℕ)) (waiting out : List ℕ) (receipts : List Receipt) (offer : Offered) (fault : NodeFault) → open_offers session ≡ offer ∷ [] → HasSaid config peer at start session left held waiting out receipts → IsOfAdmission fault
-      → HasBegun config peer at start left held receipts (link_fault_of fault)
-  refused session left held waiting out receipts offer node_fault.NoMemory is_open h of_hub = breaks session left held waiting out receipts NoMemory h (λ e. absurd cc) (λ _. (offer, is_open))
-  refused session left held waiting out receipts offer node_fault.Stopped is_open h of_hub = breaks session left held waiting out receipts Device h (λ e. absurd cc) (λ _. (offer, is_open))
-  refused session left held waiting out receipts offer node_fault.Full is_open h of_hub = breaks session left held waiting out receipts NoNumber h (λ e. absurd cc) (λ _. (offer, is_open))
-  refused session left held waiting out receipts offer node_fault.Unknown is_open h of_hub = absurd of_hub
-  refused session left held waiting out receipts offer node_fault.TooMany is_open h of_hub = absurd of_hub
-  refused session left held waiting out receipts offer node_fault.NotDue is_open h of_hub = absurd of_hub
-  refused session left held waiting out receipts offer node_fault.Busy is_open h of_hub = absurd of_hub
-  refused session left held waiting out receipts offer node_fault.NoSecond is_open h of_hub = absurd of_hub
-  refused session left held waiting out receipts offer (node_fault.Open cause) is_open h of_hub = absurd of_hub
+  -- the hub didn't take the open offer
+  refused : (session : Session) (left held : Option (List ℕ)) (waiting out : List ℕ) (receipts : List Receipt) (offer : Offered) (fault : LinkFault) → open_offers session ≡ offer ∷ [] → HasSaid has_answered config peer at start session left held waiting out receipts → IsRefusal fault
+      → HasBegun has_answered config peer at start left held receipts fault
+  refused session left held waiting out receipts offer NoMemory is_open h is = breaks session left held waiting out receipts NoMemory h (λ e. absurd cc) (λ _. (offer, is_open))
+  refused session left held waiting out receipts offer Device is_open h is = breaks session left held waiting out receipts Device h (λ e. absurd cc) (λ _. (offer, is_open))
+  refused session left held waiting out receipts offer NoNumber is_open h is = breaks session left held waiting out receipts NoNumber h (λ e. absurd cc) (λ _. (offer, is_open))
+  refused session left held waiting out receipts offer Input is_open h is = absurd is
+  refused session left held waiting out receipts offer Output is_open h is = absurd is
 
-  pub refused_same : (session : Session) (left held : Option (List ℕ)) (waiting out : List ℕ) (receipts new_receipts : List Receipt) (offer : Offered) (fault : NodeFault) (given : LinkFault) → open_offers session ≡ offer ∷ [] → HasSaid config peer at start session left held waiting out receipts → new_receipts ≡ receipts
-      → IsOfAdmission fault → given ≡ link_fault_of fault → HasBegun config peer at start left held new_receipts given
-  refused_same session left held waiting out receipts new_receipts offer fault given is_open h same of_hub is =
-      subst (λ (f : LinkFault). HasBegun config peer at start left held new_receipts f) (sym is)
-      (subst (λ (l : List Receipt). HasBegun config peer at start left held l (link_fault_of fault)) (sym same) (refused session left held waiting out receipts offer fault is_open h of_hub))
+  pub refused_same : (session : Session) (left held : Option (List ℕ)) (waiting out : List ℕ) (receipts new_receipts : List Receipt) (offer : Offered) (fault : LinkFault) → open_offers session ≡ offer ∷ [] → HasSaid has_answered config peer at start session left held waiting out receipts → new_receipts ≡ receipts
+      → IsRefusal fault → HasBegun has_answered config peer at start left held new_receipts fault
+  refused_same session left held waiting out receipts new_receipts offer fault is_open h same is =
+      subst (λ (l : List Receipt). HasBegun has_answered config peer at start left held l fault) (sym same) (refused session left held waiting out receipts offer fault is_open h is)
 
   -- memory ran out behind the hub's answer
-  pub untold : (session : Session) (left held : Option (List ℕ)) (waiting out : List ℕ) (receipts new_receipts : List Receipt) (offer : Offered) (given : Answer) → open_offers session ≡ offer ∷ [] → HasSaid config peer at start session left held waiting out receipts → Notes offer peer at receipts given new_receipts
-      → HasBegun config peer at start left held new_receipts NoMemory
-  untold session left held waiting out receipts new_receipts offer given is_open h notes = record {
+  pub untold : (session : Session) (left held : Option (List ℕ)) (waiting out : List ℕ) (receipts new_receipts : List Receipt) (offer : Offered) (given : Answer) → open_offers session ≡ offer ∷ [] → HasSaid has_answered config peer at start session left held waiting out receipts → Notes offer peer at receipts given new_receipts
+      → has_answered peer at offer given → HasBegun has_answered config peer at start left held new_receipts NoMemory
+  untold session left held waiting out receipts new_receipts offer given is_open h notes by_hub = record {
     said = h.said;
     dialogue = what_stands_is_a_dialogue (setup_of_config config) session h.said h.stands;
     unread = waiting;
@@ -246,11 +272,11 @@ module _ (config : Config) (peer : List ℕ) (at : ℕ) (start : LinkStart) wher
     unanswered = λ _. one_unanswered session h.said offer h.stands is_open;
     untold = given ∷ [];
     told = λ other. absurd (other refl);
-    noted = noted_by_hub session h.said offer given receipts new_receipts h.stands is_open h.noted notes;
+    noted = noted_by_hub session h.said offer given receipts new_receipts h.stands is_open h.noted notes by_hub;
   }
 
   -- the replies are written
-  pub sent : (session : Session) (left held new_held : Option (List ℕ)) (waiting out : List ℕ) (receipts : List Receipt) → HasSaid config peer at start session left held waiting out receipts → Appends held new_held out → HasSaid config peer at start session left new_held waiting [] receipts
+  pub sent : (session : Session) (left held new_held : Option (List ℕ)) (waiting out : List ℕ) (receipts : List Receipt) → HasSaid has_answered config peer at start session left held waiting out receipts → Appends held new_held out → HasSaid has_answered config peer at start session left new_held waiting [] receipts
   sent session left held new_held waiting out receipts h wrote = record {
     said = h.said;
     stands = h.stands;
@@ -262,8 +288,8 @@ module _ (config : Config) (peer : List ℕ) (at : ℕ) (start : LinkStart) wher
   }
 
   -- the replies were written in part
-  pub cut_off : (session : Session) (left held new_held : Option (List ℕ)) (waiting out : List ℕ) (receipts : List Receipt) → HasSaid config peer at start session left held waiting out receipts → (front rest : List ℕ) → out ≡ front ++ rest → Appends held new_held front
-      → HasBegun config peer at start left new_held receipts Output
+  pub cut_off : (session : Session) (left held new_held : Option (List ℕ)) (waiting out : List ℕ) (receipts : List Receipt) → HasSaid has_answered config peer at start session left held waiting out receipts → (front rest : List ℕ) → out ≡ front ++ rest → Appends held new_held front
+      → HasBegun has_answered config peer at start left new_held receipts Output
   cut_off session left held new_held waiting out receipts h front rest parts wrote = record {
     said = h.said;
     dialogue = what_stands_is_a_dialogue (setup_of_config config) session h.said h.stands;
@@ -285,7 +311,7 @@ module _ (config : Config) (peer : List ℕ) (at : ℕ) (start : LinkStart) wher
       not_output (inr number) = cc
 
   -- the session has closed; octets behind the close belong to the rest of the dialogue
-  pub closes : (session : Session) (left held : Option (List ℕ)) (waiting : List ℕ) (receipts : List Receipt) → HasSaid config peer at start session left held waiting [] receipts → IsClosed session → open_offers session ≡ [] → HasServed config peer at start left held receipts
+  pub closes : (session : Session) (left held : Option (List ℕ)) (waiting : List ℕ) (receipts : List Receipt) → HasSaid has_answered config peer at start session left held waiting [] receipts → IsClosed session → open_offers session ≡ [] → HasServed has_answered config peer at start left held receipts
   closes session left held waiting receipts h closed none =
       let end = closed_is_a_dialogue (setup_of_config config) session h.said waiting h.stands closed in
       record {
@@ -295,26 +321,26 @@ module _ (config : Config) (peer : List ℕ) (at : ℕ) (start : LinkStart) wher
         written = subst (Appends start.held held) (sym (h.output ∙ append-nil h.before)) h.written;
         ended = inl end.1;
         answered = all_answered session h.said h.stands none;
-        noted = record { added = h.noted.added; noted = h.noted.noted; receipts_are = h.noted.receipts_are };
+        noted = record { of_hub = h.noted.of_hub; added = h.noted.added; noted = h.noted.noted; receipts_are = h.noted.receipts_are };
       }
 
   -- a fault that is handed on
-  pub ended_by : (left held : Option (List ℕ)) (receipts : List Receipt) (fault : LinkFault) (result : Result (Unit {0}) LinkFault) → IsErrAnd result (λ given. given ≡ fault) → HasBegun config peer at start left held receipts fault → HasEnded config peer at start left held receipts result
+  pub ended_by : (left held : Option (List ℕ)) (receipts : List Receipt) (fault : LinkFault) (result : Result (Unit {0}) LinkFault) → IsErrAnd result (λ given. given ≡ fault) → HasBegun has_answered config peer at start left held receipts fault → HasEnded has_answered config peer at start left held receipts result
   ended_by left held receipts fault (Ok done) never begun = absurd never
-  ended_by left held receipts fault (Err given) is begun = subst (λ (f : LinkFault). HasBegun config peer at start left held receipts f) (sym is) begun
+  ended_by left held receipts fault (Err given) is begun = subst (λ (f : LinkFault). HasBegun has_answered config peer at start left held receipts f) (sym is) begun
 
-  pub gone_by : (session : Session) (left held : Option (List ℕ)) (waiting : List ℕ) (receipts : List Receipt) (fault : LinkFault) (result : Result Bool LinkFault) → IsErrAnd result (λ given. given ≡ fault) → HasBegun config peer at start left held receipts fault → HasGone config peer at start session left held waiting receipts result
+  pub gone_by : (session : Session) (left held : Option (List ℕ)) (waiting : List ℕ) (receipts : List Receipt) (fault : LinkFault) (result : Result Bool LinkFault) → IsErrAnd result (λ given. given ≡ fault) → HasBegun has_answered config peer at start left held receipts fault → HasGone has_answered config peer at start session left held waiting receipts result
   gone_by session left held waiting receipts fault (Ok is_last) never begun = absurd never
-  gone_by session left held waiting receipts fault (Err given) is begun = subst (λ (f : LinkFault). HasBegun config peer at start left held receipts f) (sym is) begun
+  gone_by session left held waiting receipts fault (Err given) is begun = subst (λ (f : LinkFault). HasBegun has_answered config peer at start left held receipts f) (sym is) begun
 
   -- the link goes on, or has closed
-  pub goes_on : (session : Session) (left held : Option (List ℕ)) (waiting : List ℕ) (receipts : List Receipt) (is_last : Bool) → HasSaid config peer at start session left held waiting [] receipts → (is_last ≡ true → IsClosed session) → open_offers session ≡ []
-      → GoesOn config peer at start session left held waiting receipts is_last
+  pub goes_on : (session : Session) (left held : Option (List ℕ)) (waiting : List ℕ) (receipts : List Receipt) (is_last : Bool) → HasSaid has_answered config peer at start session left held waiting [] receipts → (is_last ≡ true → IsClosed session) → open_offers session ≡ []
+      → GoesOn has_answered config peer at start session left held waiting receipts is_last
   goes_on session left held waiting receipts true h closed none = closes session left held waiting receipts h (closed refl) none
   goes_on session left held waiting receipts false h closed none = h
 
   -- octets were read, which wait
-  pub reads : (session : Session) (left new_left held : Option (List ℕ)) (octets : List ℕ) (receipts : List Receipt) → HasSaid config peer at start session left held [] [] receipts → Consumes left new_left octets → HasSaid config peer at start session new_left held octets [] receipts
+  pub reads : (session : Session) (left new_left held : Option (List ℕ)) (octets : List ℕ) (receipts : List Receipt) → HasSaid has_answered config peer at start session left held [] [] receipts → Consumes left new_left octets → HasSaid has_answered config peer at start session new_left held octets [] receipts
   reads session left new_left held octets receipts h read = record {
     said = h.said;
     stands = h.stands;
@@ -328,7 +354,7 @@ module _ (config : Config) (peer : List ℕ) (at : ℕ) (start : LinkStart) wher
   }
 
   -- the input has come to its end
-  pub ends : (session : Session) (left new_left held : Option (List ℕ)) (receipts : List Receipt) → HasSaid config peer at start session left held [] [] receipts → open_offers session ≡ [] → Consumes left new_left [] → IsAtEnd new_left → HasServed config peer at start new_left held receipts
+  pub ends : (session : Session) (left new_left held : Option (List ℕ)) (receipts : List Receipt) → HasSaid has_answered config peer at start session left held [] [] receipts → open_offers session ≡ [] → Consumes left new_left [] → IsAtEnd new_left → HasServed has_answered config peer at start new_left held receipts
   ends session left new_left held receipts h none read end = record {
     said = h.said;
     dialogue = what_stands_is_a_dialogue (setup_of_config config) session h.said h.stands;
@@ -341,12 +367,12 @@ module _ (config : Config) (peer : List ℕ) (at : ℕ) (start : LinkStart) wher
     noted = h.noted;
   }
 
-module _ (config : Config) (peer : List ℕ) (at : ℕ) (left held : Option (List ℕ)) (receipts : List Receipt) where
-  nothing_noted : (offers : List Offered) → HasNoted config peer at (link_start left held receipts) offers [] receipts
-  nothing_noted offers = record { added = []; noted = tt; receipts_are = sym (append-nil receipts) }
+module _ (has_answered : List ℕ → ℕ → Offered → Answer → Type 0) (config : Config) (peer : List ℕ) (at : ℕ) (left held : Option (List ℕ)) (receipts : List Receipt) where
+  nothing_noted : (offers : List Offered) → HasNoted has_answered config peer at (link_start left held receipts) offers [] receipts
+  nothing_noted offers = record { of_hub = tt; added = []; noted = tt; receipts_are = sym (append-nil receipts) }
 
   -- there was no memory for a session
-  pub not_begun : HasBegun config peer at (link_start left held receipts) left held receipts NoMemory
+  pub not_begun : HasBegun has_answered config peer at (link_start left held receipts) left held receipts NoMemory
   not_begun = record {
     said = greeted_only config.host;
     dialogue = record {
@@ -387,7 +413,7 @@ module _ (config : Config) (peer : List ℕ) (at : ℕ) (left held : Option (Lis
 
   -- the session is there, and its greeting is to be written
   pub greeted : (session : Session) (greeting : List ℕ) → Stands (setup_of_config config) session (record { input = []; answers = []; output = greeting; offers = [] })
-      → HasSaid config peer at (link_start left held receipts) session left held [] greeting receipts
+      → HasSaid has_answered config peer at (link_start left held receipts) session left held [] greeting receipts
   greeted session greeting stands = record {
     said = record { input = []; answers = []; output = greeting; offers = [] };
     stands = stands;

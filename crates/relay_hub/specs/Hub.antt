@@ -2,12 +2,16 @@
 use Rattle.std.specs.Prelude.{◌≡◌, ◌↔◌, ℕ, ◌+◌, ◌≤◌, ◌<◌, true, false, List, ◌++◌, length, map, slice_get, Option, Some}
 use Rattle.std.specs.List.{AllByRecursion}
 use Rattle.relay_disk.specs.Device.{DiskWords}
+use Rattle.relay_routes.specs.declared.config.Config.{Config}
+use Rattle.relay_server.specs.declared.offer.Answer.{Answer}
+use Rattle.relay_server.specs.Dialogue.{Offered}
 use Rattle.relay_book.specs.declared.change.Accept.{Accept}
 use Rattle.relay_book.specs.declared.change.Change.{Change}
 use Rattle.relay_book.specs.declared.change.Change.TheVariants as change
 use Rattle.relay_book.specs.Marks.{Held}
 use Rattle.relay_book.specs.Queue.{Fitting, queue_of}
 use Rattle.relay_records.specs.Records.{Halted, Keeps, Kept}
+use Rattle.relay_node.specs.Admission.{Admits}
 use Rattle.relay_hub.specs.declared.receipt.Receipt.{Receipt}
 use Rattle.relay_hub.specs.Receipts.{Rise, count_of, times}
 
@@ -42,6 +46,24 @@ module _ {D : Type 0} (honest : Type 0) (words : DiskWords D) where
   -- so it is behind each list that was kept at the start
   abbrev pub HasGrown : (List Change → Type 0) → ℕ → Kept D → Type 0
   HasGrown starts added records = (changes : List Change) → starts changes → GrowsBy changes added records
+
+  -- The node of a hub, which had this configuration and these lists at the start, gives this answer to an offer: there is
+  -- a state, live and grown by accepts alone, in which it does so, whatever list it keeps there.
+  pub record Gives (starts : List Change → Type 0) (config : Config) (peer : List ℕ) (at : ℕ) (offer : Offered)
+      (answer : Answer) : Type 0 where
+    pub old : Kept D
+    pub new : Kept D
+    pub live : old.spool.live ≡ true
+    pub added : ℕ
+    pub grown : HasGrown starts added old
+    pub admits : (changes : List Change) → Keeps honest words old changes
+        → Admits honest words config changes peer at offer old new answer
+
+  -- whatever it gives counts as answered
+  abbrev pub Answers : (List Change → Type 0) → Config → (List ℕ → ℕ → Offered → Answer → Type 0) → Type 0
+  Answers starts config has_answered =
+      (peer : List ℕ) (at : ℕ) (offer : Offered) (answer : Answer) → Gives starts config peer at offer answer
+      → has_answered peer at offer answer
 
   -- From the number behind these changes on, the list has one accept for each receipt of the passes, at its number and as
   -- the receipt tells it, and no other; the numbers of each pass rise. What is held below is what these changes hold.

@@ -6,7 +6,7 @@ use Rattle.relay_server.specs.declared.offer.Answer.{Answer}
 use Rattle.relay_server.specs.declared.offer.Answer.TheVariants.{Queued, Full}
 use Rattle.relay_server.specs.declared.session.Session.{Session}
 use Rattle.relay_server.specs.Dialogue.{Offered, Said, IsDialogue}
-use Rattle.relay_server.specs.Session.{IsClosed, Stands}
+use Rattle.relay_server.specs.Session.{Stands}
 use Rattle.relay_server.specs.Setup.{setup_of_config}
 use Rattle.relay_server.specs.State.{Closed}
 use Rattle.relay_links.specs.declared.fault.LinkFault.{LinkFault}
@@ -34,6 +34,12 @@ AreNoted peer at (Queued number ∷ answers) (offer ∷ offers) [] = ⊥
 AreNoted peer at (Queued number ∷ answers) (offer ∷ offers) (receipt ∷ receipts) =
     IsReceiptOf offer peer at number receipt × AreNoted peer at answers offers receipts
 
+-- each answer is one that was given to the offer at its place
+abbrev pub AreOfHub : (Offered → Answer → Type 0) → List Answer → List Offered → Type 0
+AreOfHub given [] offers = Unit {0}
+AreOfHub given (answer ∷ answers) [] = ⊥
+AreOfHub given (answer ∷ answers) (offer ∷ offers) = given offer answer × AreOfHub given answers offers
+
 -- something was said on the session, of which an offer may be open
 abbrev pub IsStanding : Config → Session → Type 0
 IsStanding config session = (said : Said) × Stands (setup_of_config config) session said
@@ -42,10 +48,22 @@ IsStanding config session = (said : Said) × Stands (setup_of_config config) ses
 abbrev pub IsOfHub : LinkFault → Type 0
 IsOfHub fault = (fault ≡ Device) ⊎ (fault ≡ NoNumber)
 
--- The words below are of a link of this configuration, with a client at this address, from its start on, at a moment.
-module _ (config : Config) (peer : List ℕ) (at : ℕ) (start : LinkStart) where
-  -- behind the receipts of before stand those of the offers that were queued by these answers, in order
+-- what a link ends by where the hub didn't take an offer: it refused, or memory ran out
+abbrev pub IsRefusal : LinkFault → Type 0
+IsRefusal Input = ⊥
+IsRefusal Output = ⊥
+IsRefusal NoMemory = Unit {0}
+IsRefusal NoNumber = Unit {0}
+IsRefusal Device = Unit {0}
+
+-- The words below are of a link under a hub that has answered so, of this configuration, with a client at this address,
+-- from its start on, at a moment.
+module _ (has_answered : List ℕ → ℕ → Offered → Answer → Type 0) (config : Config) (peer : List ℕ) (at : ℕ)
+    (start : LinkStart) where
+  -- These answers are the hub's, and behind the receipts of before stand those of the offers that were queued by them, in
+  -- order.
   pub record HasNoted (offers : List Offered) (answers : List Answer) (receipts : List Receipt) : Type 0 where
+    pub of_hub : AreOfHub (has_answered peer at) answers offers
     pub added : List Receipt
     pub noted : AreNoted peer at answers offers added
     pub receipts_are : receipts ≡ start.receipts ++ added

@@ -2,6 +2,8 @@
 use Rattle.std.specs.Prelude.{◌≡◌, ◌+◌, ◌≤◌, ℕ, Bool, true, false, List, [], ◌∷◌, length, Option, None, Some, Result, vec_len, vec_capacity}
 use Rattle.relay_routes.specs.declared.config.Config.{Config}
 use Rattle.relay_disk.specs.Device.{DiskWords}
+use Rattle.relay_server.specs.declared.offer.Answer.{Answer}
+use Rattle.relay_server.specs.Dialogue.{Offered}
 use Rattle.relay_book.specs.declared.change.Change.{Change}
 use Rattle.relay_records.specs.Records.{Kept}
 use Rattle.relay_links.specs.declared.fault.LinkFault.{LinkFault}
@@ -16,8 +18,9 @@ use Rattle.relay_hub.specs.Hub.{GrowsBy, HasTaken}
 use Rattle.relay_hub.specs.Link.{HasEnded, link_start}
 use Rattle.relay_hub.specs.Receipts.{AreReceipts, count_of}
 
--- The words below take what a reader of a link still has, and what its writer holds.
-module _ {R W : Type 0} (remaining : R → Option (List ℕ)) (contents : W → Option (List ℕ)) where
+-- The words below take what the hub has answered, what a reader of a link still has, and what its writer holds.
+module _ {R W : Type 0} (has_answered : List ℕ → ℕ → Offered → Answer → Type 0) (remaining : R → Option (List ℕ))
+    (contents : W → Option (List ℕ)) where
   -- of links of this configuration, whose mail counts as accepted at a moment
   module _ (config : Config) (at : ℕ) where
     -- How a link ended that ran, with a client at this address. One that had no thread has read and written nothing,
@@ -27,7 +30,7 @@ module _ {R W : Type 0} (remaining : R → Option (List ℕ)) (contents : W → 
     EndsBy peer old_reader old_writer old_receipts reader writer receipts None =
         (reader ≡ old_reader) × (writer ≡ old_writer) × (receipts ≡ old_receipts)
     EndsBy peer old_reader old_writer old_receipts reader writer receipts (Some result) =
-        HasEnded config peer at (link_start (remaining old_reader) (contents old_writer) old_receipts)
+        HasEnded has_answered config peer at (link_start (remaining old_reader) (contents old_writer) old_receipts)
         (remaining reader) (contents writer) receipts result
 
     -- the link was served, or it had no thread

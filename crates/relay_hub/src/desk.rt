@@ -1,8 +1,8 @@
 //! What lies under the lock.
-ghost use Rattle.std.specs.Prelude.{◌≡◌, ◌+◌, List, length, vec_len, IfErr, MatchResult};
+ghost use Rattle.std.specs.Prelude.{◌≡◌, ◌+◌, List, length, vec_len, IfErr, IfOk, MatchResult};
 ghost use Rattle.relay_book.specs.declared.change.Change.{Change};
 ghost use Rattle.relay_hub.specs.Admission.{IsOfAdmission, Notes};
-ghost use Rattle.relay_hub.specs.Hub.{HasGrown, IsFirst};
+ghost use Rattle.relay_hub.specs.Hub.{Answers, HasGrown, IsFirst};
 ghost use Rattle.relay_hub.specs.Receipts.{count_of};
 ghost use Rattle.relay_records.specs.Records.{Keeps};
 ghost use Rattle.relay_node.specs.Acceptance.{IsStorable};
@@ -42,14 +42,15 @@ impl<D: Disk + Drop, J: Opening> Drop for Desk<D, J> {
 impl<D: Disk, J: Opening> Model for Desk<D, J> {
     ghost use Rattle.std.specs.Prelude.{◌≡◌};
     ghost use Rattle.relay_node.specs.Node.{NodeState};
-    ghost use Rattle.relay_hub.specs.Hub.{HasGrown, IsFirst};
+    ghost use Rattle.relay_hub.specs.Hub.{Answers, HasGrown, IsFirst};
 
     ghost Value = { NodeState D };
 
     ghost view = { λ desk. desk.node };
 
     ghost invariant = { λ desk. HasGrown D.honest D.words J.starts desk.queued.total desk.node.records
-        × IsFirst J.starts desk.first × (desk.rest.parts ≡ 0) × (desk.rest.amount ≡ 0) };
+        × IsFirst J.starts desk.first × (desk.rest.parts ≡ 0) × (desk.rest.amount ≡ 0)
+        × Answers D.honest D.words J.starts desk.node.config J.has_answered };
 }
 
 impl<D: Disk, J: Opening> Desk<D, J> {
@@ -59,6 +60,7 @@ impl<D: Disk, J: Opening> Desk<D, J> {
         requires rest { (rest.parts ≡ 0) × (rest.amount ≡ 0) }
         requires starts { (changes : List Change) → J.starts changes
             → Keeps D.honest D.words node.records changes }
+        requires answers { Answers D.honest D.words J.starts node.config J.has_answered }
         ensures { result ≡ node }
     {
         let first = node.next_number();
@@ -83,6 +85,7 @@ impl<D: Disk, J: Opening> Desk<D, J> {
         ensures notes { MatchResult result
             (λ answer. Notes (offered offer.now) peer now pass.old answer pass.new)
             (λ _. pass.new ≡ pass.old) }
+        ensures answered { IfOk result (J.has_answered peer now (offered offer.now)) }
         ensures faults { IfErr result IsOfAdmission }
     {
         let accept = self.node.accept_next(offer, peer, now)?;

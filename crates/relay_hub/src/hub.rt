@@ -2,7 +2,7 @@
 ghost use Rattle.std.specs.Prelude.{◌≡◌, ◌+◌, List, length, vec_len, IfErr, IfOk, MatchResult};
 ghost use Rattle.relay_book.specs.declared.change.Change.{Change};
 ghost use Rattle.relay_hub.specs.Admission.{IsOfAdmission, Notes};
-ghost use Rattle.relay_hub.specs.Hub.{GrowsBy, HasTaken};
+ghost use Rattle.relay_hub.specs.Hub.{Answers, GrowsBy, HasTaken};
 ghost use Rattle.relay_hub.specs.Receipts.{AreNew, AreReceipts, count_of};
 ghost use Rattle.relay_records.specs.Records.{Keeps};
 ghost use Rattle.relay_node.specs.Acceptance.{IsStorable};
@@ -65,6 +65,7 @@ impl<D: Disk, J: Opening> Hub<D, J> {
         requires parts { (blank.parts ≡ J.parts) × (blank.parts ≡ threads) }
         requires starts { (changes : List Change) → J.starts changes
             → Keeps D.honest D.words node.records changes }
+        requires answers { Answers D.honest D.words J.starts node.config J.has_answered }
         ensures passes { IfOk result (λ made. AreNew threads made.1.items) }
         ensures refused { IfErr result (λ refused. refused ≡ node) }
     {
@@ -96,6 +97,7 @@ impl<D: Disk, J: Opening> Hub<D, J> {
         ensures notes { MatchResult result
             (λ answer. Notes (offered offer.now) peer now pass.old answer pass.new)
             (λ _. pass.new ≡ pass.old) }
+        ensures answered { IfOk result (J.has_answered peer now (offered offer.now)) }
         ensures faults { IfErr result IsOfAdmission }
     {
         self.desk.lock(rt).admit(pass, offer, peer, now)

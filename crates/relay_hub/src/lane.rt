@@ -101,7 +101,8 @@ pub(crate) struct WasLane<J: Opening, R, W> {
 impl<J: Opening, R: Read, W: Write> Promise<Lane<J, R, W>> for WasLane<J, R, W> {
     ghost use Rattle.relay_hub.specs.Round.{IsServed};
 
-    ghost kept_by = { λ was served. IsServed R.remaining W.contents was.config.value was.at was.lane.value served };
+    ghost kept_by = { λ was served. IsServed J.has_answered R.remaining W.contents was.config.value was.at
+        was.lane.value served };
 }
 
 /// A lane that a thread serves, or one that had none.
@@ -118,7 +119,7 @@ pub(crate) fn serve_lane<D: Disk, J: Opening, T: Wait, R: Read, W: Write>(
     has_thread: &AtomicBool,
 ) -> Lane<J, R, W>
     requires { lane.ended ≡ None }
-    ensures { IsServed R.remaining W.contents shop.now.config.now shop.now.at lane result }
+    ensures { IsServed J.has_answered R.remaining W.contents shop.now.config.now shop.now.at lane result }
 {
     let mut lane = lane;
     if !has_thread.load(Ordering::SeqCst) {
@@ -156,7 +157,7 @@ pub(crate) fn start_lane<
     has_thread: &'s AtomicBool,
 ) -> Started<J, R, W>
     requires { lane.ended ≡ None }
-    ensures { IsBegun R.remaining W.contents shop.now.config.now shop.now.at lane result }
+    ensures { IsBegun J.has_answered R.remaining W.contents shop.now.config.now shop.now.at lane result }
 {
     let was = WasLane {
         lane: Snapshot::of(&lane),
@@ -177,7 +178,7 @@ pub(crate) fn end_lane<J: Opening, T: Threads, R: Read + Drop, W: Write + Drop>(
     rt: &T,
     started: Started<J, R, W>,
 ) -> Lane<J, R, W>
-    ensures { Ends R.remaining W.contents started result }
+    ensures { Ends J.has_answered R.remaining W.contents started result }
 {
     match started {
         Started::Running(handle) => handle.join(rt),

@@ -56,7 +56,8 @@ pub(crate) fn serve_lanes<
 ) -> Vec<Lane<J, R, W>>
     requires { MayBegin lanes.items (vec_len lanes) (length have_threads.now) started.items (vec_capacity started)
         ended.items (vec_capacity ended) }
-    ensures served { AreServed R.remaining W.contents shop.now.config.now shop.now.at lanes.items result.items }
+    ensures served { AreServed J.has_answered R.remaining W.contents shop.now.config.now shop.now.at lanes.items
+        result.items }
     ensures many { vec_len result ≡ vec_len lanes }
 {
     thread::scope(
@@ -65,8 +66,8 @@ pub(crate) fn serve_lanes<
         |scope| -> Vec<Lane<J, R, W>>
             requires { MayBegin lanes.items (vec_len lanes) (length have_threads.now) started.items
                 (vec_capacity started) ended.items (vec_capacity ended) }
-            ensures { AreServed R.remaining W.contents shop.entry.now.config.now shop.entry.now.at lanes.items result.items
-                × (vec_len result ≡ vec_len lanes) }
+            ensures { AreServed J.has_answered R.remaining W.contents shop.entry.now.config.now shop.entry.now.at
+                lanes.items result.items × (vec_len result ≡ vec_len lanes) }
         {
             let started = start_lanes(scope, shop, lanes, have_threads, started);
             end_lanes(shop.rt, started, ended)
@@ -94,7 +95,8 @@ fn start_lanes<
     requires empty { started.items ≡ [] }
     requires room { vec_len lanes ≤ vec_capacity started }
     requires words { vec_len lanes ≤ length have_threads.now }
-    ensures begun { AreBegun R.remaining W.contents shop.now.config.now shop.now.at lanes.items result.items }
+    ensures begun { AreBegun J.has_answered R.remaining W.contents shop.now.config.now shop.now.at lanes.items
+        result.items }
     ensures many { vec_len result ≡ vec_len lanes }
 {
     let mut started = started;
@@ -117,7 +119,7 @@ fn end_lanes<J: Opening, T: Threads, R: Read + Drop, W: Write + Drop>(
 ) -> Vec<Lane<J, R, W>>
     requires empty { ended.items ≡ [] }
     requires room { vec_len started ≤ vec_capacity ended }
-    ensures ended { HaveEnded R.remaining W.contents started.items result.items }
+    ensures ended { HaveEnded J.has_answered R.remaining W.contents started.items result.items }
     ensures many { vec_len result ≡ vec_len started }
 {
     let mut ended = ended;

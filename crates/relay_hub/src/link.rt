@@ -1,8 +1,10 @@
 //! A link of a thread: its session is the thread's own, and the node is locked for each offer alone.
-ghost use Rattle.std.specs.Prelude.{◌≡◌, ◌≤◌, ◌<◌, [], ℕ, List, Option, drop, length, true, false, IfOk, OnOk, MatchResult};
-ghost use Rattle.relay_server.specs.Session.{HasOffer, IsClosed, open_offers};
+ghost use Rattle.std.specs.Prelude.{◌≡◌, ◌≤◌, ◌<◌, [], ℕ, List, Option, drop, length, true, false, IfErr, IfOk, OnOk, MatchResult};
+ghost use Rattle.relay_server.specs.Session.{HasOffer, IsClosed, offered, open_offers};
+ghost use Rattle.relay_node.specs.Acceptance.{IsStorable};
 ghost use Rattle.relay_node.specs.Node.{HasHistory};
-ghost use Rattle.relay_hub.specs.Link.{HasBegun, HasEnded, HasGone, HasSaid, IsStanding, LinkStart, link_start};
+ghost use Rattle.relay_hub.specs.Admission.{Notes};
+ghost use Rattle.relay_hub.specs.Link.{HasBegun, HasEnded, HasGone, HasSaid, IsRefusal, IsStanding, LinkStart, link_start};
 
 use crate::hub::Hub;
 use crate::opening::Opening;
@@ -11,7 +13,7 @@ use relay_disk::Disk;
 use relay_links::send::send;
 use relay_links::{LinkFault, link_fault, read_block};
 use relay_routes::Config;
-use relay_server::{Next, Session};
+use relay_server::{Answer, Next, Offer, Session};
 use relay_trace::Moment;
 use std::alloc::Global;
 use std::io::{ErrorKind, Read, Write};
@@ -33,8 +35,8 @@ struct Terms<'a> {
 
 /// Serves a client: writes the greeting, reads commands and mail from `reader`, and writes the replies to `writer`, all
 /// of them before the next read and behind each message. Each message is given to the hub, and only those that it queued
-/// add their receipts to the pass, in order. It ends at a close, and at the end of the input; and where the hub refuses
-/// to take a message, without another octet. Where memory runs out behind the hub's answer, the client isn't told of it,
+/// add their receipts to the pass, in order; the client is told what the hub answered. It ends at a close, and at the end
+/// of the input; and where the hub refuses to take a message, without another octet. Where memory runs out behind the hub's answer, the client isn't told of it,
 /// and the message stays queued. All mail counts as accepted at `now`.
 pub fn hub_link<D: Disk, J: Opening, T: Wait, R: Read, W: Write>(
     rt: &T,
@@ -47,7 +49,7 @@ pub fn hub_link<D: Disk, J: Opening, T: Wait, R: Read, W: Write>(
     writer: &mut W,
     now: Moment,
 ) -> Result<(), LinkFault>
-    ensures { HasEnded config.now peer now
+    ensures { HasEnded J.has_answered config.now peer now
         (link_start (R.remaining reader.old) (W.contents writer.old) pass.old)
         (R.remaining reader.new) (W.contents writer.new) pass.new result }
 {
@@ -74,9 +76,9 @@ fn converse<D: Disk, J: Opening, T: Wait, R: Read, W: Write>(
 ) -> Result<(), LinkFault>
     requires { HasHistory terms.now.config.now session.old }
     ensures { (start : LinkStart)
-        → HasSaid terms.now.config.now terms.now.peer terms.now.at start session.old (R.remaining reader.old)
-        (W.contents writer.old) [] [] pass.old
-        → HasEnded terms.now.config.now terms.now.peer terms.now.at start (R.remaining reader.new)
+        → HasSaid J.has_answered terms.now.config.now terms.now.peer terms.now.at start session.old
+        (R.remaining reader.old) (W.contents writer.old) [] [] pass.old
+        → HasEnded J.has_answered terms.now.config.now terms.now.peer terms.now.at start (R.remaining reader.new)
         (W.contents writer.new) pass.new result }
 {
     let mut block = read_block(terms.alloc)?;
@@ -112,10 +114,10 @@ fn exchange_block<D: Disk, J: Opening, T: Wait, R: Read, W: Write>(
     requires room { 0 < length block.old }
     requires history { HasHistory terms.now.config.now session.old }
     ensures goes_on { (start : LinkStart)
-        → HasSaid terms.now.config.now terms.now.peer terms.now.at start session.old (R.remaining reader.old)
-        (W.contents writer.old) [] [] pass.old
-        → HasGone terms.now.config.now terms.now.peer terms.now.at start session.new (R.remaining reader.new)
-        (W.contents writer.new) [] pass.new result }
+        → HasSaid J.has_answered terms.now.config.now terms.now.peer terms.now.at start session.old
+        (R.remaining reader.old) (W.contents writer.old) [] [] pass.old
+        → HasGone J.has_answered terms.now.config.now terms.now.peer terms.now.at start session.new
+        (R.remaining reader.new) (W.contents writer.new) [] pass.new result }
     ensures block { length block.new ≡ length block.old }
     ensures history { IfOk result (λ is_last. is_last ≡ false → HasHistory terms.now.config.now session.new) }
 {
@@ -144,10 +146,10 @@ fn answer_block<D: Disk, J: Opening, T: Wait, W: Write>(
 ) -> Result<bool, LinkFault>
     requires { HasHistory terms.now.config.now session.old }
     ensures goes_on { (start : LinkStart) (left : Option (List ℕ))
-        → HasSaid terms.now.config.now terms.now.peer terms.now.at start session.old left (W.contents writer.old)
-        octets.now [] pass.old
-        → HasGone terms.now.config.now terms.now.peer terms.now.at start session.new left (W.contents writer.new)
-        [] pass.new result }
+        → HasSaid J.has_answered terms.now.config.now terms.now.peer terms.now.at start session.old left
+        (W.contents writer.old) octets.now [] pass.old
+        → HasGone J.has_answered terms.now.config.now terms.now.peer terms.now.at start session.new left
+        (W.contents writer.new) [] pass.new result }
     ensures history { IfOk result (λ is_last. is_last ≡ false → HasHistory terms.now.config.now session.new) }
 {
     let mut used = 0;
@@ -174,10 +176,10 @@ fn answer<D: Disk, J: Opening, T: Wait, W: Write>(
     requires used { used.old < length octets.now }
     requires history { HasHistory terms.now.config.now session.old }
     ensures goes_on { (start : LinkStart) (left : Option (List ℕ))
-        → HasSaid terms.now.config.now terms.now.peer terms.now.at start session.old left (W.contents writer.old)
-        (drop used.old octets.now) [] pass.old
-        → HasGone terms.now.config.now terms.now.peer terms.now.at start session.new left (W.contents writer.new)
-        (drop used.new octets.now) pass.new result }
+        → HasSaid J.has_answered terms.now.config.now terms.now.peer terms.now.at start session.old left
+        (W.contents writer.old) (drop used.old octets.now) [] pass.old
+        → HasGone J.has_answered terms.now.config.now terms.now.peer terms.now.at start session.new left
+        (W.contents writer.new) (drop used.new octets.now) pass.new result }
     ensures used { IfOk result (λ is_last. (used.new ≤ length octets.now)
         × (is_last ≡ false → used.old < used.new)) }
     ensures history { IfOk result (λ is_last. is_last ≡ false → HasHistory terms.now.config.now session.new) }
@@ -203,12 +205,12 @@ fn hear<D: Disk, J: Opening, T: Wait>(
     requires used { used.old < length octets.now }
     requires history { HasHistory terms.now.config.now session.old }
     ensures hears { (start : LinkStart) (left held : Option (List ℕ))
-        → HasSaid terms.now.config.now terms.now.peer terms.now.at start session.old left held
+        → HasSaid J.has_answered terms.now.config.now terms.now.peer terms.now.at start session.old left held
         (drop used.old octets.now) out.old.items pass.old
         → MatchResult result
-        (λ _. HasSaid terms.now.config.now terms.now.peer terms.now.at start session.new left held
+        (λ _. HasSaid J.has_answered terms.now.config.now terms.now.peer terms.now.at start session.new left held
         (drop used.new octets.now) out.new.items pass.new)
-        (HasBegun terms.now.config.now terms.now.peer terms.now.at start left held pass.new) }
+        (HasBegun J.has_answered terms.now.config.now terms.now.peer terms.now.at start left held pass.new) }
     ensures used { IfOk result (λ is_last. (used.new ≤ length octets.now)
         × (is_last ≡ false → used.old < used.new)) }
     ensures history { IfOk result (λ is_last. HasHistory terms.now.config.now session.new
@@ -237,23 +239,45 @@ fn take_offer<D: Disk, J: Opening, T: Wait>(
     requires offer { HasOffer session.old }
     requires stands { IsStanding terms.now.config.now session.old }
     ensures takes { (start : LinkStart) (left held : Option (List ℕ)) (waiting : List ℕ)
-        → HasSaid terms.now.config.now terms.now.peer terms.now.at start session.old left held waiting
+        → HasSaid J.has_answered terms.now.config.now terms.now.peer terms.now.at start session.old left held waiting
         out.old.items pass.old
         → MatchResult result
-        (λ _. HasSaid terms.now.config.now terms.now.peer terms.now.at start session.new left held waiting
+        (λ _. HasSaid J.has_answered terms.now.config.now terms.now.peer terms.now.at start session.new left held waiting
         out.new.items pass.new)
-        (HasBegun terms.now.config.now terms.now.peer terms.now.at start left held pass.new) }
+        (HasBegun J.has_answered terms.now.config.now terms.now.peer terms.now.at start left held pass.new) }
     ensures history { OnOk result (HasHistory terms.now.config.now session.new) }
 {
     let Some(offer) = session.offer() else {
         unreachable!()
     };
-    let answer = match hub.admit(rt, pass, &offer, terms.peer, terms.at) {
+    let answer = match ask(rt, hub, pass, terms, &offer) {
         Ok(answer) => answer,
-        Err(fault) => return Err(link_fault(fault)),
+        Err(fault) => return Err(fault),
     };
     match session.reply(answer, out) {
         Ok(()) => Ok(()),
         Err(_) => Err(LinkFault::NoMemory),
+    }
+}
+
+/// What the hub answers to an offer. Where it takes none, the link ends.
+#[tactic(auto, using(crate::proofs::LinkLemmas::refusal_of))]
+fn ask<D: Disk, J: Opening, T: Wait>(
+    rt: &T,
+    hub: &Hub<D, J>,
+    pass: &mut Pass<J>,
+    terms: &Terms<'_>,
+    offer: &Offer<'_>,
+) -> Result<Answer, LinkFault>
+    requires { IsStorable (offered offer.now) }
+    ensures notes { MatchResult result
+        (λ answer. Notes (offered offer.now) terms.now.peer terms.now.at pass.old answer pass.new)
+        (λ _. pass.new ≡ pass.old) }
+    ensures answered { IfOk result (J.has_answered terms.now.peer terms.now.at (offered offer.now)) }
+    ensures refused { IfErr result IsRefusal }
+{
+    match hub.admit(rt, pass, offer, terms.peer, terms.at) {
+        Ok(answer) => Ok(answer),
+        Err(fault) => Err(link_fault(fault)),
     }
 }

@@ -2,15 +2,22 @@
 use std::marker::Brand;
 use std::sync::ledger::Ledger;
 
-/// Names the ledger of a hub, and the lists of changes that its node kept when threads began to share it. It exists in
-/// proofs alone.
+/// Names the ledger of a hub, the lists of changes that its node kept when threads began to share it, and what it has
+/// answered: to a client at this address, at a moment, to this offer. It exists in proofs alone. Nothing else is known of
+/// what a hub has answered, so what is held to it asks the hub.
 pub trait Opening: Ledger {
-    ghost use Rattle.std.specs.Prelude.{List};
+    ghost use Rattle.std.specs.Prelude.{List, ℕ};
     ghost use Rattle.relay_book.specs.declared.change.Change.{Change};
+    ghost use Rattle.relay_server.specs.declared.offer.Answer.{Answer};
+    ghost use Rattle.relay_server.specs.Dialogue.{Offered};
 
     ghost starts: { List Change → Type 0 };
+
+    ghost has_answered: { List ℕ → ℕ → Offered → Answer → Type 0 };
 }
 
 impl Opening for Brand {
     ghost starts = { λ _. Unit {0} };
+
+    ghost has_answered = { λ _ _ _ _. Unit {0} };
 }

@@ -3,6 +3,7 @@ ghost use Rattle.std.specs.Prelude.{◌≡◌, ◌≤◌, [], List, length, vec_
 ghost use Rattle.relay_book.specs.declared.change.Change.{Change};
 ghost use Rattle.relay_records.specs.Records.{Keeps};
 ghost use Rattle.relay_hub.specs.declared.served.Served.{Served};
+ghost use Rattle.relay_hub.specs.Hub.{Answers, Gives};
 ghost use Rattle.relay_hub.specs.Receipts.{AreNew};
 ghost use Rattle.relay_hub.specs.Round.{AreTogether, HasRoom, HasRun, HaveComeOut, receipts_of};
 
@@ -124,8 +125,9 @@ pub fn round<
     now: Moment,
 ) -> Result<Ended<D, R, W>, NotBegun<D, R, W>>
     requires { (1 ≤ vec_len links) × (vec_len links ≤ 64) }
-    ensures links { IfOk result (λ ended. HaveComeOut R.remaining W.contents config.now now links.items
-        ended.links.items) }
+    ensures links { IfOk result (λ ended. HaveComeOut
+        (Gives D.honest D.words (Keeps D.honest D.words node.records) node.config) R.remaining W.contents config.now now
+        links.items ended.links.items) }
     ensures run { (changes : List Change) → Keeps D.honest D.words node.records changes
         → IfOk result (λ ended. HasRun D.honest D.words changes (receipts_of ended.links.items)
         ended.node.records ended.agrees) }
@@ -157,7 +159,8 @@ fn round_by<
     requires few { vec_len links ≤ 64 }
     requires starts { (changes : List Change) → J.starts changes
         → Keeps D.honest D.words node.records changes }
-    ensures links { IfOk result (λ ended. HaveComeOut R.remaining W.contents config.now now links.items
+    requires answers { Answers D.honest D.words J.starts node.config J.has_answered }
+    ensures links { IfOk result (λ ended. HaveComeOut J.has_answered R.remaining W.contents config.now now links.items
         ended.links.items) }
     ensures run { (changes : List Change) → J.starts changes
         → IfOk result (λ ended. HasRun D.honest D.words changes (receipts_of ended.links.items)
@@ -220,7 +223,7 @@ impl<J: Opening + Send + Sync, R: Read + Send + Drop, W: Write + Send + Drop> Ro
         requires room { HasRoom (vec_len links) self }
         requires passes { AreNew (vec_len links) passes.items }
         requires parts { vec_len links ≡ J.parts }
-        ensures links { HaveComeOut R.remaining W.contents config.now now links.items result.links.items }
+        ensures links { HaveComeOut J.has_answered R.remaining W.contents config.now now links.items result.links.items }
         ensures run { (changes : List Change) → J.starts changes
             → HasRun D.honest D.words changes (receipts_of result.links.items) result.node.records result.agrees }
     {
@@ -261,7 +264,7 @@ impl<J: Opening + Send + Sync, R: Read + Send + Drop, W: Write + Send + Drop> Ro
         requires room { HasRoom (vec_len links) self }
         requires passes { AreNew (vec_len links) passes.items }
         ensures out { (served : List (Served R W)) → AreTogether result.0.items result.1.items served
-            → HaveComeOut R.remaining W.contents shop.now.config.now shop.now.at links.items served }
+            → HaveComeOut J.has_answered R.remaining W.contents shop.now.config.now shop.now.at links.items served }
         ensures many { (vec_len result.0 ≡ vec_len links) × (vec_len result.1 ≡ vec_len links) }
         ensures served { (result.2.items ≡ []) × (vec_len links ≤ vec_capacity result.2) }
     {

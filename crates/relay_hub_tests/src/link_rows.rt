@@ -1,6 +1,8 @@
 //! A link of a thread, of which each read, each write and each flush fails in turn.
 ghost use Rattle.std.specs.Prelude.{◌≡◌, List};
+ghost use Rattle.relay_disk.specs.Memory.{memory_words};
 ghost use Rattle.relay_book.specs.declared.change.Change.{Change};
+ghost use Rattle.relay_hub.specs.Hub.{Answers};
 
 use crate::setup::{CLIENT, MemoryNode, config_with, count_held, first_moment, node_with};
 use relay_disk::MemoryDisk;
@@ -179,6 +181,7 @@ fn serve_by<J: Opening, T: Wait>(
     requires name { blank.name ≡ J.name }
     requires parts { (blank.parts ≡ J.parts) × (blank.parts ≡ 1) }
     requires starts { (changes : List Change) → J.starts changes → ⊥ }
+    requires answers { Answers (Unit {0}) memory_words J.starts node.config J.has_answered }
 {
     let Ok((hub, passes)) = Hub::<MemoryDisk, J>::new(alloc, node, blank, 1) else {
         return Err(Fail::new("no hub"));

@@ -15,8 +15,8 @@ loop-lane-preserved g c =
     let i = c.loop-lane.invariant in
     let all = c.loop-lane.yielded ++ c.in-Some.lane ∷ [] in
     let idle = subst AreIdle c.in-Some.ensures.steps.0 i.idle in
-    let more : AreBegun g.R.Read.remaining g.W.Write.contents c.args.shop.now.config.now c.args.shop.now.at all (c.loop-lane.started.items ++ c.start_lane-one.result ∷ []) =
-    begun_on g.R.Read.remaining g.W.Write.contents c.args.shop.now.config.now c.args.shop.now.at c.loop-lane.yielded c.loop-lane.started.items c.in-Some.lane c.start_lane-one.result i.begun c.start_lane-one.ensures in
+    let more : AreBegun g.J.Opening.has_answered g.R.Read.remaining g.W.Write.contents c.args.shop.now.config.now c.args.shop.now.at all (c.loop-lane.started.items ++ c.start_lane-one.result ∷ []) =
+    begun_on g.J.Opening.has_answered g.R.Read.remaining g.W.Write.contents c.args.shop.now.config.now c.args.shop.now.at c.loop-lane.yielded c.loop-lane.started.items c.in-Some.lane c.start_lane-one.result i.begun c.start_lane-one.ensures in
     let long = length-append c.loop-lane.yielded (c.in-Some.lane ∷ []) in
     record {
       at = omega (arith, long);

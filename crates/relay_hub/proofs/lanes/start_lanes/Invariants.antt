@@ -7,7 +7,7 @@ use Rattle.relay_hub.proofs.lanes.start_lanes.Given as goal
 abbrev pub invariant-loop-lane : goal.invariant-loop-lane
 invariant-loop-lane g l = record {
   at : l.at ≡ length l.yielded;
-  begun : AreBegun g.R.Read.remaining g.W.Write.contents l.fn.shop.config.now l.fn.shop.at l.yielded l.started.items;
+  begun : AreBegun g.J.Opening.has_answered g.R.Read.remaining g.W.Write.contents l.fn.shop.config.now l.fn.shop.at l.yielded l.started.items;
   many : vec_len l.started ≡ length l.yielded;
   room : vec_len l.fn.lanes ≤ vec_capacity l.started;
   idle : AreIdle (into_iter_items l.lane-iterator);

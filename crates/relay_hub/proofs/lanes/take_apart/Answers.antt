@@ -1,5 +1,5 @@
 -- One lane more is taken apart.
-use Rattle.std.proofs.Common.{◌≡◌, [], ◌∷◌, ◌++◌, arith, length-append}
+use Rattle.std.proofs.Common.{[], ◌∷◌, ◌++◌, arith, length-append}
 use Rattle.relay_hub.specs.Round.{AreApart}
 use Rattle.relay_hub.proofs.LaneLemmas.{apart_on}
 use Rattle.relay_hub.proofs.lanes.take_apart.Goals as goal

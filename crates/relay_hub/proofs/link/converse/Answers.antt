@@ -7,8 +7,8 @@ use Rattle.relay_hub.proofs.link.converse.Goals as goal
 
 pub returns-in_err-block : goal.returns-in_err-block
 returns-in_err-block g c = λ start h.
-    ended_by c.args.terms.now.config.now c.args.terms.now.peer c.args.terms.now.at start _ _ c.args.pass.now NoMemory _ c.from_residual.ensures.1
-    (breaks_off c.args.terms.now.config.now c.args.terms.now.peer c.args.terms.now.at start c.args.session.now _ _ [] [] c.args.pass.now NoMemory h (inl refl))
+    ended_by g.J.Opening.has_answered c.args.terms.now.config.now c.args.terms.now.peer c.args.terms.now.at start _ _ c.args.pass.now NoMemory _ c.from_residual.ensures.1
+    (breaks_off g.J.Opening.has_answered c.args.terms.now.config.now c.args.terms.now.peer c.args.terms.now.at start c.args.session.now _ _ [] [] c.args.pass.now NoMemory h (inl refl))
 
 pub returns-then-branch : goal.returns-then-branch
 returns-then-branch g c = λ start h.
@@ -30,4 +30,4 @@ loop-preserved g c =
     }
 
 pub returns : goal.returns
-returns g c = λ start h. breaks_off c.args.terms.now.config.now c.args.terms.now.peer c.args.terms.now.at start c.loop.session _ _ [] [] c.loop.pass _ (c.loop.invariant.so_far start h) (inr (refl, refl))
+returns g c = λ start h. breaks_off g.J.Opening.has_answered c.args.terms.now.config.now c.args.terms.now.peer c.args.terms.now.at start c.loop.session _ _ [] [] c.loop.pass _ (c.loop.invariant.so_far start h) (inr (refl, refl))

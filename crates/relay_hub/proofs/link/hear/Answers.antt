@@ -1,5 +1,5 @@
 -- What is heard of octets that wait, and where they come to an offer.
-use Rattle.std.proofs.Common.{◌≡◌, ◌≢◌, ◌∙◌, ◌≤◌, false, true, [], drop, refl, sym, inl, arith}
+use Rattle.std.proofs.Common.{◌≡◌, ◌∙◌, drop, refl, sym, inl}
 use Rattle.relay_server.specs.declared.session.Next.TheVariants as next
 use Rattle.relay_server.specs.Session.{next_of}
 use Rattle.relay_server.specs.Setup.{setup_of_config}
@@ -15,7 +15,7 @@ take_offer-requires-clause-stands g c =
 
 pub returns-in-Ok-More-clause-hears : goal.returns-in-Ok-More-clause-hears
 returns-in-Ok-More-clause-hears g c = λ start left held h.
-    heard c.args.terms.now.config.now c.args.terms.now.peer c.args.terms.now.at start c.args.session.now c.hear.new.self left held c.args.octets.now c.args.used.now c.hear.new.used c.args.out.now.items c.hear.new.out.items c.args.pass.now c.in-Ok-More.ensures.used.no_less h
+    heard g.J.Opening.has_answered c.args.terms.now.config.now c.args.terms.now.peer c.args.terms.now.at start c.args.session.now c.hear.new.self left held c.args.octets.now c.args.used.now c.hear.new.used c.args.out.now.items c.hear.new.out.items c.args.pass.now c.in-Ok-More.ensures.used.no_less h
     (λ said stands. c.in-Ok-More.ensures.hears (setup_of_config c.args.terms.now.config.now) said refl stands)
 
 pub returns-in-Ok-More-clause-history : goal.returns-in-Ok-More-clause-history
@@ -27,7 +27,7 @@ returns-in-Ok-More-clause-history g c =
 
 pub returns-in-Ok-Close-clause-hears : goal.returns-in-Ok-Close-clause-hears
 returns-in-Ok-Close-clause-hears g c = λ start left held h.
-    heard c.args.terms.now.config.now c.args.terms.now.peer c.args.terms.now.at start c.args.session.now c.hear.new.self left held c.args.octets.now c.args.used.now c.hear.new.used c.args.out.now.items c.hear.new.out.items c.args.pass.now c.in-Ok-Close.ensures.used.no_less h
+    heard g.J.Opening.has_answered c.args.terms.now.config.now c.args.terms.now.peer c.args.terms.now.at start c.args.session.now c.hear.new.self left held c.args.octets.now c.args.used.now c.hear.new.used c.args.out.now.items c.hear.new.out.items c.args.pass.now c.in-Ok-Close.ensures.used.no_less h
     (λ said stands. c.in-Ok-Close.ensures.hears (setup_of_config c.args.terms.now.config.now) said refl stands)
 
 pub returns-in-Ok-Close-clause-history : goal.returns-in-Ok-Close-clause-history
@@ -42,14 +42,14 @@ returns-in-Ok-Close-clause-history g c =
 pub returns-in-Ok-clause-hears : goal.returns-in-Ok-clause-hears
 returns-in-Ok-clause-hears g c = λ start left held h.
     c.in-Ok.ensures.takes start left held (drop c.hear.new.used c.args.octets.now)
-    (heard c.args.terms.now.config.now c.args.terms.now.peer c.args.terms.now.at start c.args.session.now c.hear.new.self left held c.args.octets.now c.args.used.now c.hear.new.used c.args.out.now.items c.hear.new.out.items c.args.pass.now c.in-Ok-Offer.ensures.used.no_less h
+    (heard g.J.Opening.has_answered c.args.terms.now.config.now c.args.terms.now.peer c.args.terms.now.at start c.args.session.now c.hear.new.self left held c.args.octets.now c.args.used.now c.hear.new.used c.args.out.now.items c.hear.new.out.items c.args.pass.now c.in-Ok-Offer.ensures.used.no_less h
     (λ said stands. c.in-Ok-Offer.ensures.hears (setup_of_config c.args.terms.now.config.now) said refl stands))
 
 pub returns-in-Err-take_offer-clause-hears : goal.returns-in-Err-take_offer-clause-hears
 returns-in-Err-take_offer-clause-hears g c = λ start left held h.
     c.in-Err-take_offer.ensures.takes start left held (drop c.hear.new.used c.args.octets.now)
-    (heard c.args.terms.now.config.now c.args.terms.now.peer c.args.terms.now.at start c.args.session.now c.hear.new.self left held c.args.octets.now c.args.used.now c.hear.new.used c.args.out.now.items c.hear.new.out.items c.args.pass.now c.in-Ok-Offer.ensures.used.no_less h
+    (heard g.J.Opening.has_answered c.args.terms.now.config.now c.args.terms.now.peer c.args.terms.now.at start c.args.session.now c.hear.new.self left held c.args.octets.now c.args.used.now c.hear.new.used c.args.out.now.items c.hear.new.out.items c.args.pass.now c.in-Ok-Offer.ensures.used.no_less h
     (λ said stands. c.in-Ok-Offer.ensures.hears (setup_of_config c.args.terms.now.config.now) said refl stands))
 
 pub returns-in-Err-clause-hears : goal.returns-in-Err-clause-hears
-returns-in-Err-clause-hears g c = λ start left held h. breaks_off c.args.terms.now.config.now c.args.terms.now.peer c.args.terms.now.at start c.args.session.now left held _ c.args.out.now.items c.args.pass.now _ h (inl refl)
+returns-in-Err-clause-hears g c = λ start left held h. breaks_off g.J.Opening.has_answered c.args.terms.now.config.now c.args.terms.now.peer c.args.terms.now.at start c.args.session.now left held _ c.args.out.now.items c.args.pass.now _ h (inl refl)

@@ -8,4 +8,5 @@ invariant_of-result g c = (
   λ changes start. c.next_number-first.ensures.kept changes (c.requires.starts changes start),
   c.requires.rest.0,
   c.requires.rest.1,
+  c.requires.answers,
 )

@@ -1,5 +1,5 @@
 -- Links that were given lanes, served, and taken apart.
-use Rattle.std.proofs.Common.{◌≡◌, ◌≤◌, ◌∙◌, length, vec_len, vec_capacity, rules, sym, subst, arith}
+use Rattle.std.proofs.Common.{length, vec_len, vec_capacity, arith}
 use denote.Param.Send.{arg_sync, given_send, given_sync, param_send, param_sync}
 use Rattle.relay_hub.specs.Round.{MayBegin}
 use Rattle.relay_hub.proofs.LaneLemmas.{come_out, idle_of}
@@ -37,4 +37,4 @@ serve_lanes-lanes-requires g c =
 
 pub returns-clause-out : goal.returns-clause-out
 returns-clause-out g c = λ served together.
-    come_out g.R.Read.remaining g.W.Write.contents c.args.shop.now.config.now c.args.shop.now.at c.args.links.items c.lanes_of-lanes.result.items c.serve_lanes-lanes.result.items c.take_apart-passes.result.0.items c.take_apart-passes.result.1.items served c.lanes_of-lanes.ensures.lanes c.serve_lanes-lanes.ensures.served c.take_apart-passes.ensures.apart together
+    come_out g.J.Opening.has_answered g.R.Read.remaining g.W.Write.contents c.args.shop.now.config.now c.args.shop.now.at c.args.links.items c.lanes_of-lanes.result.items c.serve_lanes-lanes.result.items c.take_apart-passes.result.0.items c.take_apart-passes.result.1.items served c.lanes_of-lanes.ensures.lanes c.serve_lanes-lanes.ensures.served c.take_apart-passes.ensures.apart together
