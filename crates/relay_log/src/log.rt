@@ -2,7 +2,7 @@
 use crate::attempt_line::{Attempt, attempt_text};
 use crate::client_line::{Connection, client_text, unserved_text};
 use crate::line::printable;
-use crate::run_line::{accepted_text, cut_off_text, held_off_text, refused_text};
+use crate::run_line::{accepted_text, cut_off_text, held_off_text, refused_text, spool_full_text};
 use crate::stamp::write_stamp;
 use relay_disk::Disk;
 use relay_node::{Node, Noted};
@@ -105,6 +105,13 @@ impl<'a, E: Write> Log<'a, E> {
     pub fn held_off(&mut self, at: SocketAddrV4, seconds: u64) {
         if self.speaks {
             self.say(held_off_text(self.alloc, at, seconds));
+        }
+    }
+
+    /// Says that mail is refused for now, since the spool is full.
+    pub fn spool_full(&mut self) {
+        if self.speaks {
+            self.say(spool_full_text(self.alloc));
         }
     }
 

@@ -44,3 +44,10 @@ pub(crate) fn held_off_text(alloc: Global, at: SocketAddrV4, seconds: u64) -> io
     write!(text, "relayd: next hop {at} held off for {seconds} s")?;
     Ok(text)
 }
+
+/// Says that mail is refused for now.
+pub(crate) fn spool_full_text(alloc: Global) -> io::Result<Vec<u8>> {
+    let mut text = Vec::new(alloc);
+    write!(text, "relayd: spool full: mail is refused for now")?;
+    Ok(text)
+}

@@ -12,6 +12,9 @@ use std::net::SocketAddrV4;
 /// How many seconds a session may last without mail that is accepted.
 const SESSION_SECONDS: u64 = 30 * 60;
 
+/// How many octets of a text or a chunk are waited for as long as for a command line.
+const PART_SIZE: usize = 65_536;
+
 /// How many writes a connection has at a turn, where each takes a part alone.
 const WRITE_LIMIT: usize = 16;
 
@@ -22,7 +25,11 @@ const SPOOL_FULL: &[u8] = b"452 spool full";
 pub(crate) struct Client {
     pub(crate) channel: Channel,
     pub(crate) peer: SocketAddrV4,
-    /// The tick at which it is cut off, unless an octet is read or written before.
+    /// How many octets were read since the last answer.
+    unanswered: usize,
+    /// The tick at which it is cut off. It is set anew by the first octet behind an answer, by each 65,536 octets that
+    /// lead to none, since they are of a text or a chunk, and by each write of which it takes something: so a
+    /// command line has to stand whole within the timeout of its first octet.
     idle_deadline: u64,
     /// The tick at which it is cut off, unless mail of it is accepted before.
     session_deadline: u64,
@@ -34,6 +41,7 @@ impl Drop for Client {
         let Client {
             channel: _channel,
             peer: _,
+            unanswered: _,
             idle_deadline: _,
             session_deadline: _,
         } = self;
@@ -68,6 +76,7 @@ impl Client {
         Client {
             channel,
             peer,
+            unanswered: 0,
             idle_deadline: now.behind(timeout),
             session_deadline: now.behind(SESSION_SECONDS),
         }
@@ -78,6 +87,7 @@ impl Client {
         let Client {
             channel,
             peer: _,
+            unanswered: _,
             idle_deadline: _,
             session_deadline: _,
         } = self;
@@ -126,7 +136,7 @@ impl Client {
             return Ok(Next::Stays);
         }
         if self.channel.fill() {
-            self.idle_deadline = now.behind(timeout);
+            self.note_read(timeout, now);
         }
         if !self.channel.piece().is_empty() {
             return self.hear(relay, session, timeout, now, intake, log);
@@ -134,6 +144,18 @@ impl Client {
         match self.channel.end() {
             Some(_) => end_session(relay, session),
             None => Ok(Next::Stays),
+        }
+    }
+
+    /// A block was read.
+    fn note_read(&mut self, timeout: u64, now: &Now) {
+        let is_first = self.unanswered == 0;
+        self.unanswered = self.unanswered.saturating_add(self.channel.piece().len());
+        if is_first {
+            self.idle_deadline = now.behind(timeout);
+        } else if self.unanswered >= PART_SIZE {
+            self.unanswered = 1;
+            self.idle_deadline = now.behind(timeout);
         }
     }
 
@@ -155,6 +177,9 @@ impl Client {
         };
         let Heard { used, change, last } = heard;
         self.channel.used(used);
+        if !relay.to_client(session).is_empty() {
+            self.unanswered = self.channel.piece().len();
+        }
         if change.is_some() {
             intake.accepted = true;
             self.session_deadline = now.behind(SESSION_SECONDS);

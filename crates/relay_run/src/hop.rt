@@ -12,6 +12,9 @@ use std::alloc::Global;
 /// How many seconds a next hop may take to answer a connection.
 const CONNECT_SECONDS: u64 = 30;
 
+/// How many seconds a next hop may take to greet (RFC 5321, section 4.5.3.2.1).
+const GREETING_SECONDS: u64 = 300;
+
 /// How many seconds a next hop may say nothing, and take nothing: as long as its reply to a content may take (RFC 5321,
 /// section 4.5.3.2.6). All other waits of a client are shorter there.
 const IDLE_SECONDS: u64 = 600;
@@ -208,7 +211,7 @@ impl Hop {
         match relay.start(self.message, &self.name, now.moment) {
             Ok(started) => {
                 self.attempt = Some(started.attempt);
-                self.idle_deadline = now.behind(IDLE_SECONDS);
+                self.idle_deadline = now.behind(GREETING_SECONDS);
                 self.answer_deadline = now.behind(ANSWER_SECONDS);
                 Ok(Course::Stays)
             }

@@ -109,7 +109,11 @@ impl Hops {
         for number in 0..SLOT_COUNT {
             if let Some(taken) = self.hops.take(number) {
                 let mut hop = taken;
+                let was_connecting = hop.attempt.is_none();
                 let course = hop.attend(relay, now)?;
+                if was_connecting && hop.attempt.is_some() {
+                    lanes.reached(hop.lane);
+                }
                 if hop.has_spoken {
                     lanes.answered(hop.lane);
                 }

@@ -49,6 +49,8 @@ pub(crate) struct Lane {
     pub(crate) at: SocketAddrV4,
     tasks: VecDeque<Task>,
     running: usize,
+    /// A connection has come about since the place was left alone last, or since the relay began.
+    is_reached: bool,
     hold: Option<Hold>,
 }
 
@@ -59,6 +61,7 @@ impl Drop for Lane {
             at: _,
             tasks: _tasks,
             running: _,
+            is_reached: _,
             hold: _,
         } = self;
     }
@@ -71,6 +74,7 @@ impl Lane {
             at,
             tasks: VecDeque::new(alloc),
             running: 0,
+            is_reached: false,
             hold: None,
         }
     }
@@ -114,11 +118,17 @@ impl Lane {
         self.running = self.running.saturating_sub(1);
     }
 
-    /// The next hop has said something: it isn't left alone any more. It tells whether it was.
-    pub(crate) fn answered(&mut self) -> bool {
-        let was_held = self.hold.is_some();
+    /// A connection has come about. It tells whether it is the first.
+    pub(crate) fn reached(&mut self) -> bool {
+        let is_first = !self.is_reached;
+        self.is_reached = true;
+        is_first
+    }
+
+    /// The next hop has said something: when it can't be reached the next time, it is left alone for as short as the
+    /// first time.
+    pub(crate) fn answered(&mut self) {
         self.hold = None;
-        was_held
     }
 
     /// Whether the place is left alone.
@@ -135,6 +145,7 @@ impl Lane {
             Some(hold) => hold.seconds.saturating_mul(2).min(LONGEST_HOLD),
             None => FIRST_HOLD,
         };
+        self.is_reached = false;
         self.hold = Some(Hold {
             until: now.behind(seconds),
             seconds,

@@ -174,13 +174,19 @@ impl Lanes {
         }
     }
 
+    /// A connection of a lane has come about: more may be begun.
+    pub(crate) fn reached(&mut self, number: usize) {
+        if let Some(lane) = self.lanes.get_mut(number) {
+            if lane.reached() {
+                self.is_open = true;
+            }
+        }
+    }
+
     /// The next hop of a lane has said something.
     pub(crate) fn answered(&mut self, number: usize) {
         if let Some(lane) = self.lanes.get_mut(number) {
-            if lane.answered() {
-                self.is_stale = true;
-                self.is_open = true;
-            }
+            lane.answered();
         }
     }
 
@@ -310,11 +316,11 @@ impl Lanes {
 
     /// The tick at which something is to be done, or the given one where that is earlier.
     pub(crate) fn next_deadline(&self, otherwise: u64) -> u64 {
-        let next = otherwise.min(self.next_minute).min(self.next_hold_end);
+        let next = otherwise.min(self.next_hold_end);
         if self.is_stale {
             next.min(self.next_listing)
         } else {
-            next
+            next.min(self.next_minute)
         }
     }
 }

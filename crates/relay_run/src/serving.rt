@@ -19,8 +19,8 @@ const EVENT_COUNT: usize = 3 * SLOT_COUNT + 1;
 /// Serves clients and hands on what they bring, up to 64 sessions and 64 attempts side by side, in one thread. It
 /// returns only with a fault, and a stop at any moment is as safe as at any other. Faults are looked for in this order
 /// before it begins: the configuration file, its content, its limits, the spool, the listener. Then a line
-/// `ready HOST ADDRESS` goes to `writer`, and unless it is `quiet` a line for each thing that was done to `errors`, with
-/// the moment in front of it.
+/// `ready HOST ADDRESS` goes to `writer`, and unless it is `quiet` a line for each thing that was done to `errors`,
+/// with the moment in front of it.
 ///
 /// A connection that breaks ends alone. Only a device that failed, and want of memory or descriptors before the first
 /// client, end the relay.

@@ -126,7 +126,7 @@ impl Shell {
             self.lanes.has_changed();
         }
         if intake.was_full {
-            self.tidying.note_full();
+            self.tidying.note_full(now, log);
         }
         if intake.closed {
             self.door.resume();

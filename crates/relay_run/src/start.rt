@@ -20,10 +20,8 @@ pub(crate) fn settings<F: Files<File = File>>(
     let text = configuration_text(alloc, files, path)?;
     let document = document(alloc, text.as_str())?;
     let config = Config::of_document(alloc, &document)?;
-    match Limits::of_document(&document) {
-        Ok(limits) => Ok((config, limits)),
-        Err(limit) => Err(Fault::Limit(limit)),
-    }
+    let limits = Limits::of_document(&document)?;
+    Ok((config, limits))
 }
 
 fn document(alloc: Global, text: &str) -> Result<toml::Table, Fault> {

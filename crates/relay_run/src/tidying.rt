@@ -9,6 +9,9 @@ use relay_service::{Fault, is_worth_it};
 /// The least milliseconds between two times that the spool is written anew.
 const PAUSE: u64 = 1_000;
 
+/// How many seconds it isn't told again that the spool is full.
+const TELLING_SECONDS: u64 = 60;
+
 /// What has happened to the spool since it was last looked at.
 #[derive(Clone, Copy, Debug)]
 pub(crate) struct Tidying {
@@ -18,6 +21,8 @@ pub(crate) struct Tidying {
     was_full: bool,
     /// The tick before which it isn't written anew.
     next: u64,
+    /// The tick before which it is not told again that it is full.
+    next_telling: u64,
 }
 
 impl Tidying {
@@ -27,6 +32,7 @@ impl Tidying {
             has_shrunk: true,
             was_full: false,
             next: 0,
+            next_telling: 0,
         }
     }
 
@@ -35,9 +41,13 @@ impl Tidying {
         self.has_shrunk = true;
     }
 
-    /// Mail was refused since the spool is full.
-    pub(crate) fn note_full(&mut self) {
+    /// Mail was refused since the spool is full, which is told once a minute.
+    pub(crate) fn note_full(&mut self, now: &Now, log: &mut Log<'_, Vec<u8>>) {
         self.was_full = true;
+        if self.next_telling <= now.tick {
+            log.spool_full();
+            self.next_telling = now.behind(TELLING_SECONDS);
+        }
     }
 
     /// Whether the spool is to be looked at now.
