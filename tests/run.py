@@ -68,7 +68,9 @@ def its_log_says_when_and_quiet_says_nothing(field):
 def sixty_four_sessions_stand_side_by_side(field):
     relay = field.relay(sessions_per_client=64)
     with relay.running() as process:
-        before = resident(process)
+        # What the first client costs is the relay's own.
+        with clients_of(relay, 1):
+            before = resident(process)
         with clients_of(relay, 64) as clients:
             grown = resident(process) - before
             if grown > 8 << 20:
@@ -338,6 +340,9 @@ def its_faults_end_it_before_it_is_ready(field):
         same("list", bad.held(), [])
     with socket.create_server(("127.0.0.1", relay.port)):
         same("a port that is taken", relay.refused("run"), (1, "relayd: socket"))
+    ended = subprocess.run(relay.words("run"), stderr=subprocess.PIPE, timeout=PATIENCE,
+                           preexec_fn=lambda: os.close(1))
+    same("without standard output", (ended.returncode, ended.stderr), (1, b"relayd: output\n"))
     with relay.running():
         for words in (["run"], ["compact"], ["push"]):
             same(f"{words[0]} beside run", relay.refused(*words), (1, "relayd: device"))
@@ -346,8 +351,12 @@ def its_faults_end_it_before_it_is_ready(field):
 
 
 def a_closed_standard_error_stops_nothing(field):
+    def close_two():
+        os.close(0)
+        os.close(2)
+
     relay = field.relay()
-    with relay.running(preexec_fn=lambda: os.close(2)):
+    with relay.running(preexec_fn=close_two):
         hand_in(relay)
         same("the content", behind_mark(field.arrived(1)[0].content, "relay.example", 1), CONTENT)
         until("an empty list", lambda: relay.held() == [])
