@@ -173,6 +173,27 @@ def a_silent_client_is_told_and_left(field):
         field.arrived(1)
 
 
+def a_client_that_reads_nothing_is_cut_off(field):
+    relay = field.relay(client_timeout=1)
+    with relay.running(), Client(relay) as client:
+        client.link.setsockopt(socket.SOL_SOCKET, socket.SO_RCVBUF, 1 << 16)
+        client.link.setblocking(False)
+
+        def is_gone():
+            try:
+                client.link.send(b"EHLO x\r\n" * 1000)
+            except BlockingIOError:
+                pass
+            except ConnectionError:
+                return True
+            return False
+
+        # The system takes some megabytes of replies for it, by and by; the time counts from the last of them.
+        until("its connection is closed", is_gone, 3 * PATIENCE)
+        hand_in(relay)
+        field.arrived(1)
+
+
 def a_flood_that_nobody_reads_costs_nothing(field):
     """The flood's client reads none of its replies, so the relay reads none of its octets in the end."""
     relay = field.relay()
@@ -380,6 +401,7 @@ ROWS = [
     commands_and_chunks_come_in_one_piece,
     slow_clients_hold_up_nobody,
     a_silent_client_is_told_and_left,
+    a_client_that_reads_nothing_is_cut_off,
     a_flood_that_nobody_reads_costs_nothing,
     the_reply_to_quit_arrives_whole,
     the_end_of_the_input_leaves_what_was_answered,
