@@ -1,12 +1,13 @@
 #!/usr/bin/env python3
 """The rows of tests/interop.sh, which gives the packages that it has: relayd with other mail programs as its clients
-and as its next hops. Behind them all stands a sink in Python.
+and as its next hops, by `serve` and by `run`. Behind them all stands a sink in Python.
 
     tests/interop.py build/relayd build/interop postfix exim4-daemon-light opensmtpd swaks
 """
 import contextlib
 import email
 import email.policy
+import itertools
 import os
 import pathlib
 import smtplib
@@ -41,6 +42,11 @@ def ends_of(lines):
     return [line.split(" ", 1)[1] for line in lines]
 
 
+def recipients_alone(message):
+    """The paths of a message's recipients, without parameters."""
+    return [told.split(b" ")[0] for told in message.recipients]
+
+
 def body_of(content):
     return content.split(b"\r\n\r\n", 1)[1]
 
@@ -64,10 +70,10 @@ def all_taken(sink, recipients, content):
 
 
 class Field:
-    """A sink, and a relay that sends mail for out.example there."""
+    """A sink, and a relay that sends mail for out.example there, by `run` or by `serve`."""
 
-    def __init__(self, program, packages, folder):
-        self.packages, self.sink = packages, Sink()
+    def __init__(self, program, packages, folder, runs):
+        self.packages, self.runs, self.sink = packages, runs, Sink()
         routes = {"out.example": ("sink.example", self.sink.port)}
         self.relay = Relay(program, folder, routes, max_content=2000000)
         self.relay.run("init")
@@ -78,9 +84,12 @@ class Field:
 
     @contextlib.contextmanager
     def serving(self):
-        """`serve` for as many connections as a client likes, until everything has gone on. A relay that is ended
-        between the sink's reply and its own record of it would send a message twice."""
-        process = self.relay.start("--rounds", "1000")
+        """The relay for as many connections as a client likes, until everything has gone on. One that is ended between
+        the sink's reply and its own record of it would send a message twice."""
+        if self.runs:
+            process = self.relay.begin("--quiet", stderr=subprocess.PIPE)
+        else:
+            process = self.relay.start("--rounds", "1000")
         try:
             yield
             ends = time.monotonic() + PATIENCE
@@ -89,8 +98,24 @@ class Field:
         finally:
             process.terminate()
             out, errors = process.communicate(timeout=PATIENCE)
-        same("relayd serve says", errors, b"")
+        same("relayd says", errors, b"")
         same("list", self.relay.held(), [])
+
+    @contextlib.contextmanager
+    def serving_one(self, end):
+        """The relay for one connection, behind which its mail goes on: `serve` says that it has ended so."""
+        if self.runs:
+            with self.serving():
+                yield
+        else:
+            with self.relay.serving() as lines:
+                yield
+            same("the lines of serve", ends_of(lines), [end])
+
+    def hand_on(self, end):
+        """What is due behind that goes on, as `run` does by itself."""
+        if not self.runs:
+            same("push", ends_of(self.relay.run("push")), [end])
 
     def is_empty(self):
         """Whether nothing waits in the spool. A `list` beside `serve` may take a record that is just being added for
@@ -124,9 +149,8 @@ def through_a_hop(field, server):
     to_sink = ("sink.example", field.sink.port)
     field.relay.route({"in.example": ("next.example", server.port), "out.example": to_sink})
     for what, count, content in SIZES:
-        with field.relay.serving() as lines:
+        with field.serving_one("next.example ended"):
             hand_in(field.relay.port, recipients_of("in.example", count), content)
-        same(f"{what}: the lines of serve", ends_of(lines), ["next.example ended"])
         messages = all_taken(field.sink, recipients_of("in.example", count), content)
         for message in messages:
             if b"\r\n by relay.example with ESMTP id " not in message.content:
@@ -135,13 +159,13 @@ def through_a_hop(field, server):
 
 
 def a_recipient_refused_by_a_hop(field, server):
-    with field.relay.serving() as lines:
+    with field.serving_one("next.example ended"):
         hand_in(field.relay.port, ["b@in.example", "refused@in.example"], SMALL)
-    all_taken(field.sink, ["b@in.example"], SMALL)
-    same("push", ends_of(field.relay.run("push")), ["sink.example ended"])
-    field.sink.wait_for(1, PATIENCE)
-    messages = field.sink.take_all()
-    same("reports", [message.recipients for message in messages], [[b"<a@out.example>"]])
+    field.hand_on("sink.example ended")
+    field.sink.wait_for(2, PATIENCE)
+    messages = sorted(field.sink.take_all(), key=lambda message: message.recipients)
+    same("recipients", [recipients_alone(message) for message in messages], [[b"<a@out.example>"], [b"<b@in.example>"]])
+    same("the body", body_of(messages[1].content), body_of(SMALL))
     report = list(email.message_from_bytes(messages[0].content, policy=email.policy.default).iter_parts())
     told = dict(report[1].get_payload()[1].items())
     same("the recipient", told["Final-Recipient"], "rfc822; refused@in.example")
@@ -152,7 +176,7 @@ def a_recipient_refused_by_a_hop(field, server):
 
 
 def parameters_through_a_hop(field, server):
-    with field.relay.serving():
+    with field.serving_one("next.example ended"):
         hand_in(field.relay.port, ["b@in.example"], SMALL, ["RET=HDRS", "ENVID=q+2B1"],
                 ["NOTIFY=SUCCESS,FAILURE", "ORCPT=rfc822;B+2Bx@old.example"])
     message = all_taken(field.sink, ["b@in.example"], SMALL)[0]
@@ -172,13 +196,12 @@ def chunks_of_exim(field, server):
 def a_chunk_through_exim(field, server):
     """A content that doesn't end in CR LF goes to Exim in a chunk."""
     content = HEAD + b".\r\n..\r\nno end"
-    with field.relay.serving() as lines:
+    with field.serving_one("next.example ended"):
         link = socket.create_connection(("127.0.0.1", field.relay.port), PATIENCE)
         with link, link.makefile("rb") as replies:
             link.sendall(b"EHLO x\r\nMAIL FROM:<a@out.example>\r\nRCPT TO:<b@in.example>\r\n"
                          b"BDAT %d LAST\r\n%bQUIT\r\n" % (len(content), content))
             replies.read()
-    same("the lines of serve", ends_of(lines), ["next.example ended"])
     # Exim ends the last line.
     all_taken(field.sink, ["b@in.example"], content + b"\r\n")
 
@@ -220,9 +243,9 @@ SERVERS = {
 }
 
 
-def run_server(program, packages, package, folder):
+def run_server(program, packages, package, folder, runs):
     make, rows = SERVERS[package]
-    with contextlib.closing(Field(program, packages, folder)) as field:
+    with contextlib.closing(Field(program, packages, folder, runs)) as field:
         with contextlib.closing(make(packages, field.relay.port, field.sink.port)) as server:
             for row in rows:
                 try:
@@ -232,8 +255,8 @@ def run_server(program, packages, package, folder):
     return f"{make.name}: {', '.join(row.__name__ for row in rows)}"
 
 
-def run_client(program, packages, client, folder):
-    with contextlib.closing(Field(program, packages, folder)) as field:
+def run_client(program, packages, client, folder, runs):
+    with contextlib.closing(Field(program, packages, folder, runs)) as field:
         client(field, packages)
     return f"{client.__name__} as a client"
 
@@ -248,13 +271,13 @@ def main():
         print(f"interop: skipped: {', '.join(servers)}: no roots of their own can be mounted by this user")
         servers = []
     runs += [(run_server, package) for package in servers]
-    for run, what in runs:
+    for by, (run, what) in itertools.product(("serve", "run"), runs):
         with tempfile.TemporaryDirectory() as folder:
             try:
-                print(f"interop: {run(program, packages, what, folder)}", flush=True)
+                print(f"interop: {by}: {run(program, packages, what, folder, by == 'run')}", flush=True)
             except (Difference, OSError, smtplib.SMTPException, subprocess.SubprocessError) as difference:
                 name = what if isinstance(what, str) else what.__name__
-                sys.exit(f"interop: {name}: {difference}")
+                sys.exit(f"interop: {by}: {name}: {difference}")
     print(f"interop: {len(runs)} programs, each as it has to be")
 
 
