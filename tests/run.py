@@ -13,6 +13,7 @@ import pathlib
 import random
 import re
 import resource
+import select
 import smtplib
 import socket
 import subprocess
@@ -171,6 +172,22 @@ def a_silent_client_is_told_and_left(field):
         same("list", relay.held(), [])
         hand_in(relay)
         field.arrived(1)
+
+
+def a_client_that_drips_is_told_and_left(field):
+    """A command line stands whole within that time, and so do 64 KiB of a text: an octet now and then is no help."""
+    relay = field.relay(client_timeout=1)
+    with relay.running(), clients_of(relay, 2) as clients:
+        clients[1].ask_for_text()
+        begun, waiting = time.monotonic(), [client.link for client in clients]
+        while waiting:
+            for link in waiting:
+                link.sendall(b"N")
+            told = select.select(waiting, [], [], 0.2)[0]
+            waiting = [link for link in waiting if link not in told]
+            if time.monotonic() > begun + 1 + 2 * TIMES:
+                raise Difference(f"{len(waiting)} are waited for still")
+        same("what they are told", [client.rest() for client in clients], [TIMEOUT] * 2)
 
 
 def a_client_that_reads_nothing_is_cut_off(field):
@@ -401,6 +418,7 @@ ROWS = [
     commands_and_chunks_come_in_one_piece,
     slow_clients_hold_up_nobody,
     a_silent_client_is_told_and_left,
+    a_client_that_drips_is_told_and_left,
     a_client_that_reads_nothing_is_cut_off,
     a_flood_that_nobody_reads_costs_nothing,
     the_reply_to_quit_arrives_whole,
