@@ -13,6 +13,7 @@ import pathlib
 import random
 import re
 import resource
+import select
 import smtplib
 import socket
 import subprocess
@@ -68,7 +69,9 @@ def its_log_says_when_and_quiet_says_nothing(field):
 def sixty_four_sessions_stand_side_by_side(field):
     relay = field.relay(sessions_per_client=64)
     with relay.running() as process:
-        before = resident(process)
+        # What the first client costs is the relay's own.
+        with clients_of(relay, 1):
+            before = resident(process)
         with clients_of(relay, 64) as clients:
             grown = resident(process) - before
             if grown > 8 << 20:
@@ -167,6 +170,43 @@ def a_silent_client_is_told_and_left(field):
         if not 0.5 < waited < 2 + TIMES:
             raise Difference(f"they are waited for {waited:.1f} s")
         same("list", relay.held(), [])
+        hand_in(relay)
+        field.arrived(1)
+
+
+def a_client_that_drips_is_told_and_left(field):
+    """A command line stands whole within that time, and so do 64 KiB of a text: an octet now and then is no help."""
+    relay = field.relay(client_timeout=1)
+    with relay.running(), clients_of(relay, 2) as clients:
+        clients[1].ask_for_text()
+        begun, waiting = time.monotonic(), [client.link for client in clients]
+        while waiting:
+            for link in waiting:
+                link.sendall(b"N")
+            told = select.select(waiting, [], [], 0.2)[0]
+            waiting = [link for link in waiting if link not in told]
+            if time.monotonic() > begun + 1 + 2 * TIMES:
+                raise Difference(f"{len(waiting)} are waited for still")
+        same("what they are told", [client.rest() for client in clients], [TIMEOUT] * 2)
+
+
+def a_client_that_reads_nothing_is_cut_off(field):
+    relay = field.relay(client_timeout=1)
+    with relay.running(), Client(relay) as client:
+        client.link.setsockopt(socket.SOL_SOCKET, socket.SO_RCVBUF, 1 << 16)
+        client.link.setblocking(False)
+
+        def is_gone():
+            try:
+                client.link.send(b"EHLO x\r\n" * 1000)
+            except BlockingIOError:
+                pass
+            except ConnectionError:
+                return True
+            return False
+
+        # The system takes some megabytes of replies for it, by and by; the time counts from the last of them.
+        until("its connection is closed", is_gone, 3 * PATIENCE)
         hand_in(relay)
         field.arrived(1)
 
@@ -338,6 +378,9 @@ def its_faults_end_it_before_it_is_ready(field):
         same("list", bad.held(), [])
     with socket.create_server(("127.0.0.1", relay.port)):
         same("a port that is taken", relay.refused("run"), (1, "relayd: socket"))
+    ended = subprocess.run(relay.words("run"), stderr=subprocess.PIPE, timeout=PATIENCE,
+                           preexec_fn=lambda: os.close(1))
+    same("without standard output", (ended.returncode, ended.stderr), (1, b"relayd: output\n"))
     with relay.running():
         for words in (["run"], ["compact"], ["push"]):
             same(f"{words[0]} beside run", relay.refused(*words), (1, "relayd: device"))
@@ -346,8 +389,12 @@ def its_faults_end_it_before_it_is_ready(field):
 
 
 def a_closed_standard_error_stops_nothing(field):
+    def close_two():
+        os.close(0)
+        os.close(2)
+
     relay = field.relay()
-    with relay.running(preexec_fn=lambda: os.close(2)):
+    with relay.running(preexec_fn=close_two):
         hand_in(relay)
         same("the content", behind_mark(field.arrived(1)[0].content, "relay.example", 1), CONTENT)
         until("an empty list", lambda: relay.held() == [])
@@ -371,6 +418,8 @@ ROWS = [
     commands_and_chunks_come_in_one_piece,
     slow_clients_hold_up_nobody,
     a_silent_client_is_told_and_left,
+    a_client_that_drips_is_told_and_left,
+    a_client_that_reads_nothing_is_cut_off,
     a_flood_that_nobody_reads_costs_nothing,
     the_reply_to_quit_arrives_whole,
     the_end_of_the_input_leaves_what_was_answered,
