@@ -20,7 +20,7 @@ test:
 	tests/want_of_descriptors.py build/relayd
 	tests/fault_lines.sh build/relayd
 	tests/two_relays.py build/relayd
-	tests/run.py build/relayd
+	TIMES=10 tests/run.py build/relayd
 	tests/workers.py build/relayd
 	bench/crashes.py build/relayd 64
 	tests/compaction.py build/relayd
