@@ -134,14 +134,15 @@ SIZES = [("one recipient", 1, SMALL), ("100 recipients", 100, SMALL), ("1 MiB", 
 
 def through_a_client(field, server):
     """A server hands relayd what it was handed."""
-    for what, count, content in SIZES:
-        with field.serving():
+    # One relay for all: a server may keep its connection to it for the next message.
+    with field.serving():
+        for what, count, content in SIZES:
             hand_in(server.port, recipients_of("out.example", count), content)
             messages = all_taken(field.sink, recipients_of("out.example", count), content)
-        word = f"{server.name.lower()}.example"
-        mark = f"Received: from {word} ([127.0.0.1])\r\n by relay.example with ESMTP".encode()
-        for message in messages:
-            same(f"{what}: the first line", message.content[: len(mark)], mark)
+            word = f"{server.name.lower()}.example"
+            mark = f"Received: from {word} ([127.0.0.1])\r\n by relay.example with ESMTP".encode()
+            for message in messages:
+                same(f"{what}: the first line", message.content[: len(mark)], mark)
 
 
 def through_a_hop(field, server):
