@@ -3,7 +3,7 @@ use std::alloc::Global;
 use std::io::{self, Read};
 
 /// How many octets are read of a connection at a time.
-const BLOCK_SIZE: usize = 65_536;
+pub(crate) const BLOCK_SIZE: usize = 65_536;
 
 /// The octets that were read of a connection and aren't used yet: one block at most. It takes no memory before the
 /// first is read.

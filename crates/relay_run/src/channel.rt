@@ -1,4 +1,4 @@
-use crate::block::Block;
+use crate::block::{BLOCK_SIZE, Block};
 use mio::event::Event;
 use mio::net::TcpStream;
 use mio::{Interest, Registry, Token};
@@ -13,6 +13,8 @@ pub(crate) struct Readiness {
     pub(crate) reads: bool,
     /// A write takes octets, or gives a fault.
     pub(crate) writes: bool,
+    /// Behind what can be read comes the end, or a fault.
+    pub(crate) ends: bool,
 }
 
 impl Readiness {
@@ -21,6 +23,7 @@ impl Readiness {
         Readiness {
             reads: event.is_readable() || event.is_read_closed() || event.is_error(),
             writes: event.is_writable() || event.is_write_closed() || event.is_error(),
+            ends: event.is_read_closed() || event.is_error(),
         }
     }
 }
@@ -67,6 +70,7 @@ impl Channel {
             ready: Readiness {
                 reads: false,
                 writes: true,
+                ends: false,
             },
             end: None,
             block: Block::new(alloc),
@@ -95,6 +99,7 @@ impl Channel {
     pub(crate) fn note(&mut self, ready: Readiness) {
         self.ready.reads |= ready.reads;
         self.ready.writes |= ready.writes;
+        self.ready.ends |= ready.ends;
     }
 
     /// It counts as not ready to be written to.
@@ -148,7 +153,14 @@ impl Channel {
                 self.end = Some(End::Input);
                 false
             }
-            Ok(_) => true,
+            Ok(count) => {
+                // A read that leaves room has taken all that there is, and the system tells of what comes behind it: but
+                // for an end of which it has told already.
+                if count < BLOCK_SIZE && !self.ready.ends {
+                    self.ready.reads = false;
+                }
+                true
+            }
             Err(error) => {
                 self.note_read_fault(error.kind());
                 false

@@ -2,7 +2,7 @@ use crate::channel::{Channel, Readiness};
 use crate::client::{Client, Intake, Next, cut_off};
 use crate::clocks::Now;
 use crate::leaving::Leaving;
-use crate::slot::{count, put_back};
+use crate::slot::{count, holds, put_back};
 use mio::Registry;
 use mio::net::TcpStream;
 use relay_disk::FileDisk;
@@ -136,6 +136,9 @@ impl Clients {
         intake: &mut Intake,
         log: &mut Log<'_, Vec<u8>>,
     ) -> Result<(), Fault> {
+        if !holds(self.clients.as_slice(), number) {
+            return Ok(());
+        }
         let Some(taken) = self.clients.take(number) else {
             return Ok(());
         };

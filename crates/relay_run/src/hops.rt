@@ -5,7 +5,7 @@ use crate::hop::{Course, Hop};
 use crate::lane::Task;
 use crate::lanes::Lanes;
 use crate::leaving::Leaving;
-use crate::slot::put_back;
+use crate::slot::{holds, put_back};
 use mio::Registry;
 use mio::net::TcpStream;
 use relay_disk::FileDisk;
@@ -107,26 +107,44 @@ impl Hops {
     ) -> Result<bool, Fault> {
         let mut closed = false;
         for number in 0..SLOT_COUNT {
-            if let Some(taken) = self.hops.take(number) {
-                let mut hop = taken;
-                let was_connecting = hop.attempt.is_none();
-                let course = hop.attend(relay, now)?;
-                if was_connecting && hop.attempt.is_some() {
-                    lanes.reached(hop.lane);
-                }
-                if hop.has_spoken {
-                    lanes.answered(hop.lane);
-                }
-                if matches!(&course, Course::Stays) {
-                    put_back(&mut self.hops, number, hop);
-                } else {
-                    closed = true;
-                    let ended = hop.into_parts();
-                    conclude(registry, relay, lanes, leaving, ended, course, now, log)?;
-                }
+            if holds(self.hops.as_slice(), number) {
+                let stays = self.serve_one(number, registry, relay, lanes, leaving, now, log)?;
+                closed = closed || !stays;
             }
         }
         Ok(closed)
+    }
+
+    /// Serves the connection of a number. It tells whether that stays.
+    fn serve_one(
+        &mut self,
+        number: usize,
+        registry: &Registry,
+        relay: &mut Relay<FileDisk>,
+        lanes: &mut Lanes,
+        leaving: &mut Leaving,
+        now: &Now,
+        log: &mut Log<'_, Vec<u8>>,
+    ) -> Result<bool, Fault> {
+        let Some(taken) = self.hops.take(number) else {
+            return Ok(false);
+        };
+        let mut hop = taken;
+        let was_connecting = hop.attempt.is_none();
+        let course = hop.attend(relay, now)?;
+        if was_connecting && hop.attempt.is_some() {
+            lanes.reached(hop.lane);
+        }
+        if hop.has_spoken {
+            lanes.answered(hop.lane);
+        }
+        if matches!(&course, Course::Stays) {
+            put_back(&mut self.hops, number, hop);
+            return Ok(true);
+        }
+        let ended = hop.into_parts();
+        conclude(registry, relay, lanes, leaving, ended, course, now, log)?;
+        Ok(false)
     }
 
     /// Whether one is left with something to be done at once.

@@ -2,7 +2,7 @@
 //! read and dropped for a moment, since the system else resets the connection, and the last octets with it.
 use crate::channel::{Channel, End, Readiness};
 use crate::clocks::Now;
-use crate::slot::put_back;
+use crate::slot::{holds, put_back};
 use mio::Registry;
 use relay_loop::Outbox;
 use relay_slots::{SLOT_COUNT, Slots};
@@ -101,16 +101,24 @@ impl Leaving {
     pub(crate) fn serve(&mut self, now: &Now) -> usize {
         let mut closed: usize = 0;
         for number in 0..SLOT_COUNT {
-            if let Some(taken) = self.leavers.take(number) {
-                let mut leaver = taken;
-                if leaver.serve(now) {
-                    put_back(&mut self.leavers, number, leaver);
-                } else {
-                    closed = closed.saturating_add(1);
-                }
+            if holds(self.leavers.as_slice(), number) && !self.serve_one(number, now) {
+                closed = closed.saturating_add(1);
             }
         }
         closed
+    }
+
+    /// Serves the connection of a number. It tells whether that stays.
+    fn serve_one(&mut self, number: usize, now: &Now) -> bool {
+        let Some(taken) = self.leavers.take(number) else {
+            return false;
+        };
+        let mut leaver = taken;
+        let stays = leaver.serve(now);
+        if stays {
+            put_back(&mut self.leavers, number, leaver);
+        }
+        stays
     }
 
     /// Whether one is left with something to be done at once.
