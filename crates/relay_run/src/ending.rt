@@ -68,6 +68,23 @@ pub(crate) fn lose(
     Ok(())
 }
 
+/// Records that an errand was lost to a place that is left alone.
+pub(crate) fn lose_held(
+    relay: &mut Relay<FileDisk>,
+    lanes: &mut Lanes,
+    errand: Errand,
+    now: &Now,
+    log: &mut Log<'_, Vec<u8>>,
+) -> Result<(), Fault> {
+    if record_loss(relay, &errand, now)? {
+        // A report of it may be due at once.
+        lanes.has_changed();
+        let noted = relay.take_noted();
+        tell(errand, "lost", Some(Loss::Unreachable), noted, log);
+    }
+    Ok(())
+}
+
 /// Leaves the place of a lane alone.
 fn hold(lanes: &mut Lanes, lane: usize, log: &mut Log<'_, Vec<u8>>, now: &Now) {
     if let Some(seconds) = lanes.hold(lane, now) {

@@ -108,6 +108,22 @@ impl Lane {
         }
     }
 
+    /// The message of the next task, where the place is left alone.
+    pub(crate) fn held_message(&self, now: &Now) -> Option<u64> {
+        if !self.is_held(now) {
+            return None;
+        }
+        match self.tasks.front() {
+            Some(task) => Some(task.message),
+            None => None,
+        }
+    }
+
+    /// Takes the next task, whether one may be begun or not.
+    pub(crate) fn pop(&mut self) -> Option<Task> {
+        self.tasks.pop_front()
+    }
+
     /// A connection is made.
     pub(crate) fn began(&mut self) {
         self.running = self.running.saturating_add(1);

@@ -133,6 +133,22 @@ impl Lanes {
         }
     }
 
+    /// The message of the next task of a lane whose place is left alone.
+    pub(crate) fn held_message(&self, number: usize, now: &Now) -> Option<u64> {
+        match self.lanes.get(number) {
+            Some(lane) => lane.held_message(now),
+            None => None,
+        }
+    }
+
+    /// Takes the next task of a lane, whether one may be begun or not.
+    pub(crate) fn pop(&mut self, number: usize) -> Option<Task> {
+        match self.lanes.get_mut(number) {
+            Some(lane) => lane.pop(),
+            None => None,
+        }
+    }
+
     /// Puts a task that was taken back.
     pub(crate) fn put_back(&mut self, number: usize, task: Task) {
         if let Some(lane) = self.lanes.get_mut(number) {

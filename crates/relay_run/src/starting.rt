@@ -1,6 +1,6 @@
 //! Attempts that begin, and messages without a next hop that are given up.
 use crate::clocks::Now;
-use crate::ending::lose;
+use crate::ending::{lose, lose_held};
 use crate::hop::Errand;
 use crate::hops::Hops;
 use crate::lane::Task;
@@ -17,6 +17,12 @@ use std::net::Net;
 
 /// How many milliseconds no connection is begun behind one for which the system had no descriptor or no memory.
 const WANT_PAUSE: u64 = 1_000;
+
+/// How many seconds a message may be due at a place that is left alone, before it counts as lost without a connection.
+const OVERDUE_SECONDS: u64 = 4 * 60 * 60;
+
+/// The most recipients of a message.
+const RECIPIENT_LIMIT: u8 = 100;
 
 /// When connections may be begun.
 #[derive(Clone, Copy, Debug)]
@@ -49,15 +55,22 @@ pub(crate) fn start_tasks<N: Net>(
         return Ok(());
     }
     lanes.turn();
+    let mut has_lost = false;
     for step in 0..lanes.len() {
         let lane = lanes.nth(step);
+        if !has_lost {
+            has_lost = lose_overdue(relay, lanes, lane, now, log)?;
+        }
         match start_lane(net, registry, relay, hops, lanes, lane, starts, now, log)? {
             Begun::GoesOn => {}
             // What ends next opens the lanes again.
             Begun::IsFull => return Ok(()),
         }
     }
-    lanes.close();
+    // One is lost at a turn, and then the others have theirs.
+    if !has_lost {
+        lanes.close();
+    }
     Ok(())
 }
 
@@ -93,6 +106,51 @@ fn start_lane<N: Net>(
     Ok(Begun::GoesOn)
 }
 
+/// Records that the next message of a lane whose place is left alone is lost, where it has been due for too long, and
+/// tells whether it was: else a message that is one of many would be given up, or be told of as delayed, days late.
+fn lose_overdue(
+    relay: &mut Relay<FileDisk>,
+    lanes: &mut Lanes,
+    lane: usize,
+    now: &Now,
+    log: &mut Log<'_, Vec<u8>>,
+) -> Result<bool, Fault> {
+    match lanes.held_message(lane, now) {
+        Some(message) if is_overdue(relay, message, now) => {}
+        _ => return Ok(false),
+    }
+    let Some(task) = lanes.pop(lane) else {
+        return Ok(false);
+    };
+    lose_held(relay, lanes, errand_of(task, lane), now, log)?;
+    Ok(true)
+}
+
+/// Whether a place of a message has been due for longer than it may without an attempt.
+fn is_overdue(relay: &Relay<FileDisk>, message: u64, now: &Now) -> bool {
+    for place in 0..RECIPIENT_LIMIT {
+        if let Ok(Some(held)) = relay.node().place(message, place) {
+            if held.due.saturating_add(OVERDUE_SECONDS) < now.moment.seconds() {
+                return true;
+            }
+        }
+    }
+    false
+}
+
+/// The errand of a task for which no connection was made.
+fn errand_of(task: Task, lane: usize) -> Errand {
+    let (message, name) = task.into_parts();
+    Errand {
+        lane,
+        message,
+        name,
+        attempt: None,
+        has_spoken: false,
+        deferral: None,
+    }
+}
+
 /// A connection can't even be begun.
 fn fail(
     relay: &mut Relay<FileDisk>,
@@ -103,15 +161,7 @@ fn fail(
     now: &Now,
     log: &mut Log<'_, Vec<u8>>,
 ) -> Result<(), Fault> {
-    let (message, name) = task.into_parts();
-    let errand = Errand {
-        lane,
-        message,
-        name,
-        attempt: None,
-        has_spoken: false,
-        deferral: None,
-    };
+    let errand = errand_of(task, lane);
     lose(relay, lanes, errand, Loss::of_connecting(error), now, log)
 }
 
