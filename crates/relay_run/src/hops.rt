@@ -5,7 +5,7 @@ use crate::hop::{Course, Hop};
 use crate::lane::Task;
 use crate::lanes::Lanes;
 use crate::leaving::Leaving;
-use crate::slot::{holds, put_back};
+use crate::slot::{count, holds, put_back};
 use mio::Registry;
 use mio::net::TcpStream;
 use relay_disk::FileDisk;
@@ -16,6 +16,9 @@ use relay_slots::{SLOT_COUNT, Slots};
 use std::alloc::{AllocError, Global};
 use std::io;
 use std::net::{Net, SocketAddr, SocketAddrV4};
+
+/// Fewer connections than these are few.
+const FEW: usize = 16;
 
 /// The connections to next hops, up to 64.
 pub(crate) struct Hops {
@@ -48,6 +51,11 @@ impl Hops {
     /// The number that the next of them will have, where there is room for one.
     pub(crate) fn free(&self) -> Option<usize> {
         self.hops.free()
+    }
+
+    /// Whether few more of them may be made.
+    pub(crate) fn are_scarce(&self) -> bool {
+        SLOT_COUNT.saturating_sub(count(self.hops.as_slice())) < FEW
     }
 
     /// Whether a connection is being made for this message, in this lane.

@@ -51,6 +51,8 @@ pub(crate) struct Lane {
     running: usize,
     /// A connection has come about since the place was left alone last, or since the relay began.
     is_reached: bool,
+    /// The next hop has said something since then.
+    has_answered: bool,
     hold: Option<Hold>,
 }
 
@@ -62,6 +64,7 @@ impl Drop for Lane {
             tasks: _tasks,
             running: _,
             is_reached: _,
+            has_answered: _,
             hold: _,
         } = self;
     }
@@ -75,6 +78,7 @@ impl Lane {
             tasks: VecDeque::new(alloc),
             running: 0,
             is_reached: false,
+            has_answered: false,
             hold: None,
         }
     }
@@ -95,13 +99,12 @@ impl Lane {
     }
 
     /// Takes the next task, where one may be begun: fewer than `most` connections stand, and the place isn't left
-    /// alone. Where it was until now, one alone may.
-    pub(crate) fn next(&mut self, most: usize, now: &Now) -> Option<Task> {
-        let may_begin = match self.hold {
-            None => self.running < most,
-            Some(hold) => hold.until <= now.tick && self.running == 0,
-        };
-        if may_begin {
+    /// alone. Before one has come about one alone is made, and where connections are scarce before the next hop has
+    /// said something, so that a place that can't be reached takes no more of those that there may be.
+    pub(crate) fn next(&mut self, most: usize, is_scarce: bool, now: &Now) -> Option<Task> {
+        let is_trusted = self.is_reached && (self.has_answered || !is_scarce);
+        let most_now = if is_trusted { most } else { 1 };
+        if self.running < most_now && !self.is_held(now) {
             self.tasks.pop_front()
         } else {
             None
@@ -144,6 +147,7 @@ impl Lane {
     /// The next hop has said something: when it can't be reached the next time, it is left alone for as short as the
     /// first time.
     pub(crate) fn answered(&mut self) {
+        self.has_answered = true;
         self.hold = None;
     }
 
@@ -162,6 +166,7 @@ impl Lane {
             None => FIRST_HOLD,
         };
         self.is_reached = false;
+        self.has_answered = false;
         self.hold = Some(Hold {
             until: now.behind(seconds),
             seconds,

@@ -122,12 +122,17 @@ impl Lanes {
     }
 
     /// Takes the next task of a lane that may be begun, and where it goes.
-    pub(crate) fn next(&mut self, number: usize, now: &Now) -> Option<(Task, SocketAddrV4)> {
+    pub(crate) fn next(
+        &mut self,
+        number: usize,
+        is_scarce: bool,
+        now: &Now,
+    ) -> Option<(Task, SocketAddrV4)> {
         let most = self.most;
         match self.lanes.get_mut(number) {
             Some(lane) => {
                 let at = lane.at;
-                lane.next(most, now).map(|task| (task, at))
+                lane.next(most, is_scarce, now).map(|task| (task, at))
             }
             None => None,
         }

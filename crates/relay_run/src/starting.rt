@@ -90,7 +90,7 @@ fn start_lane<N: Net>(
         let Some(number) = hops.free() else {
             return Ok(Begun::IsFull);
         };
-        let Some((task, at)) = lanes.next(lane, now) else {
+        let Some((task, at)) = lanes.next(lane, hops.are_scarce(), now) else {
             return Ok(Begun::GoesOn);
         };
         match hops.connect(net, registry, number, task, lane, at, log.speaks(), now) {
