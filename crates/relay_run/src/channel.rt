@@ -154,8 +154,8 @@ impl Channel {
                 false
             }
             Ok(count) => {
-                // A read that leaves room has taken all that there is, and the system tells of what comes behind it: but
-                // for an end of which it has told already.
+                // A read that leaves room has taken all that there is, and the system tells of what comes behind
+                // it: but for an end of which it has told already.
                 if count < BLOCK_SIZE && !self.ready.ends {
                     self.ready.reads = false;
                 }

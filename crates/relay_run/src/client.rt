@@ -1,4 +1,7 @@
 //! The connection of a client, and what is done with it at a turn.
+ghost use Rattle.std.specs.Prelude.{◌≡◌, IfErr, IfOk};
+ghost use Rattle.relay_run.specs.Sessions.{EndsAlone, HasStopped, IsCutOff, IsTold, LeavesWithAll};
+
 use crate::channel::{Channel, End};
 use crate::clocks::Now;
 use relay_disk::FileDisk;
@@ -215,7 +218,11 @@ fn tells_full(replies: &[u8]) -> bool {
 }
 
 /// Ends the session of a client whose input has come to its end. What waits is still written.
-fn end_session(relay: &mut Relay<FileDisk>, session: usize) -> Result<Next, Fault> {
+fn end_session(relay: &mut Relay<FileDisk>, session: usize) -> Result<Next, Fault>
+    ensures ends { EndsAlone session relay.old relay.new }
+    ensures next { IfOk result (LeavesWithAll relay.old session) }
+    ensures stopped { IfErr result (HasStopped relay.old) }
+{
     match relay.end_client(session) {
         Ok(outbox) => Ok(Next::Leaves(outbox)),
         Err(NodeFault::Stopped) => Err(Fault::Device),
@@ -224,7 +231,11 @@ fn end_session(relay: &mut Relay<FileDisk>, session: usize) -> Result<Next, Faul
 }
 
 /// Ends the session of a client whose connection is broken.
-fn drop_session(relay: &mut Relay<FileDisk>, session: usize) -> Result<Next, Fault> {
+fn drop_session(relay: &mut Relay<FileDisk>, session: usize) -> Result<Next, Fault>
+    ensures ends { EndsAlone session relay.old relay.new }
+    ensures next { IfOk result (λ next. next ≡ Next.Gone) }
+    ensures stopped { IfErr result (HasStopped relay.old) }
+{
     match relay.end_client(session) {
         Err(NodeFault::Stopped) => Err(Fault::Device),
         _ => Ok(Next::Gone),
@@ -237,7 +248,11 @@ pub(crate) fn cut_off(
     alloc: Global,
     relay: &mut Relay<FileDisk>,
     session: usize,
-) -> Result<Next, Fault> {
+) -> Result<Next, Fault>
+    ensures ends { EndsAlone session relay.old relay.new }
+    ensures next { IfOk result (IsCutOff relay.old session) }
+    ensures stopped { IfErr result (HasStopped relay.old) }
+{
     match relay.end_client(session) {
         Ok(outbox) if outbox.is_empty() => Ok(farewell(alloc, relay)),
         Err(NodeFault::Stopped) => Err(Fault::Device),
@@ -246,7 +261,9 @@ pub(crate) fn cut_off(
 }
 
 /// The last octets of a client that is late.
-fn farewell(alloc: Global, relay: &Relay<FileDisk>) -> Next {
+fn farewell(alloc: Global, relay: &Relay<FileDisk>) -> Next
+    ensures { IsTold relay.now.node.config.host result }
+{
     match closing_line(alloc, &relay.node().config().host, Closing::Timeout) {
         Ok(line) => Next::Leaves(Outbox::new(line)),
         Err(_) => Next::Gone,

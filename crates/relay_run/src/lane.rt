@@ -1,3 +1,6 @@
+ghost use Rattle.std.specs.Prelude.{◌≡◌, ◌↔◌, IfSome, IsTrue};
+ghost use Rattle.relay_run.specs.Lanes.{IsHeld, MayBegin, next_hold};
+
 use crate::clocks::Now;
 use relay_routes::HostName;
 use std::alloc::Global;
@@ -101,7 +104,9 @@ impl Lane {
     /// Takes the next task, where one may be begun: fewer than `most` connections stand, and the place isn't left
     /// alone. Before one has come about one alone is made, and where connections are scarce before the next hop has
     /// said something, so that a place that can't be reached takes no more of those that there may be.
-    pub(crate) fn next(&mut self, most: usize, is_scarce: bool, now: &Now) -> Option<Task> {
+    pub(crate) fn next(&mut self, most: usize, is_scarce: bool, now: &Now) -> Option<Task>
+        ensures begins { IfSome result (λ _. MayBegin most is_scarce now.now.tick self.old) }
+    {
         let is_trusted = self.is_reached && (self.has_answered || !is_scarce);
         let most_now = if is_trusted { most } else { 1 };
         if self.running < most_now && !self.is_held(now) {
@@ -152,7 +157,9 @@ impl Lane {
     }
 
     /// Whether the place is left alone.
-    pub(crate) fn is_held(&self, now: &Now) -> bool {
+    pub(crate) fn is_held(&self, now: &Now) -> bool
+        ensures { IsTrue result ↔ IsHeld self.now.hold now.now.tick }
+    {
         match self.hold {
             Some(hold) => now.tick < hold.until,
             None => false,
@@ -160,7 +167,9 @@ impl Lane {
     }
 
     /// Leaves the place alone from now on, and tells for how many seconds.
-    pub(crate) fn hold(&mut self, now: &Now) -> u64 {
+    pub(crate) fn hold(&mut self, now: &Now) -> u64
+        ensures { result ≡ next_hold self.old.hold }
+    {
         let seconds = match self.hold {
             Some(hold) => hold.seconds.saturating_mul(2).min(LONGEST_HOLD),
             None => FIRST_HOLD,

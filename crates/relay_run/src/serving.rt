@@ -1,3 +1,5 @@
+ghost use Rattle.std.specs.Prelude.{IfOk};
+
 use crate::clocks::Now;
 use crate::door::Door;
 use crate::shell::Shell;
@@ -35,7 +37,9 @@ pub fn run<
     quiet: bool,
     writer: &mut W,
     errors: &mut E,
-) -> Result<(), Fault> {
+) -> Result<(), Fault>
+    ensures { IfOk result (λ _. ⊥) }
+{
     let (config, limits) = settings(alloc, rt, path)?;
     let at = config.listen;
     let relay = locked_relay(alloc, rt, config)?;
@@ -58,7 +62,9 @@ fn serve<R: Clock + Net, E: Write>(
     shell: Shell,
     quiet: bool,
     errors: &mut E,
-) -> Result<(), Fault> {
+) -> Result<(), Fault>
+    ensures { IfOk result (λ _. ⊥) }
+{
     let mut poll = poll;
     let mut shell = shell;
     let mut events = Events::with_capacity(alloc, EVENT_COUNT)?;
@@ -72,7 +78,8 @@ fn serve<R: Clock + Net, E: Write>(
         hand_out(&mut lines, errors);
         end?;
     }
-    Ok(())
+    // So many turns are never done.
+    Err(Fault::Socket)
 }
 
 /// A turn, whose lines of the log are gathered.
