@@ -74,6 +74,23 @@ image "$head"'\x01\x01\0\0\0\x03abc\0'
 image 'RELAYQ01\0\0\0\0\0\0\0\0\0\0' spool.2
 [ "$(stat -c %a spool spool.2 | uniq)" = 600 ] || fail "the files' modes are $(stat -c %a spool spool.2)"
 
+# All bodies of a row are on the device before the gate of the first is opened, and that before the row is answered.
+take "a row" "" create "append_all ab c" open
+hold answers answers << END
+created, 18 octets
+appended a row of 13 octets, 31 octets
+opened, 2 bodies, 31 octets
+END
+sed -n '/^write 13 /,/^open/p' calls > row
+hold calls row << END
+write 13 octets at 18
+sync
+write 1 octets at 17
+sync
+open spool, mode 600
+END
+image "$head"'\x01\x01\0\0\0\x02ab\x01\0\0\0\x01c\0'
+
 # A body that takes the place of all is on the device before its head is opened; a head that is open is closed first.
 take "two compactions" "" create "append abc" "append de" "compact one" "compact next" open
 hold answers answers << END

@@ -4,5 +4,6 @@ pub mod Queued
 pub mod Listening
 pub mod Node
 pub mod Admission
+pub mod Staging
 pub mod Attempts
 pub mod Compaction

@@ -145,7 +145,7 @@ fn take_offer<D: Disk>(
 }
 
 /// Tells the attempts of the mail that an answer has accepted, if it accepted any. It takes no memory.
-fn note_answer<D: Disk>(
+pub(crate) fn note_answer<D: Disk>(
     attempts: &mut Attempts,
     config: &Config,
     records: &Records<D>,

@@ -14,9 +14,10 @@ mod node;
 mod receive;
 mod reply;
 mod seat;
+mod stage;
 
 pub use again::NotReopened;
 pub use node::{Connected, Node};
 pub use receive::Received;
 pub use relay_attempts::{Replied, Started, Work};
-pub use relay_records::{Cause, HeldPlace, NodeFault, NotOpened, Noted};
+pub use relay_records::{Cause, HeldPlace, NodeFault, NotOpened, Noted, Staged, Unsettled};

@@ -13,7 +13,7 @@ use Rattle.relay_book.specs.StandsFor.{ReadsAll, StandsFor}
 use Rattle.relay_book.proofs.Theorems.{bodies_leave_one, reads_front}
 use Rattle.relay_records.specs.declared.fault.Cause.{Cause}
 use Rattle.relay_records.specs.declared.fault.Cause.TheVariants.{Spool, BadRecord}
-use Rattle.relay_records.specs.ListLaws.{HaltedIsNotRefused, HaltedIsOpened, IsNoFaultOfImage, KeptIsNotRefused, KeptIsOpened, OneListIsKept}
+use Rattle.relay_records.specs.ListLaws.{HaltedAllIsNotRefused, HaltedAllIsOpened, HaltedIsNotRefused, HaltedIsOpened, IsNoFaultOfImage, KeptIsNotRefused, KeptIsOpened, OneListIsKept}
 use Rattle.relay_records.specs.Open.{IsBadRecord, Opens, RefusesImage}
 use Rattle.relay_records.specs.Records.{Keeps, Kept}
 
@@ -100,4 +100,20 @@ module _ {D : Type 0} (honest : Type 0) (words : DiskWords D) where
         elim found.2 [
           | inl stands ↦ not_refused (seen_of words disk) found.0 changes cause h found.1 stands refused
           | inr more ↦ not_refused (seen_of words disk) found.0 (changes ++ more.0 ∷ []) cause h found.1 more.3 refused
+        ]
+
+    pub halted_all_is_opened : honest → HaltedAllIsOpened honest words
+    halted_all_is_opened h records opened changes pending disk halted within opens =
+        let found = halted.images h (seen_of words disk) (within (seen_of words disk) (sees_both disk)) in
+        elim found.2 [
+          | inl stands ↦ inl (opens_to h disk opened found.0 changes found.1 stands opens)
+          | inr all ↦ inr (opens_to h disk opened found.0 (changes ++ pending) found.1 all opens)
+        ]
+
+    pub halted_all_is_not_refused : honest → HaltedAllIsNotRefused honest words
+    halted_all_is_not_refused h records changes pending disk cause halted within refused =
+        let found = halted.images h (seen_of words disk) (within (seen_of words disk) (sees_both disk)) in
+        elim found.2 [
+          | inl stands ↦ not_refused (seen_of words disk) found.0 changes cause h found.1 stands refused
+          | inr all ↦ not_refused (seen_of words disk) found.0 (changes ++ pending) cause h found.1 all refused
         ]

@@ -1,5 +1,6 @@
 mod ListLemmas
 mod RecordLemmas
+mod StagedLemmas
 mod CompactLemmas
 mod ReadLemmas
 mod LawLemmas

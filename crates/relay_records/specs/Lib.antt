@@ -1,5 +1,6 @@
 pub mod Note
 pub mod Records
+pub mod Staged
 pub mod Reading
 pub mod Open
 pub mod HeldPlace

@@ -10,6 +10,7 @@ use Rattle.relay_records.specs.declared.fault.Cause.{Cause}
 use Rattle.relay_records.specs.declared.fault.Cause.TheVariants.{Spool}
 use Rattle.relay_records.specs.Open.{Opens, RefusesImage}
 use Rattle.relay_records.specs.Records.{Halted, Keeps, Kept}
+use Rattle.relay_records.specs.Staged.{Awaits, HaltedAll, Row, no_row}
 
 -- The next number of a list is that of one change more.
 abbrev pub NextIsOneMore : Type 0
@@ -45,6 +46,26 @@ module _ {D : Type 0} (honest : Type 0) (words : DiskWords D) where
       ⊎ ((change : Change) × (pending ≡ Some change) × FitsQueue (queue_of changes) change
       × Keeps honest words opened (changes ++ change ∷ []))
 
+  -- Records that keep changes await none.
+  abbrev pub NoneIsAwaited : Type 0
+  NoneIsAwaited =
+      (records : Kept D) (changes : List Change) → Keeps honest words records changes
+      → Awaits honest words records changes [] no_row
+
+  -- The next number of records that await changes comes behind these.
+  abbrev pub AwaitedAreNumbered : Type 0
+  AwaitedAreNumbered =
+      (records : Kept D) (changes pending : List Change) (row : Row) → Awaits honest words records changes pending row
+      → records.queue.next ≡ length changes + length pending + 1
+
+  -- What stopped records kept is opened as it was, or with all changes of the row that was being added.
+  abbrev pub HaltedAllIsOpened : Type 0
+  HaltedAllIsOpened =
+      (records opened : Kept D) (changes pending : List Change) (disk : Disks D)
+      → HaltedAll honest words records changes pending → ImagesWithin words records.spool.disk disk
+      → Opens honest words disk opened
+      → Keeps honest words opened changes ⊎ Keeps honest words opened (changes ++ pending)
+
   -- What live records kept isn't refused for its octets.
   abbrev pub KeptIsNotRefused : Type 0
   KeptIsNotRefused =
@@ -57,4 +78,11 @@ module _ {D : Type 0} (honest : Type 0) (words : DiskWords D) where
   HaltedIsNotRefused =
       (records : Kept D) (changes : List Change) (pending : Option Change) (disk : Disks D) (cause : Cause)
       → Halted honest words records changes pending → ImagesWithin words records.spool.disk disk
+      → RefusesImage honest (seen_of words disk) cause → IsNoFaultOfImage cause
+
+  -- Nor is it where a row was being added.
+  abbrev pub HaltedAllIsNotRefused : Type 0
+  HaltedAllIsNotRefused =
+      (records : Kept D) (changes pending : List Change) (disk : Disks D) (cause : Cause)
+      → HaltedAll honest words records changes pending → ImagesWithin words records.spool.disk disk
       → RefusesImage honest (seen_of words disk) cause → IsNoFaultOfImage cause

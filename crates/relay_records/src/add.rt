@@ -80,7 +80,7 @@ impl<D: Disk> Records<D> {
 }
 
 /// Makes a change that fits ready to be committed. It fails where memory runs out.
-fn ready_of(alloc: Global, book: &mut Book, change: Change) -> Result<Ready, AllocError>
+pub(crate) fn ready_of(alloc: Global, book: &mut Book, change: Change) -> Result<Ready, AllocError>
     requires { FitsQueue book.old.queue change }
     ensures queue { book.new.queue ≡ book.old.queue }
     ensures ready { IfOk result (λ ready. IsReady book.new ready) }

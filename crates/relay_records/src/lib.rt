@@ -11,8 +11,11 @@ mod open;
 mod place;
 mod reading;
 mod records;
+mod stage;
+mod staged;
 
 pub use fault::{Cause, NodeFault, NotOpened};
 pub use noted::Noted;
 pub use place::HeldPlace;
 pub use records::Records;
+pub use staged::{Staged, Unsettled};

@@ -1,5 +1,5 @@
 //! What is true of the lists of changes that records keep on an honest disk.
-ghost use Rattle.relay_records.specs.ListLaws.{HaltedIsNotRefused, HaltedIsOpened, KeptIsNotRefused, KeptIsOpened, NextIsOneMore, OneListIsKept};
+ghost use Rattle.relay_records.specs.ListLaws.{AwaitedAreNumbered, HaltedAllIsNotRefused, HaltedAllIsOpened, HaltedIsNotRefused, HaltedIsOpened, KeptIsNotRefused, KeptIsOpened, NextIsOneMore, NoneIsAwaited, OneListIsKept};
 
 use relay_disk::Disk;
 
@@ -31,4 +31,24 @@ pub fn kept_is_not_refused<D: Disk>()
 /// What stopped records kept isn't refused for its octets.
 pub fn halted_is_not_refused<D: Disk>()
     ensures { D.honest → HaltedIsNotRefused D.honest D.words }
+{}
+
+/// Records that keep changes await none: a row begins with any records that are live.
+pub fn none_is_awaited<D: Disk>()
+    ensures { NoneIsAwaited D.honest D.words }
+{}
+
+/// The next number of records that await changes comes behind these.
+pub fn awaited_are_numbered<D: Disk>()
+    ensures { AwaitedAreNumbered D.honest D.words }
+{}
+
+/// What stopped records kept is opened as it was, or with all of the row that was being added.
+pub fn halted_all_is_opened<D: Disk>()
+    ensures { D.honest → HaltedAllIsOpened D.honest D.words }
+{}
+
+/// What records kept that were stopped while a row was added isn't refused for its octets.
+pub fn halted_all_is_not_refused<D: Disk>()
+    ensures { D.honest → HaltedAllIsNotRefused D.honest D.words }
 {}

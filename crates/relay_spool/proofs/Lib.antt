@@ -3,6 +3,7 @@ mod TurnLemmas
 mod ImageLemmas
 mod LinkLemmas
 mod WalkLemmas
+mod RowLemmas
 mod SpoolLemmas
 mod BlockLemmas
 mod HeadLemmas

@@ -1,15 +1,15 @@
--- What a stop leaves while a link is added: its octets are written behind the closed gate, and then the gate is opened.
+-- What a stop leaves while links are added: their octets are written behind the closed gate, and then that gate is opened.
 use Rattle.std.proofs.Common.{◌≡◌, ◌≢◌, ℕ, suc, ◌+◌, ◌<◌, ◌≤◌, min, List, [], ◌∷◌, ◌++◌, length, take, drop, slice_index, refl, sym, ap, ◌∙◌, inl, inr, ⊎_elim, arith, append_assoc, length-append, length-take, get_or-take}
 use Rattle.std.proofs.lemmas.List.{take_at, drop_at, take-take, get_or_at}
 use Rattle.std.proofs.lemmas.Bool.{cases_eq}
 use Rattle.relay_disk.specs.Device.{DiskWords, written, Writes, WritesLeaveTheRest}
 use Rattle.relay_spool.specs.Image.{IsFront, IsImageOf, HasBodies, size_of}
 use Rattle.relay_spool.specs.Run.{AtEachMoment}
-use Rattle.relay_spool.specs.Spool.{IsBeforeOrWith}
+use Rattle.relay_spool.specs.Spool.{IsBeforeOrWithAll}
 use Rattle.relay_spool.specs.Head.{KeepsHead}
 use Rattle.relay_spool.proofs.HeadLemmas.{writes_keep_head}
 use Rattle.relay_spool.proofs.RunLemmas.{joined, weakened}
-use Rattle.relay_spool.proofs.ImageLemmas.{IsTail, length-front, with_front, with_link}
+use Rattle.relay_spool.proofs.ImageLemmas.{AreBehind, length-front, with_front, with_links}
 
 -- where the last gate of an image stands
 pub record Gate (image : List ℕ) (bodies : List (List ℕ)) (place : ℕ) : Type 0 where
@@ -101,10 +101,10 @@ ready_of image bodies place tail gate =
       behind = drop-written image (place + 1) tail low;
     }
 
--- The gate written: whatever a stop leaves there, the bodies are the same, or with this one.
-pub at_the_gate : WritesLeaveTheRest → (image other : List ℕ) (bodies : List (List ℕ)) (place : ℕ) (tail body : List ℕ) → Ready image bodies place tail → IsTail tail body
-    → Writes place 1 image other → HasBodies (IsBeforeOrWith bodies body) other
-at_the_gate law image other bodies place tail body ready is_tail writes =
+-- The gate written: whatever a stop leaves there, the bodies are the same, or with all of these.
+pub at_the_gate : WritesLeaveTheRest → (image other : List ℕ) (bodies more : List (List ℕ)) (place : ℕ) (tail : List ℕ) → Ready image bodies place tail → AreBehind tail more
+    → Writes place 1 image other → HasBodies (IsBeforeOrWithAll bodies more) other
+at_the_gate law image other bodies more place tail ready are writes =
     let gate = ready.gate in
     let within = gate.within in
     let longer = writes.no_shorter in
@@ -113,7 +113,7 @@ at_the_gate law image other bodies place tail body ready is_tail writes =
     let least : min place (length image) ≡ place = omega (arith, within) in
     let front : take place other ≡ gate.front = ap (λ (n : ℕ). take n other) (sym least) ∙ rests.0 ∙ gate.same in
     ⊎_elim
-    (λ opens. (bodies ++ body ∷ [], with_link gate.front tail ready.rest bodies body other place gate.is_front is_tail here front opens (rests.1 ∙ ready.behind), inr refl))
+    (λ opens. (bodies ++ more, with_links gate.front tail ready.rest bodies more other place gate.is_front are here front opens (rests.1 ∙ ready.behind), inr refl))
     (λ closed. (bodies, with_front gate.front bodies other place gate.is_front here front closed, inl refl))
     (cases_eq (slice_index other place) 1)
 
@@ -130,35 +130,35 @@ behind_at image place low =
     drop_at (take place image ++ 1 ∷ []) (drop (place + 1) image) (place + 1) (omega (arith, begin, front, low))
 
 -- the gate open
-pub opened : (image : List ℕ) (bodies : List (List ℕ)) (place : ℕ) (tail body : List ℕ) → Ready image bodies place tail → IsTail tail body
-    → IsImageOf (written image place (1 ∷ [])) (bodies ++ body ∷ [])
-opened image bodies place tail body ready is_tail =
+pub opened : (image : List ℕ) (bodies more : List (List ℕ)) (place : ℕ) (tail : List ℕ) → Ready image bodies place tail → AreBehind tail more
+    → IsImageOf (written image place (1 ∷ [])) (bodies ++ more)
+opened image bodies more place tail ready are =
     let gate = ready.gate in
     let within = gate.within in
     let low : place ≤ length image = omega (arith, within) in
     let other = written image place (1 ∷ []) in
     let long = length-written image place (1 ∷ []) low in
-    with_link gate.front tail ready.rest bodies body other place gate.is_front is_tail (omega (arith, long))
+    with_links gate.front tail ready.rest bodies more other place gate.is_front are (omega (arith, long))
     (take-written image place (1 ∷ []) low ∙ gate.same)
     (opens_at image place low)
     (behind_at image place low ∙ ready.behind)
 
 module _ {D : Type 0} (words : DiskWords D) where
   -- while the tail is written
-  pub tail_run : WritesLeaveTheRest → (old new : D) (image : List ℕ) (bodies : List (List ℕ)) (place count : ℕ) (body : List ℕ) → Gate image bodies place
+  pub tail_run : WritesLeaveTheRest → (old new : D) (image : List ℕ) (bodies more : List (List ℕ)) (place count : ℕ) → Gate image bodies place
       → AtEachMoment words old new (Writes (place + 1) count image)
-      → AtEachMoment words old new (HasBodies (IsBeforeOrWith bodies body))
-  tail_run law old new image bodies place count body gate =
-      weakened words old new (Writes (place + 1) count image) (HasBodies (IsBeforeOrWith bodies body))
+      → AtEachMoment words old new (HasBodies (IsBeforeOrWithAll bodies more))
+  tail_run law old new image bodies more place count gate =
+      weakened words old new (Writes (place + 1) count image) (HasBodies (IsBeforeOrWithAll bodies more))
       (λ other writes. (bodies, behind_the_gate law image other bodies place count gate writes, inl refl))
 
   -- while the gate is written
-  pub gate_run : WritesLeaveTheRest → (old new : D) (image : List ℕ) (bodies : List (List ℕ)) (place : ℕ) (tail body : List ℕ) → Ready image bodies place tail → IsTail tail body
+  pub gate_run : WritesLeaveTheRest → (old new : D) (image : List ℕ) (bodies more : List (List ℕ)) (place : ℕ) (tail : List ℕ) → Ready image bodies place tail → AreBehind tail more
       → AtEachMoment words old new (Writes place 1 image)
-      → AtEachMoment words old new (HasBodies (IsBeforeOrWith bodies body))
-  gate_run law old new image bodies place tail body ready is_tail =
-      weakened words old new (Writes place 1 image) (HasBodies (IsBeforeOrWith bodies body))
-      (λ other writes. at_the_gate law image other bodies place tail body ready is_tail writes)
+      → AtEachMoment words old new (HasBodies (IsBeforeOrWithAll bodies more))
+  gate_run law old new image bodies more place tail ready are =
+      weakened words old new (Writes place 1 image) (HasBodies (IsBeforeOrWithAll bodies more))
+      (λ other writes. at_the_gate law image other bodies more place tail ready are writes)
 
   -- a write behind the head keeps it
   pub head_run : WritesLeaveTheRest → (old new : D) (image : List ℕ) (place count : ℕ) → 17 ≤ place → 17 ≤ length image

@@ -12,7 +12,7 @@ use Rattle.relay_spool.specs.Image.Reading.{Bodies, NoSpool, DamagedAt}
 use Rattle.relay_spool.specs.Head.{HasOpenHead, IsGateOf, IsOldOrNew, IsRenewal, KeepsHead, generation_of, renewed}
 use Rattle.relay_spool.specs.Pair.{Describes, EachReads, HasBodies, HasNoBody, IsNewer, IsNoSpool, IsTaken, OneListOfBodies, OneReading, Reads, renewed_taken}
 use Rattle.relay_spool.specs.Run.{AtEachMoment as AtEachDiskMoment, EachOnlyReads, EachStaysShort, IsShort, Rests as DiskRests}
-use Rattle.relay_spool.specs.Spool.{AtEachMoment, IsBeforeOrOne, IsBeforeOrWith, OnlyReads, Rests}
+use Rattle.relay_spool.specs.Spool.{AtEachMoment, IsBeforeOrOne, IsBeforeOrWithAll, OnlyReads, Rests}
 use Rattle.relay_spool.proofs.HeadLemmas.{image_is_open, no_body, open_gate_of, open_is_spool, same_generation}
 use Rattle.relay_spool.proofs.ReadingLemmas.{head_or_none, not_both, one_list_of_bodies as one_list_of_an_image, one_place, open_reads}
 use Rattle.relay_spool.proofs.RenewalLemmas.{renewed_generation, renewed_has, renewed_open}
@@ -103,10 +103,10 @@ still_taken side seen images taken head keeps same = record {
       (subst (λ (xs : List ℕ). P (generation_of (mine side seen)) (generation_of xs)) (sym same) before);
 }
 
--- while a body is added
-append_shows : (side : Side) (seen images : Images) (before : List (List ℕ)) (body : List ℕ) → IsTaken side seen → HasDiskBodies (IsBeforeOrWith before body) (mine side images)
-    → KeepsHead (mine side seen) (mine side images) → other side images ≡ other side seen → HasBodies (IsBeforeOrWith before body) images
-append_shows side seen images before body taken has keeps same =
+-- while bodies are added
+append_shows : (side : Side) (seen images : Images) (before more : List (List ℕ)) → IsTaken side seen → HasDiskBodies (IsBeforeOrWithAll before more) (mine side images)
+    → KeepsHead (mine side seen) (mine side images) → other side images ≡ other side seen → HasBodies (IsBeforeOrWithAll before more) images
+append_shows side seen images before more taken has keeps same =
     (has.0, (side, still_taken side seen images taken (image_is_open (mine side images) has.0 has.1) keeps same, has.1), has.2)
 
 -- Of two generations the new one is the newer.
@@ -140,18 +140,18 @@ compact_shows Second seen images before body octets generation taken is generati
     (body ∷ [], (First, new_taken First images octets body generation new renewal (ap generation_of same ∙ generation_is), subst (λ (xs : List ℕ). IsDiskImageOf xs (body ∷ [])) (sym new) (renewed_has octets body (generation + 1) renewal)), inr refl)
 
 module _ {D : Type 0} (words : DiskWords D) where
-  -- a body added: the disk that is taken grows, and the other stays
-  pub append_run : (side : Side) (old new : Disks D) (before : List (List ℕ)) (body : List ℕ) → IsTaken side (seen_of words old)
-      → AtEachDiskMoment words (mine side old) (mine side new) (HasDiskBodies (IsBeforeOrWith before body))
+  -- bodies added: the disk that is taken grows, and the other stays
+  pub append_run : (side : Side) (old new : Disks D) (before more : List (List ℕ)) → IsTaken side (seen_of words old)
+      → AtEachDiskMoment words (mine side old) (mine side new) (HasDiskBodies (IsBeforeOrWithAll before more))
       → AtEachDiskMoment words (mine side old) (mine side new) (KeepsHead (words.seen (mine side old)))
-      → Unmoved words (other side old) (other side new) → AtEachMoment words old new (HasBodies (IsBeforeOrWith before body))
-  append_run First old new before body taken grows keeps still = record {
-    since = λ images first second. append_shows First (seen_of words old) images before body taken (grows.since.each images.first first) (keeps.since.each images.first first) (still.each images.second second);
-    now = λ images left. append_shows First (seen_of words old) images before body taken (grows.now images.first left.0) (keeps.now images.first left.0) (still.now images.second left.1);
+      → Unmoved words (other side old) (other side new) → AtEachMoment words old new (HasBodies (IsBeforeOrWithAll before more))
+  append_run First old new before more taken grows keeps still = record {
+    since = λ images first second. append_shows First (seen_of words old) images before more taken (grows.since.each images.first first) (keeps.since.each images.first first) (still.each images.second second);
+    now = λ images left. append_shows First (seen_of words old) images before more taken (grows.now images.first left.0) (keeps.now images.first left.0) (still.now images.second left.1);
   }
-  append_run Second old new before body taken grows keeps still = record {
-    since = λ images first second. append_shows Second (seen_of words old) images before body taken (grows.since.each images.second second) (keeps.since.each images.second second) (still.each images.first first);
-    now = λ images left. append_shows Second (seen_of words old) images before body taken (grows.now images.second left.1) (keeps.now images.second left.1) (still.now images.first left.0);
+  append_run Second old new before more taken grows keeps still = record {
+    since = λ images first second. append_shows Second (seen_of words old) images before more taken (grows.since.each images.second second) (keeps.since.each images.second second) (still.each images.first first);
+    now = λ images left. append_shows Second (seen_of words old) images before more taken (grows.now images.second left.1) (keeps.now images.second left.1) (still.now images.first left.0);
   }
 
   -- what it leaves

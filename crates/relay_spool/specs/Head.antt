@@ -3,7 +3,7 @@ use Rattle.std.specs.Prelude.{◌≡◌, ◌≢◌, ◌⊎◌, ℕ, ◌≤◌, L
 use Rattle.std.specs.Int.{w64, from_be_bytes}
 use Rattle.relay_spool.specs.declared.taken.HeadGate.{HeadGate}
 use Rattle.relay_spool.specs.declared.taken.HeadGate.TheVariants.{Closed, Open}
-use Rattle.relay_spool.specs.Image.{signature, number_of}
+use Rattle.relay_spool.specs.Image.{signature, number_of, IsChain}
 
 -- the number that eight octets write, the highest first
 unfoldable pub generation_in : List ℕ → ℕ
@@ -44,6 +44,12 @@ pub record IsAddition (octets body : List ℕ) : Type 0 where
   pub width : length size ≡ 4
   pub number : number_of size ≡ length body
   pub text : octets ≡ 1 ∷ (size ++ body ++ 0 ∷ [])
+
+-- what is written for bodies: a link for each, and a closed gate
+pub record AreAdded (octets : List ℕ) (bodies : List (List ℕ)) : Type 0 where
+  pub chain : List ℕ
+  pub is_chain : IsChain chain bodies
+  pub text : octets ≡ chain ++ 0 ∷ []
 
 -- what is written behind a closed head gate: the generation, and what is written for the one body
 pub record IsRenewal (octets : List ℕ) (generation : ℕ) (body : List ℕ) : Type 0 where

@@ -1,5 +1,6 @@
 pub mod Image
 pub mod Walk
+pub mod Row
 pub mod Head
 pub mod Run
 pub mod Blocks

@@ -14,6 +14,7 @@ mod opening;
 mod questions;
 mod reader;
 mod renewal;
+mod row;
 mod spool;
 mod taken;
 
@@ -21,4 +22,5 @@ pub use chain::SIZE_LIMIT;
 pub use fault::{Refused, SpoolFault};
 pub use link::BODY_OVERHEAD;
 pub use renewal::RENEWAL_OVERHEAD;
+pub use row::BodyRow;
 pub use spool::{Opened, Spool};

@@ -7,13 +7,14 @@
 //! - `open`: opens the files anew, and the spool in them;
 //! - `again`: opens the spool on the disks that the last step left, without opening the files anew;
 //! - `append TEXT`: appends a body;
+//! - `append_all TEXT TEXT ..`: appends a row of bodies, a word each;
 //! - `compact TEXT`: puts this one body in place of all.
 #![tactic(auto)]
 
 ghost use Rattle.std.specs.Prelude.{IsTrue};
 
 use relay_disk::{Disk, Disks, FileDisk};
-use relay_spool::{Opened, Refused, Spool};
+use relay_spool::{BodyRow, Opened, Refused, Spool};
 use std::test::Fail;
 use std::{env, fs};
 
@@ -71,6 +72,8 @@ fn change(rt: &HostRuntime, spool: Spool<FileDisk>, step: &str, text: &str) -> R
         println!(rt; "spent")?;
     } else if step == "append" {
         append(rt, &mut spool, text.as_bytes())?;
+    } else if step == "append_all" {
+        append_all(rt, &mut spool, text)?;
     } else if step == "compact" {
         compact(
             rt,
@@ -79,7 +82,7 @@ fn change(rt: &HostRuntime, spool: Spool<FileDisk>, step: &str, text: &str) -> R
         )?;
     } else {
         return Err(Fail::new(
-            "the steps are: remove, create, open, again, append TEXT, compact TEXT",
+            "the steps are: remove, create, open, again, append TEXT, append_all TEXT .., compact TEXT",
         ));
     }
     Ok(Held::Spool(spool))
@@ -127,6 +130,24 @@ fn append(rt: &HostRuntime, spool: &mut Spool<FileDisk>, body: &[u8]) -> Result<
     }
     match spool.append(body) {
         Ok(()) => println!(rt; "appended, {} octets", spool.size())?,
+        Err(fault) => println!(rt; "append refused: {fault}")?,
+    }
+    Ok(())
+}
+
+fn append_all(rt: &HostRuntime, spool: &mut Spool<FileDisk>, text: &str) -> Result<(), Fail>
+    requires { IsTrue spool.old.live }
+{
+    let mut row = BodyRow::new(rt.alloc());
+    for body in text.split(' ') {
+        if u32::try_from(body.len()).is_err() {
+            return Err(Fail::new("a body is too long"));
+        }
+        row.push(body.as_bytes())?;
+    }
+    let room = row.room();
+    match spool.append_all(row) {
+        Ok(()) => println!(rt; "appended a row of {room} octets, {} octets", spool.size())?,
         Err(fault) => println!(rt; "append refused: {fault}")?,
     }
     Ok(())
