@@ -4,6 +4,7 @@ mod WorkLemmas
 mod KeyLemmas
 mod GatherLemmas
 mod DueLemmas
+mod NextLemmas
 mod StartLemmas
 mod PlaceLemmas
 mod RunLemmas

@@ -1,5 +1,5 @@
 -- The tries of a message, hop by hop.
-use Rattle.std.proofs.Common.{◌≡◌, ℕ, ◌+◌, Bool, true, false, cond, not, ◌||◌, ◌&&◌, List, [], ◌∷◌, ◌++◌, length, drop, map, filter, slice_get, take, Option, None, Some, bytes_eq, refl, sym, ap, ◌∙◌, if◌then◌else◌, append_assoc, append-nil}
+use Rattle.std.proofs.Common.{◌≡◌, ◌≢◌, ℕ, ◌+◌, Bool, true, false, cond, not, ◌||◌, ◌&&◌, List, [], ◌∷◌, ◌++◌, length, drop, map, filter, slice_get, take, Option, None, Some, bytes_eq, refl, sym, ap, ◌∙◌, if◌then◌else◌, append_assoc, append-nil}
 use Rattle.std.specs.List.{list_any}
 use Rattle.std.specs.Option.{option_map_or}
 use Rattle.std.proofs.lemmas.Bool.{false≢true}
@@ -22,7 +22,7 @@ abbrev others : List ℕ → List (List ℕ) → List (List ℕ)
 others name names = filter (λ other. not (bytes_eq name other)) names
 
 -- the name is among these
-abbrev is_among : List ℕ → List (List ℕ) → Bool
+abbrev pub is_among : List ℕ → List (List ℕ) → Bool
 is_among name names = list_any (λ other. bytes_eq other name) names
 
 -- the name, unless it is among these
@@ -105,6 +105,16 @@ module _ (runs : List (Option Run)) (number : ℕ) where
           row false (is_among hop hops) is
           ∙ ap (λ (b : Bool). if not b then Try number hop ∷ [] else []) (sym (there is))
           ∙ sym (ap (λ (b : Bool). if not b && not (list_any (is_try_of hop) (tries runs number hops)) then Try number hop ∷ [] else []) is)
+
+  -- a hop that no attempt is running for is tried
+  pub free_is_tried : (hops : List (List ℕ)) (hop : List ℕ) → is_running runs number hop ≡ false → is_among hop hops ≡ true → tries runs number hops ≢ []
+  free_is_tried hops hop free among none =
+      false≢true
+      (sym (ap (list_any (is_try_of hop)) none)
+      ∙ tries_among number hop (filter is_free (each_once hops))
+      ∙ among_kept is_free hop (each_once hops) (ap not free)
+      ∙ among_once hop hops
+      ∙ among)
 
   tries_more : (hops : List (List ℕ)) (hop : List ℕ) → tries runs number (hops ++ hop ∷ []) ≡ tries runs number hops ++ one_try runs number (tries runs number hops) hop
   tries_more hops hop =

@@ -2,6 +2,7 @@ pub mod Hops
 pub mod Gathering
 pub mod Runs
 pub mod Work
+pub mod Next
 pub mod AddedOutcome
 pub mod Outcomes
 pub mod Attempts

@@ -7,6 +7,7 @@ mod conclude;
 mod gathering;
 mod give_up;
 mod hops;
+mod next;
 mod outcome;
 mod reply;
 mod runs;

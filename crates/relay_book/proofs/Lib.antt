@@ -42,4 +42,5 @@ mod MarkRowLemmas
 mod LeavingLemmas
 mod LengthLemmas
 mod DueLemmas
+mod MomentLemmas
 pub mod Theorems

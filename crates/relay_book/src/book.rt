@@ -9,6 +9,7 @@ ghost use Rattle.relay_book.specs.Ready.{IsReady, entry_of, message_in};
 ghost use Rattle.relay_book.specs.Record.{IsAccept};
 
 mod decoded;
+mod earliest;
 mod entries;
 mod first;
 mod make;

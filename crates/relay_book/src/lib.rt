@@ -32,6 +32,6 @@ pub use limits::{
     STORED_TEXT_LIMIT,
 };
 pub use message::{Message, Place, Places};
-pub use question::Question;
+pub use question::{PlaceQuestion, Question};
 pub use ready::Ready;
 pub use version::Version;

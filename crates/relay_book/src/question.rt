@@ -1,4 +1,4 @@
-ghost use Rattle.std.specs.Prelude.{◌≡◌, Bool};
+ghost use Rattle.std.specs.Prelude.{◌≡◌, ℕ, Bool};
 
 use crate::message::Message;
 
@@ -12,4 +12,16 @@ pub trait Question {
     /// Whether it holds of a message. It takes no memory.
     fn holds(&self, message: &Message) -> bool
         ensures { result ≡ holds self.now message.now };
+}
+
+/// A question about the places of messages, each asked alone.
+pub trait PlaceQuestion {
+    ghost use Rattle.relay_book.specs.declared.message.Message.{Message};
+
+    /// The answer, by the number of a message, the message, and the number of its place.
+    ghost holds: { Self → ℕ → Message → ℕ → Bool };
+
+    /// Whether it holds of this place of the message of that number. It takes no memory.
+    fn holds(&self, number: u64, message: &Message, place: usize) -> bool
+        ensures { result ≡ holds self.now number message.now place };
 }

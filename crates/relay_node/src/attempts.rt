@@ -2,6 +2,7 @@
 ghost use Rattle.std.specs.Prelude.{◌≡◌, ◌<◌, ◌↔◌, ◌⊎◌, ℕ, false, List, Err, IfErr, IfOk, IsTrue};
 ghost use Rattle.relay_attempts.specs.Attempts.{RefusesToStart, Serves, Starts};
 ghost use Rattle.relay_attempts.specs.Outcomes.{AddsUnroutable, CutsUnroutable, EndsUnroutable, RefusesToGiveUp};
+ghost use Rattle.relay_attempts.specs.Next.{IsNextDue};
 ghost use Rattle.relay_attempts.specs.Work.{works_of};
 ghost use Rattle.relay_book.specs.declared.change.Change.{Change};
 ghost use Rattle.relay_book.specs.Book.{Rise};
@@ -39,6 +40,26 @@ impl<D: Disk> Node<D> {
         Ok(
             self.attempts
                 .due(alloc, &self.config.routes, &self.records, now)?,
+        )
+    }
+
+    /// The least moment, from this one on, at which [`Node::due`] has work: this one where a held place has no hop,
+    /// and else the first at which a place is due that has one, and for whose message and hop no attempt is running.
+    /// None where there is no work at any moment. It looks at the places in the order of their moments, at none behind
+    /// the first that is to be tried, and takes no memory. `Stopped` is its only fault.
+    pub fn next_due(&self, now: Moment) -> Result<Option<Moment>, NodeFault>
+        ensures next { IfOk result (IsNextDue self.now.config.routes self.now.attempts self.now.records.queue now) }
+        ensures kept { (changes : List Change) → Keeps D.honest D.words self.now.records changes
+            → IfOk result (IsNextDue self.now.config.routes self.now.attempts (queue_of changes) now) }
+        ensures stopped { (result ≡ Err NodeFault.Stopped) ↔ (self.now.records.spool.live ≡ false) }
+        ensures faults { IfErr result (λ fault. fault ≡ NodeFault.Stopped) }
+    {
+        if !self.records.is_live() {
+            return Err(NodeFault::Stopped);
+        }
+        Ok(
+            self.attempts
+                .next_due(&self.config.routes, &self.records, now),
         )
     }
 

@@ -6,6 +6,7 @@ ghost use Rattle.relay_disk.specs.Disks.{AddsNoImage, FailsNot, calls_left_of};
 ghost use Rattle.relay_book.specs.declared.change.Change.{Change};
 ghost use Rattle.relay_book.specs.Book.{Rise};
 ghost use Rattle.relay_book.specs.Marks.{Held, IsQueuedAs};
+ghost use Rattle.relay_book.specs.Moments.{IsLeastOf, moments_of};
 ghost use Rattle.relay_book.specs.Queue.{due_of, held_of, message_of};
 ghost use Rattle.relay_book.specs.Snapshot.{IsQueue};
 ghost use Rattle.relay_records.specs.Records.{Halted, Keeps, Stays};
@@ -13,7 +14,7 @@ ghost use Rattle.relay_records.specs.HeldPlace.{IsWaiting, waiting_at};
 
 use crate::noted::Noted;
 use crate::place::{HeldPlace, held_place};
-use relay_book::{Book, LAST_NUMBER, Message, Question};
+use relay_book::{Book, LAST_NUMBER, Message, PlaceQuestion, Question};
 use relay_disk::{Disk, Disks, Reboot};
 use relay_spool::Spool;
 use relay_trace::Moment;
@@ -136,6 +137,15 @@ impl<D: Disk> Records<D> {
         ensures { IfOk result (λ marks. marks.items ≡ due_of now self.now.queue) }
     {
         self.book.due(alloc, now)
+    }
+
+    /// The least moment at which a held place is due of which a question holds, in seconds from 1970: it may pass
+    /// the greatest moment. None where the question holds of no held place. It asks of the places in the order of
+    /// their moments, and of none behind the answer's, and takes no memory.
+    pub fn first_due_where<Q: PlaceQuestion>(&self, question: &Q) -> Option<u64>
+        ensures { IsLeastOf (moments_of (Q.holds question.now) self.now.queue.messages) result }
+    {
+        self.book.first_due_where(question)
     }
 
     /// A place of a message, where it is held. It takes no memory.
