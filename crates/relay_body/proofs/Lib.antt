@@ -5,4 +5,5 @@ mod RunLemmas
 mod RunReadingLemmas
 mod ChunkLemmas
 mod PlainLemmas
+mod BareEndLemmas
 pub mod Theorems

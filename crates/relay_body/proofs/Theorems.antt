@@ -1,6 +1,8 @@
 -- What a crate above may cite: each lemma proves the law of this crate that has its name.
 -- dot texts
 pub use Rattle.relay_body.proofs.DotTextLemmas.{content_ends_in_line_end, each_content_is_written, line_end_is_seen, no_text_begins_another, no_text_is_empty, one_content, one_text, seen_is_line_end, written_is_read}
+-- bare line ends
+pub use Rattle.relay_body.proofs.BareEndLemmas.{bare_end_is_seen}
 -- a reader of dot texts
 pub use Rattle.relay_body.proofs.DotTextLemmas.{reading_has_no_dot_text, reading_is_open}
 -- chunks

@@ -4,3 +4,4 @@ pub mod DotReading
 pub mod DotSteps
 pub mod DotLaws
 pub mod ChunkText
+pub mod BareEnds

@@ -1,4 +1,5 @@
-//! What is true of dot texts, whoever reads or writes them.
+//! What is true of dot texts and of bare line ends, whoever reads or writes them.
+ghost use Rattle.relay_body.specs.BareEnds.{BareEndIsSeen};
 ghost use Rattle.relay_body.specs.DotLaws.{ContentEndsInLineEnd, EachContentIsWritten, HoldsWithinLimit, LineEndIsSeen, NoTextBeginsAnother, NoTextIsEmpty, OneContent, OneText, ReadingHasNoDotText, ReadingIsOpen, SeenIsLineEnd, WrittenIsRead};
 
 /// A text has one content.
@@ -59,4 +60,9 @@ pub fn seen_is_line_end()
 /// A reader holds no more octets of content than its limit.
 pub fn holds_within_limit()
     ensures { HoldsWithinLimit }
+{}
+
+/// No CR and no LF stands alone exactly in what is lines with CR LF, and a rest.
+pub fn bare_end_is_seen()
+    ensures { BareEndIsSeen }
 {}

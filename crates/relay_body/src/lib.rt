@@ -2,6 +2,7 @@
 //! chunks (RFC 3030).
 #![tactic(auto)]
 
+mod bare_ends;
 pub mod chunk_laws;
 mod chunk_reader;
 mod dot_reader;
@@ -11,6 +12,7 @@ pub mod laws;
 pub mod plain;
 mod run;
 
+pub use bare_ends::has_bare_end;
 pub use chunk_reader::{ChunkCut, ChunkReader};
 pub use dot_reader::{DotCut, DotReader};
 pub use dot_writer::{ends_in_line_end, push_dots, write_dots};

@@ -11,6 +11,7 @@ use Rattle.relay_trace.specs.HeaderSection.{received_count_of}
 use Rattle.relay_server.specs.declared.reply_table.Row.TheVariants as row
 use Rattle.relay_server.specs.Dialogue.{Offered, offered_of}
 use Rattle.relay_server.specs.Reply.{reply_of}
+use Rattle.relay_server.specs.ReplyTable.{is_refused_by}
 use Rattle.relay_server.specs.Setup.{Setup}
 use Rattle.relay_course.specs.declared.awaited.Awaited.{Awaited}
 use Rattle.relay_course.specs.declared.awaited.Awaited.TheVariants.{Greeting, Ehlo, Helo, Mail, Rcpt, Data, Content}
@@ -153,15 +154,16 @@ read-accepted setup errand tried replies all held =
     ∙ append-nil (accepted_places rcpts)
 
 -- a child that is there is the one that may be offered
-there-by : (some fits many : Bool) (offers : List Offered) (child : Offered)
-    → Begins offers (cond some (cond fits (cond many [] (child ∷ [])) []) []) → 0 < length offers → offers ≡ child ∷ []
-there-by true true false [] child begins h = absurd (omega (arith, h))
-there-by true true false (offer ∷ []) child begins h =
+there-by : (some fits many bare : Bool) (offers : List Offered) (child : Offered)
+    → Begins offers (cond some (cond fits (cond many [] (cond bare [] (child ∷ []))) []) []) → 0 < length offers → offers ≡ child ∷ []
+there-by true true false false [] child begins h = absurd (omega (arith, h))
+there-by true true false false (offer ∷ []) child begins h =
     let whole = begins.1 in let same : child ≡ offer = cc in ap (λ o. o ∷ []) (sym same)
-there-by true true false (offer ∷ next ∷ more) child begins h = absurd (omega (arith, ap length begins.1))
-there-by true true true offers child begins h = absurd (omega (arith, h, ap length begins.1, length-append offers begins.0))
-there-by true false many offers child begins h = absurd (omega (arith, h, ap length begins.1, length-append offers begins.0))
-there-by false fits many offers child begins h = absurd (omega (arith, h, ap length begins.1, length-append offers begins.0))
+there-by true true false false (offer ∷ next ∷ more) child begins h = absurd (omega (arith, ap length begins.1))
+there-by true true false true offers child begins h = absurd (omega (arith, h, ap length begins.1, length-append offers begins.0))
+there-by true true true bare offers child begins h = absurd (omega (arith, h, ap length begins.1, length-append offers begins.0))
+there-by true false many bare offers child begins h = absurd (omega (arith, h, ap length begins.1, length-append offers begins.0))
+there-by false fits many bare offers child begins h = absurd (omega (arith, h, ap length begins.1, length-append offers begins.0))
 
 pub child_holds_its_places : ChildHoldsItsPlaces
 child_holds_its_places setup errand said input output replies rest is ends some =
@@ -174,7 +176,8 @@ child_holds_its_places setup errand said input output replies rest is ends some 
     (read-accepted setup errand tried replies row_of.1 held)
     ∙ accepted-gone setup errand.envelope.recipients errand.places tried held.rcpts row_of.1 held.by_table in
     there-by (nat_le 1 (length (child_envelope errand tried).recipients))
-    (nat_le (length errand.text) setup.max_content) (nat_le 100 (received_count_of errand.text)) said.offers child
+    (nat_le (length errand.text) setup.max_content) (nat_le 100 (received_count_of errand.text))
+    (is_refused_by setup.bare_newlines errand.text) said.offers child
     met.children some
     ∙ ap (λ (e : Envelope). offered_of (client_in errand) e errand.text ∷ [])
     (all-behind (opened_of errand.envelope) tried

@@ -13,7 +13,8 @@ use Rattle.relay_server.specs.declared.offer.Answer.TheVariants as answer
 use Rattle.relay_server.specs.declared.reply_table.Row.TheVariants as row
 use Rattle.relay_server.specs.Dialogue.{Takes, Turn, answers_in, read_by, answered_by, row_of_answer}
 use Rattle.relay_server.specs.Reply.{reply_of}
-use Rattle.relay_server.specs.ReplyTable.{Replies, Offers, course_of_text, course_of_chunks}
+use Rattle.relay_routes.specs.declared.bare_newlines.BareNewlines.{BareNewlines}
+use Rattle.relay_server.specs.ReplyTable.{Replies, Offers, is_refused_by, unless_refused}
 use Rattle.relay_server.specs.State.{State, Command, Greeted, Receiving, Spent}
 use Rattle.relay_book.specs.declared.change.Verdict.{Verdict}
 use Rattle.relay_book.specs.declared.change.Verdict.TheVariants.{Later, Taken}
@@ -25,7 +26,7 @@ use Rattle.relay_course.specs.Course.{joined}
 use Rattle.relay_course.specs.RelayLaws.{answered_rcpts, content_answers, content_replies, last_verdict, relay_progress, relay_replies}
 use Rattle.relay_course.proofs.Theorems.{commands_to_a_relay, end_is_end, end_waits_for_nothing}
 use Rattle.relay_meeting.specs.Meeting.{AreExpected, Plays, Step, replies_by, state_behind, step_of}
-use Rattle.relay_meeting.specs.Script.{AreRcpts, Tried, row_of_hop, quit_step, content_steps, rcpt_steps, with_tried, client_in, envelope_behind, opened_of, script_of}
+use Rattle.relay_meeting.specs.Script.{AreRcpts, Tried, course_of_last_chunk, course_of_mail_data, row_of_hop, quit_step, content_steps, rcpt_steps, with_tried, client_in, envelope_behind, opened_of, script_of}
 use Rattle.relay_meeting.specs.Joined.{Tells, TwoRelaysEnd, child_envelope, verdict_at}
 use Rattle.relay_meeting.proofs.MeetLemmas.{either_begins, meeting, taken_expected}
 use Rattle.relay_meeting.proofs.ScriptLemmas.{script_is_servers}
@@ -92,6 +93,10 @@ large_verdict : (host : List ℕ) → verdict_by (reply_of host row.ContentTooLa
 unfolding reply_of
 large_verdict host = refl
 
+bare_verdict : (host : List ℕ) → verdict_by (reply_of host row.BareLineEnd) ≡ refusal (reply_of host row.BareLineEnd)
+unfolding reply_of
+bare_verdict host = refl
+
 refused_tells : (last : Verdict) (reply : Reply) (answers : List Answer) → last ≡ refusal reply → answers ≡ []
     → Tells last answers
 refused_tells last reply answers e a = inr (λ dsn h. refused-not reply dsn (sym e ∙ h), inl a)
@@ -101,17 +106,26 @@ given_tells : (host : List ℕ) (given : Answer) (last : Verdict) (answers : Lis
 given_tells host (answer.Queued number) last answers e a = inl (e ∙ queued_verdict host number, (number, a))
 given_tells host answer.Full last answers e a = inr (λ dsn h. not_taken-later dsn (sym (full_verdict host) ∙ sym e ∙ h), inr a)
 
-content_tells : (host : List ℕ) (client : Client) (envelope : Envelope) (content : List ℕ) (over : State)
-    (fits many : Bool) (turn : Turn) (new : State)
-    → Takes host (cond fits (cond many (Replies row.TooManyReceived (Command (Greeted client)))
-    (Offers client envelope content)) (Replies row.ContentTooLarge over)) turn new
+offer_tells : (host : List ℕ) (client : Client) (envelope : Envelope) (content : List ℕ) (bare : Bool) (turn : Turn) (new : State)
+    → Takes host (cond bare (Replies row.BareLineEnd (Command (Greeted client))) (Offers client envelope content)) turn new
     → Tells (verdict_by turn.reply) (answers_in turn.offer)
-content_tells host client envelope content over true true turn new takes =
+offer_tells host client envelope content true turn new takes =
+    refused_tells (verdict_by turn.reply) (reply_of host row.BareLineEnd) (answers_in turn.offer)
+    (ap verdict_by takes.0 ∙ bare_verdict host) (ap answers_in takes.1)
+offer_tells host client envelope content false turn new takes =
+    given_tells host takes.0 (verdict_by turn.reply) (answers_in turn.offer) (ap verdict_by takes.1) (ap answers_in takes.2)
+
+content_tells : (host : List ℕ) (rule : BareNewlines) (client : Client) (envelope : Envelope) (content : List ℕ) (over : State)
+    (fits many : Bool) (turn : Turn) (new : State)
+    → Takes host (unless_refused rule (cond fits (cond many (Replies row.TooManyReceived (Command (Greeted client)))
+    (Offers client envelope content)) (Replies row.ContentTooLarge over))) turn new
+    → Tells (verdict_by turn.reply) (answers_in turn.offer)
+content_tells host rule client envelope content over true true turn new takes =
     refused_tells (verdict_by turn.reply) (reply_of host row.TooManyReceived) (answers_in turn.offer)
     (ap verdict_by takes.0 ∙ many_verdict host) (ap answers_in takes.1)
-content_tells host client envelope content over true false turn new takes =
-    given_tells host takes.0 (verdict_by turn.reply) (answers_in turn.offer) (ap verdict_by takes.1) (ap answers_in takes.2)
-content_tells host client envelope content over false many turn new takes =
+content_tells host rule client envelope content over true false turn new takes =
+    offer_tells host client envelope content (is_refused_by rule content) turn new takes
+content_tells host rule client envelope content over false many turn new takes =
     refused_tells (verdict_by turn.reply) (reply_of host row.ContentTooLarge) (answers_in turn.offer)
     (ap verdict_by takes.0 ∙ large_verdict host) (ap answers_in takes.1)
 
@@ -157,60 +171,60 @@ text_tells host client envelope text chunk false (turn ∷ turns) input content 
 abbrev last_verdict_by : Bool → Reply → Verdict
 last_verdict_by some content = cond some (verdict_by content) Later
 
-last_tells : (host : List ℕ) (limit : ℕ) (client : Client) (errand : Errand) (envelope : Envelope) (some : Bool)
+last_tells : (host : List ℕ) (setup : Setup) (client : Client) (errand : Errand) (envelope : Envelope) (some : Bool)
     (turns : List Turn) (input content : Reply) (later : List Reply)
-    → Plays host (cond some (content_steps limit client errand envelope) (quit_step ∷ [])) turns
+    → Plays host (cond some (content_steps setup client errand envelope) (quit_step ∷ [])) turns
     → replies_by turns ≡ content_replies_by errand some input content ++ later
     → Tells (last_verdict_by some content) (answered_by turns)
-last_tells host limit client errand envelope true turns input content later plays e =
-    let fits : Bool = nat_le (length errand.text) limit in
+last_tells host setup client errand envelope true turns input content later plays e =
+    let fits : Bool = nat_le (length errand.text) setup.max_content in
     let many : Bool = nat_le 100 (received_count_of errand.text) in
-    let text : Step = step_of errand.dot_text (course_of_text limit client envelope errand.text) in
-    let chunk : Step = step_of (last_chunk errand.text) (course_of_chunks limit client envelope errand.text true) in
+    let text : Step = step_of errand.dot_text (course_of_mail_data setup client envelope errand.text) in
+    let chunk : Step = step_of (last_chunk errand.text) (course_of_last_chunk setup client envelope errand.text) in
     text_tells host client envelope text chunk (ends_in_line_end errand.text) turns input content later
-    (λ turn takes. content_tells host client envelope errand.text (Command (Greeted client)) fits many turn
+    (λ turn takes. content_tells host setup.bare_newlines client envelope errand.text (Command (Greeted client)) fits many turn
     (state_behind text.course) takes)
-    (λ turn takes. content_tells host client envelope errand.text (Command (Spent client)) fits many turn
+    (λ turn takes. content_tells host setup.bare_newlines client envelope errand.text (Command (Spent client)) fits many turn
     (state_behind chunk.course) takes)
     plays e
-last_tells host limit client errand envelope false turns input content later plays e =
+last_tells host setup client errand envelope false turns input content later plays e =
     inr (λ dsn. not_taken-later dsn, inl (quit_answers host turns plays))
 
-rcpts_tell : (host : List ℕ) (limit : ℕ) (client : Client) (errand : Errand) (envelope : Envelope) (tried : List Tried)
+rcpts_tell : (host : List ℕ) (setup : Setup) (client : Client) (errand : Errand) (envelope : Envelope) (tried : List Tried)
     (turns : List Turn) (rcpts : List Reply) (some : Bool) (input content : Reply) (later : List Reply)
-    → Plays host (rcpt_steps limit client errand envelope tried) turns → AreRcpts host tried rcpts
+    → Plays host (rcpt_steps setup client errand envelope tried) turns → AreRcpts host tried rcpts
     → has_some (envelope_behind envelope tried) ≡ some
     → replies_by turns ≡ rcpts ++ (content_replies_by errand some input content ++ later)
     → Tells (last_verdict_by some content) (answered_by turns)
-rcpts_tell host limit client errand envelope [] turns [] some input content later plays are is e =
-    last_tells host limit client errand envelope some turns input content later
-    (subst (λ (b : Bool). Plays host (cond b (content_steps limit client errand envelope) (quit_step ∷ [])) turns) is plays) e
-rcpts_tell host limit client errand envelope [] turns (reply ∷ rcpts) some input content later plays are is e = absurd are
-rcpts_tell host limit client errand envelope (tried ∷ more) turns [] some input content later plays are is e = absurd are
-rcpts_tell host limit client errand envelope (tried ∷ more) [] (reply ∷ rcpts) some input content later plays are is e =
+rcpts_tell host setup client errand envelope [] turns [] some input content later plays are is e =
+    last_tells host setup client errand envelope some turns input content later
+    (subst (λ (b : Bool). Plays host (cond b (content_steps setup client errand envelope) (quit_step ∷ [])) turns) is plays) e
+rcpts_tell host setup client errand envelope [] turns (reply ∷ rcpts) some input content later plays are is e = absurd are
+rcpts_tell host setup client errand envelope (tried ∷ more) turns [] some input content later plays are is e = absurd are
+rcpts_tell host setup client errand envelope (tried ∷ more) [] (reply ∷ rcpts) some input content later plays are is e =
     absurd (omega (arith, ap length e))
-rcpts_tell host limit client errand envelope (tried ∷ more) (turn ∷ turns) (reply ∷ rcpts) some input content later plays
+rcpts_tell host setup client errand envelope (tried ∷ more) (turn ∷ turns) (reply ∷ rcpts) some input content later plays
     are is e =
     let tail : replies_by turns ≡ rcpts ++ (content_replies_by errand some input content ++ later) = cc in
     let behind =
-    rcpts_tell host limit client errand (with_tried envelope tried) more turns rcpts some input content later plays.2
+    rcpts_tell host setup client errand (with_tried envelope tried) more turns rcpts some input content later plays.2
     are.1 is tail in
     subst (λ (l : List Answer). Tells (last_verdict_by some content) l)
     (ap (λ o. answers_in o ++ answered_by turns) (sym plays.1.1)) behind
 
-script_tells : (host : List ℕ) (limit : ℕ) (errand : Errand) (tried : List Tried) (turns : List Turn) (hello mail : Reply)
+script_tells : (host : List ℕ) (setup : Setup) (errand : Errand) (tried : List Tried) (turns : List Turn) (hello mail : Reply)
     (rcpts : List Reply) (some : Bool) (input content : Reply) (later : List Reply)
-    → Plays host (script_of limit errand tried) turns → AreRcpts host tried rcpts → has_some (child_envelope errand tried) ≡ some
+    → Plays host (script_of setup errand tried) turns → AreRcpts host tried rcpts → has_some (child_envelope errand tried) ≡ some
     → replies_by turns ≡ hello ∷ mail ∷ (rcpts ++ (content_replies_by errand some input content ++ later))
     → Tells (last_verdict_by some content) (answered_by turns)
-script_tells host limit errand tried [] hello mail rcpts some input content later plays are is e =
+script_tells host setup errand tried [] hello mail rcpts some input content later plays are is e =
     absurd (omega (arith, ap length e))
-script_tells host limit errand tried (first ∷ []) hello mail rcpts some input content later plays are is e =
+script_tells host setup errand tried (first ∷ []) hello mail rcpts some input content later plays are is e =
     absurd (omega (arith, ap length e))
-script_tells host limit errand tried (first ∷ second ∷ turns) hello mail rcpts some input content later plays are is e =
+script_tells host setup errand tried (first ∷ second ∷ turns) hello mail rcpts some input content later plays are is e =
     let tail : replies_by turns ≡ rcpts ++ (content_replies_by errand some input content ++ later) = cc in
     let behind =
-    rcpts_tell host limit (client_in errand) errand (opened_of errand.envelope) tried turns rcpts some input content
+    rcpts_tell host setup (client_in errand) errand (opened_of errand.envelope) tried turns rcpts some input content
     later plays.2.2 are is tail in
     subst (λ (l : List Answer). Tells (last_verdict_by some content) l)
     (ap (λ o. answers_in o ++ answered_by turns) (sym plays.2.1.1)
@@ -272,7 +286,7 @@ pub two_relays_end : TwoRelaysEnd
 two_relays_end setup errand tried said input output replies rest verdicts is all ends each ended =
     let greeting : Reply = reply_of setup.host row.Greeting in
     let hello : Reply = reply_of setup.host row.Extensions in
-    let script : List Step = script_of setup.max_content errand tried in
+    let script : List Step = script_of setup errand tried in
     let d = ends.dialogue in
     let heard = all_written setup said input replies rest d ends.numbered ends.host ends.cut ends.down in
     let octets : joined (progress errand replies).commands ≡ read_by d.turns ++ (d.rest ++ ends.up.0) =
@@ -304,7 +318,7 @@ two_relays_end setup errand tried said input output replies rest verdicts is all
           (sym ended ∙ ap (λ l. (progress errand l).verdicts) same ∙ ap (λ (end : Progress). end.verdicts) at)
           ∙ verdicts_are setup.host errand.places tried parts.rcpts last many parts.are;
       tells = subst (λ (l : List Answer). Tells last l) (sym d.answers)
-          (script_tells setup.host setup.max_content errand tried d.turns hello parts.mail parts.rcpts
+          (script_tells setup.host setup errand tried d.turns hello parts.mail parts.rcpts
           (some_accepted parts.rcpts) parts.input parts.content heard.0 meets.plays parts.are parts.some
           (rest_is ∙ ap (λ l. hello ∷ parts.mail ∷ l) (append_assoc parts.rcpts behind heard.0)));
     }

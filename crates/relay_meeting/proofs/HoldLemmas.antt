@@ -9,7 +9,7 @@ use Rattle.relay_server.specs.declared.client.Client.{Client}
 use Rattle.relay_server.specs.declared.reply_table.Row.TheVariants as row
 use Rattle.relay_server.specs.Dialogue.{Said, Turn, offered_by, offers_in, read_by}
 use Rattle.relay_server.specs.Reply.{reply_of}
-use Rattle.relay_server.specs.ReplyTable.{Replies, course_of_text, course_of_chunks}
+use Rattle.relay_server.specs.ReplyTable.{Replies}
 use Rattle.relay_server.specs.Setup.{Setup}
 use Rattle.relay_server.specs.State.{Receiving}
 use Rattle.relay_course.specs.WrittenLine.{data_line, ehlo_line, last_chunk, mail_line, rcpt_line_at}
@@ -19,7 +19,7 @@ use Rattle.relay_course.specs.RelayLaws.{AreWilling, content_replies, opening_co
 use Rattle.relay_course.specs.Course.{joined}
 use Rattle.relay_course.proofs.Theorems.{commands_stay, nothing_before_all_rcpts}
 use Rattle.relay_meeting.specs.Meeting.{Plays, Step, replies_by, step_of}
-use Rattle.relay_meeting.specs.Script.{Tried, quit_step, last_steps, rcpt_steps, with_tried, client_in, opened_of, script_of, AreTried}
+use Rattle.relay_meeting.specs.Script.{Tried, course_of_last_chunk, course_of_mail_data, quit_step, last_steps, rcpt_steps, with_tried, client_in, opened_of, script_of, AreTried}
 use Rattle.relay_meeting.specs.Joined.{AreJoined, HaveMet, OfferHoldsItsPlaces}
 use Rattle.relay_meeting.proofs.MeetLemmas.{either_begins, joined-append, meeting}
 use Rattle.relay_meeting.proofs.TriedLemmas.{rcpt_line-at}
@@ -39,31 +39,31 @@ first_some host turn turns first text chunk true true a b plays = subst (λ (l :
 first_some host turn turns first text chunk true false a b plays = subst (λ (l : List ℕ). 0 < length l) (sym plays.0) b
 first_some host turn turns first text chunk false t a b plays = omega (arith, ap length plays.0)
 
-last_some : (host : List ℕ) (limit : ℕ) (client : Client) (errand : Errand) (envelope : Envelope) (turn : Turn)
-    (turns : List Turn) → Plays host (last_steps limit client errand envelope) (turn ∷ turns) → 0 < length turn.asked
-last_some host limit client errand envelope turn turns plays =
+last_some : (host : List ℕ) (setup : Setup) (client : Client) (errand : Errand) (envelope : Envelope) (turn : Turn)
+    (turns : List Turn) → Plays host (last_steps setup client errand envelope) (turn ∷ turns) → 0 < length turn.asked
+last_some host setup client errand envelope turn turns plays =
     first_some host turn turns (step_of data_line (Replies row.StartMailInput (Receiving client envelope)))
-    (step_of errand.dot_text (course_of_text limit client envelope errand.text))
-    (step_of (last_chunk errand.text) (course_of_chunks limit client envelope errand.text true))
+    (step_of errand.dot_text (course_of_mail_data setup client envelope errand.text))
+    (step_of (last_chunk errand.text) (course_of_last_chunk setup client envelope errand.text))
     (nat_le 1 (length envelope.recipients)) (ends_in_line_end errand.text) (omega arith) (chunk_some errand.text) plays
 
 -- turns with an offer have read all RCPTs, and more
-rcpts_read : (setup : Setup) (host : List ℕ) (limit : ℕ) (client : Client) (errand : Errand) (recipients : List Recipient)
+rcpts_read : (setup : Setup) (host : List ℕ) (client : Client) (errand : Errand) (recipients : List Recipient)
     (places : List ℕ) (envelope : Envelope) (tried : List Tried) (turns : List Turn)
     → AreTried setup recipients places tried
-    → Plays host (rcpt_steps limit client errand envelope tried) turns → 0 < length (offered_by turns)
+    → Plays host (rcpt_steps setup client errand envelope tried) turns → 0 < length (offered_by turns)
     → length (joined (map (rcpt_line_at true recipients) places)) < length (read_by turns)
-rcpts_read setup host limit client errand recipients [] envelope [] [] all plays h = absurd (omega arith)
-rcpts_read setup host limit client errand recipients [] envelope [] (turn ∷ turns) all plays h =
-    omega (arith, last_some host limit client errand envelope turn turns plays, length-append turn.asked (read_by turns))
-rcpts_read setup host limit client errand recipients [] envelope (tried ∷ more) turns all plays h = absurd all
-rcpts_read setup host limit client errand recipients (place ∷ places) envelope [] turns all plays h = absurd all
-rcpts_read setup host limit client errand recipients (place ∷ places) envelope (tried ∷ more) [] all plays h =
+rcpts_read setup host client errand recipients [] envelope [] [] all plays h = absurd (omega arith)
+rcpts_read setup host client errand recipients [] envelope [] (turn ∷ turns) all plays h =
+    omega (arith, last_some host setup client errand envelope turn turns plays, length-append turn.asked (read_by turns))
+rcpts_read setup host client errand recipients [] envelope (tried ∷ more) turns all plays h = absurd all
+rcpts_read setup host client errand recipients (place ∷ places) envelope [] turns all plays h = absurd all
+rcpts_read setup host client errand recipients (place ∷ places) envelope (tried ∷ more) [] all plays h =
     absurd (omega arith)
-rcpts_read setup host limit client errand recipients (place ∷ places) envelope (tried ∷ more) (turn ∷ turns) all plays h =
+rcpts_read setup host client errand recipients (place ∷ places) envelope (tried ∷ more) (turn ∷ turns) all plays h =
     let none = ap (λ o. length (offers_in o ++ offered_by turns)) plays.1.1 in
     let behind =
-    rcpts_read setup host limit client errand recipients places (with_tried envelope tried) more turns all.2 plays.2
+    rcpts_read setup host client errand recipients places (with_tried envelope tried) more turns all.2 plays.2
     (omega (arith, none)) in
     let line = ap length (plays.0 ∙ sym (rcpt_line-at true recipients place tried.recipient all.0)) in
     omega (
@@ -77,7 +77,7 @@ rcpts_read setup host limit client errand recipients (place ∷ places) envelope
 
 script_read : (setup : Setup) (errand : Errand) (tried : List Tried) (turns : List Turn)
     → AreTried setup errand.envelope.recipients errand.places tried
-    → Plays setup.host (script_of setup.max_content errand tried) turns → 0 < length (offered_by turns)
+    → Plays setup.host (script_of setup errand tried) turns → 0 < length (offered_by turns)
     → length (joined (opening_commands errand)) < length (read_by turns)
 script_read setup errand tried [] all plays h = absurd (omega arith)
 script_read setup errand tried (first ∷ []) all plays h =
@@ -88,7 +88,7 @@ script_read setup errand tried (first ∷ second ∷ turns) all plays h =
     let a = length-append (offers_in first.offer) (offered_by (second ∷ turns)) in
     let b = length-append (offers_in second.offer) (offered_by turns) in
     let behind =
-    rcpts_read setup setup.host setup.max_content (client_in errand) errand errand.envelope.recipients errand.places
+    rcpts_read setup setup.host (client_in errand) errand errand.envelope.recipients errand.places
     (opened_of errand.envelope) tried turns all plays.2.2 (omega (arith, none, nothing, a, b)) in
     let lines : List (List ℕ) = map (rcpt_line_at true errand.envelope.recipients) errand.places in
     omega (
@@ -188,7 +188,7 @@ pub offer_holds_its_places : OfferHoldsItsPlaces
 offer_holds_its_places setup errand tried said input output replies rest is all ends some =
     let greeting : Reply = reply_of setup.host row.Greeting in
     let hello : Reply = reply_of setup.host row.Extensions in
-    let script : List Step = script_of setup.max_content errand tried in
+    let script : List Step = script_of setup errand tried in
     let d = ends.dialogue in
     let heard = all_written setup said input replies rest d ends.numbered ends.host ends.cut ends.down in
     let sent : List Reply = replies_by d.turns in

@@ -18,7 +18,8 @@ use Rattle.relay_server.specs.declared.reply_table.Row.TheVariants as row
 use Rattle.relay_server.specs.Dialogue.{Answers, IsDialogue, IsLeft, Offered, Said, Takes, Turn, Turns, offered_of, offered_by, offers_in, answers_in, read_by, written_by, answered_by}
 use Rattle.relay_server.specs.DialogueLaws.{AreNumbered}
 use Rattle.relay_server.specs.Reply.{reply_of}
-use Rattle.relay_server.specs.ReplyTable.{Course, Replies, Offers, course_of_text, course_of_chunks}
+use Rattle.relay_routes.specs.declared.bare_newlines.BareNewlines.{BareNewlines}
+use Rattle.relay_server.specs.ReplyTable.{Course, Replies, Offers, is_refused_by, unless_refused}
 use Rattle.relay_server.specs.Setup.{Setup}
 use Rattle.relay_server.specs.State.{State, Command, Greeted, Receiving, Spent, start}
 use Rattle.relay_server.proofs.Theorems.{replies_are_well_formed, runs_compose}
@@ -27,7 +28,7 @@ use Rattle.relay_course.specs.Progress.{Errand, progress}
 use Rattle.relay_octets.specs.Beginning.{Begins}
 use Rattle.relay_course.specs.Course.{joined}
 use Rattle.relay_meeting.specs.Meeting.{Plays, Step, replies_by, state_behind, step_of}
-use Rattle.relay_meeting.specs.Script.{Tried, quit_step, content_steps, last_steps, rcpt_steps, with_tried, client_in, envelope_behind, opened_of, script_of}
+use Rattle.relay_meeting.specs.Script.{Tried, course_of_last_chunk, course_of_mail_data, quit_step, content_steps, last_steps, rcpt_steps, with_tried, client_in, envelope_behind, opened_of, script_of}
 use Rattle.relay_meeting.specs.Joined.{TwoRelaysMeet, child_envelope, child_of}
 use Rattle.relay_meeting.proofs.MeetLemmas.{meeting}
 use Rattle.relay_meeting.proofs.ScriptLemmas.{script_is_servers}
@@ -58,18 +59,26 @@ plays_offer host (step ∷ script) (turn ∷ turns) plays =
           ∙ sym (append_assoc (offers_in turn.offer) (offered_by turns) behind.0),
     )
 
-content_offer : (client : Client) (envelope : Envelope) (content : List ℕ) (many : Bool)
-    → may_offer (cond many (Replies row.TooManyReceived (Command (Greeted client))) (Offers client envelope content)) ≡ cond
-    many [] (offered_of client envelope content ∷ [])
-content_offer client envelope content true = refl
-content_offer client envelope content false = refl
+bare_offer : (client : Client) (envelope : Envelope) (content : List ℕ) (bare : Bool)
+    → may_offer (cond bare (Replies row.BareLineEnd (Command (Greeted client))) (Offers client envelope content)) ≡ cond
+    bare [] (offered_of client envelope content ∷ [])
+bare_offer client envelope content true = refl
+bare_offer client envelope content false = refl
 
-text_offer : (client : Client) (envelope : Envelope) (content : List ℕ) (over : State) (fits many : Bool)
-    → may_offer (cond fits (cond many (Replies row.TooManyReceived (Command (Greeted client)))
-    (Offers client envelope content)) (Replies row.ContentTooLarge over)) ≡ cond fits
-    (cond many [] (offered_of client envelope content ∷ [])) []
-text_offer client envelope content over true many = content_offer client envelope content many
-text_offer client envelope content over false many = refl
+content_offer : (rule : BareNewlines) (client : Client) (envelope : Envelope) (content : List ℕ) (many : Bool)
+    → may_offer (unless_refused rule (cond many (Replies row.TooManyReceived (Command (Greeted client)))
+    (Offers client envelope content)))
+    ≡ cond many [] (cond (is_refused_by rule content) [] (offered_of client envelope content ∷ []))
+content_offer rule client envelope content true = refl
+content_offer rule client envelope content false = bare_offer client envelope content (is_refused_by rule content)
+
+text_offer : (rule : BareNewlines) (client : Client) (envelope : Envelope) (content : List ℕ) (over : State)
+    (fits many : Bool)
+    → may_offer (unless_refused rule (cond fits (cond many (Replies row.TooManyReceived (Command (Greeted client)))
+    (Offers client envelope content)) (Replies row.ContentTooLarge over)))
+    ≡ cond fits (cond many [] (cond (is_refused_by rule content) [] (offered_of client envelope content ∷ []))) []
+text_offer rule client envelope content over true many = content_offer rule client envelope content many
+text_offer rule client envelope content over false many = refl
 
 steps_offer : (client : Client) (envelope : Envelope) (text chunk : Step) (t : Bool) (one : List Offered)
     → may_offer text.course ≡ one → may_offer chunk.course ≡ one
@@ -78,32 +87,34 @@ steps_offer : (client : Client) (envelope : Envelope) (text chunk : Step) (t : B
 steps_offer client envelope text chunk true one a b = append-nil (may_offer text.course) ∙ a
 steps_offer client envelope text chunk false one a b = append-nil (may_offer chunk.course) ∙ b
 
-last_offer : (limit : ℕ) (client : Client) (errand : Errand) (envelope : Envelope) (some : Bool)
-    → may_offer_in (cond some (content_steps limit client errand envelope) (quit_step ∷ []))
-    ≡ cond some (cond (nat_le (length errand.text) limit)
-    (cond (nat_le 100 (received_count_of errand.text)) [] (offered_of client envelope errand.text ∷ [])) []) []
-last_offer limit client errand envelope true =
-    let fits : Bool = nat_le (length errand.text) limit in
+last_offer : (setup : Setup) (client : Client) (errand : Errand) (envelope : Envelope) (some : Bool)
+    → may_offer_in (cond some (content_steps setup client errand envelope) (quit_step ∷ []))
+    ≡ cond some (cond (nat_le (length errand.text) setup.max_content)
+    (cond (nat_le 100 (received_count_of errand.text)) [] (cond (is_refused_by setup.bare_newlines errand.text) []
+    (offered_of client envelope errand.text ∷ []))) []) []
+last_offer setup client errand envelope true =
+    let fits : Bool = nat_le (length errand.text) setup.max_content in
     let many : Bool = nat_le 100 (received_count_of errand.text) in
-    steps_offer client envelope (step_of errand.dot_text (course_of_text limit client envelope errand.text))
-    (step_of (last_chunk errand.text) (course_of_chunks limit client envelope errand.text true))
+    let rule : BareNewlines = setup.bare_newlines in
+    steps_offer client envelope (step_of errand.dot_text (course_of_mail_data setup client envelope errand.text))
+    (step_of (last_chunk errand.text) (course_of_last_chunk setup client envelope errand.text))
     (ends_in_line_end errand.text)
-    (cond fits (cond many [] (offered_of client envelope errand.text ∷ [])) [])
-    (text_offer client envelope errand.text (Command (Greeted client)) fits many)
-    (text_offer client envelope errand.text (Command (Spent client)) fits many)
-last_offer limit client errand envelope false = refl
+    (cond fits (cond many [] (cond (is_refused_by rule errand.text) [] (offered_of client envelope errand.text ∷ []))) [])
+    (text_offer rule client envelope errand.text (Command (Greeted client)) fits many)
+    (text_offer rule client envelope errand.text (Command (Spent client)) fits many)
+last_offer setup client errand envelope false = refl
 
-rcpt_offer : (limit : ℕ) (client : Client) (errand : Errand) (envelope : Envelope) (tried : List Tried)
-    → may_offer_in (rcpt_steps limit client errand envelope tried) ≡ may_offer_in
-    (last_steps limit client errand (envelope_behind envelope tried))
-rcpt_offer limit client errand envelope [] = refl
-rcpt_offer limit client errand envelope (tried ∷ more) = rcpt_offer limit client errand (with_tried envelope tried) more
+rcpt_offer : (setup : Setup) (client : Client) (errand : Errand) (envelope : Envelope) (tried : List Tried)
+    → may_offer_in (rcpt_steps setup client errand envelope tried) ≡ may_offer_in
+    (last_steps setup client errand (envelope_behind envelope tried))
+rcpt_offer setup client errand envelope [] = refl
+rcpt_offer setup client errand envelope (tried ∷ more) = rcpt_offer setup client errand (with_tried envelope tried) more
 
-script_offer : (limit : ℕ) (errand : Errand) (tried : List Tried)
-    → may_offer_in (script_of limit errand tried) ≡ child_of limit errand tried
-script_offer limit errand tried =
-    rcpt_offer limit (client_in errand) errand (opened_of errand.envelope) tried
-    ∙ last_offer limit (client_in errand) errand (child_envelope errand tried)
+script_offer : (setup : Setup) (errand : Errand) (tried : List Tried)
+    → may_offer_in (script_of setup errand tried) ≡ child_of setup errand tried
+script_offer setup errand tried =
+    rcpt_offer setup (client_in errand) errand (opened_of errand.envelope) tried
+    ∙ last_offer setup (client_in errand) errand (child_envelope errand tried)
     (nat_le 1 (length (child_envelope errand tried).recipients))
 
 -- the turns of a dialogue, with one more where an offer is unanswered: its answer might be that the spool is full
@@ -188,7 +199,7 @@ two_relays_meet setup errand tried said input output replies rest is all ends =
     (formed.0, all_replies t.turns (formed.1 start t.state t.turns t.runs t.numbered)) written ends.cut in
     let octets : joined (progress errand replies).commands ≡ read_by t.turns ++ (t.unread ++ ends.up.0) =
     sym ends.written ∙ ends.up.1 ∙ ap (λ l. l ++ ends.up.0) t.input ∙ append_assoc (read_by t.turns) t.unread ends.up.0 in
-    let meets = meeting setup greeting (λ l. (progress errand l).commands) (script_of setup.max_content errand tried)
+    let meets = meeting setup greeting (λ l. (progress errand l).commands) (script_of setup errand tried)
     t.state t.turns replies heard.0.0 (t.unread ++ ends.up.0)
     (client_writes setup errand tried is all) (script_is_servers setup errand tried is all) t.runs octets heard.0.1 in
     record {
@@ -200,9 +211,9 @@ two_relays_meet setup errand tried said input output replies rest is all ends =
       unread = t.unread;
       input = t.input;
       offered = t.offers;
-      children = subst (λ l. Begins l (child_of setup.max_content errand tried)) (sym t.offers)
-          (subst (λ l. Begins (offered_by t.turns) l) (script_offer setup.max_content errand tried)
-          (plays_offer setup.host (script_of setup.max_content errand tried) t.turns meets.plays));
+      children = subst (λ l. Begins l (child_of setup errand tried)) (sym t.offers)
+          (subst (λ l. Begins (offered_by t.turns) l) (script_offer setup errand tried)
+          (plays_offer setup.host (script_of setup errand tried) t.turns meets.plays));
     }
 
 -- the replies that were read begin those of the turns

@@ -19,7 +19,8 @@ use Rattle.relay_trace.specs.HeaderSection.{received_count_of}
 use Rattle.relay_server.specs.declared.client.Client.{Client}
 use Rattle.relay_server.specs.declared.reply_table.Row.TheVariants as row
 use Rattle.relay_server.specs.Dialogue.{Comes}
-use Rattle.relay_server.specs.ReplyTable.{Course, Replies, Offers, course_of, course_of_text, course_of_chunks}
+use Rattle.relay_routes.specs.declared.bare_newlines.BareNewlines.{BareNewlines}
+use Rattle.relay_server.specs.ReplyTable.{Course, Replies, Offers, course_of, course_of_chunks, is_refused_by, unless_refused}
 use Rattle.relay_server.specs.Setup.{Setup}
 use Rattle.relay_server.specs.State.{CommandState, Fresh, Greeted, Open, Spent, State, Command as Awaits, Receiving, Closed}
 use Rattle.relay_server.specs.Unit.{Asked, AsksBy, announced_by, announced_of}
@@ -28,7 +29,7 @@ use Rattle.relay_course.specs.WrittenLine.{ehlo_line, mail_line, rcpt_line, data
 use Rattle.relay_course.specs.Progress.{Errand}
 use Rattle.relay_meeting.specs.Meeting.{IsScript, step_of, state_behind}
 use Rattle.relay_course.specs.Laws.{IsErrand}
-use Rattle.relay_meeting.specs.Script.{Tried, row_of_hop, with_tried, quit_step, content_steps, rcpt_steps, opened_of, client_in, AreTried, IsTried, ScriptIsServers}
+use Rattle.relay_meeting.specs.Script.{Tried, course_of_last_chunk, course_of_mail_data, row_of_hop, with_tried, quit_step, content_steps, rcpt_steps, opened_of, client_in, AreTried, IsTried, ScriptIsServers}
 
 announces_none : (b : Bool) (n : ℕ) → n ≡ 0 → 0 ≡ cond b n 0
 announces_none true n e = sym e
@@ -137,7 +138,7 @@ announced n size h = ap (λ b. cond b size 0) (sym (le-leb n 2046 h))
 chunk_comes : (setup : Setup) (client : Client) (envelope : Envelope) (text : List ℕ) → length text < 2 ^ 32
     → nat_le 1 (length envelope.recipients) ≡ true
     → Comes setup (Awaits (Open client envelope)) (last_chunk text)
-    (course_of_chunks setup.max_content client envelope text true)
+    (course_of_last_chunk setup client envelope text)
 chunk_comes setup client envelope text short some =
     let command : Command = Bdat (record { size = length text; last = true }) in
     let line : List ℕ = written_command command in
@@ -154,8 +155,8 @@ chunk_comes setup client envelope text short some =
             ∙ ap (λ r. cond (nat_le (length line) 2046) (announced_by r) 0) (sym is.is_read);
       };
       asks = inr (few, subst (λ (r : Result Command LineFault). AsksBy r text (asked.Bdat text true)) (sym is.is_read) refl);
-      course_is = ap (λ b. cond b (course_of_chunks setup.max_content client envelope text true)
-          (Replies row.NoValidRecipients (Awaits (Spent client)))) (sym some);
+      course_is = ap (λ b. unless_refused setup.bare_newlines (cond b (course_of_chunks setup.max_content client envelope text true)
+          (Replies row.NoValidRecipients (Awaits (Spent client))))) (sym some);
     }
 
 -- the mail data that is sent behind DATA
@@ -165,30 +166,37 @@ sent_behind text dot_text true e writes = writes
 sent_behind text dot_text false e writes = absurd (cc)
 
 -- behind the content a command is awaited again
-content_behind : (client : Client) (envelope : Envelope) (content : List ℕ) (many : Bool)
-    → state_behind (cond many (Replies row.TooManyReceived (Awaits (Greeted client))) (Offers client envelope content))
+offer_behind : (client : Client) (envelope : Envelope) (content : List ℕ) (bare : Bool)
+    → state_behind (cond bare (Replies row.BareLineEnd (Awaits (Greeted client))) (Offers client envelope content))
     ≡ Awaits (Greeted client)
-content_behind client envelope content true = refl
-content_behind client envelope content false = refl
+offer_behind client envelope content true = refl
+offer_behind client envelope content false = refl
 
-text_behind : (client : Client) (envelope : Envelope) (content : List ℕ) (fits many : Bool)
-    → state_behind (cond fits (cond many (Replies row.TooManyReceived (Awaits (Greeted client)))
-    (Offers client envelope content)) (Replies row.ContentTooLarge (Awaits (Greeted client)))) ≡ Awaits (Greeted client)
-text_behind client envelope content true many = content_behind client envelope content many
-text_behind client envelope content false many = refl
+content_behind : (rule : BareNewlines) (client : Client) (envelope : Envelope) (content : List ℕ) (many : Bool)
+    → state_behind (unless_refused rule (cond many (Replies row.TooManyReceived (Awaits (Greeted client)))
+    (Offers client envelope content))) ≡ Awaits (Greeted client)
+content_behind rule client envelope content true = refl
+content_behind rule client envelope content false = offer_behind client envelope content (is_refused_by rule content)
 
-chunk_behind : (client : Client) (envelope : Envelope) (content : List ℕ) (fits many : Bool) → (state : CommandState)
-    × (state_behind (cond fits (cond many (Replies row.TooManyReceived (Awaits (Greeted client)))
-    (Offers client envelope content)) (Replies row.ContentTooLarge (Awaits (Spent client)))) ≡ Awaits state)
-chunk_behind client envelope content true many = (Greeted client, content_behind client envelope content many)
-chunk_behind client envelope content false many = (Spent client, refl)
+text_behind : (rule : BareNewlines) (client : Client) (envelope : Envelope) (content : List ℕ) (fits many : Bool)
+    → state_behind (unless_refused rule (cond fits (cond many (Replies row.TooManyReceived (Awaits (Greeted client)))
+    (Offers client envelope content)) (Replies row.ContentTooLarge (Awaits (Greeted client))))) ≡ Awaits (Greeted client)
+text_behind rule client envelope content true many = content_behind rule client envelope content many
+text_behind rule client envelope content false many = refl
+
+chunk_behind : (rule : BareNewlines) (client : Client) (envelope : Envelope) (content : List ℕ) (fits many : Bool)
+    → (state : CommandState)
+    × (state_behind (unless_refused rule (cond fits (cond many (Replies row.TooManyReceived (Awaits (Greeted client)))
+    (Offers client envelope content)) (Replies row.ContentTooLarge (Awaits (Spent client))))) ≡ Awaits state)
+chunk_behind rule client envelope content true many = (Greeted client, content_behind rule client envelope content many)
+chunk_behind rule client envelope content false many = (Spent client, refl)
 
 content_script : (setup : Setup) (client : Client) (errand : Errand) (envelope : Envelope) (ends : Bool) → IsErrand errand
     → nat_le 1 (length envelope.recipients) ≡ true → ends_in_line_end errand.text ≡ ends
     → IsScript setup (Awaits (Open client envelope))
     (cond ends (step_of data_line (Replies row.StartMailInput (Receiving client envelope)) ∷ step_of errand.dot_text
-    (course_of_text setup.max_content client envelope errand.text) ∷ quit_step ∷ [])
-    (step_of (last_chunk errand.text) (course_of_chunks setup.max_content client envelope errand.text true) ∷ quit_step
+    (course_of_mail_data setup client envelope errand.text) ∷ quit_step ∷ [])
+    (step_of (last_chunk errand.text) (course_of_last_chunk setup client envelope errand.text) ∷ quit_step
     ∷ []))
 content_script setup client errand envelope true is some e =
     let fits : Bool = nat_le (length errand.text) setup.max_content in
@@ -201,14 +209,14 @@ content_script setup client errand envelope true is some e =
               (sent_behind errand.text errand.dot_text (ends_in_line_end errand.text) e is.dot_text);
           course_is = refl;
         },
-        subst (λ (s : State). IsScript setup s (quit_step ∷ [])) (sym (text_behind client envelope errand.text fits many))
+        subst (λ (s : State). IsScript setup s (quit_step ∷ [])) (sym (text_behind setup.bare_newlines client envelope errand.text fits many))
             (quits setup (Greeted client)),
       ),
     )
 content_script setup client errand envelope false is some e =
     let fits : Bool = nat_le (length errand.text) setup.max_content in
     let many : Bool = nat_le 100 (received_count_of errand.text) in
-    let behind = chunk_behind client envelope errand.text fits many in (
+    let behind = chunk_behind setup.bare_newlines client envelope errand.text fits many in (
       chunk_comes setup client envelope errand.text is.short some,
       subst (λ (s : State). IsScript setup s (quit_step ∷ [])) (sym behind.1) (quits setup behind.0),
     )
@@ -216,7 +224,7 @@ content_script setup client errand envelope false is some e =
 last_script : (setup : Setup) (client : Client) (errand : Errand) (envelope : Envelope) (some : Bool) → IsErrand errand
     → nat_le 1 (length envelope.recipients) ≡ some
     → IsScript setup (Awaits (Open client envelope))
-    (cond some (content_steps setup.max_content client errand envelope) (quit_step ∷ []))
+    (cond some (content_steps setup client errand envelope) (quit_step ∷ []))
 last_script setup client errand envelope true is e =
     content_script setup client errand envelope (ends_in_line_end errand.text) is e refl
 last_script setup client errand envelope false is e = quits setup (Open client envelope)
@@ -230,7 +238,7 @@ with_tried-length envelope recipient false = omega arith
 rcpt_script : (setup : Setup) (client : Client) (errand : Errand) (recipients : List Recipient) (places : List ℕ)
     (tried : List Tried) (envelope : Envelope) → IsErrand errand → AreTried setup recipients places tried
     → length envelope.recipients + length places ≤ 100
-    → IsScript setup (Awaits (Open client envelope)) (rcpt_steps setup.max_content client errand envelope tried)
+    → IsScript setup (Awaits (Open client envelope)) (rcpt_steps setup client errand envelope tried)
 rcpt_script setup client errand recipients [] [] envelope is all few =
     last_script setup client errand envelope (nat_le 1 (length envelope.recipients)) is refl
 rcpt_script setup client errand recipients [] (tried ∷ more) envelope is all few = absurd all

@@ -10,7 +10,7 @@ use Rattle.relay_server.specs.declared.client.Client.{Client}
 use Rattle.relay_server.specs.declared.reply_table.Row.TheVariants as row
 use Rattle.relay_server.specs.declared.offer.Answer.TheVariants as answer
 use Rattle.relay_server.specs.Reply.{reply_of}
-use Rattle.relay_server.specs.ReplyTable.{Course, Replies, Offers, course_of_text, course_of_chunks}
+use Rattle.relay_server.specs.ReplyTable.{Course, Replies, Offers}
 use Rattle.relay_server.specs.Setup.{Setup}
 use Rattle.relay_server.specs.State.{Receiving}
 use Rattle.relay_octets.specs.Beginning.{Begins}
@@ -24,7 +24,7 @@ use Rattle.relay_course.specs.RelayLaws.{AreWilling, all_extensions, content_com
 use Rattle.relay_course.proofs.Theorems.{commands_keep_up, commands_stay, commands_to_a_relay, end_is_end}
 use Rattle.relay_meeting.specs.Meeting.{Step, step_of, AreExpected, IsExpected, commands_in}
 use Rattle.relay_meeting.proofs.TriedLemmas.{rcpt_line-at}
-use Rattle.relay_meeting.specs.Script.{AreRcpts, Tried, row_of_hop, with_tried, quit_step, content_steps, last_steps, rcpt_steps, opened_of, client_in, script_of, envelope_behind, AreTried, ClientWrites}
+use Rattle.relay_meeting.specs.Script.{AreRcpts, Tried, course_of_last_chunk, course_of_mail_data, row_of_hop, with_tried, quit_step, content_steps, last_steps, rcpt_steps, opened_of, client_in, script_of, envelope_behind, AreTried, ClientWrites}
 
 -- a reply that a course may have
 any_reply : (host : List ℕ) (course : Course) → (reply : Reply) × IsExpected host course reply
@@ -53,7 +53,7 @@ abbrev pub has_some : Envelope → Bool
 has_some envelope = nat_le 1 (length envelope.recipients)
 
 -- the replies to the RCPTs, and those behind them
-pub record RcptReplies (host : List ℕ) (limit : ℕ) (client : Client) (errand : Errand) (envelope : Envelope)
+pub record RcptReplies (host : List ℕ) (setup : Setup) (client : Client) (errand : Errand) (envelope : Envelope)
     (tried : List Tried) (replies : List Reply) : Type 0 where
   pub rcpts : List Reply
   pub last : List Reply
@@ -61,8 +61,8 @@ pub record RcptReplies (host : List ℕ) (limit : ℕ) (client : Client) (errand
   pub count : length rcpts ≡ length tried
   pub are : AreRcpts host tried rcpts
   pub some : has_some (envelope_behind envelope tried) ≡ cond (has_some envelope) true (some_accepted rcpts)
-  pub last_are : AreExpected host (last_steps limit client errand (envelope_behind envelope tried)) last
-  pub all : length last ≡ length (last_steps limit client errand (envelope_behind envelope tried))
+  pub last_are : AreExpected host (last_steps setup client errand (envelope_behind envelope tried)) last
+  pub all : length last ≡ length (last_steps setup client errand (envelope_behind envelope tried))
 
 either_true : (b : Bool) → b ≡ cond b true false
 either_true true = refl
@@ -95,11 +95,11 @@ one_more host envelope recipient true reply rcpts e =
 one_more host envelope recipient false reply rcpts e =
     ap (λ b. cond (has_some envelope) true b) (sym (refused_first host reply rcpts e))
 
-rcpt_replies_are : (host : List ℕ) (limit : ℕ) (client : Client) (errand : Errand) (envelope : Envelope)
-    (tried : List Tried) (replies : List Reply) → AreExpected host (rcpt_steps limit client errand envelope tried) replies
-    → length replies ≡ length (rcpt_steps limit client errand envelope tried)
-    → RcptReplies host limit client errand envelope tried replies
-rcpt_replies_are host limit client errand envelope [] replies e n = record {
+rcpt_replies_are : (host : List ℕ) (setup : Setup) (client : Client) (errand : Errand) (envelope : Envelope)
+    (tried : List Tried) (replies : List Reply) → AreExpected host (rcpt_steps setup client errand envelope tried) replies
+    → length replies ≡ length (rcpt_steps setup client errand envelope tried)
+    → RcptReplies host setup client errand envelope tried replies
+rcpt_replies_are host setup client errand envelope [] replies e n = record {
   rcpts = [];
   last = replies;
   replies_are = refl;
@@ -110,9 +110,9 @@ rcpt_replies_are host limit client errand envelope [] replies e n = record {
   last_are = e;
   all = n;
 }
-rcpt_replies_are host limit client errand envelope (tried ∷ more) [] e n = absurd (omega arith)
-rcpt_replies_are host limit client errand envelope (tried ∷ more) (reply ∷ replies) e n =
-    let behind = rcpt_replies_are host limit client errand (with_tried envelope tried) more replies e.1 (omega arith) in
+rcpt_replies_are host setup client errand envelope (tried ∷ more) [] e n = absurd (omega arith)
+rcpt_replies_are host setup client errand envelope (tried ∷ more) (reply ∷ replies) e n =
+    let behind = rcpt_replies_are host setup client errand (with_tried envelope tried) more replies e.1 (omega arith) in
     record {
       rcpts = reply ∷ behind.rcpts;
       last = behind.last;
@@ -172,18 +172,18 @@ text_replies host errand first text chunk false client envelope (content ∷ qui
 }
 text_replies host errand first text chunk false client envelope (content ∷ quit ∷ next ∷ more) e n t = absurd (omega arith)
 
-last_replies_are : (host : List ℕ) (limit : ℕ) (client : Client) (errand : Errand) (envelope : Envelope) (some : Bool)
+last_replies_are : (host : List ℕ) (setup : Setup) (client : Client) (errand : Errand) (envelope : Envelope) (some : Bool)
     (last : List Reply)
-    → AreExpected host (cond some (content_steps limit client errand envelope) (quit_step ∷ [])) last
-    → length last ≡ length (cond some (content_steps limit client errand envelope) (quit_step ∷ []))
+    → AreExpected host (cond some (content_steps setup client errand envelope) (quit_step ∷ [])) last
+    → length last ≡ length (cond some (content_steps setup client errand envelope) (quit_step ∷ []))
     → LastReplies errand some last
-last_replies_are host limit client errand envelope true last e n =
-    text_replies host errand (course_of_text limit client envelope errand.text)
-    (step_of errand.dot_text (course_of_text limit client envelope errand.text))
-    (step_of (last_chunk errand.text) (course_of_chunks limit client envelope errand.text true))
+last_replies_are host setup client errand envelope true last e n =
+    text_replies host errand (course_of_mail_data setup client envelope errand.text)
+    (step_of errand.dot_text (course_of_mail_data setup client envelope errand.text))
+    (step_of (last_chunk errand.text) (course_of_last_chunk setup client envelope errand.text))
     (ends_in_line_end errand.text) client envelope last e n refl
-last_replies_are host limit client errand envelope false [] e n = absurd (omega arith)
-last_replies_are host limit client errand envelope false (quit ∷ []) e n = record {
+last_replies_are host setup client errand envelope false [] e n = absurd (omega arith)
+last_replies_are host setup client errand envelope false (quit ∷ []) e n = record {
   input = reply_of host row.StartMailInput;
   content = quit;
   quit = quit;
@@ -191,7 +191,7 @@ last_replies_are host limit client errand envelope false (quit ∷ []) e n = rec
       input_kind host (reply_of host row.StartMailInput) refl;
   last_are = refl;
 }
-last_replies_are host limit client errand envelope false (quit ∷ next ∷ more) e n = absurd (omega arith)
+last_replies_are host setup client errand envelope false (quit ∷ next ∷ more) e n = absurd (omega arith)
 
 -- the commands of the script
 text_commands : (errand : Errand) (input text chunk : Step) (t : Bool) → input.command ≡ data_line
@@ -202,28 +202,28 @@ text_commands errand input text chunk true d x c =
     ap (λ l. l ∷ text.command ∷ quit_line ∷ []) d ∙ ap (λ l. data_line ∷ l ∷ quit_line ∷ []) x
 text_commands errand input text chunk false d x c = ap (λ l. l ∷ quit_line ∷ []) c
 
-last_commands : (limit : ℕ) (client : Client) (errand : Errand) (envelope : Envelope) (some : Bool)
-    → commands_in (cond some (content_steps limit client errand envelope) (quit_step ∷ [])) ≡ cond some
+last_commands : (setup : Setup) (client : Client) (errand : Errand) (envelope : Envelope) (some : Bool)
+    → commands_in (cond some (content_steps setup client errand envelope) (quit_step ∷ [])) ≡ cond some
     (content_commands errand) [] ++ quit_line ∷ []
-last_commands limit client errand envelope true =
+last_commands setup client errand envelope true =
     text_commands errand (step_of data_line (Replies row.StartMailInput (Receiving client envelope)))
-    (step_of errand.dot_text (course_of_text limit client envelope errand.text))
-    (step_of (last_chunk errand.text) (course_of_chunks limit client envelope errand.text true))
+    (step_of errand.dot_text (course_of_mail_data setup client envelope errand.text))
+    (step_of (last_chunk errand.text) (course_of_last_chunk setup client envelope errand.text))
     (ends_in_line_end errand.text) refl refl refl
-last_commands limit client errand envelope false = refl
+last_commands setup client errand envelope false = refl
 
-rcpt_commands : (setup : Setup) (limit : ℕ) (client : Client) (errand : Errand) (recipients : List Recipient)
+rcpt_commands : (setup : Setup) (client : Client) (errand : Errand) (recipients : List Recipient)
     (places : List ℕ) (tried : List Tried) (envelope : Envelope) → AreTried setup recipients places tried
-    → commands_in (rcpt_steps limit client errand envelope tried) ≡ map (rcpt_line_at true recipients) places ++ commands_in
-    (last_steps limit client errand (envelope_behind envelope tried))
-rcpt_commands setup limit client errand recipients [] [] envelope all = refl
-rcpt_commands setup limit client errand recipients [] (tried ∷ more) envelope all = absurd all
-rcpt_commands setup limit client errand recipients (place ∷ places) [] envelope all = absurd all
-rcpt_commands setup limit client errand recipients (place ∷ places) (tried ∷ more) envelope all =
-    ap (λ l. l ∷ commands_in (rcpt_steps limit client errand (with_tried envelope tried) more))
+    → commands_in (rcpt_steps setup client errand envelope tried) ≡ map (rcpt_line_at true recipients) places ++ commands_in
+    (last_steps setup client errand (envelope_behind envelope tried))
+rcpt_commands setup client errand recipients [] [] envelope all = refl
+rcpt_commands setup client errand recipients [] (tried ∷ more) envelope all = absurd all
+rcpt_commands setup client errand recipients (place ∷ places) [] envelope all = absurd all
+rcpt_commands setup client errand recipients (place ∷ places) (tried ∷ more) envelope all =
+    ap (λ l. l ∷ commands_in (rcpt_steps setup client errand (with_tried envelope tried) more))
     (sym (rcpt_line-at true recipients place tried.recipient all.0))
     ∙ ap (λ l. rcpt_line_at true recipients place ∷ l)
-    (rcpt_commands setup limit client errand recipients places more (with_tried envelope tried) all.2)
+    (rcpt_commands setup client errand recipients places more (with_tried envelope tried) all.2)
 
 pub as_many_tried : (setup : Setup) (recipients : List Recipient) (places : List ℕ) (tried : List Tried)
     → AreTried setup recipients places tried → length tried ≡ length places
@@ -235,15 +235,15 @@ as_many_tried setup recipients (place ∷ places) (tried ∷ more) all = ap suc 
 script_commands : (setup : Setup) (errand : Errand) (tried : List Tried) (some : Bool)
     → AreTried setup errand.envelope.recipients errand.places tried
     → has_some (envelope_behind (opened_of errand.envelope) tried) ≡ some
-    → commands_in (script_of setup.max_content errand tried)
+    → commands_in (script_of setup errand tried)
     ≡ (ehlo_line errand.host ∷ mail_line true errand.envelope ∷ map (rcpt_line_at true errand.envelope.recipients)
     errand.places) ++ (cond some (content_commands errand) [] ++ quit_line ∷ [])
 script_commands setup errand tried some all is =
     let front : List (List ℕ) = map (rcpt_line_at true errand.envelope.recipients) errand.places in
     ap (λ l. ehlo_line errand.host ∷ mail_line true errand.envelope ∷ l)
-    (rcpt_commands setup setup.max_content (client_in errand) errand errand.envelope.recipients errand.places tried
+    (rcpt_commands setup (client_in errand) errand errand.envelope.recipients errand.places tried
     (opened_of errand.envelope) all
-    ∙ ap (λ l. front ++ l) (last_commands setup.max_content (client_in errand) errand
+    ∙ ap (λ l. front ++ l) (last_commands setup (client_in errand) errand
     (envelope_behind (opened_of errand.envelope) tried) (has_some (envelope_behind (opened_of errand.envelope) tried))
     ∙ ap (λ b. cond b (content_commands errand) [] ++ quit_line ∷ []) is))
 
@@ -297,17 +297,17 @@ pub record AllReplies (setup : Setup) (errand : Errand) (tried : List Tried) (re
       content ++ quit ∷ []
 
 pub all_replies : (setup : Setup) (errand : Errand) (tried : List Tried) (replies : List Reply)
-    → AreExpected setup.host (script_of setup.max_content errand tried) replies
-    → length replies ≡ length (script_of setup.max_content errand tried) → AllReplies setup errand tried replies
+    → AreExpected setup.host (script_of setup errand tried) replies
+    → length replies ≡ length (script_of setup errand tried) → AllReplies setup errand tried replies
 all_replies setup errand tried [] e n = absurd (omega arith)
 all_replies setup errand tried (hello ∷ []) e n = absurd (omega arith)
 all_replies setup errand tried (hello ∷ mail ∷ replies) e n =
     let greeting : Reply = reply_of setup.host row.Greeting in
     let opened : Envelope = opened_of errand.envelope in
     let client : Client = client_in errand in
-    let parts = rcpt_replies_are setup.host setup.max_content client errand opened tried replies e.1.1 (omega arith) in
+    let parts = rcpt_replies_are setup.host setup client errand opened tried replies e.1.1 (omega arith) in
     let some : Bool = has_some (envelope_behind opened tried) in
-    let last = last_replies_are setup.host setup.max_content client errand (envelope_behind opened tried) some
+    let last = last_replies_are setup.host setup client errand (envelope_behind opened tried) some
     parts.last parts.last_are parts.all in
     let is : some ≡ some_accepted parts.rcpts = parts.some in
     let content : List Reply = content_replies errand parts.rcpts last.input last.content in
@@ -340,7 +340,7 @@ all_replies setup errand tried (hello ∷ mail ∷ replies) e n =
 whole_script : (setup : Setup) (errand : Errand) (tried : List Tried) (replies : List Reply)
     → AreTried setup errand.envelope.recipients errand.places tried → AllReplies setup errand tried replies
     → (progress errand (reply_of setup.host row.Greeting ∷ replies)).commands
-    ≡ commands_in (script_of setup.max_content errand tried)
+    ≡ commands_in (script_of setup errand tried)
 whole_script setup errand tried replies all parts =
     let greeting : Reply = reply_of setup.host row.Greeting in
     let hello : Reply = reply_of setup.host row.Extensions in
@@ -356,12 +356,12 @@ whole_script setup errand tried replies all parts =
 
 expected : (setup : Setup) (errand : Errand) (tried : List Tried)
     → AreTried setup errand.envelope.recipients errand.places tried → (replies : List Reply)
-    → AreExpected setup.host (script_of setup.max_content errand tried) replies
+    → AreExpected setup.host (script_of setup errand tried) replies
     → Begins (progress errand (reply_of setup.host row.Greeting ∷ replies)).commands
-    (commands_in (script_of setup.max_content errand tried))
+    (commands_in (script_of setup errand tried))
 expected setup errand tried all replies e =
     let greeting : Reply = reply_of setup.host row.Greeting in
-    let filled = fill setup.host (script_of setup.max_content errand tried) replies e in
+    let filled = fill setup.host (script_of setup errand tried) replies e in
     let parts = all_replies setup errand tried (replies ++ filled.later) filled.expected filled.all in
     subst (λ (l : List (List ℕ)). Begins (progress errand (greeting ∷ replies)).commands l)
     (whole_script setup errand tried (replies ++ filled.later) all parts)

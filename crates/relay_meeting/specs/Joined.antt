@@ -15,6 +15,7 @@ use Rattle.relay_server.specs.declared.offer.Answer.TheVariants.{Queued, Full}
 use Rattle.relay_server.specs.Dialogue.{IsDialogue, Offered, Said, Turn, offered_of, offered_by, read_by}
 use Rattle.relay_server.specs.DialogueLaws.{AreNumbered}
 use Rattle.relay_server.specs.Reply.{reply_of}
+use Rattle.relay_server.specs.ReplyTable.{is_refused_by}
 use Rattle.relay_server.specs.Setup.{Setup}
 use Rattle.relay_server.specs.State.{State}
 use Rattle.relay_book.specs.declared.change.Verdict.{Verdict}
@@ -32,13 +33,14 @@ abbrev pub child_envelope : Errand → List Tried → Envelope
 child_envelope errand tried = envelope_behind (opened_of errand.envelope) tried
 
 -- what the server may offer of the errand: the text once, with that envelope; or nothing, where no recipient is
--- accepted, the text is too large, or it has come in a circle
-abbrev pub child_of : ℕ → Errand → List Tried → List Offered
-child_of limit errand tried =
+-- accepted, the text is too large, it has come in a circle, or its line ends are refused
+abbrev pub child_of : Setup → Errand → List Tried → List Offered
+child_of setup errand tried =
     if nat_le 1 (length (child_envelope errand tried).recipients)
-    then (if nat_le (length errand.text) limit
+    then (if nat_le (length errand.text) setup.max_content
     then (if nat_le 100 (received_count_of errand.text) then []
-    else offered_of (client_in errand) (child_envelope errand tried) errand.text ∷ [])
+    else (if is_refused_by setup.bare_newlines errand.text then []
+    else offered_of (client_in errand) (child_envelope errand tried) errand.text ∷ []))
     else [])
     else []
 
@@ -60,13 +62,13 @@ pub record HaveMet (setup : Setup) (errand : Errand) (tried : List Tried) (said 
     (rest : List ℕ) : Type 0 where
   pub turns : List Turn
   pub state : State
-  pub meets : Meets setup (script_of setup.max_content errand tried) turns state
+  pub meets : Meets setup (script_of setup errand tried) turns state
   pub read : Begins replies (reply_of setup.host Greeting ∷ replies_by turns)
   pub sound : (fault : ReplyFault) → ¬ HasFault rest fault
   pub unread : List ℕ
   pub input : said.input ≡ read_by turns ++ unread
   pub offered : said.offers ≡ offered_by turns
-  pub children : Begins said.offers (child_of setup.max_content errand tried)
+  pub children : Begins said.offers (child_of setup errand tried)
 
 -- Two relays meet so.
 abbrev pub TwoRelaysMeet : Type 0

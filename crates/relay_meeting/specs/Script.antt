@@ -13,7 +13,7 @@ use Rattle.relay_server.specs.declared.client.Client.{Client}
 use Rattle.relay_server.specs.declared.reply_table.Row.{Row}
 use Rattle.relay_server.specs.declared.reply_table.Row.TheVariants as row
 use Rattle.relay_server.specs.Reply.{reply_of}
-use Rattle.relay_server.specs.ReplyTable.{Replies, course_of_text, course_of_chunks}
+use Rattle.relay_server.specs.ReplyTable.{Course, Replies, course_of_text, course_of_chunks, unless_refused}
 use Rattle.relay_server.specs.Setup.{Setup}
 use Rattle.relay_server.specs.State.{Greeted, Open, Command, Receiving, Closed, client_of, start}
 use Rattle.relay_course.specs.WrittenLine.{ehlo_line, mail_line, rcpt_line, data_line, last_chunk, quit_line}
@@ -44,18 +44,27 @@ envelope_behind envelope (tried ∷ more) = envelope_behind (with_tried envelope
 abbrev pub quit_step : Step
 quit_step = step_of quit_line (Replies row.Closing Closed)
 
+-- what comes of the content, as mail data and as one last chunk
+abbrev pub course_of_mail_data : Setup → Client → Envelope → List ℕ → Course
+course_of_mail_data setup client envelope text =
+    unless_refused setup.bare_newlines (course_of_text setup.max_content client envelope text)
+
+abbrev pub course_of_last_chunk : Setup → Client → Envelope → List ℕ → Course
+course_of_last_chunk setup client envelope text =
+    unless_refused setup.bare_newlines (course_of_chunks setup.max_content client envelope text true)
+
 -- the content, and QUIT: mail data behind DATA, or one last chunk
-abbrev pub content_steps : ℕ → Client → Errand → Envelope → List Step
-content_steps limit client errand envelope =
+abbrev pub content_steps : Setup → Client → Errand → Envelope → List Step
+content_steps setup client errand envelope =
     if ends_in_line_end errand.text
     then step_of data_line (Replies row.StartMailInput (Receiving client envelope))
-    ∷ step_of errand.dot_text (course_of_text limit client envelope errand.text) ∷ quit_step ∷ []
-    else step_of (last_chunk errand.text) (course_of_chunks limit client envelope errand.text true) ∷ quit_step ∷ []
+    ∷ step_of errand.dot_text (course_of_mail_data setup client envelope errand.text) ∷ quit_step ∷ []
+    else step_of (last_chunk errand.text) (course_of_last_chunk setup client envelope errand.text) ∷ quit_step ∷ []
 
 -- what follows the RCPTs: the content where a recipient was accepted
-abbrev pub last_steps : ℕ → Client → Errand → Envelope → List Step
-last_steps limit client errand envelope =
-    if nat_le 1 (length envelope.recipients) then content_steps limit client errand envelope else quit_step ∷ []
+abbrev pub last_steps : Setup → Client → Errand → Envelope → List Step
+last_steps setup client errand envelope =
+    if nat_le 1 (length envelope.recipients) then content_steps setup client errand envelope else quit_step ∷ []
 
 -- the RCPT of a place
 abbrev pub rcpt_step : Client → Envelope → Tried → Step
@@ -64,10 +73,10 @@ rcpt_step client envelope tried =
     (Replies (row_of_hop tried.goes) (Command (Open client (with_tried envelope tried))))
 
 -- the RCPTs of these places, and what follows them
-abbrev pub rcpt_steps : ℕ → Client → Errand → Envelope → List Tried → List Step
-rcpt_steps limit client errand envelope [] = last_steps limit client errand envelope
-rcpt_steps limit client errand envelope (tried ∷ more) =
-    rcpt_step client envelope tried ∷ rcpt_steps limit client errand (with_tried envelope tried) more
+abbrev pub rcpt_steps : Setup → Client → Errand → Envelope → List Tried → List Step
+rcpt_steps setup client errand envelope [] = last_steps setup client errand envelope
+rcpt_steps setup client errand envelope (tried ∷ more) =
+    rcpt_step client envelope tried ∷ rcpt_steps setup client errand (with_tried envelope tried) more
 
 -- MAIL's values, and no recipient yet
 abbrev pub opened_of : Envelope → Envelope
@@ -78,12 +87,12 @@ abbrev pub client_in : Errand → Client
 client_in errand = client_of errand.host Esmtp
 
 -- EHLO, MAIL, the RCPTs, the content, QUIT
-abbrev pub script_of : ℕ → Errand → List Tried → List Step
-script_of limit errand tried =
+abbrev pub script_of : Setup → Errand → List Tried → List Step
+script_of setup errand tried =
     step_of (ehlo_line errand.host) (Replies row.Extensions (Command (Greeted (client_in errand))))
     ∷ step_of (mail_line true errand.envelope)
     (Replies row.SenderOk (Command (Open (client_in errand) (opened_of errand.envelope))))
-    ∷ rcpt_steps limit (client_in errand) errand (opened_of errand.envelope) tried
+    ∷ rcpt_steps setup (client_in errand) errand (opened_of errand.envelope) tried
 
 -- the server's table says so of the place
 pub record IsTried (setup : Setup) (tried : Tried) : Type 0 where
@@ -113,7 +122,7 @@ abbrev pub ScriptIsServers : Type 0
 ScriptIsServers =
     (setup : Setup) (errand : Errand) (tried : List Tried) → IsErrand errand
     → AreTried setup errand.envelope.recipients errand.places tried
-    → IsScript setup start (script_of setup.max_content errand tried)
+    → IsScript setup start (script_of setup errand tried)
 
 -- A client of the errand writes the script.
 abbrev pub ClientWrites : Type 0
@@ -121,7 +130,7 @@ ClientWrites =
     (setup : Setup) (errand : Errand) (tried : List Tried) → IsErrand errand
     → AreTried setup errand.envelope.recipients errand.places tried
     → Writes setup.host (reply_of setup.host row.Greeting) (λ replies. (progress errand replies).commands)
-    (script_of setup.max_content errand tried)
+    (script_of setup errand tried)
 
 -- each RCPT's reply is by the table
 abbrev pub AreRcpts : List ℕ → List Tried → List Reply → Type 0

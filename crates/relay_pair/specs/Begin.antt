@@ -4,6 +4,7 @@ use Rattle.std.specs.List.{filter, range_with_len}
 use Rattle.std.specs.declared.net.socket_addr.SocketAddrV4.{SocketAddrV4}
 use Rattle.relay_disk.specs.Device.{DiskWords}
 use Rattle.relay_routes.specs.Routes.{Route}
+use Rattle.relay_routes.specs.declared.bare_newlines.BareNewlines.TheVariants.{Pass}
 use Rattle.relay_routes.specs.declared.config.Config.{Config}
 use Rattle.relay_records.specs.Records.{Keeps}
 use Rattle.relay_node.specs.Node.{IsIdle, NodeState}
@@ -77,6 +78,7 @@ pub record IsProfile (host address : List ℕ) (routes : List Route) (config : C
   pub routes_are : config.routes.routes ≡ routes
   pub max_content : config.max_content ≡ 1048576
   pub spool_limit : config.spool_limit ≡ 67108864
+  pub bare_newlines : config.bare_newlines ≡ Pass
 
 -- each of these is the configuration of the node at its place among so many
 abbrev pub HaveProfiles : ℕ → List Config → Type 0

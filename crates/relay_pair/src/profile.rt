@@ -4,7 +4,7 @@ ghost use Rattle.relay_envelope.specs.HostName.{IsHostName};
 ghost use Rattle.relay_pair.specs.Begin.{AreProfiles, IsProfile, address_of, first_routes, host_of, mail_at, node_behind, route_to, route_to_node, routes_among, routes_of_the_rest, routes_to_others, second_routes};
 ghost use Rattle.relay_routes.specs.Routes.{in_lower_case, with_route};
 
-use relay_routes::{Config, Hop, HostName, SpoolPath, Table};
+use relay_routes::{BareNewlines, Config, Hop, HostName, SpoolPath, Table};
 use std::alloc::{AllocError, Global};
 use std::net::{Ipv4Addr, SocketAddrV4};
 
@@ -186,6 +186,7 @@ fn profile(
         spool,
         MAX_CONTENT,
         SPOOL_LIMIT,
+        BareNewlines::Pass,
         routes,
     ) else {
         unreachable!()

@@ -1,18 +1,20 @@
 -- A text reads as one configuration, or has one first fault.
-use Rattle.std.proofs.Common.{◌≡◌, ◌⊎◌, inl, inr, ℕ, List, [], ◌∷◌, Option, None, Some, Result, Ok, Err, pos, refl, sym, ap, ◌∙◌, subst}
+use Rattle.std.proofs.Common.{◌≡◌, ◌⊎◌, inl, inr, ℕ, arith, length, List, [], ◌∷◌, Option, None, Some, Result, Ok, Err, pos, refl, sym, ap, ◌∙◌, subst}
 use Rattle.std.proofs.Math.Path.{PathP, to_path_p}
 use Rattle.std.proofs.Props.{props}
+use Rattle.relay_routes.specs.declared.bare_newlines.BareNewlines.{BareNewlines as Rule}
+use Rattle.relay_routes.specs.declared.bare_newlines.BareNewlines.TheVariants.{Pass, Refuse}
 use Rattle.toml.specs.Data.{Data, Members, no_members, member, string, integer, table}
 use Rattle.toml.specs.Parse.{parse_document}
 use Rattle.relay_routes.specs.declared.config.Config.{Config}
 use Rattle.relay_routes.specs.declared.fault.ConfigFault.{ConfigFault}
 use Rattle.relay_routes.specs.declared.key.Key.{Key}
-use Rattle.relay_routes.specs.declared.key.Key.TheVariants.{Host, Listen, Spool, MaxContent, SpoolLimit, Routes}
-use Rattle.relay_routes.specs.Value.{GivesAddress, GivesHost, GivesPath, GivesSize, address_text}
+use Rattle.relay_routes.specs.declared.key.Key.TheVariants.{Host, Listen, Spool, MaxContent, SpoolLimit, BareNewlines, Routes}
+use Rattle.relay_routes.specs.Value.{GivesAddress, GivesBareNewlines, GivesHost, GivesPath, GivesSize, address_text, bare_newlines_text}
 use Rattle.relay_routes.specs.Routes.{Route, RouteTable}
 use Rattle.relay_routes.specs.Settings.{IsConfig}
 use Rattle.relay_routes.specs.Document.{AreRoutes, GivesRoutes, value_of}
-use Rattle.relay_routes.specs.Config.{FirstFault, IsGood, ReadsDocument, ReadsHost, ReadsListen, ReadsMaxContent, ReadsOptional, ReadsParsed, ReadsRequired, ReadsRoutes, ReadsSpool, ReadsSpoolLimit, ReadsValue, Says, at_host, at_listen, at_max_content, at_routes, at_spool, at_spool_limit}
+use Rattle.relay_routes.specs.Config.{FirstFault, IsGood, ReadsBareNewlines, ReadsDocument, ReadsHost, ReadsListen, ReadsMaxContent, ReadsOptional, ReadsParsed, ReadsRequired, ReadsRoutes, ReadsSpool, ReadsSpoolLimit, ReadsValue, Says, at_bare_newlines, at_host, at_listen, at_max_content, at_routes, at_spool, at_spool_limit}
 use Rattle.relay_routes.specs.ConfigLaws.{OneReading}
 use Rattle.relay_routes.proofs.AddressLemmas.{address_is_one}
 use Rattle.relay_routes.proofs.MemberLemmas.{route_is_one}
@@ -59,6 +61,18 @@ size_is_one limit value one two a b =
     let same : integer (pos one) ≡ integer (pos two) = sym a.0 ∙ b.0 in
     cc same
 
+-- a text says one thing of bare line ends
+text_is_one : (one two : Rule) → bare_newlines_text one ≡ bare_newlines_text two → one ≡ two
+text_is_one Pass Pass same = refl
+text_is_one Pass Refuse same = let longer = ap length same in absurd (omega (arith, longer))
+text_is_one Refuse Pass same = let longer = ap length same in absurd (omega (arith, longer))
+text_is_one Refuse Refuse same = refl
+
+bare_newlines_are_one : GivesOne GivesBareNewlines
+bare_newlines_are_one value one two a b =
+    let same : string (bare_newlines_text one) ≡ string (bare_newlines_text two) = sym a ∙ b in
+    text_is_one one two (cc same)
+
 -- members say one list of routes
 routes_are_one : (members : Members) (one two : List Route) → AreRoutes members one → AreRoutes members two → one ≡ two
 routes_are_one no_members [] [] a b = refl
@@ -93,6 +107,9 @@ one_max_content document = optional_is_one MaxContent 1048576 (GivesSize 1677721
 one_spool_limit : (document : Members) → ReadsOne (ReadsSpoolLimit document)
 one_spool_limit document = optional_is_one SpoolLimit 67108864 (GivesSize 549755813888) (value_of SpoolLimit document) (size_is_one 549755813888)
 
+one_bare_newlines : (document : Members) → ReadsOne (ReadsBareNewlines document)
+one_bare_newlines document = optional_is_one BareNewlines Pass GivesBareNewlines (value_of BareNewlines document) bare_newlines_are_one
+
 one_routes : (document : Members) → ReadsOne (ReadsRoutes document)
 one_routes document = required_is_one Routes GivesRoutes (value_of Routes document) table_is_one
 
@@ -118,8 +135,8 @@ config_prop : (host : List ℕ) (max_content spool_limit : ℕ) (routes : RouteT
 config_prop host max_content spool_limit routes = hlevel props
 
 -- a configuration is its values
-config_by : (one two : Config) → one.host ≡ two.host → one.listen ≡ two.listen → one.spool ≡ two.spool → one.max_content ≡ two.max_content → one.spool_limit ≡ two.spool_limit → one.routes ≡ two.routes → one ≡ two
-config_by one two host listen spool max_content spool_limit routes =
+config_by : (one two : Config) → one.host ≡ two.host → one.listen ≡ two.listen → one.spool ≡ two.spool → one.max_content ≡ two.max_content → one.spool_limit ≡ two.spool_limit → one.bare_newlines ≡ two.bare_newlines → one.routes ≡ two.routes → one ≡ two
+config_by one two host listen spool max_content spool_limit bare_newlines routes =
     let valid : PathP (λ j. IsConfig (host j) (max_content j) (spool_limit j) (routes j)) one.valid two.valid =
     to_path_p (λ j. IsConfig (host j) (max_content j) (spool_limit j) (routes j)) (config_prop two.host two.max_content two.spool_limit two.routes _ two.valid) in
     λ j. record {
@@ -128,6 +145,7 @@ config_by one two host listen spool max_content spool_limit routes =
       spool = spool j;
       max_content = max_content j;
       spool_limit = spool_limit j;
+      bare_newlines = bare_newlines j;
       routes = routes j;
       valid = valid j;
     }
@@ -140,9 +158,10 @@ says_one document one two a b =
     let spool = same_value (ReadsSpool document) one.spool two.spool (one_spool document) a.spool b.spool in
     let max_content = same_value (ReadsMaxContent document) one.max_content two.max_content (one_max_content document) a.max_content b.max_content in
     let spool_limit = same_value (ReadsSpoolLimit document) one.spool_limit two.spool_limit (one_spool_limit document) a.spool_limit b.spool_limit in
+    let bare_newlines = same_value (ReadsBareNewlines document) one.bare_newlines two.bare_newlines (one_bare_newlines document) a.bare_newlines b.bare_newlines in
     let routes = same_value (ReadsRoutes document) one.routes.routes two.routes.routes (one_routes document) a.routes b.routes in
     let routes_host : one.routes.host ≡ two.routes.host = a.routes_host ∙ host ∙ sym b.routes_host in
-    config_by one two host listen spool max_content spool_limit (λ j. record { host = routes_host j; routes = routes j })
+    config_by one two host listen spool max_content spool_limit bare_newlines (λ j. record { host = routes_host j; routes = routes j })
 
 -- a fault is that of this key, or the key is good and the fault a later one
 abbrev FaultFrom : {A : Type 0} → (Result A ConfigFault → Type 0) → (ConfigFault → Type 0) → ConfigFault → Type 0
@@ -161,8 +180,11 @@ from_is_one Reads Later unique later one two (inr a) (inr b) = later one two a.1
 abbrev FromRoutes : Members → ConfigFault → Type 0
 FromRoutes document fault = ReadsRoutes document (Err fault)
 
+abbrev FromBareNewlines : Members → ConfigFault → Type 0
+FromBareNewlines document = FaultFrom (ReadsBareNewlines document) (FromRoutes document)
+
 abbrev FromSpoolLimit : Members → ConfigFault → Type 0
-FromSpoolLimit document = FaultFrom (ReadsSpoolLimit document) (FromRoutes document)
+FromSpoolLimit document = FaultFrom (ReadsSpoolLimit document) (FromBareNewlines document)
 
 abbrev FromMaxContent : Members → ConfigFault → Type 0
 FromMaxContent document = FaultFrom (ReadsMaxContent document) (FromSpoolLimit document)
@@ -182,8 +204,10 @@ from_host document fault (at_listen host bad) = inr (host, inl bad)
 from_host document fault (at_spool host listen bad) = inr (host, inr (listen, inl bad))
 from_host document fault (at_max_content host listen spool bad) = inr (host, inr (listen, inr (spool, inl bad)))
 from_host document fault (at_spool_limit host listen spool max_content bad) = inr (host, inr (listen, inr (spool, inr (max_content, inl bad))))
-from_host document fault (at_routes host listen spool max_content spool_limit bad) =
-    inr (host, inr (listen, inr (spool, inr (max_content, inr (spool_limit, bad)))))
+from_host document fault (at_bare_newlines host listen spool max_content spool_limit bad) =
+    inr (host, inr (listen, inr (spool, inr (max_content, inr (spool_limit, inl bad)))))
+from_host document fault (at_routes host listen spool max_content spool_limit bare_newlines bad) =
+    inr (host, inr (listen, inr (spool, inr (max_content, inr (spool_limit, inr (bare_newlines, bad))))))
 
 one_from_host : (document : Members) → IsOneFault (FromHost document)
 one_from_host document =
@@ -191,8 +215,9 @@ one_from_host document =
     (from_is_one (ReadsListen document) (FromSpool document) (one_listen document)
     (from_is_one (ReadsSpool document) (FromMaxContent document) (one_spool document)
     (from_is_one (ReadsMaxContent document) (FromSpoolLimit document) (one_max_content document)
-    (from_is_one (ReadsSpoolLimit document) (FromRoutes document) (one_spool_limit document)
-    (λ one two a b. same_fault (ReadsRoutes document) one two (one_routes document) a b)))))
+    (from_is_one (ReadsSpoolLimit document) (FromBareNewlines document) (one_spool_limit document)
+    (from_is_one (ReadsBareNewlines document) (FromRoutes document) (one_bare_newlines document)
+    (λ one two a b. same_fault (ReadsRoutes document) one two (one_routes document) a b))))))
 
 -- a document that says a configuration has no fault
 says_no_fault : (document : Members) (config : Config) (fault : ConfigFault) → Says document config → ¬ FirstFault document fault
@@ -203,7 +228,9 @@ says_no_fault document config fault says (at_max_content host listen spool bad) 
     no_fault (ReadsMaxContent document) config.max_content fault (one_max_content document) says.max_content bad
 says_no_fault document config fault says (at_spool_limit host listen spool max_content bad) =
     no_fault (ReadsSpoolLimit document) config.spool_limit fault (one_spool_limit document) says.spool_limit bad
-says_no_fault document config fault says (at_routes host listen spool max_content spool_limit bad) =
+says_no_fault document config fault says (at_bare_newlines host listen spool max_content spool_limit bad) =
+    no_fault (ReadsBareNewlines document) config.bare_newlines fault (one_bare_newlines document) says.bare_newlines bad
+says_no_fault document config fault says (at_routes host listen spool max_content spool_limit bare_newlines bad) =
     no_fault (ReadsRoutes document) config.routes.routes fault (one_routes document) says.routes bad
 
 document_is_one : (document : Members) → ReadsOne (ReadsDocument document)

@@ -2,12 +2,14 @@
 use Rattle.std.specs.Prelude.{◌≡◌, ℕ, List, Option, Some, None, Result, Ok, Err}
 use Rattle.toml.specs.Data.{Data, Members}
 use Rattle.toml.specs.Parse.{parse_document}
-use Rattle.relay_routes.specs.Value.{GivesAddress, GivesHost, GivesPath, GivesSize}
+use Rattle.relay_routes.specs.declared.bare_newlines.BareNewlines.{BareNewlines as Rule}
+use Rattle.relay_routes.specs.declared.bare_newlines.BareNewlines.TheVariants.{Pass}
+use Rattle.relay_routes.specs.Value.{GivesAddress, GivesBareNewlines, GivesHost, GivesPath, GivesSize}
 use Rattle.relay_routes.specs.Routes.{Route}
 use Rattle.relay_routes.specs.Document.{GivesRoutes, value_of}
 use Rattle.std.specs.declared.net.socket_addr.SocketAddrV4.{SocketAddrV4}
 use Rattle.relay_routes.specs.declared.key.Key.{Key}
-use Rattle.relay_routes.specs.declared.key.Key.TheVariants.{Host, Listen, Spool, MaxContent, SpoolLimit, Routes}
+use Rattle.relay_routes.specs.declared.key.Key.TheVariants.{Host, Listen, Spool, MaxContent, SpoolLimit, BareNewlines, Routes}
 use Rattle.relay_routes.specs.declared.fault.ConfigFault.{ConfigFault}
 use Rattle.relay_routes.specs.declared.fault.ConfigFault.TheVariants.{NotToml, Missing, BadValue}
 use Rattle.relay_routes.specs.declared.config.Config.{Config}
@@ -47,6 +49,10 @@ ReadsMaxContent document = ReadsOptional MaxContent 1048576 (GivesSize 16777216)
 abbrev pub ReadsSpoolLimit : Members → Result ℕ ConfigFault → Type 0
 ReadsSpoolLimit document = ReadsOptional SpoolLimit 67108864 (GivesSize 549755813888) (value_of SpoolLimit document)
 
+-- what is done with a content in which a CR or an LF stands alone: it is taken as it came where nothing is said
+abbrev pub ReadsBareNewlines : Members → Result Rule ConfigFault → Type 0
+ReadsBareNewlines document = ReadsOptional BareNewlines Pass GivesBareNewlines (value_of BareNewlines document)
+
 -- where mail goes
 abbrev pub ReadsRoutes : Members → Result (List Route) ConfigFault → Type 0
 ReadsRoutes document = ReadsRequired Routes GivesRoutes (value_of Routes document)
@@ -58,6 +64,7 @@ pub record Says (document : Members) (config : Config) : Type 0 where
   pub spool : ReadsSpool document (Ok config.spool)
   pub max_content : ReadsMaxContent document (Ok config.max_content)
   pub spool_limit : ReadsSpoolLimit document (Ok config.spool_limit)
+  pub bare_newlines : ReadsBareNewlines document (Ok config.bare_newlines)
   pub routes : ReadsRoutes document (Ok config.routes.routes)
   pub routes_host : config.routes.host ≡ config.host
 
@@ -76,9 +83,12 @@ pub data FirstFault (document : Members) (fault : ConfigFault) : Type 0 where
       → ReadsMaxContent document (Err fault) → FirstFault document fault
   at_spool_limit : IsGood (ReadsHost document) → IsGood (ReadsListen document) → IsGood (ReadsSpool document)
       → IsGood (ReadsMaxContent document) → ReadsSpoolLimit document (Err fault) → FirstFault document fault
+  at_bare_newlines : IsGood (ReadsHost document) → IsGood (ReadsListen document) → IsGood (ReadsSpool document)
+      → IsGood (ReadsMaxContent document) → IsGood (ReadsSpoolLimit document)
+      → ReadsBareNewlines document (Err fault) → FirstFault document fault
   at_routes : IsGood (ReadsHost document) → IsGood (ReadsListen document) → IsGood (ReadsSpool document)
-      → IsGood (ReadsMaxContent document) → IsGood (ReadsSpoolLimit document) → ReadsRoutes document (Err fault)
-      → FirstFault document fault
+      → IsGood (ReadsMaxContent document) → IsGood (ReadsSpoolLimit document)
+      → IsGood (ReadsBareNewlines document) → ReadsRoutes document (Err fault) → FirstFault document fault
 
 -- what a document says
 abbrev pub ReadsDocument : Members → Result Config ConfigFault → Type 0

@@ -9,7 +9,7 @@ use Rattle.relay_routes.specs.declared.fault.ConfigFault.TheVariants.{BadValue, 
 use Rattle.relay_routes.specs.declared.fault.RouteFault.{RouteFault}
 use Rattle.relay_routes.specs.declared.fault.RouteFault.TheVariants.{BadDomain, Repeated, SecondPlace, NoMemory as OutOfMemory}
 use Rattle.relay_routes.specs.declared.key.Key.{Key}
-use Rattle.relay_routes.specs.declared.key.Key.TheVariants.{Host, Listen, Spool, MaxContent, SpoolLimit, Routes}
+use Rattle.relay_routes.specs.declared.key.Key.TheVariants.{Host, Listen, Spool, MaxContent, SpoolLimit, BareNewlines, Routes}
 
 -- each key as a document has it
 abbrev pub key_text : Key → List ℕ
@@ -18,6 +18,7 @@ key_text Listen = codes "listen"
 key_text Spool = codes "spool"
 key_text MaxContent = codes "max_content"
 key_text SpoolLimit = codes "spool_limit"
+key_text BareNewlines = codes "bare_newlines"
 key_text Routes = codes "routes"
 
 -- what a route that isn't added means for a configuration

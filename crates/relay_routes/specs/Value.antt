@@ -6,6 +6,8 @@ use Rattle.std.specs.Net.Socket.{v4_ip, v4_port}
 use Rattle.std.specs.Net.Text.{ipv4_text}
 use Rattle.std.specs.declared.net.socket_addr.SocketAddrV4.{SocketAddrV4}
 use Rattle.toml.specs.Data.{Data, integer, string}
+use Rattle.relay_routes.specs.declared.bare_newlines.BareNewlines.{BareNewlines}
+use Rattle.relay_routes.specs.declared.bare_newlines.BareNewlines.TheVariants.{Pass, Refuse}
 pub use Rattle.relay_envelope.specs.HostName.{IsHostName, is_host_octet}
 
 -- four numbers with "." between them, ":" and a port, each written without leading zeros
@@ -39,6 +41,15 @@ GivesPath value path = (value ≡ string path) × (path ≢ [])
 -- the value is this number, from 1 to a limit
 abbrev pub GivesSize : ℕ → Data → ℕ → Type 0
 GivesSize limit value size = (value ≡ integer (pos size)) × (1 ≤ size) × (size ≤ limit)
+
+-- how a document says what is done with a CR or an LF that stands alone
+abbrev pub bare_newlines_text : BareNewlines → List ℕ
+bare_newlines_text Pass = codes "pass"
+bare_newlines_text Refuse = codes "refuse"
+
+-- the value is a text that says this of them
+abbrev pub GivesBareNewlines : Data → BareNewlines → Type 0
+GivesBareNewlines value bare_newlines = value ≡ string (bare_newlines_text bare_newlines)
 
 -- the octet is ":"
 abbrev pub is_colon : ℕ → Bool

@@ -1,9 +1,10 @@
 ghost use Rattle.std.specs.Prelude.{◌≡◌, Ok, Err, IfOk, IfErr, IsTrue, MatchOption, ◌⊎◌, ◌↔◌};
 ghost use Rattle.relay_routes.specs.Settings.{IsConfig};
 
+use crate::bare_newlines::BareNewlines;
 use crate::document::{
-    CONTENT_LIMIT, SPOOL_LIMIT, read_host, read_listen, read_max_content, read_routes, read_spool,
-    read_spool_limit,
+    CONTENT_LIMIT, SPOOL_LIMIT, read_bare_newlines, read_host, read_listen, read_max_content,
+    read_routes, read_spool, read_spool_limit,
 };
 use crate::fault::ConfigFault;
 use crate::host_name::HostName;
@@ -25,6 +26,8 @@ pub struct Config {
     pub max_content: usize,
     /// The most octets of the spool, 1 to 549,755,813,888.
     pub spool_limit: u64,
+    /// What is done with a content in which a CR or an LF stands alone.
+    pub bare_newlines: BareNewlines,
     /// Where mail goes.
     pub routes: Table,
     pub ghost valid: { IsConfig host max_content spool_limit routes },
@@ -39,6 +42,7 @@ impl Drop for Config {
             spool: _spool,
             max_content: _,
             spool_limit: _,
+            bare_newlines: _,
             routes: _routes,
         } = self;
     }
@@ -56,12 +60,13 @@ impl Config {
         spool: SpoolPath,
         max_content: usize,
         spool_limit: u64,
+        bare_newlines: BareNewlines,
         routes: Table,
     ) -> Option<Self>
         ensures { MatchOption result (¬ IsConfig host max_content spool_limit routes) (λ config.
             (config.host ≡ host) × (config.listen ≡ listen) × (config.spool ≡ spool)
             × (config.max_content ≡ max_content) × (config.spool_limit ≡ spool_limit)
-            × (config.routes ≡ routes)) }
+            × (config.bare_newlines ≡ bare_newlines) × (config.routes ≡ routes)) }
     {
         if is_config(&host, max_content, spool_limit, &routes) {
             Some(Config {
@@ -70,6 +75,7 @@ impl Config {
                 spool,
                 max_content,
                 spool_limit,
+                bare_newlines,
                 routes,
             })
         } else {
@@ -78,8 +84,8 @@ impl Config {
     }
 
     /// The configuration that a text in TOML says. Keys are looked at in the order of [`Key`](crate::Key), and the
-    /// first fault is answered; other keys are ignored. `max_content` is 1,048,576 and `spool_limit` 67,108,864 where
-    /// they are missing.
+    /// first fault is answered; other keys are ignored. Where they are missing, `max_content` is 1,048,576, `spool_limit`
+    /// 67,108,864 and `bare_newlines` says that content is taken as it came.
     pub fn read(alloc: Global, text: &str) -> Result<Self, ConfigFault>
         ensures ok { IfOk result (λ config. ReadsConfig text.now (Ok config)) }
         ensures err { IfErr result (λ fault. (fault ≡ ConfigFault.NoMemory)
@@ -103,6 +109,7 @@ impl Config {
         let spool = read_spool(alloc, document)?;
         let max_content = read_max_content(document)?;
         let spool_limit = read_spool_limit(document)?;
+        let bare_newlines = read_bare_newlines(document)?;
         let routes = read_routes(alloc, document, host.copy(alloc)?)?;
         Ok(Config {
             host,
@@ -110,6 +117,7 @@ impl Config {
             spool,
             max_content,
             spool_limit,
+            bare_newlines,
             routes,
         })
     }

@@ -5,10 +5,11 @@ ghost use Rattle.toml.specs.View.{table_view, view};
 ghost use Rattle.relay_routes.specs.Value.{GivesSize};
 ghost use Rattle.relay_routes.specs.Document.{AreRoutes, GivesHop, fault_of_routes, value_of};
 ghost use Rattle.relay_routes.specs.Routes.{AllAgree, Route};
-ghost use Rattle.relay_routes.specs.Config.{ReadsHost, ReadsListen, ReadsMaxContent, ReadsOptional, ReadsRoutes, ReadsSpool, ReadsSpoolLimit};
+ghost use Rattle.relay_routes.specs.Config.{ReadsBareNewlines, ReadsHost, ReadsListen, ReadsMaxContent, ReadsOptional, ReadsRoutes, ReadsSpool, ReadsSpoolLimit};
 ghost use Rattle.relay_routes.specs.declared.hop.Hop.{Hop};
 
 use crate::address::read_address;
+use crate::bare_newlines::BareNewlines;
 use crate::fault::{ConfigFault, RouteFault};
 use crate::hop::Hop;
 use crate::host_name::HostName;
@@ -85,6 +86,22 @@ pub(crate) fn read_spool_limit(document: &toml::Table) -> Result<u64, ConfigFaul
     ensures { ReadsSpoolLimit (table_view document.now) result }
 {
     read_size(document, Key::SpoolLimit, SPOOL_DEFAULT, SPOOL_LIMIT)
+}
+
+/// `bare_newlines`: what is done with a content in which a CR or an LF stands alone.
+pub(crate) fn read_bare_newlines(document: &toml::Table) -> Result<BareNewlines, ConfigFault>
+    ensures { ReadsBareNewlines (table_view document.now) result }
+{
+    let Some(value) = member(document, Key::BareNewlines) else {
+        return Ok(BareNewlines::Pass);
+    };
+    let Some(text) = value.as_str() else {
+        return Err(ConfigFault::BadValue(Key::BareNewlines));
+    };
+    match BareNewlines::read(text) {
+        Some(found) => Ok(found),
+        None => Err(ConfigFault::BadValue(Key::BareNewlines)),
+    }
 }
 
 /// A size from 1 to a limit.

@@ -16,6 +16,8 @@ pub enum Key {
     MaxContent,
     /// The most octets of the spool.
     SpoolLimit,
+    /// What is done with a content in which a CR or an LF stands alone.
+    BareNewlines,
     /// Where mail goes.
     Routes,
 }
@@ -31,6 +33,7 @@ impl Key {
             Key::Spool => "spool",
             Key::MaxContent => "max_content",
             Key::SpoolLimit => "spool_limit",
+            Key::BareNewlines => "bare_newlines",
             Key::Routes => "routes",
         }
     }

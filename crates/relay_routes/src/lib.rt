@@ -2,6 +2,7 @@
 #![tactic(auto)]
 
 mod address;
+mod bare_newlines;
 mod config;
 mod document;
 mod fault;
@@ -12,6 +13,7 @@ pub mod laws;
 mod spool_path;
 mod table;
 
+pub use bare_newlines::BareNewlines;
 pub use config::Config;
 pub use fault::{ConfigFault, RouteFault};
 pub use hop::Hop;

@@ -2,7 +2,7 @@
 //! a file and a path, whose hop is looked up.
 use crate::file::file;
 use relay_envelope::{Path, PathBuf};
-use relay_routes::{Config, Hop, HostName, Table};
+use relay_routes::{BareNewlines, Config, Hop, HostName, Table};
 use std::alloc::{AllocError, Global};
 use std::str;
 use std::test::Fail;
@@ -36,14 +36,18 @@ fn document_of(alloc: Global, lines: &str) -> Result<String, AllocError> {
     Ok(document)
 }
 
-/// What a configuration says: its values without the routes, or its fault.
+/// What a configuration says: its values without the routes, and whether it refuses bare line ends, or its fault.
 fn outcome_of(alloc: Global, text: &str) -> Result<String, Fail> {
     match Config::read(alloc, text) {
         Ok(config) => {
             let host = text_of(&config.host)?;
             let (listen, spool) = (config.listen, config.spool.as_str());
             let (content, limit) = (config.max_content, config.spool_limit);
-            Ok(format!(in alloc; "{host} {listen} {spool} {content} {limit}")?)
+            let rule = match config.bare_newlines {
+                BareNewlines::Pass => "",
+                BareNewlines::Refuse => " refuse",
+            };
+            Ok(format!(in alloc; "{host} {listen} {spool} {content} {limit}{rule}")?)
         }
         Err(fault) => Ok(format!(in alloc; "{fault}")?),
     }

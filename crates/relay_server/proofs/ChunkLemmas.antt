@@ -19,7 +19,7 @@ use Rattle.relay_server.specs.declared.state.Transaction.{Transaction}
 use Rattle.relay_server.specs.Dialogue.{Comes}
 use Rattle.relay_envelope.specs.declared.envelope.Envelope.{Envelope}
 use Rattle.relay_server.specs.declared.client.Client.{Client}
-use Rattle.relay_server.specs.ReplyTable.{Course, Replies, course_of_bdat, course_of_chunks, course_of_text}
+use Rattle.relay_server.specs.ReplyTable.{Course, Replies, course_of_bdat, course_of_chunks, course_of_text, unless_refused}
 use Rattle.relay_server.specs.Machine.{AnnouncesChunk, GathersChunk, RefusesChunk}
 use Rattle.relay_server.specs.Setup.{Setup}
 use Rattle.relay_server.specs.State.{CommandState, State, Command}
@@ -58,18 +58,18 @@ more_of_chunk octets part more argument begins = record {
 }
 
 -- a chunk that has come whole has this course
-pub chunk_comes : (setup : Setup) (state : State) (old : CommandState) (octets part : List ℕ) (argument : BdatArgument) (course : Course) → state ≡ Command old → AnnouncesChunk octets argument part → length part ≡ argument.size → course_of_bdat setup.max_content part argument.last old ≡ course → Comes setup state octets course
+pub chunk_comes : (setup : Setup) (state : State) (old : CommandState) (octets part : List ℕ) (argument : BdatArgument) (course : Course) → state ≡ Command old → AnnouncesChunk octets argument part → length part ≡ argument.size → course_of_bdat setup.max_content part argument.last old ≡ course → Comes setup state octets (unless_refused setup.bare_newlines course)
 chunk_comes setup state old octets part argument course state_is begins whole course_is =
     let text = begins.text in
-    let here : Comes setup (Command old) octets course = record {
+    let here : Comes setup (Command old) octets (unless_refused setup.bare_newlines course) = record {
       text = text;
       octets = part;
       what = Bdat part argument.last;
       is_unit = record { unit_is = begins.octets_are; line = begins.line; counted = whole ∙ sym (announced text argument begins.short begins.reads) };
       asks = inr (begins.short, subst (λ reading. AsksBy reading part (Bdat part argument.last)) (sym begins.reads) refl);
-      course_is = sym course_is;
+      course_is = ap (unless_refused setup.bare_newlines) (sym course_is);
     } in
-    subst (λ (s : State). Comes setup s octets course) (sym state_is) here
+    subst (λ (s : State). Comes setup s octets (unless_refused setup.bare_newlines course)) (sym state_is) here
 
 -- chunks, with one more behind them
 content_more : (chunks : List ChunkText) (chunk : ChunkText) → content_of_chunks (chunks ++ chunk ∷ []) ≡ content_of_chunks chunks ++ chunk.octets
@@ -80,7 +80,8 @@ content_more chunks chunk =
 pub record EndedChunk (setup : Setup) (transaction : Transaction) (reader : ChunkReader) (is_last : Bool) (state : State) (octets : List ℕ) : Type 0 where
   pub chunks : List ChunkText
   pub has : HasChunks reader setup.max_content chunks
-  pub comes : Comes setup state octets (course_of_chunks setup.max_content transaction.client transaction.envelope (content_of_chunks chunks) is_last)
+  pub comes : Comes setup state octets
+      (unless_refused setup.bare_newlines (course_of_chunks setup.max_content transaction.client transaction.envelope (content_of_chunks chunks) is_last))
 
 -- a chunk ends where its reader stands between chunks
 pub chunk_ends : (setup : Setup) (transaction : Transaction) (reader : ChunkReader) (is_last : Bool) (state : State) (octets : List ℕ) → GathersChunk setup.max_content transaction reader is_last state octets → IsBetweenChunks reader → EndedChunk setup transaction reader is_last state octets
@@ -93,7 +94,8 @@ chunk_ends setup transaction reader is_last state octets kept between =
     record {
       chunks = kept.chunks ++ chunk ∷ [];
       has = whole_is_one_more reader limit kept.chunks chunk kept.chunk_is whole;
-      comes = chunk_comes setup state kept.old octets kept.part argument _ kept.state_is kept.begins whole.length_is
+      comes = chunk_comes setup state kept.old octets kept.part argument
+          (course_of_chunks limit transaction.client transaction.envelope (content_of_chunks (kept.chunks ++ chunk ∷ [])) is_last) kept.state_is kept.begins whole.length_is
           (kept.course_is kept.part
           ∙ ap (λ c. course_of_chunks limit transaction.client transaction.envelope c argument.last) (sym content)
           ∙ ap (λ l. course_of_chunks limit transaction.client transaction.envelope (content_of_chunks (kept.chunks ++ chunk ∷ [])) l) (sym kept.last_is));
@@ -130,7 +132,7 @@ refused_goes_on limit row behind missing left state octets more kept e = record 
 pub refused_comes : (setup : Setup) (row : Row) (behind : Held) (state : State) (octets : List ℕ) → RefusesChunk setup.max_content row behind 0 state octets → Comes setup state octets (Replies row (Command (command_state_of behind)))
 refused_comes setup row behind state octets kept =
     let size = kept.size_is in
-    chunk_comes setup state kept.old octets kept.part kept.argument _ kept.state_is kept.begins (omega (arith, size)) (kept.course_is kept.part)
+    chunk_comes setup state kept.old octets kept.part kept.argument (Replies row (Command (command_state_of behind))) kept.state_is kept.begins (omega (arith, size)) (kept.course_is kept.part)
 
 -- the last chunk ends the content as mail data ends, where it is within the limit
 pub last_chunk : (limit : ℕ) (client : Client) (envelope : Envelope) (content : List ℕ) (large last : Bool) → last ≡ true → large ≡ false → large ≡ nat_lt limit (length content) → course_of_text limit client envelope content ≡ course_of_chunks limit client envelope content last

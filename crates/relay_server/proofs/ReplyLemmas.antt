@@ -20,12 +20,13 @@ use Rattle.relay_server.specs.declared.client.Client.{Client}
 use Rattle.relay_server.specs.declared.offer.Answer.{Answer}
 use Rattle.relay_server.specs.declared.offer.Answer.TheVariants as answer
 use Rattle.relay_server.specs.declared.reply_table.Row.{Row}
-use Rattle.relay_server.specs.declared.reply_table.Row.TheVariants.{Greeting, Hello, Extensions, SenderOk, RecipientOk, TooManyRecipients, NoRoute, BadSequence, NoValidRecipients, StartMailInput, ChunkOk, ContentTooLarge, TooManyReceived, Queued, SpoolFull, Done, NotVerified, SeeStandard, Closing, UnknownCommand, BadOctet, LineTooLong, BadArgument, BadPath, BadValue, Repeated, UnknownParameter, NotOffered, BadChunkSize}
+use Rattle.relay_server.specs.declared.reply_table.Row.TheVariants.{Greeting, Hello, Extensions, SenderOk, RecipientOk, TooManyRecipients, NoRoute, BadSequence, NoValidRecipients, StartMailInput, ChunkOk, ContentTooLarge, TooManyReceived, BareLineEnd, Queued, SpoolFull, Done, NotVerified, SeeStandard, Closing, UnknownCommand, BadOctet, LineTooLong, BadArgument, BadPath, BadValue, Repeated, UnknownParameter, NotOffered, BadChunkSize}
 use Rattle.relay_envelope.specs.HostName.{IsHostName, is_host_octet}
 use Rattle.relay_server.specs.Dialogue.{Offered, Turn, Answers, Comes, Takes, Turns, answers_in, answered_by, row_of_answer}
 use Rattle.relay_server.specs.DialogueLaws.{AreNumbered, IsNumbered, OnlyContentIsOffered, OnlyQueuedIsPositive, RepliesAreWellFormed}
 use Rattle.relay_server.specs.Reply.{reply_of}
-use Rattle.relay_server.specs.ReplyTable.{Course, Replies, Offers, row_of_envelope_fault, row_of_fault, row_of_hello, course_of, course_of_bdat, course_of_chunks, course_of_content, course_of_data, course_of_mail, course_of_rcpt, course_of_text}
+use Rattle.relay_routes.specs.declared.bare_newlines.BareNewlines.{BareNewlines}
+use Rattle.relay_server.specs.ReplyTable.{is_refused_by, unless_refused, Course, Replies, Offers, row_of_envelope_fault, row_of_fault, row_of_hello, course_of, course_of_bdat, course_of_chunks, course_of_content, course_of_data, course_of_mail, course_of_rcpt, course_of_text}
 use Rattle.relay_routes.specs.Routes.{hop_of}
 use Rattle.relay_server.specs.Setup.{Setup}
 use Rattle.relay_server.specs.State.{CommandState, Fresh, Greeted, Open, Gathering, Spent, State, Command, Receiving, Closed}
@@ -90,6 +91,7 @@ row_is_reply host NoValidRecipients name h = line_is_reply 554 (codes "no valid 
 row_is_reply host StartMailInput name h = line_is_reply 354 (codes "end with a line of one period") (omega arith) (omega arith) refl (omega arith)
 row_is_reply host ChunkOk name h = line_is_reply 250 (codes "chunk OK") (omega arith) (omega arith) refl (omega arith)
 row_is_reply host TooManyReceived name h = line_is_reply 554 (codes "too many Received fields") (omega arith) (omega arith) refl (omega arith)
+row_is_reply host BareLineEnd name h = line_is_reply 554 (codes "bare line end in content") (omega arith) (omega arith) refl (omega arith)
 row_is_reply host BadChunkSize name h = name_is_reply 421 host (codes " bad chunk size, closing") (omega arith) (omega arith) name refl (omega arith)
 row_is_reply host ContentTooLarge name h = line_is_reply 552 (codes "content too large") (omega arith) (omega arith) refl (omega arith)
 row_is_reply host (Queued number) name h =
@@ -186,6 +188,12 @@ bdat_course limit octets last (Gathering client envelope content) =
     chunks_course limit client envelope (content ++ octets) last
 bdat_course limit octets last (Spent client) = tt
 
+-- a content that is refused is answered by a row that is no number
+refused_course : (last : Bool) (rule : BareNewlines) (course : Course) → MayCome last course → MayCome last (unless_refused rule course)
+refused_course last rule (Replies row next) may = may
+refused_course last rule (Offers client envelope content) may =
+    chosen_course last (is_refused_by rule content) (Replies BareLineEnd (Command (Greeted client))) (Offers client envelope content) tt may
+
 -- what a line asks that ends a content
 abbrev ends_content : Asked → Bool
 ends_content (Bdat octets last) = last
@@ -199,7 +207,8 @@ line_course setup (unit.Hello client) state = hello_row client.protocol
 line_course setup (Mail mail) state = mail_course mail state
 line_course setup (Rcpt rcpt) state = rcpt_course setup rcpt state
 line_course setup Data state = data_course state
-line_course setup (Bdat octets last) state = bdat_course setup.max_content octets last state
+line_course setup (Bdat octets last) state =
+    refused_course last setup.bare_newlines (course_of_bdat setup.max_content octets last state) (bdat_course setup.max_content octets last state)
 line_course setup Rset state = tt
 line_course setup Noop state = tt
 line_course setup Vrfy state = tt
@@ -215,8 +224,11 @@ comes_may : (setup : Setup) (old : State) (asked : List ℕ) (course : Course) �
 comes_may setup (Command state) asked course comes =
     let last = ends_content comes.what in
     (last, subst (λ (c : Course). MayCome last c) (sym comes.course_is) (line_course setup comes.what state))
-comes_may setup (Receiving client envelope) asked course comes =
-    (true, subst (λ (c : Course). MayCome true c) (sym comes.course_is) (text_course setup.max_content client envelope comes.content))
+comes_may setup (Receiving client envelope) asked course comes = (
+  true,
+  subst (λ (c : Course). MayCome true c) (sym comes.course_is)
+      (refused_course true setup.bare_newlines (course_of_text setup.max_content client envelope comes.content) (text_course setup.max_content client envelope comes.content)),
+)
 comes_may setup Closed asked course comes = absurd comes
 
 -- the reply of a course
@@ -282,6 +294,12 @@ bdat_refused host limit octets (Gathering client envelope content) =
     chunks_refused host limit client envelope (content ++ octets)
 bdat_refused host limit octets (Spent client) = omega arith
 
+unless_is_refused : (host : List ℕ) (rule : BareNewlines) (course : Course) → IsRefused host course → IsRefused host (unless_refused rule course)
+unfolding reply_of
+unless_is_refused host rule (Replies row next) refused = refused
+unless_is_refused host rule (Offers client envelope content) refused =
+    chosen_refused host (is_refused_by rule content) (Replies BareLineEnd (Command (Greeted client))) (Offers client envelope content) (omega arith) tt
+
 -- the answer of a positive reply
 positive_is_queued : (host : List ℕ) (given : Answer) (reply : Reply) → reply ≡ reply_of host (row_of_answer given) → reply.code < 300 → (number : ℕ) × (given ≡ answer.Queued number)
 unfolding reply_of
@@ -311,9 +329,11 @@ only_queued_is_positive setup (Command state) new turn is ends low high =
     let asks = subst (λ (t : List ℕ). Asks t comes.octets comes.what) same.0 comes.asks in
     let what = last_asked ends.0 comes.octets ends.2 comes.what ends.4 ends.5 asks in
     let course = comes.course_is ∙ ap (λ w. course_of setup w state) what in
-    positive_course setup.host is.course turn new (subst (IsRefused setup.host) (sym course) (bdat_refused setup.host setup.max_content comes.octets state)) is.takes high
+    positive_course setup.host is.course turn new (subst (IsRefused setup.host) (sym course)
+    (unless_is_refused setup.host setup.bare_newlines (course_of_bdat setup.max_content comes.octets true state) (bdat_refused setup.host setup.max_content comes.octets state))) is.takes high
 only_queued_is_positive setup (Receiving client envelope) new turn is ends low high =
-    positive_course setup.host is.course turn new (subst (IsRefused setup.host) (sym is.comes.course_is) (text_refused setup.host setup.max_content client envelope is.comes.content)) is.takes high
+    positive_course setup.host is.course turn new (subst (IsRefused setup.host) (sym is.comes.course_is)
+    (unless_is_refused setup.host setup.bare_newlines (course_of_text setup.max_content client envelope is.comes.content) (text_refused setup.host setup.max_content client envelope is.comes.content))) is.takes high
 only_queued_is_positive setup Closed new turn is ends low high = absurd is.comes
 
 -- what asks for the end of a content is BDAT with LAST

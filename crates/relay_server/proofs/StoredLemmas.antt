@@ -1,5 +1,5 @@
 -- What a dialogue offers may be stored, since each state that it stands in holds nothing else.
-use Rattle.std.proofs.Common.{◌≡◌, ℕ, ◌≤◌, Bool, true, false, if◌then◌else◌, nat_le, is_some, List, [], ◌∷◌, ◌++◌, length, Result, Ok, Err, inl, inr, refl, sym, subst, arith, length-append}
+use Rattle.std.proofs.Common.{◌≡◌, ℕ, ◌<◌, ◌≤◌, Bool, true, false, if◌then◌else◌, nat_le, is_some, List, [], ◌∷◌, ◌++◌, length, Result, Ok, Err, inl, inr, refl, sym, subst, arith, length-append}
 use Rattle.std.specs.List.{AllByRecursion}
 use Rattle.std.proofs.lemmas.Bool.{leb-true, leb-false}
 use Rattle.relay_lines.specs.ChunkArgument.{begins_with_bdat}
@@ -17,10 +17,10 @@ use Rattle.relay_envelope.specs.Path.{is_reverse}
 use Rattle.relay_envelope.proofs.Theorems.{read_mail_is_valid, read_rcpt_is_valid}
 use Rattle.relay_trace.specs.HeaderSection.{received_count_of}
 use Rattle.relay_server.specs.declared.client.Client.{Client}
-use Rattle.relay_server.specs.declared.reply_table.Row.TheVariants.{ChunkOk}
+use Rattle.relay_server.specs.declared.reply_table.Row.TheVariants.{BareLineEnd, ChunkOk}
 use Rattle.relay_server.specs.Dialogue.{Offered, Turn, Answers, Comes, Takes, Turns, IsLeft, offered_by, offered_of, offers_in}
 use Rattle.relay_server.specs.DialogueLaws.{MayBeStored, OffersMayBeStored}
-use Rattle.relay_server.specs.ReplyTable.{Course, Replies, Offers, course_of, course_of_bdat, course_of_chunks, course_of_content, course_of_data, course_of_mail, course_of_rcpt, course_of_text, state_behind_fault}
+use Rattle.relay_server.specs.ReplyTable.{Course, Replies, Offers, course_of, course_of_bdat, course_of_chunks, course_of_content, course_of_data, course_of_mail, course_of_rcpt, course_of_text, is_refused_by, state_behind_fault, unless_refused}
 use Rattle.relay_routes.specs.Routes.{hop_of}
 use Rattle.relay_server.specs.Setup.{Setup}
 use Rattle.relay_server.specs.State.{CommandState, Fresh, Greeted, Open, Gathering, Spent, State, Command, Receiving, Closed, start}
@@ -108,28 +108,51 @@ data_good setup (Open client envelope) sound =
 data_good setup (Gathering client envelope content) sound = sound
 data_good setup (Spent client) sound = sound
 
+-- an offer as it may be stored, but for its line ends
+record IsNearlyStored (setup : Setup) (client : Client) (envelope : Envelope) (content : List ℕ) : Type 0 where
+  word : IsHostWord client.word
+  whole : IsEnvelope envelope
+  fits : length content ≤ setup.max_content
+  received : received_count_of content < 100
+
+-- what comes is good, but for the line ends of what it offers
+abbrev IsNearlyGood : Setup → Course → Type 0
+IsNearlyGood setup (Replies row next) = IsSound next
+IsNearlyGood setup (Offers client envelope content) = IsNearlyStored setup client envelope content
+
+chosen_nearly : (setup : Setup) (b : Bool) (one two : Course) → (b ≡ true → IsNearlyGood setup one) → (b ≡ false → IsNearlyGood setup two) → IsNearlyGood setup (if b then one else two)
+chosen_nearly setup true one two h k = h refl
+chosen_nearly setup false one two h k = k refl
+
+-- a content whose line ends are refused isn't offered
+unless_good : (setup : Setup) (course : Course) → IsNearlyGood setup course → IsGood setup (unless_refused setup.bare_newlines course)
+unless_good setup (Replies row next) sound = sound
+unless_good setup (Offers client envelope content) nearly =
+    chosen setup (is_refused_by setup.bare_newlines content) (Replies BareLineEnd (Command (Greeted client))) (Offers client envelope content) (λ _. nearly.word)
+    (λ kept. (nearly.word, record { client = nearly.word; envelope = nearly.whole; content = nearly.fits; received = nearly.received; line_ends = kept }))
+
 -- a content within the limit is refused, or may be stored
-content_good : (setup : Setup) (client : Client) (envelope : Envelope) (content : List ℕ) → IsHostWord client.word → IsEnvelope envelope → length content ≤ setup.max_content → IsGood setup (course_of_content client envelope content)
+content_good : (setup : Setup) (client : Client) (envelope : Envelope) (content : List ℕ) → IsHostWord client.word → IsEnvelope envelope → length content ≤ setup.max_content → IsNearlyGood setup (course_of_content client envelope content)
 content_good setup client envelope content word whole fits =
-    chosen setup (nat_le 100 (received_count_of content)) _ _ (λ _. word) (λ few. (word, record { client = word; envelope = whole; content = fits; received = leb-false 100 (received_count_of content) few }))
+    chosen_nearly setup (nat_le 100 (received_count_of content)) _ _ (λ _. word) (λ few. record { word = word; whole = whole; fits = fits; received = leb-false 100 (received_count_of content) few })
 
-text_good : (setup : Setup) (client : Client) (envelope : Envelope) (content : List ℕ) → IsHostWord client.word → IsEnvelope envelope → IsGood setup (course_of_text setup.max_content client envelope content)
+text_good : (setup : Setup) (client : Client) (envelope : Envelope) (content : List ℕ) → IsHostWord client.word → IsEnvelope envelope → IsNearlyGood setup (course_of_text setup.max_content client envelope content)
 text_good setup client envelope content word whole =
-    chosen setup (nat_le (length content) setup.max_content) _ _ (λ fits. content_good setup client envelope content word whole (leb-true (length content) setup.max_content fits)) (λ _. word)
+    chosen_nearly setup (nat_le (length content) setup.max_content) _ _ (λ fits. content_good setup client envelope content word whole (leb-true (length content) setup.max_content fits)) (λ _. word)
 
-last_good : (setup : Setup) (last : Bool) (client : Client) (envelope : Envelope) (content : List ℕ) → IsHostWord client.word → IsEnvelope envelope → length content ≤ setup.max_content → IsGood setup (if last then course_of_content client envelope content else Replies ChunkOk (Command (Gathering client envelope content)))
+last_good : (setup : Setup) (last : Bool) (client : Client) (envelope : Envelope) (content : List ℕ) → IsHostWord client.word → IsEnvelope envelope → length content ≤ setup.max_content → IsNearlyGood setup (if last then course_of_content client envelope content else Replies ChunkOk (Command (Gathering client envelope content)))
 last_good setup true client envelope content word whole fits = content_good setup client envelope content word whole fits
 last_good setup false client envelope content word whole fits = (word, whole)
 
-chunks_good : (setup : Setup) (client : Client) (envelope : Envelope) (content : List ℕ) (last : Bool) → IsHostWord client.word → IsEnvelope envelope → IsGood setup (course_of_chunks setup.max_content client envelope content last)
+chunks_good : (setup : Setup) (client : Client) (envelope : Envelope) (content : List ℕ) (last : Bool) → IsHostWord client.word → IsEnvelope envelope → IsNearlyGood setup (course_of_chunks setup.max_content client envelope content last)
 chunks_good setup client envelope content last word whole =
-    chosen setup (nat_le (length content) setup.max_content) _ _ (λ fits. last_good setup last client envelope content word whole (leb-true (length content) setup.max_content fits)) (λ _. word)
+    chosen_nearly setup (nat_le (length content) setup.max_content) _ _ (λ fits. last_good setup last client envelope content word whole (leb-true (length content) setup.max_content fits)) (λ _. word)
 
-bdat_good : (setup : Setup) (octets : List ℕ) (last : Bool) (old : CommandState) → IsSound (Command old) → IsGood setup (course_of_bdat setup.max_content octets last old)
+bdat_good : (setup : Setup) (octets : List ℕ) (last : Bool) (old : CommandState) → IsSound (Command old) → IsNearlyGood setup (course_of_bdat setup.max_content octets last old)
 bdat_good setup octets last Fresh sound = tt
 bdat_good setup octets last (Greeted client) sound = sound
 bdat_good setup octets last (Open client envelope) sound =
-    chosen setup (nat_le 1 (length envelope.recipients)) _ _ (λ some. chunks_good setup client envelope octets last sound.0 (whole_envelope envelope sound.1 some)) (λ _. sound.0)
+    chosen_nearly setup (nat_le 1 (length envelope.recipients)) _ _ (λ some. chunks_good setup client envelope octets last sound.0 (whole_envelope envelope sound.1 some)) (λ _. sound.0)
 bdat_good setup octets last (Gathering client envelope content) sound =
     chunks_good setup client envelope (content ++ octets) last sound.0 sound.1
 bdat_good setup octets last (Spent client) sound = sound
@@ -170,7 +193,8 @@ asked_good setup text octets (Ok (line.Rcpt behind)) asked old e asks sound =
 asked_good setup text octets (Ok line.Data) asked old e asks sound =
     subst (λ (a : Asked). IsGood setup (course_of setup a old)) (sym asks) (data_good setup old sound)
 asked_good setup text octets (Ok (line.Bdat argument)) asked old e asks sound =
-    subst (λ (a : Asked). IsGood setup (course_of setup a old)) (sym asks) (bdat_good setup octets argument.last old sound)
+    subst (λ (a : Asked). IsGood setup (course_of setup a old)) (sym asks)
+    (unless_good setup (course_of_bdat setup.max_content octets argument.last old) (bdat_good setup octets argument.last old sound))
 asked_good setup text octets (Ok line.Rset) asked old e asks sound =
     subst (λ (a : Asked). IsGood setup (course_of setup a old)) (sym asks) (reset_good setup old sound)
 asked_good setup text octets (Ok line.Noop) asked old e asks sound =
@@ -198,7 +222,8 @@ comes_good : (setup : Setup) (old : State) (unit : List ℕ) (course : Course) �
 comes_good setup (Command state) unit course comes sound =
     subst (IsGood setup) (sym comes.course_is) (line_good setup comes.text comes.octets comes.what state comes.asks sound)
 comes_good setup (Receiving client envelope) unit course comes sound =
-    subst (IsGood setup) (sym comes.course_is) (text_good setup client envelope comes.content sound.0 sound.1)
+    subst (IsGood setup) (sym comes.course_is)
+    (unless_good setup (course_of_text setup.max_content client envelope comes.content) (text_good setup client envelope comes.content sound.0 sound.1))
 comes_good setup Closed unit course comes sound = absurd comes
 
 taken_sound : (setup : Setup) (course : Course) (turn : Turn) (new : State) → IsGood setup course → Takes setup.host course turn new → IsSound new × AllByRecursion (MayBeStored setup) (offers_in turn.offer)

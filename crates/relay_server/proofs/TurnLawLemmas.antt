@@ -8,7 +8,7 @@ use Rattle.relay_lines.specs.Command as line
 use Rattle.relay_lines.specs.declared.command.LineFault.{LineFault}
 use Rattle.relay_trace.specs.declared.received.Protocol.TheVariants.{Smtp, Esmtp}
 use Rattle.relay_server.specs.Dialogue.{Comes, Takes}
-use Rattle.relay_server.specs.ReplyTable.{Course, course_of, course_of_text}
+use Rattle.relay_server.specs.ReplyTable.{Course, course_of, course_of_text, unless_refused}
 use Rattle.relay_server.specs.Setup.{Setup}
 use Rattle.relay_server.specs.State.{Closed, Command, CommandState, Receiving, client_of}
 use Rattle.relay_server.specs.TurnLaws.{AskedIsAUnit, ChunkIsAnswered, CourseIsFixed, CourseIsOfAUnit, LineIsAnswered, NoUnitLacksACourse, TextIsAnswered, TurnIsOfItsUnit}
@@ -73,7 +73,8 @@ chunk_is_answered setup old new text octets rest more argument turn free short r
 -- a turn that begins with this dot text is of just that
 pub text_is_answered : TextIsAnswered
 text_is_answered setup client envelope new text content rest more turn reads is begins =
-    turn_is_of_its_unit setup (Receiving client envelope) new text rest more (course_of_text setup.max_content client envelope content) turn
+    turn_is_of_its_unit setup (Receiving client envelope) new text rest more
+    (unless_refused setup.bare_newlines (course_of_text setup.max_content client envelope content)) turn
     (record { content = content; reads = reads; course_is = refl }) is begins
 
 -- no reading asks nothing
@@ -105,5 +106,5 @@ no_unit_lacks_a_course setup (Command state) unit is none =
     some_line setup state unit is.0 is.1 is.2
     (λ what asks. none (course_of setup what state) (record { text = is.0; octets = is.1; what = what; is_unit = is.2; asks = asks; course_is = refl }))
 no_unit_lacks_a_course setup (Receiving client envelope) unit is none =
-    none (course_of_text setup.max_content client envelope is.0) (record { content = is.0; reads = is.1; course_is = refl })
+    none (unless_refused setup.bare_newlines (course_of_text setup.max_content client envelope is.0)) (record { content = is.0; reads = is.1; course_is = refl })
 no_unit_lacks_a_course setup Closed unit is none = is

@@ -13,7 +13,7 @@ use Rattle.relay_server.specs.declared.offer.Answer.{Answer}
 use Rattle.relay_server.specs.Dialogue.{Offered, Turn, Answers, Comes, ComesOfLine, ComesOfText, Takes, answers_in, offered_of, row_of_answer}
 use Rattle.relay_server.specs.DialogueLaws.{RowIsFixed}
 use Rattle.relay_server.specs.Reply.{reply_of}
-use Rattle.relay_server.specs.ReplyTable.{Course, Replies, Offers, course_of, course_of_text}
+use Rattle.relay_server.specs.ReplyTable.{Course, Replies, Offers, course_of, course_of_text, unless_refused}
 use Rattle.relay_server.specs.Setup.{Setup}
 use Rattle.relay_server.specs.State.{State, CommandState, Command, Receiving, Closed}
 use Rattle.relay_server.specs.Unit.{Asked, Mail, Rcpt, Asks, AsksBy, IsUnit}
@@ -64,7 +64,9 @@ line_course setup state unit other one two a b e =
 text_course : (setup : Setup) (client : Client) (envelope : Envelope) (unit other : List ℕ) (one two : Course) → ComesOfText setup client envelope unit one → ComesOfText setup client envelope other two → unit ≡ other → one ≡ two
 text_course setup client envelope unit other one two a b e =
     let same = one_content other a.content b.content (subst (λ (u : List ℕ). ReadsDotText u a.content) e a.reads) b.reads in
-    a.course_is ∙ ap (course_of_text setup.max_content client envelope) same ∙ sym b.course_is
+    a.course_is
+    ∙ ap (λ (content : List ℕ). unless_refused setup.bare_newlines (course_of_text setup.max_content client envelope content)) same
+    ∙ sym b.course_is
 
 -- a unit has one course
 pub course_is_one : (setup : Setup) (state : State) (unit other : List ℕ) (one two : Course) → Comes setup state unit one → Comes setup state other two → unit ≡ other → one ≡ two

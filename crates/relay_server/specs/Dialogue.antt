@@ -12,7 +12,7 @@ use Rattle.relay_server.specs.declared.offer.Answer.TheVariants as answer
 use Rattle.relay_server.specs.declared.reply_table.Row.{Row}
 use Rattle.relay_server.specs.declared.reply_table.Row.TheVariants.{Greeting, Queued, SpoolFull}
 use Rattle.relay_server.specs.Reply.{reply_of}
-use Rattle.relay_server.specs.ReplyTable.{Course, Replies, Offers, course_of, course_of_text}
+use Rattle.relay_server.specs.ReplyTable.{Course, Replies, Offers, course_of, course_of_text, unless_refused}
 use Rattle.relay_server.specs.Setup.{Setup}
 use Rattle.relay_server.specs.State.{CommandState, Greeted, State, Command, Receiving, Closed, start}
 use Rattle.relay_server.specs.Unit.{Asked, Asks, HasNoUnit, IsCommandUnit}
@@ -48,7 +48,8 @@ pub record ComesOfText (setup : Setup) (client : Client) (envelope : Envelope) (
     (course : Course) : Type 0 where
   pub content : List ℕ
   pub reads : ReadsDotText unit content
-  pub course_is : course ≡ course_of_text setup.max_content client envelope content
+  pub course_is :
+      course ≡ unless_refused setup.bare_newlines (course_of_text setup.max_content client envelope content)
 
 -- in this state this is the course of the unit
 abbrev pub Comes : Setup → State → List ℕ → Course → Type 0

@@ -1,5 +1,5 @@
 -- What is true of units, turns and dialogues, whatever the pieces that the input comes in.
-use Rattle.std.specs.Prelude.{◌≡◌, ◌≢◌, ℕ, ◌^◌, ◌<◌, ◌≤◌, List, [], ◌∷◌, ◌++◌, true, length, Some, Ok}
+use Rattle.std.specs.Prelude.{◌≡◌, ◌≢◌, ℕ, ◌^◌, ◌<◌, ◌≤◌, List, [], ◌∷◌, ◌++◌, true, false, length, Some, Ok}
 use Rattle.std.specs.List.{AllByRecursion}
 use Rattle.relay_octets.specs.Beginning.{Begins}
 use Rattle.relay_lines.specs.Command.{Bdat, reading_of}
@@ -13,6 +13,7 @@ use Rattle.relay_server.specs.declared.session.Session.{Session}
 use Rattle.relay_envelope.specs.HostName.{IsHostName}
 use Rattle.relay_server.specs.Dialogue.{Offered, Turn, Answers, Turns, Said, IsDialogue, answers_in, answered_by}
 use Rattle.relay_server.specs.Reply.{reply_of}
+use Rattle.relay_server.specs.ReplyTable.{is_refused_by}
 use Rattle.relay_server.specs.Session.{Stands}
 use Rattle.relay_server.specs.Setup.{Setup}
 use Rattle.relay_trace.specs.HeaderSection.{received_count_of}
@@ -104,12 +105,13 @@ RepliesAreWellFormed =
     → AllByRecursion (λ turn. IsReply turn.reply) turns)
 
 -- an offer as it may be stored: the client's word is one of HELO's, the envelope is whole, the
--- content is within the limit and has fewer than 100 `Received:` fields
+-- content is within the limit, has fewer than 100 `Received:` fields, and isn't one whose line ends are refused
 pub record MayBeStored (setup : Setup) (offer : Offered) : Type 0 where
   pub client : IsHostWord offer.client.word
   pub envelope : IsEnvelope offer.envelope
   pub content : length offer.content ≤ setup.max_content
   pub received : received_count_of offer.content < 100
+  pub line_ends : is_refused_by setup.bare_newlines offer.content ≡ false
 
 -- each offer of a dialogue may be stored
 abbrev pub OffersMayBeStored : Type 0

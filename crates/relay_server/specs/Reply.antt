@@ -2,7 +2,7 @@
 use Rattle.std.specs.Prelude.{ℕ, List, [], ◌∷◌, ◌++◌, codes, decimal}
 use Rattle.relay_lines.specs.Reply.{Reply, made_of, one_line}
 use Rattle.relay_server.specs.declared.reply_table.Row.{Row}
-use Rattle.relay_server.specs.declared.reply_table.Row.TheVariants.{Greeting, Hello, Extensions, SenderOk, RecipientOk, TooManyRecipients, NoRoute, BadSequence, NoValidRecipients, StartMailInput, ChunkOk, ContentTooLarge, TooManyReceived, Queued, SpoolFull, Done, NotVerified, SeeStandard, Closing, UnknownCommand, BadOctet, LineTooLong, BadArgument, BadPath, BadValue, Repeated, UnknownParameter, NotOffered, BadChunkSize}
+use Rattle.relay_server.specs.declared.reply_table.Row.TheVariants.{Greeting, Hello, Extensions, SenderOk, RecipientOk, TooManyRecipients, NoRoute, BadSequence, NoValidRecipients, StartMailInput, ChunkOk, ContentTooLarge, TooManyReceived, BareLineEnd, Queued, SpoolFull, Done, NotVerified, SeeStandard, Closing, UnknownCommand, BadOctet, LineTooLong, BadArgument, BadPath, BadValue, Repeated, UnknownParameter, NotOffered, BadChunkSize}
 
 -- what each row answers, at a server with this host name
 unfoldable pub reply_of : List ℕ → Row → Reply
@@ -19,6 +19,7 @@ reply_of host StartMailInput = one_line 354 (codes "end with a line of one perio
 reply_of host ChunkOk = one_line 250 (codes "chunk OK")
 reply_of host ContentTooLarge = one_line 552 (codes "content too large")
 reply_of host TooManyReceived = one_line 554 (codes "too many Received fields")
+reply_of host BareLineEnd = one_line 554 (codes "bare line end in content")
 reply_of host (Queued number) = one_line 250 (codes "queued as " ++ decimal number)
 reply_of host SpoolFull = one_line 452 (codes "spool full")
 reply_of host Done = one_line 250 (codes "OK")

@@ -1,8 +1,9 @@
 -- The reply table: to each unit and state the row that answers it, and the state behind it, or an
 -- offer (RFC 5321, section 4.3.2; RFC 3030, section 2).
-use Rattle.std.specs.Prelude.{ℕ, Bool, List, [], ◌∷◌, ◌++◌, length, nat_le, is_some, if◌then◌else◌, Result, Ok, Err}
+use Rattle.std.specs.Prelude.{ℕ, Bool, false, List, [], ◌∷◌, ◌++◌, length, nat_le, is_some, if◌then◌else◌, Result, Ok, Err}
 use Rattle.relay_lines.specs.declared.command.LineFault.{LineFault}
 use Rattle.relay_lines.specs.declared.command.LineFault.TheVariants as line
+use Rattle.relay_body.specs.BareEnds.{has_bare_end}
 use Rattle.relay_envelope.specs.declared.envelope.Envelope.{Envelope}
 use Rattle.relay_envelope.specs.declared.fault.EnvelopeFault.{EnvelopeFault}
 use Rattle.relay_envelope.specs.declared.fault.EnvelopeFault.TheVariants as envelope
@@ -15,6 +16,8 @@ use Rattle.relay_server.specs.declared.client.Client.{Client}
 use Rattle.relay_server.specs.declared.reply_table.Row.{Row}
 use Rattle.relay_server.specs.declared.reply_table.Row.TheVariants as row
 use Rattle.relay_routes.specs.Routes.{hop_of}
+use Rattle.relay_routes.specs.declared.bare_newlines.BareNewlines.{BareNewlines}
+use Rattle.relay_routes.specs.declared.bare_newlines.BareNewlines.TheVariants.{Pass, Refuse}
 use Rattle.relay_server.specs.Setup.{Setup}
 use Rattle.relay_server.specs.State.{CommandState, Fresh, Greeted, Open, Gathering, Spent, State, Command, Receiving, Closed}
 use Rattle.relay_server.specs.Unit.{Asked, LongLine, Faulty, Hello, Mail, Rcpt, Data, Bdat, Rset, Noop, Vrfy, Help, Quit}
@@ -120,6 +123,19 @@ course_of_bdat limit octets last (Gathering client envelope content) =
     course_of_chunks limit client envelope (content ++ octets) last
 course_of_bdat limit octets last (Spent client) = Replies row.BadSequence (Command (Spent client))
 
+-- the content has a CR or an LF that stands alone, and this rule refuses that (RFC 5321, section 2.3.8)
+abbrev pub is_refused_by : BareNewlines → List ℕ → Bool
+is_refused_by Pass content = false
+is_refused_by Refuse content = has_bare_end content
+
+-- what comes of the end of a content: behind all other faults, one that the rule refuses isn't offered, and its
+-- transaction is over
+abbrev pub unless_refused : BareNewlines → Course → Course
+unless_refused rule (Replies row next) = Replies row next
+unless_refused rule (Offers client envelope content) =
+    if is_refused_by rule content then Replies row.BareLineEnd (Command (Greeted client))
+    else Offers client envelope content
+
 -- RSET gives the transaction up
 abbrev pub without_transaction : CommandState → CommandState
 without_transaction Fresh = Fresh
@@ -136,7 +152,8 @@ course_of setup (Hello client) state = Replies (row_of_hello client.protocol) (C
 course_of setup (Mail mail) state = course_of_mail mail state
 course_of setup (Rcpt rcpt) state = course_of_rcpt setup rcpt state
 course_of setup Data state = course_of_data state
-course_of setup (Bdat octets last) state = course_of_bdat setup.max_content octets last state
+course_of setup (Bdat octets last) state =
+    unless_refused setup.bare_newlines (course_of_bdat setup.max_content octets last state)
 course_of setup Rset state = Replies row.Done (Command (without_transaction state))
 course_of setup Noop state = Replies row.Done (Command state)
 course_of setup Vrfy state = Replies row.NotVerified (Command state)

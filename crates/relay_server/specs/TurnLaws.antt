@@ -8,7 +8,7 @@ use Rattle.relay_lines.specs.Command as line
 use Rattle.relay_lines.specs.Command.{reading_of}
 use Rattle.relay_server.specs.declared.client.Client.{Client}
 use Rattle.relay_server.specs.Dialogue.{Answers, Comes, Takes, Turn}
-use Rattle.relay_server.specs.ReplyTable.{Course, course_of, course_of_bdat, course_of_text}
+use Rattle.relay_server.specs.ReplyTable.{Course, course_of, course_of_bdat, course_of_text, unless_refused}
 use Rattle.relay_server.specs.Setup.{Setup}
 use Rattle.relay_server.specs.State.{CommandState, State, Command, Receiving}
 use Rattle.relay_server.specs.Unit.{Asked, AsksBy, IsUnit, announced_by}
@@ -70,7 +70,8 @@ ChunkIsAnswered =
     → length octets ≡ argument.size → Answers setup (Command old) turn new
     → turn.asked ++ rest ≡ (text ++ crlf ++ octets) ++ more
     → IsTurnOf setup.host (text ++ crlf ++ octets)
-    (course_of_bdat setup.max_content octets argument.last old) turn new rest more
+    (unless_refused setup.bare_newlines (course_of_bdat setup.max_content octets argument.last old))
+    turn new rest more
 
 -- a turn that begins where this dot text begins is of just that
 abbrev pub TextIsAnswered : Type 0
@@ -79,4 +80,6 @@ TextIsAnswered =
     (text content rest more : List ℕ) (turn : Turn)
     → ReadsDotText text content → Answers setup (Receiving client envelope) turn new
     → turn.asked ++ rest ≡ text ++ more
-    → IsTurnOf setup.host text (course_of_text setup.max_content client envelope content) turn new rest more
+    → IsTurnOf setup.host text
+    (unless_refused setup.bare_newlines (course_of_text setup.max_content client envelope content))
+    turn new rest more

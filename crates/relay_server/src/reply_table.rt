@@ -36,6 +36,8 @@ pub(crate) enum Row {
     ContentTooLarge,
     /// The content has come in a circle: it has 100 `Received:` fields or more.
     TooManyReceived,
+    /// A CR or an LF stands alone in the content, and the configuration refuses that.
+    BareLineEnd,
     /// The message is in the queue, under this number.
     Queued(u64),
     /// The message was not stored, for want of room.
@@ -91,6 +93,7 @@ impl Row {
             Row::ChunkOk => write_line(out, 250, b"chunk OK", b""),
             Row::ContentTooLarge => write_line(out, 552, b"content too large", b""),
             Row::TooManyReceived => write_line(out, 554, b"too many Received fields", b""),
+            Row::BareLineEnd => write_line(out, 554, b"bare line end in content", b""),
             Row::Queued(number) => write_queued(number, out),
             Row::SpoolFull => write_line(out, 452, b"spool full", b""),
             Row::Done => write_line(out, 250, b"OK", b""),

@@ -5,7 +5,7 @@ ghost use Rattle.relay_body.specs.ChunkText.{Chunk as ChunkText, HasChunks, IsBe
 ghost use Rattle.relay_body.specs.DotReading.{IsReading};
 ghost use Rattle.relay_body.specs.Gathering.{gathered_of};
 ghost use Rattle.relay_server.specs.Dialogue.{row_of_answer};
-ghost use Rattle.relay_server.specs.ReplyTable.{course_of, course_of_chunks, course_of_content, course_of_text};
+ghost use Rattle.relay_server.specs.ReplyTable.{course_of, course_of_chunks, course_of_content, course_of_text, Offers, is_refused_by, unless_refused};
 ghost use Rattle.relay_server.specs.Machine.{EndsBy, EntersBy, GathersChunk, IsGiven, KeepsText, Moves, RefusesChunk, offers_at};
 ghost use Rattle.relay_server.specs.Setup.{setup_of};
 ghost use Rattle.relay_server.specs.State as standing;
@@ -18,10 +18,10 @@ use crate::offer::Answer;
 use crate::reply_table::Row;
 use crate::stage::{Chunk, MailData, Skipped, Stage};
 use crate::state::{CommandState, Gathering, State, Transaction};
-use relay_body::{BodyFault, ChunkReader, DotReader, Gathered};
+use relay_body::{BodyFault, ChunkReader, DotReader, Gathered, has_bare_end};
 use relay_lines::begins_with_bdat;
 use relay_octets::Octets;
-use relay_routes::{HostName, Table};
+use relay_routes::{BareNewlines, HostName, Table};
 use relay_trace::received_count;
 use std::alloc::{AllocError, Global};
 
@@ -35,6 +35,8 @@ pub(crate) struct Server {
     pub(crate) host: HostName,
     /// The most octets of a content.
     pub(crate) max_content: usize,
+    /// What is done with a content in which a CR or an LF stands alone.
+    pub(crate) bare_newlines: BareNewlines,
 }
 
 // Written out, so that what drops a server calls this, and doesn't look into its host's name.
@@ -44,6 +46,7 @@ impl Drop for Server {
             alloc: _,
             host: _host,
             max_content: _,
+            bare_newlines: _,
         } = self;
     }
 }
@@ -169,7 +172,8 @@ impl Server {
         ensures { IfOk result (λ stage. (routes : RouteTable) (content : List ℕ)
             → gathered ≡ gathered_of self.now.max_content content
             → EndsBy (setup_of self.now routes)
-            (course_of_text self.now.max_content transaction.client transaction.envelope content)
+            (unless_refused self.now.bare_newlines
+            (course_of_text self.now.max_content transaction.client transaction.envelope content))
             stage out.old.items out.new.items) }
     {
         match gathered {
@@ -181,7 +185,7 @@ impl Server {
         }
     }
 
-    /// Refuses a content that has come in a circle, and offers another.
+    /// Refuses a content that has come in a circle, or whose line ends are refused, and offers another.
     fn end_content(
         &self,
         transaction: Transaction,
@@ -190,12 +194,33 @@ impl Server {
     ) -> Result<Stage, AllocError>
         ensures { IfOk result (λ stage. (routes : RouteTable)
             → EndsBy (setup_of self.now routes)
-            (course_of_content transaction.client transaction.envelope content) stage out.old.items
+            (unless_refused self.now.bare_newlines
+            (course_of_content transaction.client transaction.envelope content)) stage out.old.items
             out.new.items) }
     {
         if received_count(content.as_slice()) >= RECEIVED_LIMIT {
             let greeted = CommandState::Greeted(transaction.into_client());
             return self.reply(Row::TooManyReceived, State::Command(greeted), out);
+        }
+        self.offer(transaction, content, out)
+    }
+
+    /// Refuses a content in which a CR or an LF stands alone, where the configuration says so, and offers another.
+    fn offer(
+        &self,
+        transaction: Transaction,
+        content: Octets,
+        out: &mut Vec<u8>,
+    ) -> Result<Stage, AllocError>
+        ensures { IfOk result (λ stage. (routes : RouteTable)
+            → EndsBy (setup_of self.now routes)
+            (unless_refused self.now.bare_newlines
+            (Offers transaction.client transaction.envelope content)) stage out.old.items
+            out.new.items) }
+    {
+        if is_refused(self.bare_newlines, content.as_slice()) {
+            let greeted = CommandState::Greeted(transaction.into_client());
+            return self.reply(Row::BareLineEnd, State::Command(greeted), out);
         }
         Ok(Stage::Offering(transaction, content))
     }
@@ -247,8 +272,9 @@ impl Server {
         ensures { IfOk result (λ stage. (routes : RouteTable) (chunks : List ChunkText)
             → HasChunks reader self.now.max_content chunks
             → EndsBy (setup_of self.now routes)
+            (unless_refused self.now.bare_newlines
             (course_of_chunks self.now.max_content transaction.client transaction.envelope
-            (content_of_chunks chunks) is_last) stage out.old.items out.new.items) }
+            (content_of_chunks chunks) is_last)) stage out.old.items out.new.items) }
     {
         if reader.is_too_large() {
             let spent = CommandState::Spent(transaction.into_client());
@@ -293,6 +319,16 @@ impl Server {
             missing,
         };
         Ok((Stage::Skipping(skipped), used))
+    }
+}
+
+/// Whether a content has a CR or an LF that stands alone, and this rule refuses that.
+fn is_refused(rule: BareNewlines, content: &[u8]) -> bool
+    ensures { result ≡ is_refused_by rule content.now }
+{
+    match rule {
+        BareNewlines::Pass => false,
+        BareNewlines::Refuse => has_bare_end(content),
     }
 }
 

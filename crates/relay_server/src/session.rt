@@ -66,7 +66,7 @@ impl Session {
     /// A session, and the greeting for the client. It fails where memory runs out.
     pub fn new(alloc: Global, config: &Config) -> Result<(Self, Vec<u8>), AllocError>
         ensures stands { IfOk result (λ made. (setup : Setup) → setup.host ≡ config.now.host
-            → setup.max_content ≡ config.now.max_content
+            → setup.max_content ≡ config.now.max_content → setup.bare_newlines ≡ config.now.bare_newlines
             → Stands setup made.0
             (record { input = []; answers = []; output = made.1.items; offers = [] })) }
         ensures settled { IfOk result (λ made. open_offers made.0 ≡ []) }
@@ -75,6 +75,7 @@ impl Session {
             alloc,
             host: config.host.copy(alloc)?,
             max_content: config.max_content,
+            bare_newlines: config.bare_newlines,
         };
         let mut greeting = Vec::new(alloc);
         Row::Greeting.write(server.host.as_slice(), &mut greeting)?;

@@ -9,7 +9,7 @@ mod setup;
 
 use dialogue::{Dialogue, Verdict};
 use relay_routes::Config;
-use setup::{configuration, open_configuration, small_configuration};
+use setup::{configuration, open_configuration, small_configuration, strict_configuration};
 use std::env;
 use std::test::Fail;
 
@@ -86,6 +86,9 @@ const SMALL_DIALOGUES: [&str; 2] = ["small_contents", "small_chunks"];
 /// The dialogues at a host that takes mail for every domain.
 const OPEN_DIALOGUES: [&str; 2] = ["postmaster_routed", "standard_paths"];
 
+/// The dialogues at a host that refuses a content in which a CR or an LF stands alone.
+const STRICT_DIALOGUES: [&str; 1] = ["refused_line_ends"];
+
 /// Dialogues that are written down wrong on purpose, one reply or one offer each: they must differ.
 const WRONG_DIALOGUES: [&str; 2] = ["another_reply", "another_offer"];
 
@@ -102,6 +105,7 @@ fn main(rt: HostRuntime) -> Result<(), Fail> {
     hold(&rt, folder, &BAD_CHUNK_SIZES, configuration(alloc)?)?;
     hold(&rt, folder, &SMALL_DIALOGUES, small_configuration(alloc)?)?;
     hold(&rt, folder, &OPEN_DIALOGUES, open_configuration(alloc)?)?;
+    hold(&rt, folder, &STRICT_DIALOGUES, strict_configuration(alloc)?)?;
     hold(&rt, folder, &WRONG_DIALOGUES, configuration(alloc)?)
 }
 

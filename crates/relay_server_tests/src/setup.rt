@@ -23,6 +23,17 @@ max_content = 4
 "example.org" = { name = "next.example", at = "127.0.0.1:2526" }
 "#;
 
+/// One domain, and no content in which a CR or an LF stands alone.
+const STRICT_CONFIGURATION: &str = r#"
+host = "relay.example"
+listen = "127.0.0.1:2525"
+spool = "relay.spool"
+bare_newlines = "refuse"
+
+[routes]
+"example.org" = { name = "next.example", at = "127.0.0.1:2526" }
+"#;
+
 /// Each domain.
 const OPEN_CONFIGURATION: &str = r#"
 host = "relay.example"
@@ -48,6 +59,11 @@ pub fn small_configuration(alloc: Global) -> Result<Config, Fail> {
 /// The same host, which takes mail for every domain, and contents of up to 1,048,576 octets.
 pub fn open_configuration(alloc: Global) -> Result<Config, Fail> {
     read(alloc, OPEN_CONFIGURATION)
+}
+
+/// The first host, which refuses a content in which a CR or an LF stands alone.
+pub fn strict_configuration(alloc: Global) -> Result<Config, Fail> {
+    read(alloc, STRICT_CONFIGURATION)
 }
 
 /// The configuration that a text says.

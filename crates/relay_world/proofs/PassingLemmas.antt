@@ -15,6 +15,7 @@ use Rattle.relay_server.specs.declared.offer.Answer.TheVariants.{Queued}
 use Rattle.relay_server.specs.declared.reply_table.Row.TheVariants.{NoRoute}
 use Rattle.relay_server.specs.Dialogue.{Offered, offered_of}
 use Rattle.relay_server.specs.Reply.{reply_of}
+use Rattle.relay_server.specs.ReplyTable.{is_refused_by}
 use Rattle.relay_server.specs.Setup.{Setup, setup_of_config}
 use Rattle.relay_trace.specs.HeaderSection.{received_count_of}
 use Rattle.relay_book.specs.declared.change.Change.{Change}
@@ -246,7 +247,8 @@ module _ {D : Type 0} (host : Host D) (changes : List Change) (link : Link) (att
         let child : List Offered =
         cond (nat_le (length errand.text) setup.max_content)
         (cond (nat_le 100 (received_count_of errand.text)) []
-        (offered_of (client_in errand) envelope errand.text ∷ [])) [] in
+        (cond (is_refused_by setup.bare_newlines errand.text) []
+        (offered_of (client_in errand) envelope errand.text ∷ []))) [] in
         let some : nat_le 1 (length envelope.recipients) ≡ true =
         some_there (nat_le 1 (length envelope.recipients)) serves.said.offers
         (child_now host changes link attempt passes other others world end serves) child says.met.children offers in

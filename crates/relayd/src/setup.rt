@@ -2,7 +2,7 @@ ghost use Rattle.std.specs.Prelude.{◌≡◌, [], ◌∷◌, IfOk};
 ghost use Rattle.relay_routes.specs.Value.{IsHostName};
 ghost use Rattle.relayd.specs.Setup.{IsProfile, loopback_at, only_route, session_moment};
 
-use relay_routes::{Config, Hop, HostName, SpoolPath, Table};
+use relay_routes::{BareNewlines, Config, Hop, HostName, SpoolPath, Table};
 use relay_trace::Moment;
 use std::alloc::{AllocError, Global};
 use std::net::{Ipv4Addr, SocketAddrV4};
@@ -21,8 +21,8 @@ const MAX_CONTENT: usize = 1_048_576;
 const SPOOL_LIMIT: u64 = 67_108_864;
 
 /// The configuration of a session from standard input: the host `relay.example`, contents of up to
-/// 1,048,576 octets, and `example.org` as the only domain that mail is taken for. It fails where
-/// memory runs out.
+/// 1,048,576 octets, taken as they come, and `example.org` as the only domain that mail is taken for. It
+/// fails where memory runs out.
 pub fn configuration(alloc: Global) -> Result<Config, AllocError>
     ensures { IfOk result IsProfile }
 {
@@ -33,7 +33,15 @@ pub fn configuration(alloc: Global) -> Result<Config, AllocError>
         unreachable!()
     };
     let listen = at_port(2525);
-    let Some(config) = Config::new(host, listen, spool, MAX_CONTENT, SPOOL_LIMIT, routes) else {
+    let Some(config) = Config::new(
+        host,
+        listen,
+        spool,
+        MAX_CONTENT,
+        SPOOL_LIMIT,
+        BareNewlines::Pass,
+        routes,
+    ) else {
         unreachable!()
     };
     Ok(config)

@@ -10,14 +10,14 @@ pub invariant_of-self : goal.invariant_of-self
 invariant_of-self g c =
     let config = c.self.inside.config in
     let made = c.in-Ok.ensures in
-    let says : SessionHasSaid (setup_of_config config) c.in-Ok.session (greeted_by c.in-Ok.out.items) = record { stands = made.stands (setup_of_config config) refl refl; settled = made.settled } in
+    let says : SessionHasSaid (setup_of_config config) c.in-Ok.session (greeted_by c.in-Ok.out.items) = record { stands = made.stands (setup_of_config config) refl refl refl; settled = made.settled } in
     (all_have_histories config c.self.inside.seats _ c.in-Some.number _ c.put.ensures c.self.invariant.0 (greeted_by c.in-Ok.out.items, says), c.self.invariant.1)
 
 pub returns-clause-connects : goal.returns-clause-connects
 returns-clause-connects g c = rw (← c.self.view_is) (
     let config = c.self.inside.config in
     let made = c.in-Ok.ensures in
-    let says : SessionHasSaid (setup_of_config config) c.in-Ok.session (greeted_by c.in-Ok.out.items) = record { stands = made.stands (setup_of_config config) refl refl; settled = made.settled } in
+    let says : SessionHasSaid (setup_of_config config) c.in-Ok.session (greeted_by c.in-Ok.out.items) = record { stands = made.stands (setup_of_config config) refl refl refl; settled = made.settled } in
     record {
       free = c.in-Some.ensures.least;
       says = says_at config c.self.inside.seats _ c.in-Some.number _ c.args.peer (greeted_by c.in-Ok.out.items) c.in-Some.ensures.within c.put.ensures refl says;

@@ -1,7 +1,7 @@
 -- The last chunk ends the content.
 use Rattle.std.proofs.Common.{subst}
 use Rattle.relay_body.specs.ChunkText.{content_of_chunks}
-use Rattle.relay_server.specs.ReplyTable.{Course}
+use Rattle.relay_server.specs.ReplyTable.{Course, unless_refused}
 use Rattle.relay_server.specs.Machine.{EndsBy}
 use Rattle.relay_server.specs.Setup.{setup_of}
 use Rattle.relay_server.proofs.ChunkLemmas.{last_chunk}
@@ -15,6 +15,6 @@ returns-then-is_last c =
     let envelope = c.args.transaction.envelope in
     if_ok _ _ c.end_text.result (λ stage ends. λ routes chunks has.
     let content = content_of_chunks chunks in
-    subst (λ (course : Course). EndsBy (setup_of c.args.self.now routes) course stage c.args.out.now.items c.end_text.new.out.items)
+    subst (λ (course : Course). EndsBy (setup_of c.args.self.now routes) (unless_refused c.args.self.now.bare_newlines course) stage c.args.out.now.items c.end_text.new.out.items)
     (last_chunk limit client envelope content c.is_too_large.result c.args.is_last c.if-is_last.true c.if-is_too_large.false (c.is_too_large.ensures limit content has.gathers))
     (ends routes content (c.finish.ensures limit chunks has))) c.end_text.ensures

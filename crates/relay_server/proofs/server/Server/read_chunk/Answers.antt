@@ -1,7 +1,7 @@
 -- A chunk goes on, or ends and is answered.
 use Rattle.std.proofs.Common.{◌++◌, take, inl, refl}
 use Rattle.relay_body.specs.ChunkText.{content_of_chunks}
-use Rattle.relay_server.specs.ReplyTable.{course_of_chunks}
+use Rattle.relay_server.specs.ReplyTable.{course_of_chunks, unless_refused}
 use Rattle.relay_server.specs.Setup.{setup_of}
 use Rattle.relay_server.proofs.ChunkLemmas.{chunk_ends, chunk_goes_on}
 use Rattle.relay_server.proofs.SessionLemmas.{comes_and_ends}
@@ -17,7 +17,8 @@ returns-in_ok-stage-in-Ok-clause-moves c = λ routes state octets kept.
     let feeds = c.in-Ok.ensures.feeds in
     let now = chunk_goes_on limit transaction c.args.reader c.feed.new.self is_last state octets more kept (feeds.uses limit kept.chunks _ kept.chunk_is) in
     let ended = chunk_ends setup transaction c.feed.new.self is_last state (octets ++ more) now (feeds.done.0 c.if-cut.true) in
-    comes_and_ends setup state (octets ++ more) (course_of_chunks limit transaction.client transaction.envelope (content_of_chunks ended.chunks) is_last)
+    comes_and_ends setup state (octets ++ more)
+    (unless_refused setup.bare_newlines (course_of_chunks limit transaction.client transaction.envelope (content_of_chunks ended.chunks) is_last))
     c.in_ok-stage-in-Ok.stage c.args.out.now.items c.end_chunk.new.out.items ended.comes (c.in_ok-stage-in-Ok.ensures routes ended.chunks ended.has)
 
 pub returns-else-cut-clause-moves : goal.returns-else-cut-clause-moves

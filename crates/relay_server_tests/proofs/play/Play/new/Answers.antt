@@ -8,4 +8,4 @@ pub returns : goal.returns
 returns c =
     let setup = setup_of_config c.args.config.now in
     let none : c.in_ok-from_slice.field-0 ≡ [] = search rules in
-    begun setup _ (c.in_ok-session.ensures.stands setup refl refl) c.in_ok-session.ensures.settled refl none refl
+    begun setup _ (c.in_ok-session.ensures.stands setup refl refl refl) c.in_ok-session.ensures.settled refl none refl
