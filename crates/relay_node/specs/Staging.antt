@@ -1,10 +1,12 @@
 -- What a node does with offers of sessions that stand outside of it, where their changes come into the records together.
-use Rattle.std.specs.Prelude.{◌≡◌, ◌⊎◌, ℕ, ◌+◌, ◌<◌, ◌^◌, true, false, List, [], ◌∷◌, ◌++◌, length, Result, Err, IfErr}
+use Rattle.std.specs.Prelude.{◌≡◌, ◌≢◌, ◌⊎◌, ℕ, ◌+◌, ◌≤◌, ◌<◌, ◌^◌, true, false, List, [], ◌∷◌, ◌++◌, length, take, Option, None, Some, Result, Err, IfErr}
+use Rattle.std.specs.List.{AllByRecursion}
 use Rattle.relay_disk.specs.Device.{DiskWords}
 use Rattle.relay_routes.specs.declared.config.Config.{Config}
 use Rattle.relay_server.specs.declared.offer.Answer.{Answer}
 use Rattle.relay_server.specs.declared.offer.Answer.TheVariants as answer
-use Rattle.relay_server.specs.Dialogue.{Offered}
+use Rattle.relay_server.specs.Dialogue.{Offered, Said}
+use Rattle.relay_server.specs.Setup.{setup_of_config}
 use Rattle.relay_spool.specs.Image.{room_of}
 use Rattle.relay_book.specs.declared.change.Accept.{Accept}
 use Rattle.relay_book.specs.declared.change.Change.{Change}
@@ -12,11 +14,13 @@ use Rattle.relay_book.specs.declared.change.Change.TheVariants as change
 use Rattle.relay_records.specs.Records.{Kept}
 use Rattle.relay_records.specs.Staged.{Awaits, Row}
 use Rattle.relay_records.specs.declared.fault.NodeFault.{NodeFault}
-use Rattle.relay_records.specs.declared.fault.NodeFault.TheVariants.{NoMemory, Stopped, Full}
+use Rattle.relay_records.specs.declared.fault.NodeFault.TheVariants.{NoMemory, Stopped, Full, Unknown}
+use Rattle.relay_records.specs.declared.noted.Noted.{Noted}
 use Rattle.relay_node.specs.Acceptance.{Acceptance, acceptance_by}
 use Rattle.relay_node.specs.Admission.{TakesAnswer}
-use Rattle.relay_node.specs.Node.{NodeState}
-use Rattle.relay_node.specs.Room.{HasRoom, Overfills}
+use Rattle.relay_node.specs.declared.receive.Received.{Received}
+use Rattle.relay_node.specs.Node.{IsGone, IsOpen, NodeState, SessionGoesOn}
+use Rattle.relay_node.specs.Room.{AnswersMore, EndsWithOffer, HasRoom, Overfills, refusals}
 
 -- The words below are of a call at a moment, for a client at this address, of a node that keeps these changes and
 -- awaits those that are pending, which the row records.
@@ -61,3 +65,70 @@ pub record RefusesOffer {D T : Type 0} (old new : NodeState D) (row left : Row) 
   pub refused : old.records.spool.live ≡ true → IfErr result (RefusesToStage old.records new.records row left)
   pub full : old.records.spool.live ≡ true → 2 ^ 62 < old.records.queue.next
       → (result ≡ Err NoMemory) ⊎ (result ≡ Err Full)
+
+-- The words below are of a call at a moment, on a session with a client at this address, of a node that keeps these
+-- changes and awaits those that are pending.
+module _ {D : Type 0} (honest : Type 0) (words : DiskWords D) (config : Config) (changes pending : List Change)
+    (peer : List ℕ) (at : ℕ) where
+  -- each of these offers would bring the spool, with the row, past its limit
+  abbrev pub HaveNoRoomBehind : Kept D → Row → List Offered → Type 0
+  HaveNoRoomBehind old row offers =
+      AllByRecursion (Overfills (acceptance_by config peer (length changes + length pending + 1) at)
+      config.spool_limit (old.spool.size + room_of row.bodies)) offers
+
+  -- behind the refused offers one was staged: the change of this number accepts it, and no octet behind it was read
+  pub record QueuesInto (said later : Said) (refused : List Offered) (used : ℕ) (old : Kept D) (row : Row)
+      (new : Kept D) (left : Row) (number : ℕ)
+      : Type 0 where
+    pub offer : Offered
+    pub answers : AnswersMore said later refused (offer ∷ []) (answer.Queued number ∷ [])
+    pub ends : EndsWithOffer (setup_of_config config) later (said.answers ++ refusals refused)
+    pub staged : IsStagedAs honest words config changes pending peer at offer old row new left number
+    pub note : Noted
+    pub noted : left.notes ≡ row.notes ++ note ∷ []
+    pub used_is : note.used ≡ used
+
+  -- the change that the call staged, if it staged one
+  abbrev pub MakesInto : Said → Said → List Offered → ℕ → Kept D → Row → Kept D → Row → Option ℕ → Type 0
+  MakesInto said later refused used old row new left None =
+      AnswersMore said later refused [] [] × (new ≡ old) × (left ≡ row)
+  MakesInto said later refused used old row new left (Some number) =
+      QueuesInto said later refused used old row new left number
+
+  -- what the call did behind what was said: it used all of the piece, unless a change or a close stopped it
+  pub record TalksInto (said later : Said) (piece : List ℕ) (old : Kept D) (row : Row) (new : Kept D) (left : Row)
+      (received : Received)
+      : Type 0 where
+    pub input : later.input ≡ said.input ++ take received.used piece
+    pub output : later.output ≡ said.output ++ received.out.items
+    pub refused : List Offered
+    pub no_room : HaveNoRoomBehind old row refused
+    pub makes : MakesInto said later refused received.used old row new left received.change
+    pub whole : received.change ≡ None → received.close ≡ false → received.used ≡ length piece
+
+  -- the same, on the session of this number of a node
+  pub record ReceivesInto (number : ℕ) (said : Said) (piece : List ℕ) (old : NodeState D) (row : Row)
+      (new : NodeState D) (left : Row) (received : Received)
+      : Type 0 where
+    pub later : Said
+    pub goes_on : SessionGoesOn config new.seats number peer later received.close
+    pub is_open : received.close ≡ false → IsOpen new.seats number
+    pub talks : TalksInto said later piece old.records row new.records left received
+
+-- octets of the piece were used: where a change was staged, one at least, and where none was and nothing closed, all
+pub record UsesPiece (len : ℕ) (received : Received) : Type 0 where
+  pub within : received.used ≤ len
+  pub some : received.change ≢ None → 0 < received.used
+  pub whole : received.change ≡ None → received.close ≡ false → received.used ≡ len
+
+-- what such a call leaves that is refused by a live node: the row, and all but the session, which is gone
+pub record LeavesRow {D : Type 0} (number : ℕ) (old new : NodeState D) (row left : Row) : Type 0 where
+  pub gone : IsGone number old new
+  pub row_is : left ≡ row
+
+abbrev pub RefusesToReceiveInto : {D : Type 0} → ℕ → NodeState D → NodeState D → Row → Row → NodeFault → Type 0
+RefusesToReceiveInto number old new row left NoMemory = LeavesRow number old new row left
+RefusesToReceiveInto number old new row left Full =
+    LeavesRow number old new row left × (2 ^ 62 < old.records.queue.next)
+RefusesToReceiveInto number old new row left Unknown = (new ≡ old) × (left ≡ row)
+RefusesToReceiveInto number old new row left other = ⊥
