@@ -22,7 +22,7 @@ use Rattle.relay_records.proofs.Theorems.{none_awaited}
 use Rattle.relay_node.specs.declared.receive.Received.{Received}
 use Rattle.relay_node.specs.Acceptance.{IsAcceptOf, acceptance_by}
 use Rattle.relay_node.specs.Node.{NodeState}
-use Rattle.relay_node.specs.Staging.{MakesInto, QueuesInto, ReceivesInto}
+use Rattle.relay_node.specs.Staging.{MakesInto, QueuesInto, ReceivesBehind, ReceivesInto}
 use Rattle.relay_world.specs.declared.line.Line.TheVariants.{Accepted}
 use Rattle.relay_world.specs.Bound.{HostKeeps, IsBound, NodeKeeps, StandsAt, StateKeeps}
 use Rattle.relay_world.specs.Groups.{AcceptsInto, HasHeardAll, HasHeardEach, HasHeardInto, HasHeardOrEnded, HearingAllKeeps, IsNotedBehind, IsUp, Piece}
@@ -212,9 +212,16 @@ module _ {D : Type 0} (honest : Type 0) (words : DiskWords D) where
             (sym (listed ⊥ words world unsettled.later piece.number unsettled.bound of).1
             ∙ list_there_is piece.number of heard.its_node)
 
-        received : ReceivesInto honest words of.before.config changes unsettled.pending of.end.peer at of.session said
+        awaits_before : Awaits honest words of.before.records changes unsettled.pending row
+        awaits_before = awaits_there piece.number of heard.its_node
+
+        behind : ReceivesBehind honest words of.before.config changes unsettled.pending at of.session
             (waiting_up piece.count of.link) of.before row heard.after left heard.received
-        received = heard.receives changes unsettled.pending said (awaits_there piece.number of heard.its_node)
+        behind = heard.receives changes unsettled.pending awaits_before
+
+        received : ReceivesInto of.before.config changes unsettled.pending of.end.peer at of.session said
+            (waiting_up piece.count of.link) of.before row heard.after left behind.more heard.received
+        received = behind.receives of.end.peer said
             (says_before ⊥ words world unsettled.later piece.number unsettled.bound of)
 
         abbrev talk : Talk ⊥ words world unsettled.later piece.number unsettled.bound of next piece.count heard.after
@@ -234,23 +241,24 @@ module _ {D : Type 0} (honest : Type 0) (words : DiskWords D) where
 
         -- mail was accepted
         module _ (number : ℕ)
-            (queues : QueuesInto honest words of.before.config changes unsettled.pending of.end.peer at said received.later
-            received.talks.refused heard.received.used of.before.records row heard.after.records left number)
-            (noted : Noted) (behind : IsNotedBehind honest words of.before.records row left noted) where
+            (queues : QueuesInto of.before.config changes unsettled.pending of.end.peer at said received.later
+            received.talks.refused heard.received.used of.before.records row left behind.more number)
+            (noted : Noted) (is_noted : IsNotedBehind honest words of.before.records row left noted) where
           abbrev accept : Accept
-          accept = queues.staged.accept
+          accept = queues.accept
 
           abbrev more : List Change
           more = unsettled.pending ++ change.Accept accept ∷ []
 
-          awaits_before : Awaits honest words of.before.records changes unsettled.pending row
-          awaits_before = awaits_there piece.number of heard.its_node
+          awaits_more : Awaits honest words heard.after.records changes more left
+          awaits_more = subst
+              (λ l. Awaits honest words heard.after.records changes (unsettled.pending ++ l) left) queues.more_is behind.awaits
 
           next_note : NotesNext (fold step (queue_of changes) unsettled.pending) (change.Accept accept)
               (encode (change.Accept accept)) noted.used noted
-          next_note = last_note (queue_of changes) unsettled.pending (change.Accept accept) row.notes noted awaits_before.notes
-              (subst (λ l. AreNotes (queue_of changes) more l) (behind changes unsettled.pending awaits_before)
-              queues.staged.awaits.notes)
+          next_note = last_note (queue_of changes) unsettled.pending (change.Accept accept) row.notes noted
+              awaits_before.notes (subst (λ l. AreNotes (queue_of changes) more l)
+              (is_noted changes unsettled.pending awaits_before) awaits_more.notes)
 
           count_is : length list + 1 ≡ length changes + length unsettled.pending + 1
           count_is = ap (λ l. length l + 1) list_is
@@ -263,19 +271,19 @@ module _ {D : Type 0} (honest : Type 0) (words : DiskWords D) where
           abbrev takes : TakesMail ⊥ words world unsettled.later piece.number unsettled.bound of next piece.count heard.after
               heard.received talk number noted
           takes = record {
-            number_is = queues.staged.number_is ∙ sym count_is;
-            few = let few = queues.staged.fits.number in let is = queues.staged.number_is in omega (arith, few, is);
+            number_is = queues.number_is ∙ sym count_is;
+            few = let few = queues.fits.number in let is = queues.number_is in omega (arith, few, is);
             refused = received.talks.refused;
             offer = queues.offer;
             answers = queues.answers;
             accept = accept;
             at = at;
             is_accept = subst (λ n. IsAcceptOf (acceptance_by of.before.config of.end.peer n at) queues.offer accept)
-                (sym count_is) queues.staged.fits.is_accept;
+                (sym count_is) queues.fits.is_accept;
             octets = next_note.octets_are;
             places = next_note.accepted;
             keeps = subst (λ l. Keeps ⊥ words heard.after.records l) (sym grown_is)
-                (awaited_kept heard.after.records changes more left queues.staged.awaits);
+                (awaited_kept heard.after.records changes more left awaits_more);
           }
 
           unsettled_more : IsPut world.hosts next.hosts of.end.node
@@ -296,7 +304,7 @@ module _ {D : Type 0} (honest : Type 0) (words : DiskWords D) where
             };
             list_at = ap (λ n. slice_get (with_at unsettled.later of.end.node (list ++ change.Accept accept ∷ [])) n)
                 (sym heard.its_node) ∙ lists_put.at ∙ ap Some grown_is;
-            awaits = queues.staged.awaits;
+            awaits = awaits_more;
             others = others_there piece.number of heard.its_node
                 (record of.host { state = Up heard.after; records = of.host.records ++ noted.octets ∷ [] }) put;
             other_lists = λ other off. lists_put.others other (λ same. off (same ∙ heard.its_node))
@@ -311,8 +319,8 @@ module _ {D : Type 0} (honest : Type 0) (words : DiskWords D) where
 
         -- by what was accepted
         unsettled_by : (made : Option ℕ)
-            → MakesInto honest words of.before.config changes unsettled.pending of.end.peer at said received.later
-            received.talks.refused heard.received.used of.before.records row heard.after.records left made
+            → MakesInto of.before.config changes unsettled.pending of.end.peer at said received.later received.talks.refused
+            heard.received.used of.before.records row heard.after.records left behind.more made
             → AcceptsInto honest words world next piece.number of heard.after row left made → Unsettled next left
         unsettled_by None makes accepts = record {
           later = unsettled.later;

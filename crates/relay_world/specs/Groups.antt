@@ -4,11 +4,10 @@ use Rattle.std.specs.Prelude.{◌≡◌, ◌⊎◌, ◌≤◌, ℕ, true, List, 
 use Rattle.std.specs.List.{AllByRecursion}
 use Rattle.relay_disk.specs.Device.{DiskWords}
 use Rattle.relay_disk.specs.declared.disks.Disks.{Disks}
-use Rattle.relay_server.specs.Dialogue.{Said}
 use Rattle.relay_book.specs.declared.change.Change.{Change}
 use Rattle.relay_node.specs.declared.receive.Received.{Received}
-use Rattle.relay_node.specs.Node.{IsIdle, SeatHasSaid, NodeState}
-use Rattle.relay_node.specs.Staging.{ReceivesInto}
+use Rattle.relay_node.specs.Node.{IsIdle, NodeState}
+use Rattle.relay_node.specs.Staging.{ReceivesBehind}
 use Rattle.relay_records.specs.declared.noted.Noted.{Noted}
 use Rattle.relay_records.specs.Open.{Opens}
 use Rattle.relay_records.specs.Records.{Kept}
@@ -71,10 +70,9 @@ module _ {D : Type 0} (honest : Type 0) (words : DiskWords D) where
     pub its_node : of.end.node ≡ node
     pub after : NodeState D
     pub received : Received
-    pub receives : (changes pending : List Change) (said : Said) → Awaits honest words of.before.records changes pending row
-        → SeatHasSaid of.before.config of.before.seats of.session of.end.peer said
-        → ReceivesInto honest words of.before.config changes pending of.end.peer at of.session said
-        (waiting_up piece.count of.link) of.before row after left received
+    pub receives : (changes pending : List Change) → Awaits honest words of.before.records changes pending row
+        → ReceivesBehind honest words of.before.config changes pending at of.session (waiting_up piece.count of.link)
+        of.before row after left received
     pub used : received.used ≤ length (waiting_up piece.count of.link)
     pub others : OthersStay of.before.seats after.seats of.session
     pub config : after.config ≡ of.before.config
