@@ -47,13 +47,15 @@ last_note : (queue : Queue) (pending : List Change) (one : Change) (notes : List
     → AreNotes queue pending notes → AreNotes queue (pending ++ one ∷ []) (notes ++ note ∷ [])
     → NotesNext (fold step queue pending) one (encode one) note.used note
 last_note queue [] one notes note are more =
-    let first : notes ≡ [] = are in
-    let same : note ≡ more.0 = cc (more.2) in
-    subst (λ (n : Noted). NotesNext queue one (encode one) n.used n) (sym same) more.3
+    let joined : note ∷ [] ≡ more.0 ∷ more.1 = ap (λ (l : List Noted). l ++ note ∷ []) (sym are) ∙ more.2 in
+    let same : more.0 ≡ note = cc in
+    subst (λ (n : Noted). NotesNext queue one (encode one) n.used n) same more.3
 last_note queue (other ∷ pending) one notes note are more =
-    let same : are.1 ++ note ∷ [] ≡ more.1 = cc (are.2, more.2) in
+    let joined : are.0 ∷ (are.1 ++ note ∷ []) ≡ more.0 ∷ more.1 =
+    ap (λ (l : List Noted). l ++ note ∷ []) (sym are.2) ∙ more.2 in
+    let same : more.1 ≡ are.1 ++ note ∷ [] = cc in
     last_note (step queue other) pending one are.1 note are.4
-    (subst (λ l. AreNotes (step queue other) (pending ++ one ∷ []) l) (sym same) more.4)
+    (subst (λ l. AreNotes (step queue other) (pending ++ one ∷ []) l) same more.4)
 
 module _ {D : Type 0} (honest : Type 0) (words : DiskWords D) where
   -- where nothing is said of disks, all else stays said
@@ -114,7 +116,8 @@ module _ {D : Type 0} (honest : Type 0) (words : DiskWords D) where
   }
 
   -- records that await changes have these in their list, as their queue does
-  pub awaited_kept : (records : Kept D) (changes pending : List Change) (row : Row) → Awaits honest words records changes pending row
+  pub awaited_kept : (records : Kept D) (changes pending : List Change) (row : Row)
+      → Awaits honest words records changes pending row
       → Keeps ⊥ words records (changes ++ pending)
   awaited_kept records changes pending row awaits = record {
     live = awaits.live;
@@ -157,18 +160,21 @@ module _ {D : Type 0} (honest : Type 0) (words : DiskWords D) where
         same_before : unsettled.is.now ≡ of.before
         same_before =
             let same_host : unsettled.is.host ≡ of.host =
-            same_Some unsettled.is.host of.host (sym unsettled.is.host_at ∙ ap (λ n. slice_get world.hosts n) (sym here) ∙ of.host_at) in
+            same_Some unsettled.is.host of.host (sym unsettled.is.host_at ∙ ap (λ n. slice_get world.hosts n)
+            (sym here) ∙ of.host_at) in
             same_Up unsettled.is.now of.before (sym unsettled.is.up ∙ ap (λ (h : Host D). h.state) same_host ∙ of.up)
 
         awaits_there : Awaits honest words of.before.records changes unsettled.pending row
-        awaits_there = subst (λ (n : NodeState D). Awaits honest words n.records changes unsettled.pending row) same_before
+        awaits_there = subst (λ (n : NodeState D). Awaits honest words n.records changes unsettled.pending row)
+            same_before
             unsettled.awaits
 
         list_there_is : slice_get unsettled.later of.end.node ≡ Some (changes ++ unsettled.pending)
         list_there_is = ap (λ n. slice_get unsettled.later n) here ∙ unsettled.list_at
 
         -- it has another state, and the others are what they were
-        put_there : (host : Host D) → IsPut world.hosts next.hosts of.end.node host → slice_get next.hosts node ≡ Some host
+        put_there : (host : Host D) → IsPut world.hosts next.hosts of.end.node host
+            → slice_get next.hosts node ≡ Some host
         put_there host put = ap (λ n. slice_get next.hosts n) (sym here) ∙ put.at
 
         others_there : (host : Host D) → IsPut world.hosts next.hosts of.end.node host → (other : ℕ) → other ≢ node
@@ -252,7 +258,8 @@ module _ {D : Type 0} (honest : Type 0) (words : DiskWords D) where
 
           awaits_more : Awaits honest words heard.after.records changes more left
           awaits_more = subst
-              (λ l. Awaits honest words heard.after.records changes (unsettled.pending ++ l) left) queues.more_is behind.awaits
+              (λ l. Awaits honest words heard.after.records changes (unsettled.pending ++ l) left) queues.more_is
+              behind.awaits
 
           next_note : NotesNext (fold step (queue_of changes) unsettled.pending) (change.Accept accept)
               (encode (change.Accept accept)) noted.used noted
@@ -268,7 +275,8 @@ module _ {D : Type 0} (honest : Type 0) (words : DiskWords D) where
           grown_is = ap (λ l. l ++ change.Accept accept ∷ []) list_is
               ∙ append_assoc changes unsettled.pending (change.Accept accept ∷ [])
 
-          abbrev takes : TakesMail ⊥ words world unsettled.later piece.number unsettled.bound of next piece.count heard.after
+          abbrev takes : TakesMail ⊥ words world unsettled.later piece.number unsettled.bound of next piece.count
+              heard.after
               heard.received talk number noted
           takes = record {
             number_is = queues.number_is ∙ sym count_is;
@@ -292,7 +300,8 @@ module _ {D : Type 0} (honest : Type 0) (words : DiskWords D) where
               → Unsettled next left
           unsettled_more put line = record {
             later = with_at unsettled.later of.end.node (list ++ change.Accept accept ∷ []);
-            bound = heard_accept ⊥ words world unsettled.later piece.number unsettled.bound of next piece.count heard.after
+            bound = heard_accept ⊥ words world unsettled.later piece.number unsettled.bound of next piece.count
+                heard.after
                 heard.received talk number noted takes put line;
             pending = more;
             is = record {
@@ -319,12 +328,14 @@ module _ {D : Type 0} (honest : Type 0) (words : DiskWords D) where
 
         -- by what was accepted
         unsettled_by : (made : Option ℕ)
-            → MakesInto of.before.config changes unsettled.pending of.end.peer at said received.later received.talks.refused
+            → MakesInto of.before.config changes unsettled.pending of.end.peer at said received.later
+            received.talks.refused
             heard.received.used of.before.records row heard.after.records left behind.more made
             → AcceptsInto honest words world next piece.number of heard.after row left made → Unsettled next left
         unsettled_by None makes accepts = record {
           later = unsettled.later;
-          bound = heard_nothing ⊥ words world unsettled.later piece.number unsettled.bound of next piece.count heard.after
+          bound = heard_nothing ⊥ words world unsettled.later piece.number unsettled.bound of next piece.count
+              heard.after
               heard.received talk received.talks.refused makes.0 makes.1 accepts.0 accepts.1;
           pending = unsettled.pending;
           is = record {
@@ -334,7 +345,8 @@ module _ {D : Type 0} (honest : Type 0) (words : DiskWords D) where
             up = refl;
           };
           list_at = unsettled.list_at;
-          awaits = subst (λ (r : Row). Awaits honest words heard.after.records changes unsettled.pending r) (sym makes.2)
+          awaits = subst (λ (r : Row). Awaits honest words heard.after.records changes unsettled.pending r)
+              (sym makes.2)
               (subst (λ (k : Kept D). Awaits honest words k changes unsettled.pending row) (sym makes.1)
               (awaits_there piece.number of heard.its_node));
           others = others_there piece.number of heard.its_node (record of.host { state = Up heard.after }) accepts.0;
@@ -349,7 +361,8 @@ module _ {D : Type 0} (honest : Type 0) (words : DiskWords D) where
     pub unsettled_each : (pieces : List Piece) (at : ℕ) (world heard : World D) (row left : Row) → Unsettled world row
         → HasHeardEach honest words at world heard node pieces row left → Unsettled heard left
     unsettled_each [] at world heard row left unsettled each =
-        subst (λ (r : Row). Unsettled heard r) (sym each.1) (subst (λ (w : World D). Unsettled w row) (sym each.0) unsettled)
+        subst (λ (r : Row). Unsettled heard r) (sym each.1) (subst (λ (w : World D). Unsettled w row)
+        (sym each.0) unsettled)
     unsettled_each (piece ∷ pieces) at world heard row left unsettled (next, more, first, others) =
         unsettled_each pieces at next heard more left
         (elim first [
@@ -358,7 +371,8 @@ module _ {D : Type 0} (honest : Type 0) (words : DiskWords D) where
         ]) others
 
     -- where the node keeps all of its changes on its disks, as the others do
-    pub settled_keeps : (world new : World D) (row : Row) (unsettled : Unsettled world row) → IsBound honest words old lists
+    pub settled_keeps : (world new : World D) (row : Row) (unsettled : Unsettled world row)
+        → IsBound honest words old lists
         → IsBound ⊥ words new unsettled.later → (host : Host D) (after : NodeState D)
         → IsPut world.hosts new.hosts node (record host { state = Up after })
         → Keeps honest words after.records (changes ++ unsettled.pending) → IsBound honest words new unsettled.later
@@ -377,7 +391,11 @@ module _ {D : Type 0} (honest : Type 0) (words : DiskWords D) where
               record {
                 list = kept.list;
                 holds = subst (λ (s : HostState D). StateKeeps honest words h.config s cs) (sym up)
-                    (record { config_is = its_node.config_is; keeps = subst (λ l. Keeps honest words after.records l) same_list keeps });
+                    (record {
+                      config_is = its_node.config_is;
+                      keeps = subst
+                          (λ l. Keeps honest words after.records l) same_list keeps;
+                    });
                 reports = kept.reports;
               }
           | inr off ↦ bound.hosts n h cs (record {
@@ -387,7 +405,8 @@ module _ {D : Type 0} (honest : Type 0) (words : DiskWords D) where
         ])
 
   -- a node that was up has heard links one behind another
-  module _ (old : World D) (lists : List (List Change)) (node : ℕ) (bound : IsBound honest words old lists) (before : IsUp old node)
+  module _ (old : World D) (lists : List (List Change)) (node : ℕ) (bound : IsBound honest words old lists)
+      (before : IsUp old node)
       (at : ℕ) (pieces : List Piece) (heard : World D) (row : Row)
       (each : HasHeardEach honest words at old heard node pieces no_row row) (staged : IsUp heard node) where
     pub first : (list : List Change) × (slice_get lists node ≡ Some list)
@@ -418,7 +437,8 @@ module _ {D : Type 0} (honest : Type 0) (words : DiskWords D) where
     unsettled = last old lists node bound heard.before old.clock pieces heard.heard heard.row heard.each heard.staged
 
     awaits : Awaits honest words heard.staged.now.records changes unsettled.pending heard.row
-    awaits = last_awaits old lists node bound heard.before old.clock pieces heard.heard heard.row heard.each heard.staged
+    awaits = last_awaits old lists node bound heard.before old.clock pieces heard.heard heard.row heard.each
+        heard.staged
 
     settled : Settles honest words heard.after.records changes unsettled.pending heard.row.notes
     settled = heard.settles changes unsettled.pending awaits
@@ -449,7 +469,8 @@ module _ {D : Type 0} (honest : Type 0) (words : DiskWords D) where
     hearing_all = (
       unsettled.later,
       settled_keeps old lists node changes heard.heard new heard.row unsettled bound
-          (staying_up_keeps ⊥ words heard.heard new unsettled.later node unsettled.bound stays) heard.staged.host heard.after
+          (staying_up_keeps ⊥ words heard.heard new unsettled.later node unsettled.bound stays) heard.staged.host
+          heard.after
           heard.hosts settled.keeps,
     )
 

@@ -30,7 +30,8 @@ module _ {D : Type 0} (honest : Type 0) (words : DiskWords D) where
   next_of records changes keeps = ap (λ (q : Queue). q.next) keeps.queue ∙ next_is_one_more changes
 
   -- a node that is opened with the changes that are its list keeps a world bound
-  opened_again : (world new : World D) (lists : List (List Change)) (node : ℕ) (is : IsUp world node) (changes : List Change)
+  opened_again : (world new : World D) (lists : List (List Change)) (node : ℕ) (is : IsUp world node)
+      (changes : List Change)
       (after : NodeState D) → IsBound honest words world lists → slice_get lists node ≡ Some changes
       → Keeps honest words after.records changes → (again : IsOpenedAgain world new node is.host after)
       → IsBound honest words (record (let_go node world) { hosts = again.hosts }) lists
@@ -46,25 +47,30 @@ module _ {D : Type 0} (honest : Type 0) (words : DiskWords D)
     (lists : List (List Change)) (node : ℕ) (pieces : List Piece) (bound : IsBound honest words old lists)
     (opens : HasReopenedBehindGroup honest words old new node pieces) where
   abbrev changes : List Change
-  changes = (first honest words old lists node bound opens.before opens.at pieces opens.heard opens.row opens.each opens.staged).0
+  changes = (first honest words old lists node bound opens.before opens.at pieces opens.heard opens.row opens.each
+      opens.staged).0
 
   abbrev unsettled : Unsettled honest words old lists node changes opens.heard opens.row
-  unsettled = last honest words old lists node bound opens.before opens.at pieces opens.heard opens.row opens.each opens.staged
+  unsettled = last honest words old lists node bound opens.before opens.at pieces opens.heard opens.row opens.each
+      opens.staged
 
   abbrev pending : List Change
   pending = unsettled.pending
 
   cuts : CutsAll honest words opens.stopped changes pending opens.row.notes
   cuts = opens.cuts changes pending
-      (last_awaits honest words old lists node bound opens.before opens.at pieces opens.heard opens.row opens.each opens.staged)
+      (last_awaits honest words old lists node bound opens.before opens.at pieces opens.heard opens.row opens.each
+      opens.staged)
 
   either : Keeps honest words opens.after.records changes ⊎ Keeps honest words opens.after.records (changes ++ pending)
-  either = halted_all_is_opened honest words sees_now h opens.stopped opens.after.records changes pending opens.disk cuts.halted
+  either = halted_all_is_opened honest words sees_now h opens.stopped opens.after.records changes pending opens.disk
+      cuts.halted
       (opens.left h) opens.opens
 
   before_next : opens.before.now.records.queue.next ≡ length changes + 1
   before_next = next_of honest words opens.before.now.records changes
-      (first_kept honest words old lists node bound opens.before opens.at pieces opens.heard opens.row opens.each opens.staged).keeps
+      (first_kept honest words old lists node bound opens.before opens.at pieces opens.heard opens.row opens.each
+      opens.staged).keeps
 
   -- it has the changes from before
   opens_before : opens.after.records.queue.next ≡ opens.before.now.records.queue.next
@@ -95,7 +101,8 @@ module _ {D : Type 0} (honest : Type 0) (words : DiskWords D)
   reopened : (later : List (List Change)) × IsBound honest words new later
   reopened = elim opens.decides [
     | inl none ↦
-        let there = (first honest words old lists node bound opens.before opens.at pieces opens.heard opens.row opens.each
+        let there = (first honest words old lists node bound opens.before opens.at pieces opens.heard opens.row
+        opens.each
         opens.staged).1 in (
           lists,
           subst (λ w. IsBound honest words w lists) (sym none.1.new_is)

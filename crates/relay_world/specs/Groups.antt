@@ -33,8 +33,10 @@ pub record IsUp {D : Type 0} (world : World D) (node : ℕ) : Type 0 where
   pub now : NodeState D
   pub up : host.state ≡ Up now
 
--- The node of a world is opened again and is this now: its sessions are gone, its attempts dropped, and its links broken.
-pub record IsOpenedAgain {D : Type 0} (world new : World D) (node : ℕ) (host : Host D) (after : NodeState D) : Type 0 where
+-- The node of a world is opened again and is this now: its sessions are gone, its attempts dropped, and its links
+-- broken.
+pub record IsOpenedAgain {D : Type 0} (world new : World D) (node : ℕ) (host : Host D) (after : NodeState D)
+    : Type 0 where
   pub hosts : List (Host D)
   pub put : IsPut world.hosts hosts node (record host { state = Up after })
   pub as_many : length hosts ≡ length world.hosts
@@ -49,12 +51,13 @@ module _ {D : Type 0} (honest : Type 0) (words : DiskWords D) where
   -- the note stands behind those of the row
   abbrev pub IsNotedBehind : Kept D → Row → Row → Noted → Type 0
   IsNotedBehind old row left note =
-      (changes pending : List Change) → Awaits honest words old changes pending row → left.notes ≡ row.notes ++ note ∷ []
+      (changes pending : List Change) → Awaits honest words old changes pending row
+      → left.notes ≡ row.notes ++ note ∷ []
 
   -- What a node that heard octets has accepted: nothing; or mail of this number, whose record is in the row, and in its
   -- spool not yet.
-  abbrev pub AcceptsInto : (old new : World D) → (number : ℕ) → SessionOf old number → NodeState D → Row → Row → Option ℕ
-      → Type 0
+  abbrev pub AcceptsInto
+      : (old new : World D) → (number : ℕ) → SessionOf old number → NodeState D → Row → Row → Option ℕ → Type 0
   AcceptsInto old new number of after row left None =
       IsPut old.hosts new.hosts of.end.node (record of.host { state = Up after }) × (new.ledger ≡ old.ledger)
   AcceptsInto old new number of after row left (Some change) =

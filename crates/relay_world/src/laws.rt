@@ -124,8 +124,8 @@ pub fn reopening_keeps<D: Disk>()
     ensures { D.honest → ReopeningKeeps D.honest D.words }
 {}
 
-/// A node that stopped while the records of several accepts were brought into its spool together, and is opened again on
-/// honest disks, keeps a world bound: without all of them, or with all.
+/// A node that stopped while the records of several accepts were brought into its spool together, and is opened
+/// again on honest disks, keeps a world bound: without all of them, or with all.
 pub fn reopening_behind_group_keeps<D: Disk>()
     ensures { D.honest → ReopeningBehindGroupKeeps D.honest D.words }
 {}
