@@ -7,7 +7,7 @@ use Rattle.std.proofs.lemmas.List.{append-nil, map-append}
 use Rattle.std.proofs.lemmas.Option.{none-some, same_Some}
 use Rattle.relay_octets.specs.Beginning.{Begins}
 use Rattle.relay_disk.specs.Device.{DiskWords}
-use Rattle.relay_slots.specs.Slots.{slot_at}
+use Rattle.relay_slots.specs.Slots.{OthersStay, slot_at}
 use Rattle.relay_server.specs.declared.offer.Answer.TheVariants.{Queued}
 use Rattle.relay_server.specs.Dialogue.{IsDialogue, Offered, Said}
 use Rattle.relay_server.specs.DialogueLaws.{AreNumbered}
@@ -37,7 +37,7 @@ use Rattle.relay_world.specs.declared.link.Link.{Link}
 use Rattle.relay_world.specs.declared.link.ServerEnd.{ServerEnd}
 use Rattle.relay_world.specs.Bound.{HasSession, HostKeeps, IsBound, IsServed, IsStored, IsStoredAs, IsTried, NodeKeeps, ReadsWithin, SaysThere, ServesLink, StandsAt, link_of}
 use Rattle.relay_world.specs.Ledger.{Accepts, accepts_on, steps_in, steps_of}
-use Rattle.relay_world.specs.Steps.{RecordsHeard, SessionOf, HasHeard, HearingKeeps, IsPut, heard_link, session_after, unless_broken, waiting_up, without_note}
+use Rattle.relay_world.specs.Steps.{RecordsHeard, SessionOf, HasHeard, HearingKeeps, IsPut, IsPutAt, heard_link, session_after, unless_broken, waiting_up, without_note}
 use Rattle.relay_world.specs.World.{Host, Up, World, link_at}
 use Rattle.relay_world.proofs.FrameLemmas.{TellsOn, accepts_on_more, changes_stay, get_last, steps_in_more, steps_more, stored_on}
 use Rattle.relay_world.proofs.MoveLemmas.{link_cases, client_was, links_kept, Joins, Moves, Settled, moved_keeps, same_attempts, same_slots, still_tried}

@@ -1,5 +1,5 @@
 -- A node that stopped while a group of accepts was brought into its spool, and is opened again, keeps a world bound.
-use Rattle.std.proofs.Common.{inl, inr, ⊥, ◌≡◌, ◌⊎◌, ◌+◌, ℕ, List, [], ◌∷◌, ◌++◌, length, Some, refl, sym, subst, ap, ◌∙◌, arith}
+use Rattle.std.proofs.Common.{inl, inr, ◌≡◌, ◌⊎◌, ◌+◌, ℕ, List, [], ◌∷◌, ◌++◌, length, Some, refl, sym, subst, ap, ◌∙◌, arith}
 use Rattle.std.specs.Prelude.{slice_get}
 use Rattle.std.proofs.lemmas.List.{append-nil, length-append}
 use Rattle.relay_disk.specs.Device.{DiskWords}
