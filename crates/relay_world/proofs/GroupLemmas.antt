@@ -138,7 +138,7 @@ module _ {D : Type 0} (honest : Type 0) (words : DiskWords D) where
       pub other_lists : (other : ℕ) → other ≢ node → slice_get later other ≡ slice_get lists other
 
     -- so it is at first
-    pub unsettled_first : IsBound honest words old lists → (is : IsUp old node) → slice_get lists node ≡ Some changes
+    abbrev pub unsettled_first : IsBound honest words old lists → (is : IsUp old node) → slice_get lists node ≡ Some changes
         → Keeps honest words is.now.records changes → Unsettled old no_row
     unsettled_first bound is list_at keeps = record {
       later = lists;
@@ -180,7 +180,7 @@ module _ {D : Type 0} (honest : Type 0) (words : DiskWords D) where
         others_there host put other off = put.others other (λ same. off (same ∙ here)) ∙ unsettled.others other off
 
       -- a session there is gone
-      unsettled_ended : (number : ℕ) (ends : EndsSession world next number) → ends.of.end.node ≡ node → left ≡ row
+      pub unsettled_ended : (number : ℕ) (ends : EndsSession world next number) → ends.of.end.node ≡ node → left ≡ row
           → Unsettled next left
       unsettled_ended number ends here same = record {
         later = unsettled.later;
@@ -441,7 +441,7 @@ module _ {D : Type 0} (honest : Type 0) (words : DiskWords D) where
     settled : Settles honest words heard.after.records changes unsettled.pending heard.row.notes
     settled = heard.settles changes unsettled.pending awaits
 
-    stays : StaysUp ⊥ words heard.heard new node
+    pub stays : StaysUp ⊥ words heard.heard new node
     stays = record {
       host = heard.staged.host;
       host_at = heard.staged.host_at;
