@@ -63,4 +63,5 @@ mod CrashRunLemmas
 mod CrashRestLemmas
 mod GroupLemmas
 mod ReopenGroupLemmas
+mod GroupOnceLemmas
 pub mod Theorems
