@@ -2,5 +2,7 @@ mod OutboxLemmas
 mod AcceptedLemmas
 mod ClientLemmas
 mod HopLemmas
+mod GroupLemmas
+mod EachLemmas
 mod LawLemmas
 pub mod Theorems
