@@ -15,6 +15,7 @@ use Rattle.relay_server.specs.Dialogue.{Takes, Turn, answers_in, read_by, answer
 use Rattle.relay_server.specs.Reply.{reply_of}
 use Rattle.relay_routes.specs.declared.bare_newlines.BareNewlines.{BareNewlines}
 use Rattle.relay_server.specs.ReplyTable.{Replies, Offers, is_refused_by, unless_refused}
+use Rattle.relay_server.specs.Setup.{Setup}
 use Rattle.relay_server.specs.State.{State, Command, Greeted, Receiving, Spent}
 use Rattle.relay_book.specs.declared.change.Verdict.{Verdict}
 use Rattle.relay_book.specs.declared.change.Verdict.TheVariants.{Later, Taken}
