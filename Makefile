@@ -21,6 +21,8 @@ test:
 	tests/fault_lines.sh build/relayd
 	tests/two_relays.py build/relayd
 	TIMES=10 tests/run.py build/relayd
+	TIMES=10 tests/run_faults.py build/relayd
+	TIMES=10 tests/run_load.py build/relayd
 	tests/workers.py build/relayd
 	bench/crashes.py build/relayd 64
 	tests/compaction.py build/relayd
@@ -58,11 +60,13 @@ hostile: relayd
 bench: relayd relay_bench
 	bench/run.sh build/relayd build/relay_bench
 
-# Measures a relay over sockets beside bare syncs, and kills one at thirty moments while mail comes in.
+# Measures a relay over sockets beside bare syncs, kills one at thirty moments while mail comes in, and looks at what much
+# mail costs one that stays up.
 load: relayd
 	bench/load.py build/relayd
 	bench/crashes.py build/relayd
 	bench/crashes.py build/relayd 64
+	DUE=100000 THROUGH=200000 tests/run_load.py build/relayd
 
 # Counts the instructions of the same with callgrind, which valgrind brings.
 instructions: relayd relay_bench

@@ -9,16 +9,13 @@ environment (2 where it says nothing).
 """
 import contextlib
 import os
-import pathlib
 import random
 import re
 import resource
 import select
-import smtplib
 import socket
 import subprocess
 import sys
-import tempfile
 import threading
 import time
 
@@ -26,11 +23,15 @@ sys.dont_write_bytecode = True
 
 from mail_checks import CONTENT, CONTENTS, behind_mark, hand_in, one_message
 from relay_program import Difference, PATIENCE, free_port, same, until
-from running_relay import SOON, TEXT, TIMES, Client, Feeder, Field, beside, clients_of, greeted, hop_that_hangs
-from running_relay import comes_to_rest, no_later, number_of, resident, slowest, tokens_at
+from running_relay import SOON, TEXT, TIMES, Client, Feeder, beside, clients_of, greeted, hop_that_hangs
+from running_relay import comes_to_rest, no_later, number_of, play_rows, resident, slowest, tokens_at
 
 TOO_MANY = b"421 relay.example too many connections, closing\r\n"
 TIMEOUT = b"421 relay.example timeout, closing\r\n"
+ACCEPTED = re.compile(r"relayd: message 1 accepted from 127\.0\.0\.1:\d+ for 1 recipient, \d+ octets; "
+                      r"client\.example from <a@example\.org> to <b@example\.org>")
+SENT = re.compile(r"relayd: message 1 next\.example at 127\.0\.0\.1:\d+ ended \d+ s behind its acceptance, "
+                  r"place 0 transferred")
 MOMENT = re.compile(rb"\d{4}-\d\d-\d\dT\d\d:\d\d:\d\d(\.\d+)?Z [ -~]+")
 KILLS = 8
 
@@ -63,7 +64,28 @@ def its_log_says_when_and_quiet_says_nothing(field):
             until("an empty list", lambda: relay.held() == [])
         lines = relay.log.read_bytes().splitlines()
         same("lines without a moment", [line for line in lines if not MOMENT.fullmatch(line)], [])
-        same(f"run {words} has a log", len(lines) >= 2, words == [])
+        same(f"run {words} has a log", len(lines), 0 if words else 2)
+        if lines:
+            said = [line.split(b" ", 1)[1].decode() for line in lines]
+            same("the line of what was accepted", bool(ACCEPTED.fullmatch(said[0])), True)
+            same("the line of what was sent", bool(SENT.fullmatch(said[1])), True)
+
+
+def what_a_client_says_is_no_line_of_the_log(field):
+    """It stands at the end of one, in printable octets."""
+    relay = field.relay()
+    path = '"x; accepted relayd: message 9"@example.org'
+    with relay.running(), Client(relay) as client:
+        same("the greeting", client.reply()[:4], "220 ")
+        same("the reply to EHLO", client.say(b"EHLO [x~y]\r\n")[:4], "250 ")
+        same("the reply to MAIL", client.say(f"MAIL FROM:<{path}>\r\n".encode())[:4], "250 ")
+        same("the reply to RCPT", client.say(b"RCPT TO:<b@example.org>\r\n")[:4], "250 ")
+        same("the reply to RCPT", client.say(b"RCPT TO:<c@example.org>\r\n")[:4], "250 ")
+        same("the reply to DATA", client.say(b"DATA\r\n")[:4], "354 ")
+        number_of(client.say(TEXT))
+        field.arrived(1)
+    [line] = [line for line in relay.log.read_text().splitlines() if "accepted from" in line]
+    same("the line's end", line.split("; ", 1)[1], f"[x~y] from <{path}> to <b@example.org> <c@example.org>")
 
 
 def sixty_four_sessions_stand_side_by_side(field):
@@ -412,6 +434,7 @@ def a_closed_standard_error_stops_nothing(field):
 ROWS = [
     a_message_comes_in_and_goes_on,
     its_log_says_when_and_quiet_says_nothing,
+    what_a_client_says_is_no_line_of_the_log,
     sixty_four_sessions_stand_side_by_side,
     the_next_of_one_address_is_sent_away,
     the_65th_is_sent_away,
@@ -434,21 +457,4 @@ ROWS = [
 ]
 
 
-def main():
-    program, *names = sys.argv[1:]
-    rows = [row for row in ROWS if not names or row.__name__ in names]
-    for row in rows:
-        begun = time.monotonic()
-        with tempfile.TemporaryDirectory() as folder:
-            field = Field(os.path.realpath(program), pathlib.Path(folder))
-            try:
-                row(field)
-                field.close()
-            except (Difference, OSError, subprocess.SubprocessError, smtplib.SMTPException) as difference:
-                sys.exit(f"run: {row.__name__}: {type(difference).__name__}: {difference}")
-        if names:
-            print(f"run: {row.__name__}: {time.monotonic() - begun:.1f} s")
-    print(f"run: {len(rows)} rows, each as it has to be")
-
-
-main()
+play_rows("run", ROWS)

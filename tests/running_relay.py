@@ -5,6 +5,9 @@ import pathlib
 import re
 import smtplib
 import socket
+import subprocess
+import sys
+import tempfile
 import threading
 import time
 
@@ -203,3 +206,22 @@ class Feeder(threading.Thread):
 
 def tokens_at(sink):
     return {int(re.search(rb"\r\nSubject: (\d+)\r\n", message.content)[1]) for message in list(sink.messages)}
+
+
+def play_rows(name, rows):
+    """Plays the rows that the command line names behind the program, or all, each in a folder of its own. It ends at the
+    first difference."""
+    program, *names = sys.argv[1:]
+    rows = [row for row in rows if not names or row.__name__ in names]
+    for row in rows:
+        begun = time.monotonic()
+        with tempfile.TemporaryDirectory() as folder:
+            field = Field(os.path.realpath(program), pathlib.Path(folder))
+            try:
+                row(field)
+                field.close()
+            except (Difference, OSError, subprocess.SubprocessError, smtplib.SMTPException) as difference:
+                sys.exit(f"{name}: {row.__name__}: {type(difference).__name__}: {difference}")
+        if names:
+            print(f"{name}: {row.__name__}: {time.monotonic() - begun:.1f} s")
+    print(f"{name}: {len(rows)} rows, each as it has to be")

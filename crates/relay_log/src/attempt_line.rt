@@ -5,6 +5,7 @@ use relay_book::{Change, PlaceStep, Ruling, Verdict, decode_change};
 use relay_node::Noted;
 use std::alloc::Global;
 use std::io::{self, ErrorKind, Write};
+use std::net::SocketAddrV4;
 
 /// An attempt for a message that has ended, or what was done in place of one.
 #[derive(Debug, Drop)]
@@ -13,6 +14,10 @@ pub struct Attempt<'a> {
     pub number: u64,
     /// The next hop, where there is one.
     pub hop: Option<&'a [u8]>,
+    /// Where the next hop is, where that is to be told.
+    pub at: Option<SocketAddrV4>,
+    /// How many seconds ago the message was accepted, where that is to be told.
+    pub age: Option<u64>,
     /// How it has ended.
     pub end: &'a str,
     /// Why it has settled less than it might.
@@ -30,7 +35,13 @@ pub(crate) fn attempt_text(alloc: Global, attempt: &Attempt<'_>) -> io::Result<V
         text.write_all(hop)?;
         write!(text, " ")?;
     }
+    if let Some(at) = attempt.at {
+        write!(text, "at {at} ")?;
+    }
     write!(text, "{}", attempt.end)?;
+    if let Some(age) = attempt.age {
+        write!(text, " {age} s behind its acceptance")?;
+    }
     if let Some(loss) = attempt.why.loss {
         write!(text, ": {}", loss.text())?;
     }

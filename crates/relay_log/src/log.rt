@@ -2,10 +2,14 @@
 use crate::attempt_line::{Attempt, attempt_text};
 use crate::client_line::{Connection, client_text, unserved_text};
 use crate::line::printable;
-use crate::run_line::{accepted_text, cut_off_text, held_off_text, refused_text, spool_full_text};
+use crate::run_line::{
+    accepted_text, cut_off_text, device_failed_text, held_off_text, opened_again_text,
+    refused_text, spool_full_text,
+};
 use crate::stamp::write_stamp;
+use relay_book::Message;
 use relay_disk::Disk;
-use relay_node::{Node, Noted};
+use relay_node::Node;
 use relay_trace::Moment;
 use std::alloc::Global;
 use std::fmt::Display;
@@ -13,8 +17,9 @@ use std::io::{self, Write};
 use std::net::SocketAddrV4;
 
 /// Writes a line for each thing that was done, where it is asked to. A line that can't be made or
-/// written is left out, and the mail goes on. Lines hold nothing of a content and no words of a client;
-/// of a next hop they hold what it says of mail that it puts off, in printable octets.
+/// written is left out, and the mail goes on. Lines hold nothing of a content, and printable octets
+/// alone. What a client says of itself and of accepted mail stands at the end of a line, as does what a
+/// next hop says of mail that it puts off.
 #[derive(Drop)]
 pub struct Log<'a, E: Write> {
     alloc: Global,
@@ -80,10 +85,10 @@ impl<'a, E: Write> Log<'a, E> {
         }
     }
 
-    /// Says that mail of a client was accepted, as the node has noted it.
-    pub fn accepted(&mut self, peer: SocketAddrV4, noted: &Noted) {
+    /// Says that mail of a client was accepted as this message.
+    pub fn accepted(&mut self, peer: SocketAddrV4, message: &Message) {
         if self.speaks {
-            self.say(accepted_text(self.alloc, peer, noted));
+            self.say(accepted_text(self.alloc, peer, message));
         }
     }
 
@@ -112,6 +117,20 @@ impl<'a, E: Write> Log<'a, E> {
     pub fn spool_full(&mut self) {
         if self.speaks {
             self.say(spool_full_text(self.alloc));
+        }
+    }
+
+    /// Says that the device has failed, and for how many seconds its spool is left alone.
+    pub fn device_failed(&mut self, seconds: u64) {
+        if self.speaks {
+            self.say(device_failed_text(self.alloc, seconds));
+        }
+    }
+
+    /// Says that the spool is open again behind a failure of its device.
+    pub fn opened_again(&mut self) {
+        if self.speaks {
+            self.say(opened_again_text(self.alloc));
         }
     }
 

@@ -1,2 +1,4 @@
 pub mod Sessions
 pub mod Lanes
+pub mod Reopening
+pub mod Spares

@@ -28,6 +28,8 @@ const SPOOL_FULL: &[u8] = b"452 spool full";
 pub(crate) struct Client {
     pub(crate) channel: Channel,
     pub(crate) peer: SocketAddrV4,
+    /// Octets were read at this turn that its session hasn't heard yet.
+    pub(crate) hears: bool,
     /// How many octets were read since the last answer.
     unanswered: usize,
     /// The tick at which it is cut off. It is set anew by the first octet behind an answer, by each 65,536 octets that
@@ -44,6 +46,7 @@ impl Drop for Client {
         let Client {
             channel: _channel,
             peer: _,
+            hears: _,
             unanswered: _,
             idle_deadline: _,
             session_deadline: _,
@@ -65,8 +68,6 @@ pub(crate) enum Next {
 /// What clients have led to at a turn.
 #[derive(Clone, Copy, Debug)]
 pub(crate) struct Intake {
-    /// Mail was accepted.
-    pub(crate) accepted: bool,
     /// Mail was refused since the spool is full.
     pub(crate) was_full: bool,
     /// A connection was closed.
@@ -79,6 +80,7 @@ impl Client {
         Client {
             channel,
             peer,
+            hears: false,
             unanswered: 0,
             idle_deadline: now.behind(timeout),
             session_deadline: now.behind(SESSION_SECONDS),
@@ -90,6 +92,7 @@ impl Client {
         let Client {
             channel,
             peer: _,
+            hears: _,
             unanswered: _,
             idle_deadline: _,
             session_deadline: _,
@@ -120,33 +123,31 @@ impl Client {
         }
     }
 
-    /// Does one thing more: writes what waits, or else uses what was read, up to the end of a block or to mail that is
-    /// accepted.
-    pub(crate) fn attend(
+    /// Writes what waits, and reads a block where nothing waits any more and all of the last one is used. It tells what
+    /// becomes of the connection, unless there are octets for its session to hear.
+    pub(crate) fn read(
         &mut self,
         relay: &mut Relay<FileDisk>,
         session: usize,
         timeout: u64,
         now: &Now,
-        intake: &mut Intake,
-        log: &mut Log<'_, Vec<u8>>,
-    ) -> Result<Next, Fault> {
+    ) -> Result<Option<Next>, Fault> {
         self.flush(relay, session, timeout, now);
         if self.channel.end() == Some(End::Broken) {
-            return drop_session(relay, session);
+            return Ok(Some(drop_session(relay, session)?));
         }
         if !relay.to_client(session).is_empty() {
-            return Ok(Next::Stays);
+            return Ok(Some(Next::Stays));
         }
         if self.channel.fill() {
             self.note_read(timeout, now);
         }
         if !self.channel.piece().is_empty() {
-            return self.hear(relay, session, timeout, now, intake, log);
+            return Ok(None);
         }
         match self.channel.end() {
-            Some(_) => end_session(relay, session),
-            None => Ok(Next::Stays),
+            Some(_) => Ok(Some(end_session(relay, session)?)),
+            None => Ok(Some(Next::Stays)),
         }
     }
 
@@ -162,33 +163,33 @@ impl Client {
         }
     }
 
-    /// Hands what was read to its session, and writes the answer at once as far as that goes.
-    fn hear(
+    /// Takes what its session has said to the octets that were read, and writes that at once as far as that goes.
+    pub(crate) fn answer(
         &mut self,
         relay: &mut Relay<FileDisk>,
         session: usize,
+        heard: Result<Heard, NodeFault>,
         timeout: u64,
         now: &Now,
         intake: &mut Intake,
         log: &mut Log<'_, Vec<u8>>,
     ) -> Result<Next, Fault> {
-        let heard = match relay.read(session, self.channel.piece(), now.moment) {
+        let Heard { used, change, last } = match heard {
             Ok(heard) => heard,
             Err(NodeFault::Stopped) => return Err(Fault::Device),
             // The session is gone: there is no memory, or no number, for its mail.
             Err(_) => return Ok(Next::Gone),
         };
-        let Heard { used, change, last } = heard;
         self.channel.used(used);
         if !relay.to_client(session).is_empty() {
             self.unanswered = self.channel.piece().len();
         }
-        if change.is_some() {
-            intake.accepted = true;
-            self.session_deadline = now.behind(SESSION_SECONDS);
-            tell_accepted(relay, self.peer, log);
-        } else if tells_full(relay.to_client(session)) {
-            intake.was_full = true;
+        match change {
+            Some(number) => {
+                self.session_deadline = now.behind(SESSION_SECONDS);
+                tell_accepted(relay, self.peer, number, log);
+            }
+            None => intake.was_full = intake.was_full || tells_full(relay.to_client(session)),
         }
         match last {
             Some(outbox) => Ok(Next::Leaves(outbox)),
@@ -200,13 +201,15 @@ impl Client {
     }
 }
 
-/// Tells of the mail that was accepted last.
-fn tell_accepted(relay: &mut Relay<FileDisk>, peer: SocketAddrV4, log: &mut Log<'_, Vec<u8>>) {
-    if !log.speaks() {
-        return;
-    }
-    if let Some(noted) = relay.take_noted() {
-        log.accepted(peer, &noted);
+/// Tells of the mail that was accepted as the message of a number.
+fn tell_accepted(
+    relay: &Relay<FileDisk>,
+    peer: SocketAddrV4,
+    number: u64,
+    log: &mut Log<'_, Vec<u8>>,
+) {
+    if let Some(message) = relay.node().message(number) {
+        log.accepted(peer, message);
     }
 }
 

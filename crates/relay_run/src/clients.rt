@@ -102,7 +102,15 @@ impl Clients {
         }
     }
 
-    /// Serves each of them once, each time beginning with another.
+    /// Closes all connections.
+    pub(crate) fn clear(&mut self) {
+        for number in 0..SLOT_COUNT {
+            let _client = self.clients.take(number);
+        }
+    }
+
+    /// Serves each of them once, each time beginning with another: first a block is read of each that has nothing to be
+    /// written, and then their sessions hear what was read.
     pub(crate) fn serve(
         &mut self,
         registry: &Registry,
@@ -112,21 +120,28 @@ impl Clients {
         log: &mut Log<'_, Vec<u8>>,
     ) -> Result<Intake, Fault> {
         let mut intake = Intake {
-            accepted: false,
             was_full: false,
             closed: false,
         };
-        for number in self.first..SLOT_COUNT {
-            self.serve_one(number, registry, relay, leaving, now, &mut intake, log)?;
+        for step in 0..SLOT_COUNT {
+            let number = self.nth(step);
+            self.read_one(number, registry, relay, leaving, now, &mut intake, log)?;
         }
-        for number in 0..self.first.min(SLOT_COUNT) {
-            self.serve_one(number, registry, relay, leaving, now, &mut intake, log)?;
+        for step in 0..SLOT_COUNT {
+            let number = self.nth(step);
+            self.hear_one(number, registry, relay, leaving, now, &mut intake, log)?;
         }
-        self.first = self.first.saturating_add(1) % SLOT_COUNT;
+        self.first = self.nth(1);
         Ok(intake)
     }
 
-    fn serve_one(
+    /// The number that is served so many places behind the first.
+    fn nth(&self, step: usize) -> usize {
+        self.first.saturating_add(step) % SLOT_COUNT
+    }
+
+    /// Reads of the client of a number, where there is one, and notes whether its session has something to hear.
+    fn read_one(
         &mut self,
         number: usize,
         registry: &Registry,
@@ -143,32 +158,75 @@ impl Clients {
             return Ok(());
         };
         let mut client = taken;
-        match self.next(&mut client, number, relay, now, intake, log)? {
+        let next = client.read(relay, number, self.timeout, now)?;
+        client.hears = next.is_none();
+        match next {
+            Some(next) => self.settle(
+                number, client, next, registry, relay, leaving, now, intake, log,
+            ),
+            None => {
+                put_back(&mut self.clients, number, client);
+                Ok(())
+            }
+        }
+    }
+
+    /// Lets the session of a number hear what was read, where something was.
+    fn hear_one(
+        &mut self,
+        number: usize,
+        registry: &Registry,
+        relay: &mut Relay<FileDisk>,
+        leaving: &mut Leaving,
+        now: &Now,
+        intake: &mut Intake,
+        log: &mut Log<'_, Vec<u8>>,
+    ) -> Result<(), Fault> {
+        let heard = match self.clients.as_slice().get(number) {
+            Some(Some(client)) if client.hears => relay.read(
+                number,
+                client.channel.piece(),
+                now.moment,
+            ),
+            _ => return Ok(()),
+        };
+        let Some(taken) = self.clients.take(number) else {
+            return Ok(());
+        };
+        let mut client = taken;
+        client.hears = false;
+        let next = client.answer(relay, number, heard, self.timeout, now, intake, log)?;
+        self.settle(
+            number, client, next, registry, relay, leaving, now, intake, log,
+        )
+    }
+
+    /// Puts a client where it belongs behind a turn. One that is late is cut off.
+    fn settle(
+        &mut self,
+        number: usize,
+        client: Client,
+        next: Next,
+        registry: &Registry,
+        relay: &mut Relay<FileDisk>,
+        leaving: &mut Leaving,
+        now: &Now,
+        intake: &mut Intake,
+        log: &mut Log<'_, Vec<u8>>,
+    ) -> Result<(), Fault> {
+        let next = match next {
+            Next::Stays if client.deadline() <= now.tick => {
+                log.cut_off(client.peer);
+                cut_off(self.alloc, relay, number)?
+            }
+            next => next,
+        };
+        match next {
             Next::Stays => put_back(&mut self.clients, number, client),
             Next::Leaves(outbox) => leaving.take(registry, client.into_channel(), outbox, now),
             Next::Gone => intake.closed = true,
         }
         Ok(())
-    }
-
-    /// What becomes of a client at this turn.
-    fn next(
-        &self,
-        client: &mut Client,
-        session: usize,
-        relay: &mut Relay<FileDisk>,
-        now: &Now,
-        intake: &mut Intake,
-        log: &mut Log<'_, Vec<u8>>,
-    ) -> Result<Next, Fault> {
-        let next = client.attend(relay, session, self.timeout, now, intake, log)?;
-        match next {
-            Next::Stays if client.deadline() <= now.tick => {
-                log.cut_off(client.peer);
-                cut_off(self.alloc, relay, session)
-            }
-            next => Ok(next),
-        }
     }
 
     /// Whether one is left with something to be done at once.

@@ -1,4 +1,6 @@
 //! What the clocks show at a turn.
+ghost use Rattle.std.specs.Prelude.{◌≡◌, ◌+◌, ◌-◌, ◌*◌, ◌^◌, min};
+
 use relay_log::clock_moment;
 use relay_trace::Moment;
 use std::rt::Clock;
@@ -23,8 +25,17 @@ impl Now {
     }
 
     /// The tick that is so many seconds from now.
-    pub(crate) fn behind(&self, seconds: u64) -> u64 {
+    pub(crate) fn behind(&self, seconds: u64) -> u64
+        ensures { result ≡ min (self.now.tick + seconds * 1000) (2 ^ 64 - 1) }
+    {
         self.tick.saturating_add(seconds.saturating_mul(1_000))
+    }
+
+    /// The tick at which the wall clock shows a moment, unless it is set.
+    pub(crate) fn tick_at(&self, moment: Moment) -> u64
+        ensures { result ≡ min (self.now.tick + (moment - self.now.moment) * 1000) (2 ^ 64 - 1) }
+    {
+        self.behind(moment.seconds().saturating_sub(self.moment.seconds()))
     }
 }
 

@@ -1,6 +1,7 @@
 //! The listener, and the clients that come by it.
 use crate::clients::Clients;
 use crate::clocks::Now;
+use crate::spares::Spares;
 use mio::net::{TcpListener, TcpStream};
 use mio::{Interest, Registry, Token};
 use relay_disk::FileDisk;
@@ -79,6 +80,11 @@ impl Door {
         self.is_ready = true;
     }
 
+    /// No client is taken for a moment, or until a connection is closed.
+    fn pause(&mut self, now: &Now) {
+        self.paused_until = now.tick.saturating_add(WANT_PAUSE);
+    }
+
     /// A connection was closed: there may be a descriptor for a client that couldn't be had.
     pub(crate) fn resume(&mut self) {
         self.paused_until = 0;
@@ -98,17 +104,23 @@ impl Door {
         }
     }
 
-    /// Takes the clients that are waiting. One for which there is no room is told so and closed.
+    /// Takes the clients that are waiting, while the descriptors are kept that are for attempts. One for which there is
+    /// no room is told so and closed.
     pub(crate) fn admit(
         &mut self,
         registry: &Registry,
         relay: &mut Relay<FileDisk>,
         clients: &mut Clients,
+        spares: &mut Spares,
         now: &Now,
         log: &mut Log<'_, Vec<u8>>,
     ) -> Result<(), Fault> {
         for _ in 0..MOST_AT_ONCE {
             if !self.is_ready(now) {
+                return Ok(());
+            }
+            if !spares.fill() {
+                self.pause(now);
                 return Ok(());
             }
             match accept(&self.listener) {
@@ -122,7 +134,7 @@ impl Door {
                 }
                 Found::Missed => {}
                 Found::Nobody => self.is_ready = false,
-                Found::Want => self.paused_until = now.tick.saturating_add(WANT_PAUSE),
+                Found::Want => self.pause(now),
             }
         }
         Ok(())

@@ -1,7 +1,7 @@
 //! What is left to be done where the connection to a next hop has ended.
 use crate::channel::Channel;
 use crate::clocks::Now;
-use crate::hop::{Course, Errand};
+use crate::hop::{Aim, Course, Errand};
 use crate::lanes::Lanes;
 use crate::leaving::Leaving;
 use mio::Registry;
@@ -24,18 +24,18 @@ pub(crate) fn conclude(
     log: &mut Log<'_, Vec<u8>>,
 ) -> Result<(), Fault> {
     let (channel, errand) = ended;
-    lanes.ended(errand.lane);
+    lanes.ended(errand.aim.lane);
     match course {
         Course::Stays => Ok(()),
         Course::Ended(outbox) => {
             let noted = relay.take_noted();
-            tell(errand, "ended", None, noted, log);
+            tell(errand, "ended", None, noted, now, log);
             leaving.take(registry, channel, outbox, now);
             Ok(())
         }
         Course::Lost(loss) => lose(relay, lanes, errand, loss, now, log),
         Course::Void => {
-            tell(errand, "without an outcome", None, None, log);
+            tell(errand, "without an outcome", None, None, now, log);
             Ok(())
         }
     }
@@ -51,16 +51,16 @@ pub(crate) fn lose(
     now: &Now,
     log: &mut Log<'_, Vec<u8>>,
 ) -> Result<(), Fault> {
-    if errand.attempt.is_none() && lanes.is_held(errand.lane, now) {
+    if errand.attempt.is_none() && lanes.is_held(errand.aim.lane, now) {
         return Ok(());
     }
-    let lane = errand.lane;
+    let lane = errand.aim.lane;
     let has_spoken = errand.has_spoken;
     if record_loss(relay, &errand, now)? {
         let noted = relay.take_noted();
-        tell(errand, "lost", Some(loss), noted, log);
+        tell(errand, "lost", Some(loss), noted, now, log);
     } else {
-        tell(errand, "without an outcome", Some(loss), None, log);
+        tell(errand, "without an outcome", Some(loss), None, now, log);
     }
     if !has_spoken {
         hold(lanes, lane, log, now);
@@ -71,16 +71,13 @@ pub(crate) fn lose(
 /// Records that an errand was lost to a place that is left alone.
 pub(crate) fn lose_held(
     relay: &mut Relay<FileDisk>,
-    lanes: &mut Lanes,
     errand: Errand,
     now: &Now,
     log: &mut Log<'_, Vec<u8>>,
 ) -> Result<(), Fault> {
     if record_loss(relay, &errand, now)? {
-        // A report of it may be due at once.
-        lanes.has_changed();
         let noted = relay.take_noted();
-        tell(errand, "lost", Some(Loss::Unreachable), noted, log);
+        tell(errand, "lost", Some(Loss::Unreachable), noted, now, log);
     }
     Ok(())
 }
@@ -130,24 +127,30 @@ fn tell(
     end: &'static str,
     loss: Option<Loss>,
     noted: Option<Noted>,
+    now: &Now,
     log: &mut Log<'_, Vec<u8>>,
 ) {
+    let aim = errand.aim;
     let (message, name, deferral) = errand.into_told();
     let why = Why { loss, deferral };
-    tell_attempt(message, name.as_slice(), end, why, noted, log);
+    tell_attempt(message, name.as_slice(), aim, end, why, noted, now, log);
 }
 
 fn tell_attempt(
     number: u64,
     hop: &[u8],
+    aim: Aim,
     end: &'static str,
     why: Why,
     noted: Option<Noted>,
+    now: &Now,
     log: &mut Log<'_, Vec<u8>>,
 ) {
     log.attempt(&Attempt {
         number,
         hop: Some(hop),
+        at: Some(aim.at),
+        age: aim.age(now),
         end,
         why,
         noted,

@@ -7,7 +7,9 @@ use relay_loop::{Answered, Outbox, Relay};
 use relay_node::NodeFault;
 use relay_routes::HostName;
 use relay_service::Fault;
+use relay_trace::Moment;
 use std::alloc::Global;
+use std::net::SocketAddrV4;
 
 /// How many seconds a next hop may take to answer a connection.
 const CONNECT_SECONDS: u64 = 30;
@@ -25,10 +27,31 @@ const ANSWER_SECONDS: u64 = 30 * 60;
 /// How many writes a connection has at a turn, where each takes a part alone.
 const WRITE_LIMIT: usize = 16;
 
+/// Where a connection goes, and since when its message is there.
+#[derive(Clone, Copy, Debug)]
+pub(crate) struct Aim {
+    /// The number of the lane.
+    pub(crate) lane: usize,
+    /// The lane's place.
+    pub(crate) at: SocketAddrV4,
+    /// When the message was accepted, where that is known.
+    pub(crate) accepted: Option<Moment>,
+}
+
+impl Aim {
+    /// How many seconds ago the message was accepted, where that is known.
+    pub(crate) fn age(&self, now: &Now) -> Option<u64> {
+        match self.accepted {
+            Some(moment) => Some(now.moment.seconds().saturating_sub(moment.seconds())),
+            None => None,
+        }
+    }
+}
+
 /// The connection to a next hop for a message, which is being made, or has the attempt of a number.
 pub(crate) struct Hop {
     pub(crate) channel: Channel,
-    pub(crate) lane: usize,
+    pub(crate) aim: Aim,
     pub(crate) message: u64,
     pub(crate) name: HostName,
     pub(crate) attempt: Option<usize>,
@@ -47,7 +70,7 @@ impl Drop for Hop {
     fn drop(self) {
         let Hop {
             channel: _channel,
-            lane: _,
+            aim: _,
             message: _,
             name: _name,
             attempt: _,
@@ -61,7 +84,7 @@ impl Drop for Hop {
 
 /// What a connection was made for, and what has come of it.
 pub(crate) struct Errand {
-    pub(crate) lane: usize,
+    pub(crate) aim: Aim,
     pub(crate) message: u64,
     pub(crate) name: HostName,
     /// The attempt's number, where it has begun.
@@ -76,7 +99,7 @@ pub(crate) struct Errand {
 impl Drop for Errand {
     fn drop(self) {
         let Errand {
-            lane: _,
+            aim: _,
             message: _,
             name: _name,
             attempt: _,
@@ -90,7 +113,7 @@ impl Errand {
     /// What is told of it: the message, the next hop, and what that put off last.
     pub(crate) fn into_told(self) -> (u64, HostName, Option<Deferral>) {
         let Errand {
-            lane: _,
+            aim: _,
             message,
             name,
             attempt: _,
@@ -119,7 +142,7 @@ impl Hop {
     pub(crate) fn new(
         alloc: Global,
         channel: Channel,
-        lane: usize,
+        aim: Aim,
         message: u64,
         name: HostName,
         tells: bool,
@@ -127,7 +150,7 @@ impl Hop {
     ) -> Self {
         Hop {
             channel,
-            lane,
+            aim,
             message,
             name,
             attempt: None,
@@ -142,7 +165,7 @@ impl Hop {
     pub(crate) fn into_parts(self) -> (Channel, Errand) {
         let Hop {
             channel,
-            lane,
+            aim,
             message,
             name,
             attempt,
@@ -152,7 +175,7 @@ impl Hop {
             answer_deadline: _,
         } = self;
         let errand = Errand {
-            lane,
+            aim,
             message,
             name,
             attempt,

@@ -1,7 +1,7 @@
 use crate::channel::{Channel, Readiness};
 use crate::clocks::Now;
 use crate::ending::conclude;
-use crate::hop::{Course, Hop};
+use crate::hop::{Aim, Course, Hop};
 use crate::lane::Task;
 use crate::lanes::Lanes;
 use crate::leaving::Leaving;
@@ -62,12 +62,31 @@ impl Hops {
     pub(crate) fn is_connecting(&self, message: u64, lane: usize) -> bool {
         for slot in self.hops.as_slice() {
             if let Some(hop) = slot {
-                if hop.attempt.is_none() && hop.message == message && hop.lane == lane {
+                if hop.attempt.is_none() && hop.message == message && hop.aim.lane == lane {
                     return true;
                 }
             }
         }
         false
+    }
+
+    /// Whether a connection is being made.
+    pub(crate) fn is_any_connecting(&self) -> bool {
+        for slot in self.hops.as_slice() {
+            if let Some(hop) = slot {
+                if hop.attempt.is_none() {
+                    return true;
+                }
+            }
+        }
+        false
+    }
+
+    /// Closes all connections.
+    pub(crate) fn clear(&mut self) {
+        for number in 0..SLOT_COUNT {
+            let _hop = self.hops.take(number);
+        }
     }
 
     /// Begins to make a connection under this number, which is free.
@@ -77,16 +96,15 @@ impl Hops {
         registry: &Registry,
         number: usize,
         task: Task,
-        lane: usize,
-        at: SocketAddrV4,
+        aim: Aim,
         tells: bool,
         now: &Now,
     ) -> Result<(), (Task, io::Error)> {
         let token = Hops::FIRST_TOKEN.saturating_add(number);
-        match connecting(self.alloc, net, registry, token, at) {
+        match connecting(self.alloc, net, registry, token, aim.at) {
             Ok(channel) => {
                 let (message, name) = task.into_parts();
-                let hop = Hop::new(self.alloc, channel, lane, message, name, tells, now);
+                let hop = Hop::new(self.alloc, channel, aim, message, name, tells, now);
                 put_back(&mut self.hops, number, hop);
                 Ok(())
             }
@@ -141,10 +159,10 @@ impl Hops {
         let was_connecting = hop.attempt.is_none();
         let course = hop.attend(relay, now)?;
         if was_connecting && hop.attempt.is_some() {
-            lanes.reached(hop.lane);
+            lanes.reached(hop.aim.lane);
         }
         if hop.has_spoken {
-            lanes.answered(hop.lane);
+            lanes.answered(hop.aim.lane);
         }
         if matches!(&course, Course::Stays) {
             put_back(&mut self.hops, number, hop);

@@ -91,6 +91,20 @@ impl Lane {
         self.tasks.clear();
     }
 
+    /// Whether nothing is due.
+    pub(crate) fn is_empty(&self) -> bool {
+        self.tasks.is_empty()
+    }
+
+    /// Whether a message is due for this next hop, behind all others.
+    pub(crate) fn ends_with(&self, message: u64, hop: &HostName) -> bool {
+        self.tasks
+            .iter()
+            .rev()
+            .take_while(|task| task.message == message)
+            .any(|task| task.hop.as_slice() == hop.as_slice())
+    }
+
     /// Something more is due. Where no memory is left for it, it is left out.
     pub(crate) fn push(&mut self, task: Task) {
         let _ = self.tasks.push_back(task);

@@ -1,49 +1,42 @@
-//! What is due, by the places of the next hops. To list it costs a walk over all that waits, so it is listed when
-//! something has changed, and not much more often than it takes.
-use crate::clocks::{Now, tick_of};
-use crate::hops::Hops;
+//! What is due, by the places of the next hops, and which of it may be begun.
+ghost use Rattle.std.specs.Prelude.{◌≤◌};
+
+use crate::clocks::Now;
 use crate::lane::{Lane, Task};
-use relay_disk::FileDisk;
-use relay_loop::Relay;
-use relay_node::{NodeFault, Work};
-use relay_routes::Table;
-use relay_service::Fault;
 use std::alloc::Global;
 use std::collections::{HashMap, VecDeque};
 use std::net::SocketAddrV4;
-use std::rt::Clock;
-
-/// The least milliseconds between two listings.
-const LISTING_PAUSE: u64 = 50;
-
-/// Between two listings lies so many times what the last one took.
-const LISTING_SHARE: u64 = 10;
-
-/// What is due is listed again behind so many seconds, also where nothing has changed.
-const LISTING_SECONDS: u64 = 60;
 
 /// What is due.
 pub(crate) struct Lanes {
-    alloc: Global,
-    lanes: Vec<Lane>,
+    pub(crate) alloc: Global,
+    pub(crate) lanes: Vec<Lane>,
     /// The number of the lane for a place.
-    numbers: HashMap<u64, usize>,
+    pub(crate) numbers: HashMap<u64, usize>,
     /// The messages with places that have no hop.
-    unroutable: VecDeque<u64>,
+    pub(crate) unroutable: VecDeque<u64>,
     /// The most connections to one place.
-    most: usize,
-    /// Something has changed since the last listing.
-    is_stale: bool,
+    pub(crate) most: usize,
+    /// The number of the first change that wasn't looked at.
+    pub(crate) next_number: u64,
+    /// Something may be due that isn't listed.
+    pub(crate) is_stale: bool,
+    /// What is due next may be due at another moment than the node has told.
+    pub(crate) is_unsure: bool,
     /// Something may be begun that couldn't be before.
-    is_open: bool,
+    pub(crate) is_open: bool,
+    /// Something was listed since it was last begun what may be.
+    pub(crate) is_fresh: bool,
     /// The tick before which nothing is listed.
-    next_listing: u64,
-    /// The tick at which is listed even so.
-    next_minute: u64,
+    pub(crate) next_listing: u64,
+    /// The tick at which it is looked for what is due even so.
+    pub(crate) next_minute: u64,
+    /// The tick at which something is due that isn't listed, as the node has told.
+    pub(crate) next_due: u64,
     /// The tick at which the next place isn't left alone any more.
-    next_hold_end: u64,
+    pub(crate) next_hold_end: u64,
     /// Which lane is looked at first.
-    first: usize,
+    pub(crate) first: usize,
 }
 
 // Written out, so that what drops them calls this, and doesn't look into each.
@@ -55,10 +48,14 @@ impl Drop for Lanes {
             numbers: _numbers,
             unroutable: _unroutable,
             most: _,
+            next_number: _,
             is_stale: _,
+            is_unsure: _,
             is_open: _,
+            is_fresh: _,
             next_listing: _,
             next_minute: _,
+            next_due: _,
             next_hold_end: _,
             first: _,
         } = self;
@@ -67,25 +64,29 @@ impl Drop for Lanes {
 
 impl Lanes {
     /// Nothing is listed yet. At most so many connections will go to one place.
-    pub(crate) fn new(alloc: Global, most: u8) -> Self {
+    pub(crate) fn new(alloc: Global, most: usize) -> Self {
         Lanes {
             alloc,
             lanes: Vec::new(alloc),
             numbers: HashMap::new(alloc),
             unroutable: VecDeque::new(alloc),
-            most: usize::from(most),
+            most,
+            next_number: 0,
             is_stale: true,
+            is_unsure: true,
             is_open: true,
+            is_fresh: false,
             next_listing: 0,
             next_minute: 0,
+            next_due: u64::MAX,
             next_hold_end: u64::MAX,
             first: 0,
         }
     }
 
-    /// What is due may have changed.
-    pub(crate) fn has_changed(&mut self) {
-        self.is_stale = true;
+    /// The same as when nothing was listed yet, for a relay that was opened again.
+    pub(crate) fn renewed(self) -> Self {
+        Lanes::new(self.alloc, self.most)
     }
 
     /// Whether something may be begun that couldn't be before.
@@ -174,9 +175,9 @@ impl Lanes {
         self.unroutable.pop_front()
     }
 
-    /// Whether such a message is left.
-    pub(crate) fn has_unroutable(&self) -> bool {
-        !self.unroutable.is_empty()
+    /// Whether such a message is left, or something was listed since it was last begun what may be.
+    pub(crate) fn is_ready(&self) -> bool {
+        self.is_fresh || !self.unroutable.is_empty()
     }
 
     /// A connection of a lane is made.
@@ -186,9 +187,9 @@ impl Lanes {
         }
     }
 
-    /// A connection of a lane is gone, and what is due may be another.
+    /// A connection of a lane is gone, and what is due next may be another.
     pub(crate) fn ended(&mut self, number: usize) {
-        self.is_stale = true;
+        self.is_unsure = true;
         self.is_open = true;
         if let Some(lane) = self.lanes.get_mut(number) {
             lane.ended();
@@ -234,120 +235,22 @@ impl Lanes {
         }
     }
 
-    /// Lists what is due, where it may have changed and the last listing is long enough ago. Want of memory leaves it
-    /// for the next time.
-    pub(crate) fn refresh<C: Clock>(
-        &mut self,
-        clock: &C,
-        relay: &Relay<FileDisk>,
-        hops: &Hops,
-        now: &Now,
-    ) -> Result<(), Fault> {
-        self.note_time(now);
-        if !self.is_stale || now.tick < self.next_listing {
-            return Ok(());
-        }
-        let begun = tick_of(clock);
-        self.list(relay, hops, now)?;
-        let ended = tick_of(clock);
-        let took = ended.saturating_sub(begun).saturating_mul(LISTING_SHARE);
-        self.next_listing = ended.saturating_add(took.max(LISTING_PAUSE));
-        self.next_minute = now.behind(LISTING_SECONDS);
-        self.is_stale = false;
-        self.is_open = true;
-        Ok(())
-    }
-
-    /// Takes note that a minute is over, or that a place isn't left alone any more.
-    fn note_time(&mut self, now: &Now) {
-        if self.next_minute <= now.tick {
-            self.is_stale = true;
-        }
-        if self.next_hold_end <= now.tick {
-            self.is_stale = true;
-            self.is_open = true;
-            self.next_hold_end = u64::MAX;
-            for lane in self.lanes.as_slice() {
-                if let Some(until) = lane.held_until(now) {
-                    self.next_hold_end = self.next_hold_end.min(until);
-                }
-            }
-        }
-    }
-
-    /// Lists what is due, without what a connection is being made for already.
-    fn list(&mut self, relay: &Relay<FileDisk>, hops: &Hops, now: &Now) -> Result<(), Fault> {
-        let works = match relay.node().due(self.alloc, now.moment) {
-            Ok(works) => works,
-            Err(NodeFault::Stopped) => return Err(Fault::Device),
-            Err(_) => return Ok(()),
-        };
-        self.unroutable.clear();
-        for lane in self.lanes.as_mut_slice() {
-            lane.clear();
-        }
-        for work in works {
-            self.sort_in(work, &relay.node().config().routes, hops);
-        }
-        Ok(())
-    }
-
-    /// Puts a work where it belongs. Where no memory is left for it, it is left out.
-    fn sort_in(&mut self, work: Work, routes: &Table, hops: &Hops) {
-        match work {
-            Work::NoRoute(message) => {
-                let _ = self.unroutable.push_back(message);
-            }
-            Work::Try(message, hop) => {
-                // The node's hops are those of its routes.
-                let Some(at) = routes.place_of(hop.as_slice()) else {
-                    return;
-                };
-                let Some(number) = self.number_of(at) else {
-                    return;
-                };
-                if hops.is_connecting(message, number) {
-                    return;
-                }
-                if let Some(lane) = self.lanes.get_mut(number) {
-                    lane.push(Task { message, hop });
-                }
-            }
-        }
-    }
-
-    /// The number of the lane for a place, which is made where there is none; none where no memory is left.
-    fn number_of(&mut self, at: SocketAddrV4) -> Option<usize> {
-        if let Some(number) = self.numbers.get(&key_of(at)) {
-            return Some(*number);
-        }
-        let number = self.lanes.len();
-        if self.lanes.push(Lane::new(self.alloc, at)).is_err() {
-            return None;
-        }
-        // Without memory for it, the place would have a second lane.
-        match self.numbers.insert(key_of(at), number) {
-            Ok(_) => Some(number),
-            Err(_) => {
-                let _ = self.lanes.pop();
-                None
-            }
-        }
-    }
-
-    /// The tick at which something is to be done, or the given one where that is earlier.
-    pub(crate) fn next_deadline(&self, otherwise: u64) -> u64 {
-        let next = otherwise.min(self.next_hold_end);
+    /// The tick at which something is to be done, or the given one where that is earlier. It is never later than the
+    /// tick at which the node has told that work may start.
+    pub(crate) fn next_deadline(&self, otherwise: u64) -> u64
+        ensures otherwise { result ≤ otherwise }
+        ensures due { result ≤ self.now.next_due }
+        ensures hold { result ≤ self.now.next_hold_end }
+        ensures minute { result ≤ self.now.next_minute }
+    {
+        let next = otherwise
+            .min(self.next_due)
+            .min(self.next_hold_end)
+            .min(self.next_minute);
         if self.is_stale {
             next.min(self.next_listing)
         } else {
-            next.min(self.next_minute)
+            next
         }
     }
-}
-
-/// A number for each place.
-fn key_of(at: SocketAddrV4) -> u64 {
-    let [a, b, c, d] = at.ip().octets();
-    u64::from(u32::from_be_bytes([a, b, c, d])) * 65_536 + u64::from(at.port())
 }

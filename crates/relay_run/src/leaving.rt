@@ -88,6 +88,13 @@ impl Leaving {
         }
     }
 
+    /// Closes all connections.
+    pub(crate) fn clear(&mut self) {
+        for number in 0..SLOT_COUNT {
+            let _leaver = self.leavers.take(number);
+        }
+    }
+
     /// The system tells what the connection of a number may be ready for.
     pub(crate) fn note(&mut self, number: usize, ready: Readiness) {
         if let Some(taken) = self.leavers.take(number) {

@@ -3,7 +3,8 @@ ghost use Rattle.std.specs.Prelude.{IfOk};
 use crate::clocks::Now;
 use crate::door::Door;
 use crate::shell::Shell;
-use crate::start::{locked_relay, say_ready, settings};
+use crate::spares::Spares;
+use crate::start::{kept_file, locked_relay, say_ready, settings};
 use mio::{Events, Poll};
 use relay_log::Log;
 use relay_service::Fault;
@@ -24,8 +25,8 @@ const EVENT_COUNT: usize = 3 * SLOT_COUNT + 1;
 /// `ready HOST ADDRESS` goes to `writer`, and unless it is `quiet` a line for each thing that was done to `errors`,
 /// with the moment in front of it.
 ///
-/// A connection that breaks ends alone. Only a device that failed, and want of memory or descriptors before the first
-/// client, end the relay.
+/// A connection that breaks ends alone. Where the device fails, all do, and the spool is opened again when there may be
+/// room; only a sync that failed, and want of memory or descriptors before the first client, end the relay.
 pub fn run<
     R: Files<File = File> + Clock + Net<Listener = TcpListener, Stream = TcpStream>,
     W: Write,
@@ -43,6 +44,7 @@ pub fn run<
     let (config, limits) = settings(alloc, rt, path)?;
     let at = config.listen;
     let relay = locked_relay(alloc, rt, config)?;
+    let spares = Spares::new(alloc, kept_file(rt, path)?)?;
     let Ok(poll) = Poll::new(rt) else {
         return Err(Fault::Socket);
     };
@@ -50,7 +52,7 @@ pub fn run<
         return Err(Fault::Socket);
     };
     say_ready(alloc, &relay, at, writer)?;
-    let shell = Shell::new(alloc, relay, door, &limits)?;
+    let shell = Shell::new(alloc, relay, door, spares, &limits)?;
     serve(alloc, rt, poll, shell, quiet, errors)
 }
 
@@ -76,7 +78,11 @@ fn serve<R: Clock + Net, E: Write>(
         shell.note_events(&events);
         let end = take_turn(alloc, rt, &poll, &mut shell, quiet, &mut lines);
         hand_out(&mut lines, errors);
-        end?;
+        match end {
+            Ok(()) => {}
+            Err(Fault::Device) => shell = shell.reopened(alloc, rt, quiet, errors)?,
+            Err(fault) => return Err(fault),
+        }
     }
     // So many turns are never done.
     Err(Fault::Socket)

@@ -1,3 +1,6 @@
+ghost use Rattle.std.specs.Prelude.{◌≡◌, IsErr};
+ghost use Rattle.relay_run.specs.Reopening.{HasFailedToSync};
+
 use crate::channel::Readiness;
 use crate::clients::Clients;
 use crate::clocks::Now;
@@ -5,6 +8,8 @@ use crate::door::Door;
 use crate::hops::Hops;
 use crate::lanes::Lanes;
 use crate::leaving::Leaving;
+use crate::reopening::{Pauses, open_again};
+use crate::spares::Spares;
 use crate::starting::{Starts, give_up_next, start_tasks};
 use crate::tidying::Tidying;
 use mio::event::Event;
@@ -15,6 +20,7 @@ use relay_log::Log;
 use relay_loop::Relay;
 use relay_service::Fault;
 use std::alloc::{AllocError, Global};
+use std::io::Write;
 use std::net::Net;
 use std::rt::Clock;
 
@@ -29,8 +35,10 @@ pub(crate) struct Shell {
     hops: Hops,
     leaving: Leaving,
     lanes: Lanes,
+    spares: Spares,
     starts: Starts,
     tidying: Tidying,
+    pauses: Pauses,
 }
 
 // Written out, so that what drops it calls this, and doesn't look into its parts.
@@ -43,8 +51,10 @@ impl Drop for Shell {
             hops: _hops,
             leaving: _leaving,
             lanes: _lanes,
+            spares: _spares,
             starts: _,
             tidying: _,
+            pauses: _,
         } = self;
     }
 }
@@ -55,20 +65,69 @@ impl Shell {
         alloc: Global,
         relay: Relay<FileDisk>,
         door: Door,
+        spares: Spares,
         limits: &Limits,
     ) -> Result<Self, AllocError> {
         let clients = Clients::new(alloc, limits)?;
         let hops = Hops::new(alloc)?;
         let leaving = Leaving::new(alloc, u64::from(limits.client_timeout))?;
+        let pauses = Pauses::new(relay.node().next_number());
         Ok(Shell {
             relay,
             door,
             clients,
             hops,
             leaving,
-            lanes: Lanes::new(alloc, limits.attempts_per_hop),
+            lanes: Lanes::new(alloc, usize::from(limits.attempts_per_hop)),
+            spares,
             starts: Starts { paused_until: 0 },
             tidying: Tidying::new(),
+            pauses,
+        })
+    }
+
+    /// The same relay once its device, which has failed, has room again. All connections are closed but the listener,
+    /// at which clients wait meanwhile. A sync that has failed is a fault.
+    pub(crate) fn reopened<C: Clock, E: Write>(
+        self,
+        alloc: Global,
+        clock: &C,
+        quiet: bool,
+        errors: &mut E,
+    ) -> Result<Self, Fault>
+        ensures { HasFailedToSync self.relay.node.records.spool.disk → IsErr result }
+    {
+        let Shell {
+            relay,
+            door,
+            clients,
+            hops,
+            leaving,
+            lanes,
+            spares,
+            starts,
+            tidying: _,
+            pauses,
+        } = self;
+        let mut clients = clients;
+        clients.clear();
+        let mut hops = hops;
+        hops.clear();
+        let mut leaving = leaving;
+        leaving.clear();
+        let mut pauses = pauses;
+        let relay = open_again(alloc, clock, relay, &mut pauses, quiet, errors)?;
+        Ok(Shell {
+            relay,
+            door,
+            clients,
+            hops,
+            leaving,
+            lanes: lanes.renewed(),
+            spares,
+            starts,
+            tidying: Tidying::new(),
+            pauses,
         })
     }
 
@@ -101,8 +160,14 @@ impl Shell {
         now: &Now,
         log: &mut Log<'_, Vec<u8>>,
     ) -> Result<(), Fault> {
-        self.door
-            .admit(registry, &mut self.relay, &mut self.clients, now, log)?;
+        self.door.admit(
+            registry,
+            &mut self.relay,
+            &mut self.clients,
+            &mut self.spares,
+            now,
+            log,
+        )?;
         self.serve_clients(registry, now, log)?;
         self.serve_hops(registry, now, log)?;
         if self.leaving.serve(now) > 0 {
@@ -122,9 +187,6 @@ impl Shell {
         let intake = self
             .clients
             .serve(registry, &mut self.relay, &mut self.leaving, now, log)?;
-        if intake.accepted {
-            self.lanes.has_changed();
-        }
         if intake.was_full {
             self.tidying.note_full(now, log);
         }
@@ -173,10 +235,12 @@ impl Shell {
             &mut self.relay,
             &mut self.hops,
             &mut self.lanes,
+            &mut self.spares,
             &mut self.starts,
             now,
             log,
-        )
+        )?;
+        self.lanes.look_ahead(&self.relay, &self.hops, now)
     }
 
     /// Whether something can be done at once.
@@ -185,7 +249,7 @@ impl Shell {
             || self.clients.is_ready(&self.relay)
             || self.hops.is_ready(&self.relay)
             || self.leaving.is_ready()
-            || self.lanes.has_unroutable()
+            || self.lanes.is_ready()
     }
 
     /// How many milliseconds may be waited for the system to tell of something.

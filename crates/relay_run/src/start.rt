@@ -24,6 +24,14 @@ pub(crate) fn settings<F: Files<File = File>>(
     Ok((config, limits))
 }
 
+/// An open file, of which copies may be made: the configuration's, since that is there.
+pub(crate) fn kept_file<F: Files<File = File>>(files: &F, path: &str) -> Result<File, Fault> {
+    match File::open(files, path) {
+        Ok(file) => Ok(file),
+        Err(error) => Err(Fault::of_input(&error)),
+    }
+}
+
 fn document(alloc: Global, text: &str) -> Result<toml::Table, Fault> {
     match toml::table_from_str(alloc, text) {
         Ok(document) => Ok(document),

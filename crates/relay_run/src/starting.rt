@@ -1,10 +1,11 @@
 //! Attempts that begin, and messages without a next hop that are given up.
 use crate::clocks::Now;
 use crate::ending::{lose, lose_held};
-use crate::hop::Errand;
+use crate::hop::{Aim, Errand};
 use crate::hops::Hops;
 use crate::lane::Task;
 use crate::lanes::Lanes;
+use crate::spares::Spares;
 use mio::Registry;
 use relay_disk::FileDisk;
 use relay_log::{Attempt, Log, Loss, Why};
@@ -13,7 +14,7 @@ use relay_node::NodeFault;
 use relay_service::{Fault, is_want_of_sockets};
 use relay_slots::SLOT_COUNT;
 use std::io;
-use std::net::Net;
+use std::net::{Net, SocketAddrV4};
 
 /// How many milliseconds no connection is begun behind one for which the system had no descriptor or no memory.
 const WANT_PAUSE: u64 = 1_000;
@@ -38,6 +39,8 @@ enum Begun {
     GoesOn,
     /// There is no room for another.
     IsFull,
+    /// The system has no descriptor or no memory for another.
+    IsWanting,
 }
 
 /// Begins what is due and may be begun: of each lane in turn, the first lane each time another.
@@ -47,6 +50,7 @@ pub(crate) fn start_tasks<N: Net>(
     relay: &mut Relay<FileDisk>,
     hops: &mut Hops,
     lanes: &mut Lanes,
+    spares: &mut Spares,
     starts: &mut Starts,
     now: &Now,
     log: &mut Log<'_, Vec<u8>>,
@@ -61,10 +65,14 @@ pub(crate) fn start_tasks<N: Net>(
         if !has_lost {
             has_lost = lose_overdue(relay, lanes, lane, now, log)?;
         }
-        match start_lane(net, registry, relay, hops, lanes, lane, starts, now, log)? {
+        match start_lane(net, registry, relay, hops, lanes, lane, spares, now, log)? {
             Begun::GoesOn => {}
             // What ends next opens the lanes again.
             Begun::IsFull => return Ok(()),
+            Begun::IsWanting => {
+                starts.paused_until = now.tick.saturating_add(WANT_PAUSE);
+                return Ok(());
+            }
         }
     }
     // One is lost at a turn, and then the others have theirs.
@@ -74,7 +82,8 @@ pub(crate) fn start_tasks<N: Net>(
     Ok(())
 }
 
-/// Begins what may be begun of a lane.
+/// Begins what may be begun of a lane. Where the system has no descriptor for a connection, one is given up that was
+/// kept for that.
 fn start_lane<N: Net>(
     net: &N,
     registry: &Registry,
@@ -82,7 +91,7 @@ fn start_lane<N: Net>(
     hops: &mut Hops,
     lanes: &mut Lanes,
     lane: usize,
-    starts: &mut Starts,
+    spares: &mut Spares,
     now: &Now,
     log: &mut Log<'_, Vec<u8>>,
 ) -> Result<Begun, Fault> {
@@ -93,17 +102,28 @@ fn start_lane<N: Net>(
         let Some((task, at)) = lanes.next(lane, hops.are_scarce(), now) else {
             return Ok(Begun::GoesOn);
         };
-        match hops.connect(net, registry, number, task, lane, at, log.speaks(), now) {
+        let aim = aim_of(relay, task.message, lane, at);
+        match hops.connect(net, registry, number, task, aim, log.speaks(), now) {
             Ok(()) => lanes.began(lane),
             Err((task, error)) if is_want_of_sockets(&error) => {
                 lanes.put_back(lane, task);
-                starts.paused_until = now.tick.saturating_add(WANT_PAUSE);
-                return Ok(Begun::IsFull);
+                if !spares.give() {
+                    return Ok(Begun::IsWanting);
+                }
             }
-            Err((task, error)) => fail(relay, lanes, lane, task, &error, now, log)?,
+            Err((task, error)) => fail(relay, lanes, lane, at, task, &error, now, log)?,
         }
     }
     Ok(Begun::GoesOn)
+}
+
+/// Where a connection for a message goes.
+fn aim_of(relay: &Relay<FileDisk>, message: u64, lane: usize, at: SocketAddrV4) -> Aim {
+    let accepted = match relay.node().message(message) {
+        Some(message) => Some(message.accept.at),
+        None => None,
+    };
+    Aim { lane, at, accepted }
 }
 
 /// Records that the next message of a lane whose place is left alone is lost, where it has been due for too long, and
@@ -119,10 +139,14 @@ fn lose_overdue(
         Some(message) if is_overdue(relay, message, now) => {}
         _ => return Ok(false),
     }
+    let Some(at) = lanes.place_of(lane) else {
+        return Ok(false);
+    };
     let Some(task) = lanes.pop(lane) else {
         return Ok(false);
     };
-    lose_held(relay, lanes, errand_of(task, lane), now, log)?;
+    let aim = aim_of(relay, task.message, lane, at);
+    lose_held(relay, errand_of(task, aim), now, log)?;
     Ok(true)
 }
 
@@ -139,10 +163,10 @@ fn is_overdue(relay: &Relay<FileDisk>, message: u64, now: &Now) -> bool {
 }
 
 /// The errand of a task for which no connection was made.
-fn errand_of(task: Task, lane: usize) -> Errand {
+fn errand_of(task: Task, aim: Aim) -> Errand {
     let (message, name) = task.into_parts();
     Errand {
-        lane,
+        aim,
         message,
         name,
         attempt: None,
@@ -156,12 +180,14 @@ fn fail(
     relay: &mut Relay<FileDisk>,
     lanes: &mut Lanes,
     lane: usize,
+    at: SocketAddrV4,
     task: Task,
     error: &io::Error,
     now: &Now,
     log: &mut Log<'_, Vec<u8>>,
 ) -> Result<(), Fault> {
-    let errand = errand_of(task, lane);
+    let aim = aim_of(relay, task.message, lane, at);
+    let errand = errand_of(task, aim);
     lose(relay, lanes, errand, Loss::of_connecting(error), now, log)
 }
 
@@ -177,11 +203,11 @@ pub(crate) fn give_up_next(
     };
     match relay.give_up_unroutable(message, now.moment) {
         Ok(_) => {
-            // The report of it is due at once.
-            lanes.has_changed();
             log.attempt(&Attempt {
                 number: message,
                 hop: None,
+                at: None,
+                age: None,
                 end: "noroute",
                 why: Why::at_once(None),
                 noted: relay.take_noted(),

@@ -125,6 +125,8 @@ fn give_up<W: Write, E: Write>(
             log.attempt(&Attempt {
                 number,
                 hop: None,
+                at: None,
+                age: None,
                 end: "noroute",
                 why: Why::at_once(None),
                 noted: node.take_noted(),
@@ -230,6 +232,8 @@ fn conclude<W: Write, E: Write>(
             log.attempt(&Attempt {
                 number,
                 hop: Some(hop),
+                at: None,
+                age: None,
                 end,
                 why: handed.why,
                 noted: node.take_noted(),
@@ -241,6 +245,8 @@ fn conclude<W: Write, E: Write>(
             log.attempt(&Attempt {
                 number,
                 hop: Some(hop),
+                at: None,
+                age: None,
                 end: "without an outcome",
                 why: handed.why,
                 noted: None,

@@ -1,0 +1,282 @@
+#!/usr/bin/env python3
+"""Runs `relayd run` over 127.0.0.1 where a device fails, a clock is set, or descriptors are few: what it drops, when it
+goes on, and what it says. It ends at the first difference.
+
+    tests/run_faults.py build/relayd [ROW..]
+
+With the names of rows it runs these alone. What has to be prompt may take as many times as long as TIMES says in the
+environment (2 where it says nothing).
+"""
+import contextlib
+import pathlib
+import re
+import resource
+import signal
+import subprocess
+import sys
+import threading
+import time
+
+sys.dont_write_bytecode = True
+
+from mail_checks import hand_in
+from relay_program import Difference, PATIENCE, same, until
+from running_relay import SOON, TEXT, Client, clients_of, comes_to_rest, greeted, number_of, play_rows
+
+HERE = pathlib.Path(__file__).resolve().parent
+DAY = 86400
+# What those that couldn't be handed on wait first, in seconds.
+FIRST_WAIT = 1800
+
+
+def shim(field, name, relay, **environment):
+    """Builds a shim of the C library's calls, under which the relay's programs run from now on."""
+    built = field.folder / f"{name}.so"
+    subprocess.run(["cc", "-shared", "-fPIC", "-O1", "-o", built, HERE / f"{name}.c"], check=True)
+    relay.environment.update(LD_PRELOAD=str(built), **environment)
+
+
+def lines_of(relay, text):
+    """The lines of the log in which a text stands."""
+    return [line for line in relay.log.read_text().splitlines() if text in line]
+
+
+def refused_or_lost(client):
+    """Hands a message in; whether it wasn't answered 250."""
+    try:
+        client.ask_for_text()
+        return not client.say(TEXT).startswith("250 ")
+    except (Difference, ConnectionError):
+        return True
+
+
+def without_signals():
+    """A file that may not grow is an error of the write, and no signal."""
+    signal.signal(signal.SIGXFSZ, signal.SIG_IGN)
+
+
+def fill(process, relay):
+    """Lets no file of the process grow."""
+    size = max(relay.spool.stat().st_size, relay.second.stat().st_size)
+    resource.prlimit(process.pid, resource.RLIMIT_FSIZE, (size, resource.RLIM_INFINITY))
+
+
+def empty(process):
+    resource.prlimit(process.pid, resource.RLIMIT_FSIZE, (resource.RLIM_INFINITY, resource.RLIM_INFINITY))
+
+
+# The rows. Each says in its name what holds.
+
+
+def a_full_device_closes_all_and_goes_on_with_room(field):
+    relay = field.relay()
+    with relay.running(preexec_fn=without_signals) as process, clients_of(relay, 3) as clients:
+        clients[0].hand_in()
+        field.arrived(1)
+        until("an empty list", lambda: relay.held() == [])
+        fill(process, relay)
+        same("a message without room", refused_or_lost(clients[0]), True)
+        same("what the others hear", [client.rest() for client in clients[1:]], [b"", b""])
+        until("a line of it", lambda: len(lines_of(relay, "device failed")) == 1)
+        # Who comes meanwhile waits, and is greeted.
+        same("a client behind it", greeted(relay), True)
+        same("a line that it is open", len(lines_of(relay, "spool opened again")), 1)
+        empty(process)
+        with Client(relay) as client:
+            client.begin()
+            client.hand_in()
+        field.arrived(1)
+        until("an empty list", lambda: relay.held() == [])
+        comes_to_rest(process, "behind a device that had failed")
+
+
+def the_spool_is_opened_later_each_time(field):
+    relay = field.relay()
+    with relay.running(preexec_fn=without_signals) as process:
+        hand_in(relay)
+        field.arrived(1)
+        until("an empty list", lambda: relay.held() == [])
+        fill(process, relay)
+        for times in range(1, 4):
+            with Client(relay) as client:
+                client.begin()
+                same("a message without room", refused_or_lost(client), True)
+            until("a line more", lambda: len(lines_of(relay, "device failed")) == times)
+        begun = time.monotonic()
+        same("a client behind it", greeted(relay), True)
+        if time.monotonic() - begun < 3:
+            raise Difference("the third time it is open again within 3 s")
+        pauses = [int(line.split()[-2]) for line in lines_of(relay, "device failed")]
+        same("the pauses", pauses, [1, 2, 4])
+        # With room the first change makes the pauses begin anew.
+        empty(process)
+        hand_in(relay)
+        field.arrived(1)
+        until("an empty list", lambda: relay.held() == [])
+        fill(process, relay)
+        with Client(relay) as client:
+            client.begin()
+            same("a message without room", refused_or_lost(client), True)
+        until("a line more", lambda: len(lines_of(relay, "device failed")) == 4)
+        same("the pause", lines_of(relay, "device failed")[-1].split()[-2], "1")
+
+
+def what_was_answered_stays_behind_a_full_device(field):
+    """Four clients hand in messages while the device fills up and has room again, many times."""
+    relay, answered, done = field.relay(), [], threading.Event()
+
+    def feed():
+        while not done.is_set():
+            with contextlib.suppress(Difference, OSError), Client(relay) as client:
+                client.begin()
+                while not done.is_set():
+                    client.ask_for_text()
+                    answered.append(number_of(client.say(TEXT)))
+
+    with relay.running(preexec_fn=without_signals) as process:
+        threads = [threading.Thread(target=feed) for _ in range(4)]
+        for thread in threads:
+            thread.start()
+        for _ in range(3):
+            time.sleep(0.3)
+            fill(process, relay)
+            time.sleep(0.3)
+            empty(process)
+            time.sleep(1)
+        done.set()
+        for thread in threads:
+            thread.join()
+        until("an empty list", lambda: relay.held() == [])
+        same("numbers that were given twice", len(answered) - len(set(answered)), 0)
+        gone = {int(re.search(rb" id (\d+);", message.content)[1]) for message in field.sink.take_all()}
+        same("messages that were lost", set(answered) - gone, set())
+        if not lines_of(relay, "device failed"):
+            raise Difference("the device hasn't failed")
+
+
+def a_sync_that_fails_ends_it(field):
+    # The first two syncs are those of the opening; an accept has two.
+    for failed in [{"FAILED_SYNC": "3"}, {"FAILED_SYNC": "4"}, {"FULL_WRITE": "1", "FAILED_SYNC": "3"},
+                   {"FULL_WRITE": "1", "FAILED_SYNC": "4"}, {"FULL_WRITE": "1", "FAILED_SYNC": "6"}]:
+        name = "-".join(f"{key}{value}" for key, value in failed.items())
+        relay = field.relay(name)
+        shim(field, "device_calls", relay, CALLS=str(field.folder / f"{name}-calls"), **failed)
+        process = relay.begin()
+        try:
+            with Client(relay) as client:
+                client.begin()
+                same(f"{name}: a message", refused_or_lost(client), True)
+            same(f"{name}: its end", process.wait(PATIENCE), 1)
+            same(f"{name}: its last line", relay.log.read_text().splitlines()[-1], "relayd: device")
+        finally:
+            process.kill()
+            process.communicate()
+
+
+def a_clock_that_is_set_holds_up_nothing_else(field):
+    """What was put off is tried when the clock is past its moment, however it came there, and what comes meanwhile at
+    once."""
+    relay, shift = field.relay(), field.folder / "shift"
+    shim(field, "run_clocks", relay, SHIFT=str(shift), FASTER="60")
+    busy = {"<b@example.org>": "450 mailbox busy"}
+    for days in (1, -1):
+        shift.write_text("0")
+        with relay.running() as process:
+            field.sink.manners.refusals = busy
+            hand_in(relay)
+            until("a message that is put off", lambda: [row[3] > time.time() for row in relay.held()] == [True])
+            field.sink.manners.refusals = {}
+            if days < 0:
+                shift.write_text(str(-DAY))
+                # A minute of its clock, and more.
+                time.sleep(2)
+                hand_in(relay, recipients=("c@example.org",))
+                field.arrived(1, SOON)
+                same("what waits", [row[2] for row in relay.held()], ["<b@example.org>"])
+                comes_to_rest(process, "with a clock that is set back")
+            shift.write_text(str(DAY))
+            field.arrived(1)
+            until("an empty list", lambda: relay.held() == [])
+
+
+def what_was_put_off_is_tried_at_its_moment(field):
+    """And not up to a minute late: the clocks go on, and the node tells the moment."""
+    relay, shift = field.relay(), field.folder / "shift"
+    shim(field, "run_clocks", relay, SHIFT=str(shift))
+    shift.write_text("0")
+    with relay.running() as process:
+        field.sink.manners.refusals = {"<b@example.org>": "450 mailbox busy"}
+        hand_in(relay)
+        until("a message that is put off", lambda: [row[3] > time.time() for row in relay.held()] == [True])
+        field.sink.manners.refusals = {}
+        [due] = [row[3] for row in relay.held()]
+        # Three seconds before its moment. Another client's mail lets the relay look at the clock.
+        shift.write_text(str(int(due - time.time()) - 3))
+        hand_in(relay, recipients=("c@example.org",))
+        field.arrived(1, SOON)
+        field.arrived(1, 3 + 2 * SOON)
+        same("early", time.time() + float(shift.read_text()) >= due, True)
+        until("an empty list", lambda: relay.held() == [])
+        comes_to_rest(process, "behind what was put off")
+
+
+def a_thousand_connections_find_few_descriptors(field):
+    """In ten seconds, with 32 descriptors for all: each is greeted or sent away, and mail goes on meanwhile."""
+    relay, firsts = field.relay(sessions_per_client=64), []
+
+    def visit():
+        for _ in range(50):
+            with Client(relay) as client:
+                firsts.append(client.reply()[:4])
+                time.sleep(0.01)
+
+    def few():
+        resource.setrlimit(resource.RLIMIT_NOFILE, (32, 32))
+
+    with relay.running(preexec_fn=few) as process, clients_of(relay, 1) as [client]:
+        threads = [threading.Thread(target=visit) for _ in range(20)]
+        begun = time.monotonic()
+        for thread in threads:
+            thread.start()
+        client.hand_in()
+        field.arrived(1)
+        for thread in threads:
+            thread.join()
+        took = time.monotonic() - begun
+        same("connections that heard something", len(firsts), 1000)
+        same("what they heard", set(firsts) <= {"220 ", "421 "}, True)
+        if took > 5 * SOON:
+            raise Difference(f"a thousand connections take {took:.1f} s")
+        comes_to_rest(process, "behind a thousand connections")
+
+
+def clients_leave_four_descriptors_for_attempts(field):
+    def few():
+        resource.setrlimit(resource.RLIMIT_NOFILE, (32, 32))
+
+    relay = field.relay(sessions_per_client=64)
+    with relay.running(preexec_fn=few) as process, contextlib.ExitStack() as stack:
+        clients = [stack.enter_context(Client(relay)) for _ in range(40)]
+        clients[0].begin()
+        comes_to_rest(process, "with more clients than descriptors")
+        # They all stay, and each message leaves even so.
+        for _ in range(10):
+            clients[0].hand_in()
+            field.arrived(1, SOON)
+        until("an empty list", lambda: relay.held() == [])
+
+
+ROWS = [
+    a_full_device_closes_all_and_goes_on_with_room,
+    the_spool_is_opened_later_each_time,
+    what_was_answered_stays_behind_a_full_device,
+    a_sync_that_fails_ends_it,
+    a_clock_that_is_set_holds_up_nothing_else,
+    what_was_put_off_is_tried_at_its_moment,
+    a_thousand_connections_find_few_descriptors,
+    clients_leave_four_descriptors_for_attempts,
+]
+
+
+if __name__ == "__main__":
+    play_rows("run_faults", ROWS)

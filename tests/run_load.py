@@ -1,0 +1,127 @@
+#!/usr/bin/env python3
+"""Runs `relayd run` over 127.0.0.1 with much mail: for next hops that are away, and through and through. What it costs
+then stays, and where nothing is to be done it sleeps. It ends at the first difference.
+
+    tests/run_load.py build/relayd [ROW..]
+
+With the names of rows it runs these alone. DUE (6300) says how many messages are due at next hops that are away, and
+THROUGH (4000) how many go through a relay; what has to be prompt may take as many times as long as TIMES says in the
+environment (2 where it says nothing).
+"""
+import os
+import pathlib
+import re
+import sys
+import threading
+import time
+
+sys.dont_write_bytecode = True
+
+from mail_checks import hand_in
+from relay_program import Difference, PATIENCE, free_port, same, until
+from running_relay import SOON, Client, clients_of, comes_to_rest, play_rows, resident
+
+DUE = int(os.environ.get("DUE", 6300))
+THROUGH = int(os.environ.get("THROUGH", 4000))
+AWAY = 63
+# How many messages are in one piece, and the piece's next hop's domain.
+AT_ONCE = 100
+# What memory may grow by while mail goes through, in octets: what a run keeps doesn't grow with what has left.
+MOST_GROWN = 4 << 20
+
+
+def batch(domain, count, octets=b"Subject: much mail\r\n\r\ntext\r\n"):
+    """So many messages for a domain, each in one chunk: no reply has to be waited for."""
+    one = b"MAIL FROM:<a@example.org>\r\nRCPT TO:<b@%b>\r\nBDAT %d LAST\r\n%b"
+    return one % (domain.encode(), len(octets), octets) * count
+
+
+def pour(relay, domains, count, address="127.0.0.1"):
+    """Hands in so many messages for these domains in turn, at one connection."""
+    with Client(relay, address) as client:
+        client.begin()
+        for number in range(count // AT_ONCE):
+            client.link.sendall(batch(domains[number % len(domains)], AT_ONCE))
+            replies = [client.reply() for _ in range(3 * AT_ONCE)]
+            same("replies that aren't 250", [reply for reply in replies if reply[:4] != "250 "], [])
+
+
+def descriptors(process):
+    return len(list(pathlib.Path(f"/proc/{process.pid}/fd").iterdir()))
+
+
+def switches(process):
+    """How often a process has gone to sleep so far."""
+    text = pathlib.Path(f"/proc/{process.pid}/status").read_text()
+    return int(re.search(r"^voluntary_ctxt_switches:\s+(\d+)", text, re.M)[1])
+
+
+# The rows. Each says in its name what holds.
+
+
+def mail_for_63_hops_that_are_away_holds_up_no_other(field):
+    """A new message for a hop that is there leaves within a second, whatever is due elsewhere."""
+    away = {f"away-{number}.example": (f"hop-{number}.example", free_port()) for number in range(AWAY)}
+    relay = field.relay(more=away, spool_limit=1 << 30)
+    with relay.running("--quiet") as process, clients_of(relay, 1, "127.0.0.2") as [client]:
+        pour(relay, list(away), DUE)
+        waits = []
+        for _ in range(20):
+            begun = time.monotonic()
+            client.hand_in()
+            field.arrived(1)
+            waits.append(time.monotonic() - begun)
+            time.sleep(0.1)
+        if max(waits) > SOON:
+            raise Difference(f"a message waits {max(waits):.2f} s beside {DUE} that are due")
+        held = len(relay.held())
+        if held != DUE // AT_ONCE * AT_ONCE:
+            raise Difference(f"{held} messages wait, of {DUE}")
+        comes_to_rest(process, "beside hops that are away")
+
+
+def memory_and_descriptors_stay_as_mail_goes_through(field):
+    relay = field.relay(sessions_per_client=64)
+    with relay.running("--quiet") as process:
+        seen = []
+        for part in range(4):
+            threads = [threading.Thread(target=pour, args=(relay, ["example.org"], THROUGH // 32)) for _ in range(8)]
+            for thread in threads:
+                thread.start()
+            for thread in threads:
+                thread.join()
+            field.sink.wait_for(THROUGH // 32 // AT_ONCE * AT_ONCE * 8, 10 * PATIENCE)
+            field.sink.take_all()
+            until("an empty list", lambda: relay.held() == [])
+            comes_to_rest(process, "behind much mail")
+            until("descriptors of none but itself", lambda: part == 0 or descriptors(process) == seen[0][1])
+            seen.append((resident(process), descriptors(process)))
+        # The first part takes what the relay takes for itself.
+        grown = seen[-1][0] - seen[1][0]
+        if grown > MOST_GROWN:
+            raise Difference(f"{THROUGH // 2} messages that have left cost {grown} octets")
+
+
+def at_rest_it_sleeps(field):
+    relay = field.relay()
+    with relay.running() as process, clients_of(relay, 3):
+        hand_in(relay)
+        field.arrived(1)
+        until("an empty list", lambda: relay.held() == [])
+        comes_to_rest(process, "with clients that are idle")
+        before = switches(process)
+        time.sleep(5)
+        # One wake-up a minute, and the timers of three clients, which are later.
+        if switches(process) > before + 1:
+            raise Difference(f"it wakes up {switches(process) - before} times in five seconds")
+
+
+ROWS = [
+    mail_for_63_hops_that_are_away_holds_up_no_other,
+    memory_and_descriptors_stay_as_mail_goes_through,
+    at_rest_it_sleeps,
+]
+
+
+if __name__ == "__main__":
+    play_rows("run_load", ROWS)
