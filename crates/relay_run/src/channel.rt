@@ -1,3 +1,6 @@
+ghost use Rattle.std.specs.Prelude.{◌≡◌, false, true};
+ghost use Rattle.relay_run.specs.Readiness.{HasUnread};
+
 use crate::block::{BLOCK_SIZE, Block};
 use mio::event::Event;
 use mio::net::TcpStream;
@@ -128,7 +131,9 @@ impl Channel {
     }
 
     /// Whether something can be done with it at once, where octets wait to be written to it or don't.
-    pub(crate) fn is_ready(&self, waits: bool) -> bool {
+    pub(crate) fn is_ready(&self, waits: bool) -> bool
+        ensures { HasUnread self.now.block → waits ≡ false → result ≡ true }
+    {
         if self.end == Some(End::Broken) {
             true
         } else if waits {

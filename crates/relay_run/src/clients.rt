@@ -1,3 +1,6 @@
+ghost use Rattle.std.specs.Prelude.{◌≡◌, ℕ, true};
+ghost use Rattle.relay_run.specs.Readiness.{IsLeftClient};
+
 use crate::channel::{Channel, Readiness};
 use crate::client::{Client, Intake, Next, cut_off, drop_session};
 use crate::clocks::Now;
@@ -301,7 +304,9 @@ impl Clients {
     }
 
     /// Whether one is left with something to be done at once.
-    pub(crate) fn is_ready(&self, relay: &Relay<FileDisk>) -> bool {
+    pub(crate) fn is_ready(&self, relay: &Relay<FileDisk>) -> bool
+        ensures { (number : ℕ) → IsLeftClient self.now.clients relay.now number → result ≡ true }
+    {
         for (number, slot) in self.clients.as_slice().iter().enumerate() {
             if let Some(client) = slot {
                 if client.channel.is_ready(!relay.to_client(number).is_empty()) {
