@@ -428,17 +428,17 @@ module _ {D : Type 0} (honest : Type 0) (words : DiskWords D) where
 
   module _ (old new : World D) (lists : List (List Change)) (node : ℕ) (pieces : List Piece)
       (bound : IsBound honest words old lists) (heard : HasHeardAll honest words old new node pieces) where
-    abbrev changes : List Change
+    abbrev pub changes : List Change
     changes = (first old lists node bound heard.before old.clock pieces heard.heard heard.row heard.each heard.staged).0
 
-    abbrev unsettled : Unsettled old lists node changes heard.heard heard.row
+    abbrev pub unsettled : Unsettled old lists node changes heard.heard heard.row
     unsettled = last old lists node bound heard.before old.clock pieces heard.heard heard.row heard.each heard.staged
 
-    awaits : Awaits honest words heard.staged.now.records changes unsettled.pending heard.row
+    pub awaits : Awaits honest words heard.staged.now.records changes unsettled.pending heard.row
     awaits = last_awaits old lists node bound heard.before old.clock pieces heard.heard heard.row heard.each
         heard.staged
 
-    settled : Settles honest words heard.after.records changes unsettled.pending heard.row.notes
+    pub settled : Settles honest words heard.after.records changes unsettled.pending heard.row.notes
     settled = heard.settles changes unsettled.pending awaits
 
     pub stays : StaysUp ⊥ words heard.heard new node
@@ -463,7 +463,7 @@ module _ {D : Type 0} (honest : Type 0) (words : DiskWords D) where
       rest = heard.rest;
     }
 
-    hearing_all : (later : List (List Change)) × IsBound honest words new later
+    abbrev pub hearing_all : (later : List (List Change)) × IsBound honest words new later
     hearing_all = (
       unsettled.later,
       settled_keeps old lists node changes heard.heard new heard.row unsettled bound

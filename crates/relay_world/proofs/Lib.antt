@@ -64,4 +64,5 @@ mod CrashRestLemmas
 mod GroupLemmas
 mod ReopenGroupLemmas
 mod GroupOnceLemmas
+mod LosingLemmas
 pub mod Theorems
