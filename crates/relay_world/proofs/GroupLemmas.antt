@@ -28,7 +28,7 @@ use Rattle.relay_world.specs.Steps.{EndsSession, IsPut, SessionOf, waiting_up}
 use Rattle.relay_world.specs.Stops.{StaysUp}
 use Rattle.relay_world.specs.World.{Down, Host, HostState, Up, World}
 use Rattle.relay_world.proofs.EndLemmas.{ending_keeps}
-use Rattle.relay_world.proofs.HearLemmas.{TakesMail, Talk, heard_accept, heard_nothing, listed, says_before, was}
+use Rattle.relay_world.proofs.TalkLemmas.{TakesMail, Talk, heard_accept, heard_nothing, listed, says_before, was}
 use Rattle.relay_world.proofs.OpenLemmas.{list_there, node_kept, same_Up}
 use Rattle.relay_world.proofs.PieceLemmas.{with_at, with_at-put}
 use Rattle.relay_world.proofs.StayUpLemmas.{staying_up_keeps}

@@ -8,6 +8,7 @@ mod UndecidedLemmas
 mod MoveLemmas
 mod OpenLemmas
 mod PieceLemmas
+mod TalkLemmas
 mod HearLemmas
 mod LinkLemmas
 mod WriteLemmas
