@@ -138,7 +138,8 @@ module _ {D : Type 0} (honest : Type 0) (words : DiskWords D) where
       pub other_lists : (other : ℕ) → other ≢ node → slice_get later other ≡ slice_get lists other
 
     -- so it is at first
-    abbrev pub unsettled_first : IsBound honest words old lists → (is : IsUp old node) → slice_get lists node ≡ Some changes
+    abbrev pub unsettled_first : IsBound honest words old lists → (is : IsUp old node)
+        → slice_get lists node ≡ Some changes
         → Keeps honest words is.now.records changes → Unsettled old no_row
     unsettled_first bound is list_at keeps = record {
       later = lists;

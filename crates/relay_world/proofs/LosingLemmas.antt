@@ -1,4 +1,5 @@
--- What a group of accepts doesn't let through: a record that isn't in the row, and a row that doesn't come into the spool.
+-- What a group of accepts doesn't let through: a record that isn't in the row, and a row that doesn't come into the
+-- spool.
 use Rattle.std.proofs.Common.{◌≡◌, ◌+◌, ℕ, List, [], ◌++◌, length, map, Option, None, Some, refl, sym, ap, ◌∙◌, arith}
 use Rattle.std.specs.Prelude.{slice_get}
 use Rattle.std.proofs.lemmas.List.{append-nil, length-append, length-map}
@@ -40,7 +41,8 @@ losing_record_breaks honest words at old new node piece row left changes pending
     none_staged (length changes + length pending + 1) hears.received.change pending behind.more behind.staged
     (sym behind.awaits.row_is ∙ same ∙ awaits.row_is)
 
-module _ {D : Type 0} (honest : Type 0) (words : DiskWords D) (h : honest) (old new : World D) (lists : List (List Change))
+module _ {D : Type 0} (honest : Type 0) (words : DiskWords D) (h : honest) (old new : World D)
+    (lists : List (List Change))
     (node : ℕ) (pieces : List Piece) (changes : List Change) (bound : IsBound honest words old lists)
     (hears : HasHeardAll honest words old new node pieces) (stands : StandsAt old lists node hears.before.host changes)
     (spool : StandsFor hears.after.records.spool.bodies changes) where
@@ -82,7 +84,8 @@ module _ {D : Type 0} (honest : Type 0) (words : DiskWords D) (h : honest) (old 
       now.1.ledger node (its ++ pending) list_at
       ∙ ap (λ l. steps_of (its ++ l)) none_pending ∙ ap steps_of (append-nil its) ∙ sym (bound.ledger node its its_at)
     where
-      list_at : slice_get (hearing_all honest words old new lists node pieces bound hears).0 node ≡ Some (its ++ pending)
+      list_at : slice_get (hearing_all honest words old new lists node pieces bound hears).0 node ≡ Some
+          (its ++ pending)
       list_at = (unsettled honest words old new lists node pieces bound hears).list_at
 
 pub losing_row_breaks : {D : Type 0} (honest : Type 0) (words : DiskWords D) → LosingRowBreaks honest words

@@ -83,8 +83,8 @@ pub fn forgetting_breaks<D: Disk>()
     ensures { ForgettingBreaks D.honest D.words }
 {}
 
-/// A node that answers a client that its mail was accepted, while the record isn't in the row that comes into the spool,
-/// does none of what events do.
+/// A node that answers a client that its mail was accepted, while the record isn't in the row that comes into the
+/// spool, does none of what events do.
 pub fn losing_record_breaks<D: Disk>()
     ensures { LosingRecordBreaks D.honest D.words }
 {}
