@@ -28,7 +28,7 @@ use Rattle.relay_world.specs.Steps.{EndsSession, IsPut, SessionOf, waiting_up}
 use Rattle.relay_world.specs.Stops.{StaysUp}
 use Rattle.relay_world.specs.World.{Down, Host, HostState, Up, World}
 use Rattle.relay_world.proofs.EndLemmas.{ending_keeps}
-use Rattle.relay_world.proofs.HearLemmas.{TakesMail, Talk, heard_accept, heard_nothing, listed, says_before, was}
+use Rattle.relay_world.proofs.TalkLemmas.{TakesMail, Talk, heard_accept, heard_nothing, listed, says_before, was}
 use Rattle.relay_world.proofs.OpenLemmas.{list_there, node_kept, same_Up}
 use Rattle.relay_world.proofs.PieceLemmas.{with_at, with_at-put}
 use Rattle.relay_world.proofs.StayUpLemmas.{staying_up_keeps}
@@ -138,7 +138,8 @@ module _ {D : Type 0} (honest : Type 0) (words : DiskWords D) where
       pub other_lists : (other : ℕ) → other ≢ node → slice_get later other ≡ slice_get lists other
 
     -- so it is at first
-    abbrev pub unsettled_first : IsBound honest words old lists → (is : IsUp old node) → slice_get lists node ≡ Some changes
+    abbrev pub unsettled_first : IsBound honest words old lists → (is : IsUp old node)
+        → slice_get lists node ≡ Some changes
         → Keeps honest words is.now.records changes → Unsettled old no_row
     unsettled_first bound is list_at keeps = record {
       later = lists;
@@ -428,17 +429,17 @@ module _ {D : Type 0} (honest : Type 0) (words : DiskWords D) where
 
   module _ (old new : World D) (lists : List (List Change)) (node : ℕ) (pieces : List Piece)
       (bound : IsBound honest words old lists) (heard : HasHeardAll honest words old new node pieces) where
-    abbrev changes : List Change
+    abbrev pub changes : List Change
     changes = (first old lists node bound heard.before old.clock pieces heard.heard heard.row heard.each heard.staged).0
 
-    abbrev unsettled : Unsettled old lists node changes heard.heard heard.row
+    abbrev pub unsettled : Unsettled old lists node changes heard.heard heard.row
     unsettled = last old lists node bound heard.before old.clock pieces heard.heard heard.row heard.each heard.staged
 
-    awaits : Awaits honest words heard.staged.now.records changes unsettled.pending heard.row
+    pub awaits : Awaits honest words heard.staged.now.records changes unsettled.pending heard.row
     awaits = last_awaits old lists node bound heard.before old.clock pieces heard.heard heard.row heard.each
         heard.staged
 
-    settled : Settles honest words heard.after.records changes unsettled.pending heard.row.notes
+    pub settled : Settles honest words heard.after.records changes unsettled.pending heard.row.notes
     settled = heard.settles changes unsettled.pending awaits
 
     pub stays : StaysUp ⊥ words heard.heard new node
@@ -463,7 +464,7 @@ module _ {D : Type 0} (honest : Type 0) (words : DiskWords D) where
       rest = heard.rest;
     }
 
-    hearing_all : (later : List (List Change)) × IsBound honest words new later
+    abbrev pub hearing_all : (later : List (List Change)) × IsBound honest words new later
     hearing_all = (
       unsettled.later,
       settled_keeps old lists node changes heard.heard new heard.row unsettled bound

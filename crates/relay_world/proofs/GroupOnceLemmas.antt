@@ -1,4 +1,5 @@
--- Links that a node hears one behind another, and its opening behind a stop in that, keep a place from being tried twice.
+-- Links that a node hears one behind another, and its opening behind a stop in that, keep a place from being tried
+-- twice.
 use Rattle.std.proofs.Common.{inl, inr, ℕ, List, [], ◌∷◌, Option, None, Some, refl, sym, subst}
 use Rattle.relay_disk.specs.Device.{DiskWords}
 use Rattle.relay_book.specs.declared.change.Change.{Change}
@@ -50,7 +51,8 @@ module _ {D : Type 0} (honest : Type 0) (words : DiskWords D) where
                 unsettled = unsettled;
                 once = heard_of ⊥ words world next was.unsettled.later unsettled.later was.unsettled.bound was.once
                     unsettled.bound piece.number hears.of
-                    (heard_link hears.of.link hears.of.end hears.of.session hears.received) _ refl hears.links hears.rest.0
+                    (heard_link hears.of.link hears.of.end hears.of.session hears.received) _ refl hears.links
+                    hears.rest.0
                     hears.after hears.received.change
                     (taken_into at world next node piece row more hears hears.received.change hears.accepts);
               }
@@ -69,7 +71,8 @@ module _ {D : Type 0} (honest : Type 0) (words : DiskWords D) where
   once_heard : (old : World D) (lists : List (List Change)) (node : ℕ) (bound : IsBound honest words old lists)
       → IsTriedOnce old lists → (before : IsUp old node) (at : ℕ) (pieces : List Piece) (heard : World D) (row : Row)
       (each : HasHeardEach honest words at old heard node pieces no_row row) (staged : IsUp heard node)
-      → OnceUnsettled old lists node (first honest words old lists node bound before at pieces heard row each staged).0 heard row
+      → OnceUnsettled old lists node (first honest words old lists node bound before at pieces heard row each
+      staged).0 heard row
   once_heard old lists node bound once before at pieces heard row each staged =
       let its_list = first honest words old lists node bound before at pieces heard row each staged in
       let kept = first_kept honest words old lists node bound before at pieces heard row each staged in
@@ -78,7 +81,8 @@ module _ {D : Type 0} (honest : Type 0) (words : DiskWords D) where
         once = once;
       }) each
 
-  pub heard_all : (old new : World D) (lists later : List (List Change)) → IsBound honest words old lists → IsTriedOnce old lists
+  pub heard_all : (old new : World D) (lists later : List (List Change)) → IsBound honest words old lists
+      → IsTriedOnce old lists
       → IsBound honest words new later → (node : ℕ) (pieces : List Piece)
       → HasHeardAll honest words old new node pieces → IsTriedOnce new later
   heard_all old new lists later bound once now node pieces hears =
@@ -89,7 +93,8 @@ module _ {D : Type 0} (honest : Type 0) (words : DiskWords D) where
 
   -- a node of the world that is opened again
   opened_again : (world new : World D) (lists later : List (List Change)) → IsBound honest words world lists
-      → IsTriedOnce world lists → IsBound honest words new later → (node : ℕ) (is : IsUp world node) (after : NodeState D)
+      → IsTriedOnce world lists → IsBound honest words new later → (node : ℕ) (is : IsUp world node)
+      (after : NodeState D)
       → IsOpenedAgain world new node is.host after → IsTriedOnce new later
   opened_again world new lists later bound once now node is after again =
       let then : World D = record (lets_go node world) { hosts = again.hosts } in
@@ -99,19 +104,23 @@ module _ {D : Type 0} (honest : Type 0) (words : DiskWords D) where
       let_go honest words world (lets_go node world) lists lists bound once gone node (hangs node world) in
       let there : IsBound honest words then later = subst (λ w. IsBound honest words w later) again.new_is now in
       subst (λ w. IsTriedOnce w later) (sym again.new_is)
-      (state_alone honest words (lets_go node world) then lists later gone still there node is.host (Up after) is.host_at
+      (state_alone honest words (lets_go node world) then lists later gone still there node is.host
+      (Up after) is.host_at
       again.put refl refl refl
-      (given_up_at honest words (lets_go node world) then lists later gone still there node is.host after is.host.records
+      (given_up_at honest words (lets_go node world) then lists later gone still there node is.host after
+      is.host.records
       again.put))
 
-pub reopened_behind : {D : Type 0} (honest : Type 0) (words : DiskWords D) (old new : World D) (lists later : List (List Change))
+pub reopened_behind : {D : Type 0} (honest : Type 0) (words : DiskWords D) (old new : World D)
+    (lists later : List (List Change))
     → IsBound honest words old lists → IsTriedOnce old lists → IsBound honest words new later → (node : ℕ)
     (pieces : List Piece) → HasReopenedBehindGroup honest words old new node pieces → IsTriedOnce new later
 reopened_behind honest words old new lists later bound once now node pieces reopens = elim reopens.decides [
   | inl none ↦
       opened_again honest words old new lists later bound once now node reopens.before reopens.after none.1
   | inr all ↦
-      let last = once_heard honest words old lists node bound once reopens.before reopens.at pieces reopens.heard reopens.row
+      let last = once_heard honest words old lists node bound once reopens.before reopens.at pieces reopens.heard
+      reopens.row
       reopens.each reopens.staged in
       opened_again ⊥ words reopens.heard new last.unsettled.later later last.unsettled.bound last.once
       (bound_unsaid honest words new later now) node reopens.staged reopens.after all.1

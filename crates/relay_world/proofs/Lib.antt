@@ -8,6 +8,7 @@ mod UndecidedLemmas
 mod MoveLemmas
 mod OpenLemmas
 mod PieceLemmas
+mod TalkLemmas
 mod HearLemmas
 mod LinkLemmas
 mod WriteLemmas
@@ -64,4 +65,5 @@ mod CrashRestLemmas
 mod GroupLemmas
 mod ReopenGroupLemmas
 mod GroupOnceLemmas
+mod LosingLemmas
 pub mod Theorems

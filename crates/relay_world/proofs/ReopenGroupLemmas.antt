@@ -19,7 +19,7 @@ use Rattle.relay_world.proofs.HangUpLemmas.{hanging_up_keeps}
 use Rattle.relay_world.proofs.StopLemmas.{state_moved}
 use Rattle.relay_world.proofs.UndecidedLemmas.{up_not_down}
 
-none_of : (pending : List Change) → length pending ≡ 0 → pending ≡ []
+pub none_of : (pending : List Change) → length pending ≡ 0 → pending ≡ []
 none_of [] same = refl
 none_of (one ∷ pending) same = absurd (omega (arith, same))
 

@@ -104,7 +104,8 @@ pub data Happens {D : Type 0} (honest : Type 0) (words : DiskWords D) (old new :
   Opens : (node : ℕ) (peer : List ℕ) → HasOpened old new node peer → Happens honest words old new
   Writes : (number : ℕ) (octets : List ℕ) → HasWritten old new number octets → Happens honest words old new
   Hears : (number count : ℕ) → HasHeard honest words old new number count → Happens honest words old new
-  HearsAll : (node : ℕ) (pieces : List Piece) → HasHeardAll honest words old new node pieces → Happens honest words old new
+  HearsAll : (node : ℕ) (pieces : List Piece) → HasHeardAll honest words old new node pieces
+      → Happens honest words old new
   Ends : (number : ℕ) → EndsSession old new number → Happens honest words old new
   Reads : (number count : ℕ) → HasRead honest words old new number count → Happens honest words old new
   Loses : (number change : ℕ) → HasLost honest words old new number change → Happens honest words old new
