@@ -61,4 +61,6 @@ mod CrashLemmas
 mod CrashEndLemmas
 mod CrashRunLemmas
 mod CrashRestLemmas
+mod GroupLemmas
+mod ReopenGroupLemmas
 pub mod Theorems

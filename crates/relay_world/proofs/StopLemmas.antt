@@ -24,7 +24,7 @@ module _ {D : Type 0} (honest : Type 0) (words : DiskWords D) (old new : World D
     (bound : IsBound honest words old lists) (host : Host D) (changes : List Change)
     (stands : StandsAt old lists node host changes) (state : HostState D)
     (hosts : IsPut old.hosts new.hosts node (record host { state = state })) (rest : OnlyHostsChange old new) where
-  state_moved : NoSession old node → NoAttempt old node → StateKeeps honest words host.config state changes
+  pub state_moved : NoSession old node → NoAttempt old node → StateKeeps honest words host.config state changes
       → ((disk : Disks D) (undecided : Undecided) → state ≡ Down disk (Some undecided)
       → MayBeIn new node (record host { state = state }) changes undecided) → IsBound honest words new lists
   state_moved no_session no_attempt holds may_be_in =

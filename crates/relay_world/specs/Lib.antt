@@ -20,3 +20,4 @@ pub mod Growth
 pub mod Promise
 pub mod Crashes
 pub mod CrashRuns
+pub mod Groups

@@ -5,6 +5,7 @@ ghost use Rattle.relay_world.specs.HangUp.{HangingUpEnds, HangingUpKeeps};
 ghost use Rattle.relay_world.specs.Stops.{DownIsNotRefused, ReopeningKeeps, StayingDownKeeps, StayingUpKeeps, StoppingGivingUpKeeps, StoppingHearingKeeps, StoppingKeeps, StoppingLosingKeeps, StoppingReadingKeeps};
 ghost use Rattle.relay_world.specs.Steps.{BreakingKeeps, DroppingKeeps, EndingKeeps, GivingUpKeeps, HearingKeeps, LosingKeeps, OpeningKeeps, ReadingKeeps, StartingKeeps, TickingKeeps, WritingKeeps};
 ghost use Rattle.relay_world.specs.Crashes.{CrashingInHearingKeeps, CrashingInLosingKeeps, CrashingInReadingKeeps};
+ghost use Rattle.relay_world.specs.Groups.{HearingAllKeeps, ReopeningBehindGroupKeeps};
 
 use relay_disk::Disk;
 
@@ -33,6 +34,12 @@ pub fn writing_keeps<D: Disk>()
 /// Octets that a node hears from a client keep a world bound: where mail is accepted, with one change more.
 pub fn hearing_keeps<D: Disk>()
     ensures { HearingKeeps D.honest D.words }
+{}
+
+/// Octets that a node hears on several links, one behind another, keep a world bound, where the records of all mail
+/// that it accepted then come into its spool together: with a change more for each.
+pub fn hearing_all_keeps<D: Disk>()
+    ensures { HearingAllKeeps D.honest D.words }
 {}
 
 /// A session that is gone keeps a world bound.
@@ -115,6 +122,12 @@ pub fn staying_down_keeps<D: Disk>()
 /// it.
 pub fn reopening_keeps<D: Disk>()
     ensures { D.honest → ReopeningKeeps D.honest D.words }
+{}
+
+/// A node that stopped while the records of several accepts were brought into its spool together, and is opened
+/// again on honest disks, keeps a world bound: without all of them, or with all.
+pub fn reopening_behind_group_keeps<D: Disk>()
+    ensures { D.honest → ReopeningBehindGroupKeeps D.honest D.words }
 {}
 
 /// A node that is down isn't refused for the octets of its disks, where they are honest.

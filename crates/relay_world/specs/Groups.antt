@@ -1,0 +1,150 @@
+-- What a node does that hears several links one behind another, where what it accepts comes into its records together:
+-- all of it, or behind a stop none.
+use Rattle.std.specs.Prelude.{◌≡◌, ◌⊎◌, ◌≤◌, ℕ, true, List, [], ◌∷◌, ◌++◌, length, Option, Some, None, slice_get}
+use Rattle.std.specs.List.{AllByRecursion}
+use Rattle.relay_disk.specs.Device.{DiskWords}
+use Rattle.relay_disk.specs.declared.disks.Disks.{Disks}
+use Rattle.relay_book.specs.declared.change.Change.{Change}
+use Rattle.relay_node.specs.declared.receive.Received.{Received}
+use Rattle.relay_node.specs.Node.{IsIdle, NodeState}
+use Rattle.relay_node.specs.Staging.{ReceivesBehind}
+use Rattle.relay_records.specs.declared.noted.Noted.{Noted}
+use Rattle.relay_records.specs.Open.{Opens}
+use Rattle.relay_records.specs.Records.{Kept}
+use Rattle.relay_records.specs.Staged.{Awaits, CutsAll, Row, Settles, no_row}
+use Rattle.relay_slots.specs.Slots.{OthersStay}
+use Rattle.relay_world.specs.declared.line.Line.TheVariants.{Accepted}
+use Rattle.relay_world.specs.declared.link.Link.{Link}
+use Rattle.relay_world.specs.Bound.{IsBound}
+use Rattle.relay_world.specs.Crashes.{let_go}
+use Rattle.relay_world.specs.Steps.{EndsSession, IsPut, IsPutAt, SessionOf, heard_link, waiting_up}
+use Rattle.relay_world.specs.Stops.{IsLeftBy, OnlyHostsChange}
+use Rattle.relay_world.specs.World.{Host, Up, World, link_at}
+
+-- a link, by its number, and how many of the octets that wait on it were carried
+pub record Piece : Type 0 where
+  pub number : ℕ
+  pub count : ℕ
+
+-- a node of this place, which is up
+pub record IsUp {D : Type 0} (world : World D) (node : ℕ) : Type 0 where
+  pub host : Host D
+  pub host_at : slice_get world.hosts node ≡ Some host
+  pub now : NodeState D
+  pub up : host.state ≡ Up now
+
+-- The node of a world is opened again and is this now: its sessions are gone, its attempts dropped, and its links
+-- broken.
+pub record IsOpenedAgain {D : Type 0} (world new : World D) (node : ℕ) (host : Host D) (after : NodeState D)
+    : Type 0 where
+  pub hosts : List (Host D)
+  pub put : IsPut world.hosts hosts node (record host { state = Up after })
+  pub as_many : length hosts ≡ length world.hosts
+  pub idle : IsIdle host.config after
+  pub new_is : new ≡ record (let_go node world) { hosts = hosts }
+
+-- where the piece's link is there, it is broken
+abbrev pub IsOnBroken : List Link → Piece → Type 0
+IsOnBroken links piece = (link : Link) → link_at links piece.number ≡ Some link → link.broken ≡ true
+
+module _ {D : Type 0} (honest : Type 0) (words : DiskWords D) where
+  -- the note stands behind those of the row
+  abbrev pub IsNotedBehind : Kept D → Row → Row → Noted → Type 0
+  IsNotedBehind old row left note =
+      (changes pending : List Change) → Awaits honest words old changes pending row
+      → left.notes ≡ row.notes ++ note ∷ []
+
+  -- What a node that heard octets has accepted: nothing; or mail of this number, whose record is in the row, and in its
+  -- spool not yet.
+  abbrev pub AcceptsInto
+      : (old new : World D) → (number : ℕ) → SessionOf old number → NodeState D → Row → Row → Option ℕ → Type 0
+  AcceptsInto old new number of after row left None =
+      IsPut old.hosts new.hosts of.end.node (record of.host { state = Up after }) × (new.ledger ≡ old.ledger)
+  AcceptsInto old new number of after row left (Some change) =
+      (noted : Noted) × IsNotedBehind of.before.records row left noted
+      × IsPut old.hosts new.hosts of.end.node
+      (record of.host { state = Up after; records = of.host.records ++ noted.octets ∷ [] })
+      × (new.ledger ≡ old.ledger ++ Accepted of.end.node change noted.accepted number ∷ [])
+
+  -- A node has heard octets of a link at a moment, by one call, without a fault, and put the record of what it accepted
+  -- behind a row. Outside sees nothing of it yet.
+  pub record HasHeardInto (at : ℕ) (old new : World D) (node : ℕ) (piece : Piece) (row left : Row) : Type 0 where
+    pub of : SessionOf old piece.number
+    pub its_node : of.end.node ≡ node
+    pub after : NodeState D
+    pub received : Received
+    pub receives : (changes pending : List Change) → Awaits honest words of.before.records changes pending row
+        → ReceivesBehind honest words of.before.config changes pending at of.session (waiting_up piece.count of.link)
+        of.before row after left received
+    pub used : received.used ≤ length (waiting_up piece.count of.link)
+    pub others : OthersStay of.before.seats after.seats of.session
+    pub config : after.config ≡ of.before.config
+    pub attempts : after.attempts ≡ of.before.attempts
+    pub links : IsPutAt old.links new.links piece.number (heard_link of.link of.end of.session received)
+    pub accepts : AcceptsInto old new piece.number of after row left received.change
+    pub rest : (new.attempts ≡ old.attempts) × (new.clock ≡ old.clock) × (length new.hosts ≡ length old.hosts)
+
+  -- So it has; or the session is gone, since there was no memory or no number for it, and the row is the same.
+  abbrev pub HasHeardOrEnded : ℕ → World D → World D → ℕ → Piece → Row → Row → Type 0
+  HasHeardOrEnded at old new node piece row left =
+      HasHeardInto at old new node piece row left
+      ⊎ ((ends : EndsSession old new piece.number) × (ends.of.end.node ≡ node) × (left ≡ row))
+
+  -- the same of each of these, one behind another
+  abbrev pub HasHeardEach : ℕ → World D → World D → ℕ → List Piece → Row → Row → Type 0
+  HasHeardEach at old new node [] row left = (new ≡ old) × (left ≡ row)
+  HasHeardEach at old new node (piece ∷ pieces) row left =
+      (next : World D) × (more : Row) × HasHeardOrEnded at old next node piece row more
+      × HasHeardEach at next new node pieces more left
+
+  -- A node has heard these links, one behind another, and then has brought the records of all that it accepted into its
+  -- spool. What it writes is on the links, unless they broke in the call.
+  pub record HasHeardAll (old new : World D) (node : ℕ) (pieces : List Piece) : Type 0 where
+    pub before : IsUp old node
+    pub heard : World D
+    pub row : Row
+    pub each : HasHeardEach old.clock old heard node pieces no_row row
+    pub staged : IsUp heard node
+    pub after : NodeState D
+    pub settles : (changes pending : List Change) → Awaits honest words staged.now.records changes pending row
+        → Settles honest words after.records changes pending row.notes
+    pub noted : after.records.noted ≡ staged.now.records.noted
+    pub config : after.config ≡ staged.now.config
+    pub seats : after.seats ≡ staged.now.seats
+    pub attempts : after.attempts ≡ staged.now.attempts
+    pub hosts : IsPut heard.hosts new.hosts node (record staged.host { state = Up after })
+    pub rest : OnlyHostsChange heard new
+
+  -- A node has stopped while the records of all that it had accepted were brought into its spool, and now is opened
+  -- again. In between it did nothing, so this is one event at its opening. Its links broke in the call, so nobody was
+  -- handed what it would have written. Where its next number is as before it heard them, none of the records is there,
+  -- and it is as if it had heard nothing; and where it comes behind all of them, all are there.
+  pub record HasReopenedBehindGroup (old new : World D) (node : ℕ) (pieces : List Piece) : Type 0 where
+    pub before : IsUp old node
+    pub broken : AllByRecursion (IsOnBroken old.links) pieces
+    pub at : ℕ
+    pub heard : World D
+    pub row : Row
+    pub each : HasHeardEach at old heard node pieces no_row row
+    pub staged : IsUp heard node
+    pub stopped : Kept D
+    pub cuts : (changes pending : List Change) → Awaits honest words staged.now.records changes pending row
+        → CutsAll honest words stopped changes pending row.notes
+    pub disk : Disks D
+    pub left : IsLeftBy honest words stopped disk
+    pub after : NodeState D
+    pub opens : Opens honest words disk after.records
+    pub decides : ((after.records.queue.next ≡ before.now.records.queue.next)
+        × IsOpenedAgain old new node before.host after)
+        ⊎ ((after.records.queue.next ≡ stopped.queue.next) × IsOpenedAgain heard new node staged.host after)
+
+  -- Both keep a world bound.
+  abbrev pub HearingAllKeeps : Type 0
+  HearingAllKeeps =
+      (old new : World D) (lists : List (List Change)) (node : ℕ) (pieces : List Piece) → IsBound honest words old lists
+      → HasHeardAll old new node pieces → (later : List (List Change)) × IsBound honest words new later
+
+  abbrev pub ReopeningBehindGroupKeeps : Type 0
+  ReopeningBehindGroupKeeps =
+      (old new : World D) (lists : List (List Change)) (node : ℕ) (pieces : List Piece) → IsBound honest words old lists
+      → HasReopenedBehindGroup old new node pieces → (later : List (List Change)) × IsBound honest words new later
