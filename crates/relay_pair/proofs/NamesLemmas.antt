@@ -8,7 +8,7 @@ use Rattle.relay_node.specs.Node.{NodeState}
 use Rattle.relay_routes.specs.declared.config.Config.{Config}
 use Rattle.relay_world.specs.declared.attempt.Fate.{Fate}
 use Rattle.relay_world.specs.declared.attempt.Fate.TheVariants.{Lost, Replied}
-use Rattle.relay_world.specs.Once.{BreaksOff, Drops, Ends, GivesUp, GoesOn, Happen, Happens, Hears, IsNotOpened, LetsGo, Loses, Opens, Reads, Reopens, Starts, Stops, StopsInGivingUp, StopsInHearing, StopsInLosing, StopsInReading, Ticks, Writes}
+use Rattle.relay_world.specs.Once.{BreaksOff, Closes, Drops, Ends, GivesUp, GoesOn, Happen, Happens, Hears, IsNotOpened, LetsGo, Loses, Opens, Reads, Reopens, Starts, Stops, StopsInGivingUp, StopsInHearing, StopsInLosing, StopsInReading, Ticks, Writes}
 use Rattle.relay_world.specs.Steps.{AttemptOf, IsPut, RecordsHeard, RecordsOutcome, RecordsRead, without_note}
 use Rattle.relay_world.specs.Stops.{Decides, DropsAtStop}
 use Rattle.relay_records.specs.Records.{Kept}
@@ -98,6 +98,9 @@ module _ {D : Type 0} where
     event_names (Ends number ends) =
         names_put old.hosts new.hosts ends.of.end.node ends.of.host (record ends.of.host { state = Up ends.after })
         ends.of.host_at ends.hosts refl
+    event_names (Closes number reply cuts) =
+        names_put old.hosts new.hosts cuts.ends.of.end.node cuts.ends.of.host
+        (record cuts.ends.of.host { state = Up cuts.ends.after }) cuts.ends.of.host_at cuts.ends.hosts refl
     event_names (Reads number count reads) = read number reads.of reads.after reads.replied.change reads.records
     event_names (Loses number change loses) = recorded number change loses.of loses.after (Lost change) loses.records
     event_names (Drops number drops) =

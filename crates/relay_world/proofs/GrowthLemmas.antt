@@ -6,6 +6,7 @@ use Rattle.std.proofs.lemmas.List.{append_assoc, append-nil}
 use Rattle.std.proofs.lemmas.Option.{same_Some}
 use Rattle.relay_octets.specs.Beginning.{Begins}
 use Rattle.relay_disk.specs.Device.{DiskWords}
+use Rattle.relay_lines.specs.Reply.{Reply, reply_text}
 use Rattle.relay_node.specs.Node.{NodeState}
 use Rattle.relay_records.specs.Records.{Kept}
 use Rattle.relay_world.specs.declared.attempt.Fate.{Fate}
@@ -13,8 +14,8 @@ use Rattle.relay_world.specs.declared.attempt.Fate.TheVariants.{Lost, Replied}
 use Rattle.relay_world.specs.declared.link.Link.{Link}
 use Rattle.relay_world.specs.Growth.{GrownListsBegin, HasGrown, LinkGrows, RunsGrow}
 use Rattle.relay_world.specs.HangUp.{HangsUp}
-use Rattle.relay_world.specs.Once.{BreaksOff, Drops, Ends, GivesUp, GoesOn, Happens, Hears, IsNotOpened, LetsGo, Loses, Opens, Reads, Reopens, Starts, Stops, StopsInGivingUp, StopsInHearing, StopsInLosing, StopsInReading, Ticks, Writes}
-use Rattle.relay_world.specs.Steps.{AttemptOf, IsPut, IsPutAt, RecordsHeard, RecordsOutcome, RecordsRead, WritesAs, heard_link, opened_link, read_link, unless_broken, without_note}
+use Rattle.relay_world.specs.Once.{BreaksOff, Drops, Ends, GivesUp, GoesOn, Happens, Hears, IsNotOpened, LetsGo, Loses, Opens, Reads, Reopens, Starts, Stops, StopsInGivingUp, StopsInHearing, StopsInLosing, StopsInReading, Ticks, Writes, Closes}
+use Rattle.relay_world.specs.Steps.{AttemptOf, IsPut, IsPutAt, RecordsHeard, RecordsOutcome, RecordsRead, WritesAs, heard_link, opened_link, read_link, unless_broken, without_note, EndsWith, ended_link, closed_down}
 use Rattle.relay_world.specs.Stops.{Decides, DropsAtStop, Finds, FindsOutcome, HasFound, cut_off_link}
 use Rattle.relay_world.specs.World.{Down, FromClient, FromLoss, FromNoHop, FromReplies, Host, Origin, Undecided, Up, World, link_at}
 use Rattle.relay_world.proofs.ClaimLemmas.{there_too}
@@ -224,6 +225,23 @@ module _ {D : Type 0} (old new : World D) where
         loose_grows was next.0 next.2,
       ))
 
+-- a session that is gone, with a reply behind all others or none
+closed_grows : (link : Link) (closing : Option Reply) → Begins link.down (closed_down link closing)
+closed_grows link None = same_begins link.down
+closed_grows link (Some reply) = (unless_broken link (reply_text reply), refl)
+
+session_gone : {D : Type 0} (old new : World D) (number : ℕ) (closing : Option Reply) → EndsWith old new number closing
+    → HasGrown old new
+session_gone old new number closing is =
+    grown old new (stays old new is.of.end.node is.of.host (record is.of.host { state = Up is.after }) is.of.host_at is.hosts refl)
+    (same_ledger old new is.rest.1)
+    (octets_of old new number is.of.link (ended_link is.of.link is.of.end closing) is.of.link_is is.links (record {
+      up = same_begins is.of.link.up;
+      down = closed_grows is.of.link closing;
+      up_read = omega arith;
+      down_read = omega arith;
+    }))
+
 -- each event, in a line
 event_grows : {D : Type 0} (honest : Type 0) (words : DiskWords D) (old new : World D) → Happens honest words old new
     → HasGrown old new
@@ -245,16 +263,8 @@ event_grows honest words old new (Hears number count is) =
       up_read = omega arith;
       down_read = omega arith;
     }))
-event_grows honest words old new (Ends number is) =
-    grown old new (stays old new is.of.end.node is.of.host (record is.of.host { state = Up is.after }) is.of.host_at is.hosts refl)
-    (same_ledger old new is.rest.1)
-    (octets_of old new number is.of.link (record is.of.link { server = Some (record is.of.end { session = None }) }) is.of.link_is
-    is.links (record {
-      up = same_begins is.of.link.up;
-      down = same_begins is.of.link.down;
-      up_read = omega arith;
-      down_read = omega arith;
-    }))
+event_grows honest words old new (Ends number is) = session_gone old new number None is
+event_grows honest words old new (Closes number reply is) = session_gone old new number (Some reply) is.ends
 event_grows honest words old new (Reads number count is) =
     read_on old new number is.of is.after is.replied.change is.records
     (octets_of old new number is.of.link (read_link is.of.link is.replied) is.of.link_is is.links (record {

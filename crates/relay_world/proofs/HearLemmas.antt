@@ -40,6 +40,7 @@ use Rattle.relay_world.specs.Ledger.{Accepts, accepts_on, steps_in, steps_of}
 use Rattle.relay_world.specs.Steps.{RecordsHeard, SessionOf, HasHeard, HearingKeeps, IsPut, IsPutAt, heard_link, session_after, unless_broken, waiting_up, without_note}
 use Rattle.relay_world.specs.World.{Host, Up, World, link_at}
 use Rattle.relay_world.proofs.FrameLemmas.{TellsOn, accepts_on_more, changes_stay, get_last, steps_in_more, steps_more, stored_on}
+use Rattle.relay_world.proofs.ClosingLemmas.{whole_open, wrote_open}
 use Rattle.relay_world.proofs.MoveLemmas.{link_cases, client_was, links_kept, Joins, Moves, Settled, moved_keeps, same_attempts, same_slots, still_tried}
 use Rattle.relay_world.proofs.UndecidedLemmas.{up_not_down}
 use Rattle.relay_world.proofs.OpenLemmas.{lines_within, number_within, list_there, node_kept, off_by, same_Up, still_says}
@@ -120,11 +121,13 @@ module _ {D : Type 0} (honest : Type 0) (words : DiskWords D) (old : World D) (l
       written : of.link.broken ≡ false → of.link.down ++ out_now ≡ talk.later.output
       written whole =
           ap (λ l. of.link.down ++ l) (written_whole of.link received.out.items whole)
-          ∙ ap (λ l. l ++ received.out.items) (was.whole whole) ∙ sym talk.output
+          ∙ ap (λ l. l ++ received.out.items) (whole_open of.host listed.0 old.ledger number of.link of.end was of.session of.goes_on whole) ∙ sym talk.output
 
       wrote : Begins (of.link.down ++ out_now) talk.later.output
       wrote = subst (λ l. Begins (of.link.down ++ out_now) l) (sym talk.output)
-          (begins_more of.link.broken of.link.down was.said.output received.out.items was.wrote was.whole)
+          (begins_more of.link.broken of.link.down was.said.output received.out.items
+          (wrote_open of.host listed.0 old.ledger number of.link of.end was of.session of.goes_on)
+          (whole_open of.host listed.0 old.ledger number of.link of.end was of.session of.goes_on))
 
       input_now : talk.later.input ≡ take (of.link.up_read + received.used) of.link.up
       input_now =
@@ -145,6 +148,9 @@ module _ {D : Type 0} (honest : Type 0) (words : DiskWords D) (old : World D) (l
         numbered = numbered;
         answered = answered;
         input = input_now;
+        closing = None;
+        closes = tt;
+        closed = tt;
         wrote = wrote;
         whole = written;
         accepts = accepts;

@@ -4,6 +4,7 @@ use Rattle.std.specs.Prelude.{slice_get}
 use Rattle.std.proofs.lemmas.Bool.{cases_eq}
 use Rattle.std.proofs.lemmas.Option.{none-some, same_Some}
 use Rattle.relay_disk.specs.Device.{DiskWords}
+use Rattle.relay_lines.specs.Reply.{Reply}
 use Rattle.relay_node.specs.Node.{NodeState}
 use Rattle.relay_routes.specs.declared.config.Config.{Config}
 use Rattle.relay_world.specs.declared.attempt.Attempt.{Attempt}
@@ -13,8 +14,8 @@ use Rattle.relay_world.specs.declared.link.Link.{Link}
 use Rattle.relay_world.specs.declared.link.ServerEnd.{ServerEnd}
 use Rattle.relay_world.specs.HangUp.{HangsUp}
 use Rattle.relay_world.specs.HopLinks.{AreLinkedToHops, IsLinkedToHop, LeadsTo, HopLinksAtFirst}
-use Rattle.relay_world.specs.Once.{BreaksOff, Drops, Ends, GivesUp, GoesOn, Hears, IsNotOpened, LetsGo, Loses, HopLinksAreKept, Opens, Reads, Reopens, Starts, Stops, StopsInGivingUp, StopsInHearing, StopsInLosing, StopsInReading, Ticks, Writes}
-use Rattle.relay_world.specs.Steps.{AttemptOf, HasStarted, IsPut, IsPutAt, RecordsHeard, RecordsOutcome, RecordsRead, WritesAs, heard_link, opened_link, read_link, session_after, without_note}
+use Rattle.relay_world.specs.Once.{BreaksOff, Drops, Ends, GivesUp, GoesOn, Hears, IsNotOpened, LetsGo, Loses, HopLinksAreKept, Opens, Reads, Reopens, Starts, Stops, StopsInGivingUp, StopsInHearing, StopsInLosing, StopsInReading, Ticks, Writes, Closes}
+use Rattle.relay_world.specs.Steps.{AttemptOf, HasStarted, IsPut, IsPutAt, RecordsHeard, RecordsOutcome, RecordsRead, WritesAs, heard_link, opened_link, read_link, session_after, without_note, EndsWith, ended_link}
 use Rattle.relay_world.specs.Stops.{Decides, DropsAtStop, Finds, FindsOutcome, HasFound, cut_off_link}
 use Rattle.relay_records.specs.Records.{Kept}
 use Rattle.relay_world.specs.World.{Down, FromClient, FromLoss, FromNoHop, FromReplies, Host, Origin, Undecided, Up, World, link_at}
@@ -320,6 +321,15 @@ written_server : (link written : Link) (octets : List ℕ) → WritesAs link oct
 written_server link written octets (inl up) = ap (λ (l : Link). l.server) up.1
 written_server link written octets (inr down) = ap (λ (l : Link). l.server) down.1
 
+session_ended : {D : Type 0} (old new : World D) → AreLinkedToHops old → (number : ℕ) (closing : Option Reply)
+    → EndsWith old new number closing → AreLinkedToHops new
+session_ended old new linked number closing ends =
+    all_linked old new ends.rest.3
+    (names_put old new ends.of.end.node ends.of.host (record ends.of.host { state = Up ends.after }) ends.of.host_at ends.hosts
+    refl)
+    (ways_ended old new number ends.of.link (ended_link ends.of.link ends.of.end closing) ends.of.end None ends.of.link_is
+    ends.of.serves refl ends.links) linked (hops_same old new ends.rest.0)
+
 pub hop_links_are_kept : {D : Type 0} (honest : Type 0) (words : DiskWords D) → HopLinksAreKept honest words
 hop_links_are_kept honest words old new linked (Opens node peer opens) =
     all_linked old new opens.rest.3
@@ -338,13 +348,9 @@ hop_links_are_kept honest words old new linked (Hears number count hears) =
     (ways_ended old new number hears.of.link (heard_link hears.of.link hears.of.end hears.of.session hears.received)
     hears.of.end (session_after hears.received.close hears.of.session) hears.of.link_is hears.of.serves refl hears.links) linked
     (hops_same old new hears.rest.0)
-hop_links_are_kept honest words old new linked (Ends number ends) =
-    all_linked old new ends.rest.3
-    (names_put old new ends.of.end.node ends.of.host (record ends.of.host { state = Up ends.after }) ends.of.host_at ends.hosts
-    refl)
-    (ways_ended old new number ends.of.link
-    (record ends.of.link { server = Some (record ends.of.end { session = None }) }) ends.of.end None ends.of.link_is
-    ends.of.serves refl ends.links) linked (hops_same old new ends.rest.0)
+hop_links_are_kept honest words old new linked (Ends number ends) = session_ended old new linked number None ends
+hop_links_are_kept honest words old new linked (Closes number reply cuts) =
+    session_ended old new linked number (Some reply) cuts.ends
 hop_links_are_kept honest words old new linked (Reads number count reads) =
     read_on old new linked number reads.of reads.after reads.replied.change reads.records reads.rest.1
     (ways_like old new number reads.of.link (read_link reads.of.link reads.replied) reads.of.link_is refl reads.links)
