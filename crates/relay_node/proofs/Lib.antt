@@ -1,8 +1,11 @@
 mod AcceptLemmas
 mod ListenLemmas
+mod SpeakLemmas
 mod ReceiveLemmas
+mod HeardBehindLemmas
 mod QueuedLemmas
 mod NodeLemmas
+mod StageLemmas
 mod AttemptLemmas
 mod CompactionLemmas
 mod ReplyLemmas

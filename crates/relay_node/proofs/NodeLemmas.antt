@@ -1,5 +1,5 @@
 -- The sessions of a node with what was said on them, and a call on one of them.
-use Rattle.std.proofs.Common.{◌≡◌, ℕ, ◌<◌, zero, suc, true, false, List, [], ◌∷◌, length, Option, None, Some, refl, sym, ap, ◌∙◌, subst}
+use Rattle.std.proofs.Common.{◌≡◌, ◌↔◌, ℕ, ◌<◌, zero, suc, Bool, true, false, List, [], ◌∷◌, length, Option, None, Some, refl, sym, ap, ◌∙◌, subst}
 use Rattle.std.specs.Prelude.{slice_set}
 use Rattle.std.proofs.lemmas.List.{get_or-set_same}
 use Rattle.relay_disk.specs.Device.{DiskWords}
@@ -90,51 +90,69 @@ waits_for_more session next.Offer is going settled =
 waits_for_more session next.Close is going settled = absurd (going is)
 
 -- what goes on isn't closed
-not_closed : true ≡ false → ⊥
+pub not_closed : true ≡ false → ⊥
 not_closed e = cc
 
--- the seat that was taken out is the session's
+-- what stands in a place is one thing
 one_some : (seat other : Seat) → Some seat ≡ Some other → seat ≡ other
 one_some seat other e = cc
 
-module _ {D : Type 0} (honest : Type 0) (words : DiskWords D) (config : Config) (changes : List Change) (peer : List ℕ) (at number : ℕ) (said : Said) (piece : List ℕ)
-    (old : List (Option Seat)) (taken : Seat) (runs more : List (Option Run)) (is : SeatHasSaid config old number peer said) (was : Some taken ≡ slot_at old number) where
+-- a session that was heard goes on, or has closed
+module _ (config : Config) (number : ℕ) (new : Seat) (peer : List ℕ) (later : Said) (close : Bool) (peer_is : new.peer ≡ peer) (says : SessionHasSaid (setup_of_config config) new.session later)
+    (closed : (close ≡ true) ↔ (next_of new.session ≡ next.Close)) where
+  -- it was put back
+  pub goes_on : (mid all : List (Option Seat)) → close ≡ false → number < length mid → all ≡ slice_set mid number (Some new) → SessionGoesOn config all number peer later close
+  goes_on mid all going within set = subst (SessionGoesOn config all number peer later) (sym going) (says_at config mid all number new peer later within set peer_is says)
+
+  -- and waits for more
+  pub is_open : (mid all : List (Option Seat)) → close ≡ false → number < length mid → all ≡ slice_set mid number (Some new) → IsOpen all number
+  is_open mid all going within set seat at =
+      let here = ap (λ (l : List (Option Seat)). slot_at l number) set ∙ get_or-set_same mid number (Some new) None within in
+      subst (λ (s : Seat). next_of s.session ≡ next.More) (one_some new seat (sym here ∙ at))
+      (waits_for_more new.session (next_of new.session) refl (λ told. not_closed (sym (closed.1 told) ∙ going)) says.settled)
+
+  -- it is gone
+  pub has_gone : (old rest : List (Option Seat)) → close ≡ true → rest ≡ slice_set old number None → SessionGoesOn config rest number peer later close
+  has_gone old rest is_last set =
+      subst (SessionGoesOn config rest number peer later) (sym is_last)
+      (ap (λ (l : List (Option Seat)). slot_at l number) set ∙ taken_is_none old number, has_closed (setup_of_config config) new.session later says.stands (closed.0 is_last))
+
+-- the seat that was taken out is the session's
+module _ (config : Config) (peer : List ℕ) (number : ℕ) (said : Said) (old : List (Option Seat)) (taken : Seat) (is : SeatHasSaid config old number peer said) (was : Some taken ≡ slot_at old number) where
   pub peer_of_taken : taken.peer ≡ peer
   peer_of_taken = ap (λ (s : Seat). s.peer) (one_some taken is.seat (was ∙ is.at)) ∙ is.peer_is
 
   pub taken_says : SessionHasSaid (setup_of_config config) taken.session said
   taken_says = subst (λ (s : Seat). SessionHasSaid (setup_of_config config) s.session said) (sym (one_some taken is.seat (was ∙ is.at))) is.says
 
-  module _ (new : Seat) (peer_kept : new.peer ≡ taken.peer) (before after : Kept D) (received : Received)
-      (hears : SessionHasSaid (setup_of_config config) taken.session said → Hears honest words config changes taken.peer at said piece new.session before after received) where
-    heard : Hears honest words config changes peer at said piece new.session before after received
-    heard = subst (λ p. Hears honest words config changes p at said piece new.session before after received) peer_of_taken (hears taken_says)
+module _ {D : Type 0} (honest : Type 0) (words : DiskWords D) (config : Config) (changes : List Change) (peer : List ℕ) (at number : ℕ) (said : Said) (piece : List ℕ)
+    (old : List (Option Seat)) (taken : Seat) (runs more : List (Option Run)) (is : SeatHasSaid config old number peer said) (was : Some taken ≡ slot_at old number)
+    (new : Seat) (peer_kept : new.peer ≡ taken.peer) (before after : Kept D) (received : Received)
+    (hears : SessionHasSaid (setup_of_config config) taken.session said → Hears honest words config changes taken.peer at said piece new.session before after received) where
+  heard : Hears honest words config changes peer at said piece new.session before after received
+  heard =
+      let peer_is = peer_of_taken config peer number said old taken is was in
+      subst (λ p. Hears honest words config changes p at said piece new.session before after received) peer_is (hears (taken_says config peer number said old taken is was))
 
-    -- it waits for more
-    open_at : (mid all : List (Option Seat)) → received.close ≡ false → number < length mid → all ≡ slice_set mid number (Some new) → IsOpen all number
-    open_at mid all going within set seat at =
-        let here = ap (λ (l : List (Option Seat)). slot_at l number) set ∙ get_or-set_same mid number (Some new) None within in
-        subst (λ (s : Seat). next_of s.session ≡ next.More) (one_some new seat (sym here ∙ at))
-        (waits_for_more new.session (next_of new.session) refl (λ told. not_closed (sym (heard.closed.1 told) ∙ going)) heard.says.settled)
+  new_peer : new.peer ≡ peer
+  new_peer = peer_kept ∙ peer_of_taken config peer number said old taken is was
 
-    -- the session was put back
-    pub receives_on : (mid all : List (Option Seat)) → received.close ≡ false → number < length mid → all ≡ slice_set mid number (Some new)
-        → Receives honest words config changes peer at number said piece (standing_of config old runs before) (standing_of config all more after) received
-    receives_on mid all going within set = record {
-      later = heard.later;
-      goes_on = subst (SessionGoesOn config all number peer heard.later) (sym going) (says_at config mid all number new peer heard.later within set (peer_kept ∙ peer_of_taken) heard.says);
-      is_open = λ _. open_at mid all going within set;
-      talks = heard.talks;
-    }
+  -- the session was put back
+  pub receives_on : (mid all : List (Option Seat)) → received.close ≡ false → number < length mid → all ≡ slice_set mid number (Some new)
+      → Receives honest words config changes peer at number said piece (standing_of config old runs before) (standing_of config all more after) received
+  receives_on mid all going within set = record {
+    later = heard.later;
+    goes_on = goes_on config number new peer heard.later received.close new_peer heard.says heard.closed mid all going within set;
+    is_open = λ _. is_open config number new peer heard.later received.close new_peer heard.says heard.closed mid all going within set;
+    talks = heard.talks;
+  }
 
-    -- the session has closed
-    pub receives_last : (rest : List (Option Seat)) → received.close ≡ true → rest ≡ slice_set old number None
-        → Receives honest words config changes peer at number said piece (standing_of config old runs before) (standing_of config rest more after) received
-    receives_last rest is_last set = record {
-      later = heard.later;
-      goes_on =
-          subst (SessionGoesOn config rest number peer heard.later) (sym is_last)
-          (ap (λ (l : List (Option Seat)). slot_at l number) set ∙ taken_is_none old number, has_closed (setup_of_config config) new.session heard.later heard.says.stands (heard.closed.0 is_last));
-      is_open = λ going. absurd (not_closed (sym is_last ∙ going));
-      talks = heard.talks;
-    }
+  -- the session has closed
+  pub receives_last : (rest : List (Option Seat)) → received.close ≡ true → rest ≡ slice_set old number None
+      → Receives honest words config changes peer at number said piece (standing_of config old runs before) (standing_of config rest more after) received
+  receives_last rest is_last set = record {
+    later = heard.later;
+    goes_on = has_gone config number new peer heard.later received.close new_peer heard.says heard.closed old rest is_last set;
+    is_open = λ going. absurd (not_closed (sym is_last ∙ going));
+    talks = heard.talks;
+  }

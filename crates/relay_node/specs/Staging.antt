@@ -1,11 +1,14 @@
 -- What a node does with offers of sessions that stand outside of it, where their changes come into the records together.
-use Rattle.std.specs.Prelude.{◌≡◌, ◌≢◌, ◌⊎◌, ℕ, ◌+◌, ◌≤◌, ◌<◌, ◌^◌, true, false, List, [], ◌∷◌, ◌++◌, length, take, Option, None, Some, Result, Err, IfErr}
+use Rattle.std.specs.Prelude.{◌≡◌, ◌≢◌, ◌↔◌, ◌⊎◌, ℕ, ◌+◌, ◌≤◌, ◌<◌, ◌^◌, true, false, List, [], ◌∷◌, ◌++◌, length, take, Option, None, Some, Result, Err, IfErr}
 use Rattle.std.specs.List.{AllByRecursion}
 use Rattle.relay_disk.specs.Device.{DiskWords}
 use Rattle.relay_routes.specs.declared.config.Config.{Config}
 use Rattle.relay_server.specs.declared.offer.Answer.{Answer}
 use Rattle.relay_server.specs.declared.offer.Answer.TheVariants as answer
+use Rattle.relay_server.specs.declared.session.Next.TheVariants as next
+use Rattle.relay_server.specs.declared.session.Session.{Session}
 use Rattle.relay_server.specs.Dialogue.{Offered, Said}
+use Rattle.relay_server.specs.Session.{next_of}
 use Rattle.relay_server.specs.Setup.{setup_of_config}
 use Rattle.relay_spool.specs.Image.{room_of}
 use Rattle.relay_book.specs.declared.change.Accept.{Accept}
@@ -19,7 +22,7 @@ use Rattle.relay_records.specs.declared.noted.Noted.{Noted}
 use Rattle.relay_node.specs.Acceptance.{Acceptance, acceptance_by}
 use Rattle.relay_node.specs.Admission.{TakesAnswer}
 use Rattle.relay_node.specs.declared.receive.Received.{Received}
-use Rattle.relay_node.specs.Node.{IsGone, IsOpen, NodeState, SessionGoesOn}
+use Rattle.relay_node.specs.Node.{HasHistory, IsGone, IsOpen, NodeState, SeatHasSaid, SessionGoesOn, SessionHasSaid, TakesIn}
 use Rattle.relay_node.specs.Room.{AnswersMore, EndsWithOffer, HasRoom, Overfills, refusals}
 
 -- The words below are of a call at a moment, for a client at this address, of a node that keeps these changes and
@@ -66,60 +69,124 @@ pub record RefusesOffer {D T : Type 0} (old new : NodeState D) (row left : Row) 
   pub full : old.records.spool.live ≡ true → 2 ^ 62 < old.records.queue.next
       → (result ≡ Err NoMemory) ⊎ (result ≡ Err Full)
 
+-- the changes that a call stages: none, or an accept, whose number comes next
+abbrev pub IsStaged : ℕ → Option ℕ → List Change → Type 0
+IsStaged next None more = more ≡ []
+IsStaged next (Some number) more = (accept : Accept) × (number ≡ next) × (more ≡ change.Accept accept ∷ [])
+
 -- The words below are of a call at a moment, on a session with a client at this address, of a node that keeps these
--- changes and awaits those that are pending.
-module _ {D : Type 0} (honest : Type 0) (words : DiskWords D) (config : Config) (changes pending : List Change)
-    (peer : List ℕ) (at : ℕ) where
+-- changes and awaits those that are pending, which the row records.
+module _ (config : Config) (changes pending : List Change) (peer : List ℕ) (at : ℕ) where
+  -- how the next change is accepted
+  abbrev pub next_behind : Acceptance
+  next_behind = acceptance_by config peer (length changes + length pending + 1) at
+
   -- each of these offers would bring the spool, with the row, past its limit
-  abbrev pub HaveNoRoomBehind : Kept D → Row → List Offered → Type 0
+  abbrev pub HaveNoRoomBehind : {D : Type 0} → Kept D → Row → List Offered → Type 0
   HaveNoRoomBehind old row offers =
-      AllByRecursion (Overfills (acceptance_by config peer (length changes + length pending + 1) at)
-      config.spool_limit (old.spool.size + room_of row.bodies)) offers
+      AllByRecursion (Overfills next_behind config.spool_limit (old.spool.size + room_of row.bodies)) offers
 
   -- behind the refused offers one was staged: the change of this number accepts it, and no octet behind it was read
-  pub record QueuesInto (said later : Said) (refused : List Offered) (used : ℕ) (old : Kept D) (row : Row)
-      (new : Kept D) (left : Row) (number : ℕ)
+  pub record QueuesInto {D : Type 0} (said later : Said) (refused : List Offered) (used : ℕ) (old : Kept D) (row left : Row)
+      (more : List Change) (number : ℕ)
       : Type 0 where
+    pub number_is : number ≡ length changes + length pending + 1
     pub offer : Offered
     pub answers : AnswersMore said later refused (offer ∷ []) (answer.Queued number ∷ [])
     pub ends : EndsWithOffer (setup_of_config config) later (said.answers ++ refusals refused)
-    pub staged : IsStagedAs honest words config changes pending peer at offer old row new left number
+    pub accept : Accept
+    pub fits : HasRoom next_behind config.spool_limit (old.spool.size + room_of row.bodies) offer accept
+    pub more_is : more ≡ change.Accept accept ∷ []
     pub note : Noted
     pub noted : left.notes ≡ row.notes ++ note ∷ []
     pub used_is : note.used ≡ used
 
   -- the change that the call staged, if it staged one
-  abbrev pub MakesInto : Said → Said → List Offered → ℕ → Kept D → Row → Kept D → Row → Option ℕ → Type 0
-  MakesInto said later refused used old row new left None =
+  abbrev pub MakesInto
+      : {D : Type 0} → Said → Said → List Offered → ℕ → Kept D → Row → Kept D → Row → List Change → Option ℕ → Type 0
+  MakesInto said later refused used old row new left more None =
       AnswersMore said later refused [] [] × (new ≡ old) × (left ≡ row)
-  MakesInto said later refused used old row new left (Some number) =
-      QueuesInto said later refused used old row new left number
+  MakesInto said later refused used old row new left more (Some number) =
+      QueuesInto said later refused used old row left more number
 
   -- what the call did behind what was said: it used all of the piece, unless a change or a close stopped it
-  pub record TalksInto (said later : Said) (piece : List ℕ) (old : Kept D) (row : Row) (new : Kept D) (left : Row)
-      (received : Received)
+  pub record TalksInto {D : Type 0} (said later : Said) (piece : List ℕ) (old : Kept D) (row : Row) (new : Kept D)
+      (left : Row) (more : List Change) (received : Received)
       : Type 0 where
     pub input : later.input ≡ said.input ++ take received.used piece
     pub output : later.output ≡ said.output ++ received.out.items
     pub refused : List Offered
     pub no_room : HaveNoRoomBehind old row refused
-    pub makes : MakesInto said later refused received.used old row new left received.change
+    pub makes : MakesInto said later refused received.used old row new left more received.change
     pub whole : received.change ≡ None → received.close ≡ false → received.used ≡ length piece
 
+  -- the same, on a session
+  pub record HearsInto {D : Type 0} (said : Said) (piece : List ℕ) (new_session : Session) (old : Kept D) (row : Row)
+      (new : Kept D) (left : Row) (more : List Change) (received : Received)
+      : Type 0 where
+    pub later : Said
+    pub says : SessionHasSaid (setup_of_config config) new_session later
+    pub closed : (received.close ≡ true) ↔ (next_of new_session ≡ next.Close)
+    pub talks : TalksInto said later piece old row new left more received
+
   -- the same, on the session of this number of a node
-  pub record ReceivesInto (number : ℕ) (said : Said) (piece : List ℕ) (old : NodeState D) (row : Row)
-      (new : NodeState D) (left : Row) (received : Received)
+  pub record ReceivesInto {D : Type 0} (number : ℕ) (said : Said) (piece : List ℕ) (old : NodeState D) (row : Row)
+      (new : NodeState D) (left : Row) (more : List Change) (received : Received)
       : Type 0 where
     pub later : Said
     pub goes_on : SessionGoesOn config new.seats number peer later received.close
     pub is_open : received.close ≡ false → IsOpen new.seats number
-    pub talks : TalksInto said later piece old.records row new.records left received
+    pub talks : TalksInto said later piece old.records row new.records left more received
+
+-- The same at whatever was said on the session: with the change that the call staged, if it staged one, the node awaits
+-- these.
+module _ {D : Type 0} (honest : Type 0) (words : DiskWords D) (config : Config) (changes pending : List Change)
+    (at : ℕ) where
+  pub record HearsBehind (peer : List ℕ) (old_session new_session : Session) (piece : List ℕ) (old : Kept D) (row : Row)
+      (new : Kept D) (left : Row) (received : Received)
+      : Type 0 where
+    pub more : List Change
+    pub staged : IsStaged (length changes + length pending + 1) received.change more
+    pub awaits : Awaits honest words new changes (pending ++ more) left
+    pub hears : (said : Said) → SessionHasSaid (setup_of_config config) old_session said
+        → HearsInto config changes pending peer at said piece new_session old row new left more received
+
+  pub record ReceivesBehind (number : ℕ) (piece : List ℕ) (old : NodeState D) (row : Row) (new : NodeState D)
+      (left : Row) (received : Received)
+      : Type 0 where
+    pub more : List Change
+    pub staged : IsStaged (length changes + length pending + 1) received.change more
+    pub awaits : Awaits honest words new.records changes (pending ++ more) left
+    pub receives : (peer : List ℕ) (said : Said) → SeatHasSaid config old.seats number peer said
+        → ReceivesInto config changes pending peer at number said piece old row new left more received
 
 -- octets of the piece were used: where a change was staged, one at least, and where none was and nothing closed, all
 pub record UsesPiece (len : ℕ) (received : Received) : Type 0 where
   pub within : received.used ≤ len
   pub some : received.change ≢ None → 0 < received.used
   pub whole : received.change ≡ None → received.close ≡ false → received.used ≡ len
+
+-- Whatever the records keep, mail was accepted into the queue or not, and no call went to a device. The row is as it
+-- was, or the largest spool has room for it.
+pub record TakesInto {D : Type 0} (old : Kept D) (row : Row) (new : Kept D) (left : Row) (received : Received)
+    : Type 0 where
+  pub takes : TakesIn old.queue received.change new.queue
+  pub spool : new.spool ≡ old.spool
+  pub noted : new.noted ≡ old.noted
+  pub room : (left ≡ row) ⊎ (new.spool.size + room_of left.bodies ≤ 2 ^ 40)
+
+-- whatever was said before, a session was heard: octets were used, mail was staged or not, and something was said on it
+pub record IsHeardInto {D : Type 0} (config : Config) (len : ℕ) (old : Kept D) (row : Row) (new : Kept D) (left : Row)
+    (session : Session) (received : Received) : Type 0 where
+  pub used : UsesPiece len received
+  pub takes : TakesInto old row new left received
+  pub history : HasHistory config session
+
+-- what a live node leaves of records and row that stages nothing
+abbrev pub RefusesToHearInto : {D : Type 0} → Kept D → Kept D → Row → Row → NodeFault → Type 0
+RefusesToHearInto old new row left NoMemory = (new ≡ old) × (left ≡ row)
+RefusesToHearInto old new row left Full = (new ≡ old) × (left ≡ row) × (2 ^ 62 < old.queue.next)
+RefusesToHearInto old new row left other = ⊥
 
 -- what such a call leaves that is refused by a live node: the row, and all but the session, which is gone
 pub record LeavesRow {D : Type 0} (number : ℕ) (old new : NodeState D) (row left : Row) : Type 0 where

@@ -12,8 +12,10 @@ pub mod laws;
 mod listen;
 mod node;
 mod receive;
+mod receive_into;
 mod reply;
 mod seat;
+mod speak;
 mod stage;
 
 pub use again::NotReopened;

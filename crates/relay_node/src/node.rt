@@ -171,6 +171,13 @@ impl<D: Disk> Node<D> {
         &self.config
     }
 
+    /// Whether the node is live: no call of its device has failed. It takes no memory.
+    pub fn is_live(&self) -> bool
+        ensures { result ≡ self.now.records.spool.live }
+    {
+        self.records.is_live()
+    }
+
     /// The number of the next change, live or stopped. It takes no memory.
     pub fn next_number(&self) -> u64
         ensures number { result ≡ self.now.records.queue.next }

@@ -7,12 +7,11 @@ ghost use Rattle.relay_server.specs.Dialogue.{Said};
 ghost use Rattle.relay_server.specs.Setup.{setup_of_config};
 
 use crate::intake::Intake;
-use crate::listen::{End, Listened};
 use crate::seat::Seat;
+use crate::speak::Spoken;
 use relay_disk::Disk;
 use relay_records::{NodeFault, Records};
 use relay_routes::Config;
-use relay_server::Answer;
 use relay_trace::Moment;
 use std::alloc::Global;
 
@@ -63,31 +62,27 @@ pub(crate) fn hear<D: Disk>(
         size: records.size(),
         at: now,
     };
-    let Listened { used, mut out, end } = intake.listen(alloc, &mut seat.session, piece)?;
-    match end {
-        End::More => Ok(Received {
+    let Spoken {
+        used,
+        out,
+        close,
+        taken,
+    } = intake.speak(alloc, &mut seat.session, piece)?;
+    match taken {
+        None => Ok(Received {
             used,
             out,
             change: None,
-            close: false,
+            close,
         }),
-        End::Close => Ok(Received {
-            used,
-            out,
-            change: None,
-            close: true,
-        }),
-        End::Taken(taken) => {
-            seat.session.reply(Answer::Queued(intake.number), &mut out)?;
-            match records.add(alloc, taken.change, taken.octets, used) {
-                Ok(number) => Ok(Received {
-                    used,
-                    out,
-                    change: Some(number),
-                    close: false,
-                }),
-                Err(fault) => Err(fault),
-            }
-        }
+        Some(taken) => match records.add(alloc, taken.change, taken.octets, used) {
+            Ok(number) => Ok(Received {
+                used,
+                out,
+                change: Some(number),
+                close,
+            }),
+            Err(fault) => Err(fault),
+        },
     }
 }

@@ -1,10 +1,11 @@
 //! Mail of sessions that stand outside of the node, which comes into its records together.
-ghost use Rattle.std.specs.Prelude.{◌≡◌, ◌⊎◌, ◌<◌, ◌^◌, false, true, List, Err, IfErr, IfOk, MatchResult, OnOk};
+ghost use Rattle.std.specs.Prelude.{◌≡◌, ◌≢◌, ◌⊎◌, ◌+◌, [], ◌<◌, ◌^◌, false, true, List, Err, IfErr, IfOk, MatchResult, OnOk};
 ghost use Rattle.relay_book.specs.declared.change.Change.{Change};
 ghost use Rattle.relay_node.specs.Acceptance.{IsStorable};
 ghost use Rattle.relay_node.specs.Staging.{HasStaged, RefusesOffer, RefusesToStage, StagesOffer};
 ghost use Rattle.relay_records.specs.Staged.{Awaits, CutsAll, GrowsAll, RefusesToSettle, Settles, StandsForOrWithAll};
 ghost use Rattle.relay_server.specs.Session.{offered};
+ghost use Rattle.relay_spool.specs.Image.{room_of};
 ghost use Rattle.relay_spool.specs.Pair.{HasBodies};
 ghost use Rattle.relay_spool.specs.Spool.{AtEachMoment};
 
@@ -16,6 +17,7 @@ use relay_records::list_laws::awaited_are_numbered;
 use relay_records::{NodeFault, Noted, Records, Staged, Unsettled};
 use relay_routes::Config;
 use relay_server::{Answer, Offer};
+use relay_spool::SIZE_LIMIT;
 use relay_trace::Moment;
 use std::alloc::Global;
 
@@ -62,7 +64,8 @@ impl<D: Disk> Node<D> {
 
     /// Brings the changes of a row into the spool, behind one pair of syncs, and answers the note of each: from
     /// then on every stop leaves them. At `Stopped` the device failed, and a stop leaves none of them or all; or
-    /// the node was stopped before. It takes no memory.
+    /// the node was stopped before. At `Full` nothing changes: no row that was staged for this node is too large
+    /// for its spool. It takes no memory.
     pub fn settle(&mut self, row: Staged) -> Result<Vec<Noted>, Unsettled>
         ensures settles { (changes pending : List Change)
             → Awaits D.honest D.words self.old.records changes pending row
@@ -84,6 +87,8 @@ impl<D: Disk> Node<D> {
         ensures stopped { self.old.records.spool.live ≡ false → self.new ≡ self.old }
         ensures refused { IfErr result (λ unsettled. self.old.records.spool.live ≡ true
             → RefusesToSettle D.words self.old.records self.new.records unsettled.fault) }
+        ensures full { IfErr result (λ unsettled. unsettled.fault ≡ NodeFault.Full
+            → (2 ^ 40 < self.old.records.spool.size + room_of row.bodies) × (row.bodies ≢ [])) }
     {
         if !self.records.is_live() {
             return Err(Unsettled {
@@ -91,6 +96,8 @@ impl<D: Disk> Node<D> {
                 notes: row.let_go(),
             });
         }
+        let is_within = self.records.size() <= SIZE_LIMIT;
+        prove!(is_within);
         self.records.settle(row)
     }
 }

@@ -36,17 +36,22 @@ fn document_of(alloc: Global, lines: &str) -> Result<String, AllocError> {
     Ok(document)
 }
 
+/// What is printed of a rule of bare line ends: nothing where they pass.
+fn words_of(rule: BareNewlines) -> &'static str {
+    match rule {
+        BareNewlines::Pass => "",
+        BareNewlines::Refuse => " refuse",
+    }
+}
+
 /// What a configuration says: its values without the routes, and whether it refuses bare line ends, or its fault.
 fn outcome_of(alloc: Global, text: &str) -> Result<String, Fail> {
     match Config::read(alloc, text) {
         Ok(config) => {
+            let rule = words_of(config.bare_newlines);
             let host = text_of(&config.host)?;
             let (listen, spool) = (config.listen, config.spool.as_str());
             let (content, limit) = (config.max_content, config.spool_limit);
-            let rule = match config.bare_newlines {
-                BareNewlines::Pass => "",
-                BareNewlines::Refuse => " refuse",
-            };
             Ok(format!(in alloc; "{host} {listen} {spool} {content} {limit}{rule}")?)
         }
         Err(fault) => Ok(format!(in alloc; "{fault}")?),

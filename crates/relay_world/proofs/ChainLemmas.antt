@@ -1,6 +1,5 @@
 -- Chains of mail: how many `Received:` fields each message has.
-use Rattle.std.proofs.Common.{◌≡◌, ℕ, zero, suc, ◌+◌, ◌<◌, ◌≤◌, List, [], ◌∷◌, length, map, take, Option, Some, None, refl, sym, subst, ap, ◌∙◌, arith}
-use Rattle.std.specs.Prelude.{slice_get}
+use Rattle.std.proofs.Common.{◌≡◌, ℕ, zero, suc, ◌+◌, ◌<◌, ◌≤◌, List, [], ◌∷◌, length, map, take, Some, refl, sym, subst, ap, ◌∙◌, arith}
 use Rattle.std.specs.List.{AllByRecursion, Contains}
 use Rattle.std.proofs.lemmas.Option.{same_Some}
 use Rattle.relay_disk.specs.Device.{DiskWords}
@@ -22,12 +21,12 @@ use Rattle.relay_course.specs.Progress.{Errand}
 use Rattle.relay_meeting.specs.Joined.{child_by}
 use Rattle.relay_meeting.proofs.Theorems.{child_holds_its_places}
 use Rattle.relay_node.specs.Acceptance.{acceptance_by, stamp_at}
-use Rattle.relay_node.specs.Queued.{queued_by, queued_in}
+use Rattle.relay_node.specs.Queued.{queued_by}
 use Rattle.relay_world.specs.declared.attempt.Attempt.{Attempt}
 use Rattle.relay_world.specs.declared.line.Line.{Line}
 use Rattle.relay_world.specs.declared.link.Link.{Link}
 use Rattle.relay_world.specs.declared.link.ServerEnd.{ServerEnd}
-use Rattle.relay_world.specs.Bound.{HasLink, IsBound, IsServed, IsStored, IsStoredAs, IsTried, PassesOn, ServesLink}
+use Rattle.relay_world.specs.Bound.{HasLink, IsBound, IsServed, IsStored, IsStoredAs, IsTried, ServesLink}
 use Rattle.relay_world.specs.Chain.{ChainsAreShort, HasFields, IsAccepted, IsChain, IsChild, KeepsChainsShort}
 use Rattle.relay_world.specs.Ledger.{accepts_on}
 use Rattle.relay_world.specs.World.{Host, World, link_at}
