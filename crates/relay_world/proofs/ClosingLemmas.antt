@@ -1,7 +1,7 @@
 -- A server end that closes unasked: what it wrote before, and that no dialogue goes beyond its own into the reply with
 -- which it closed.
-use Rattle.std.proofs.Common.{◌≡◌, ◌≢◌, ℕ, Bool, true, false, List, [], ◌∷◌, ◌++◌, length, Option, None, Some, codes, decimal, inl, inr, refl, sym, subst, ap, ◌∙◌, arith}
-use Rattle.std.proofs.lemmas.List.{append_assoc, append-nil, append_cancel_left, length-append}
+use Rattle.std.proofs.Common.{◌≡◌, ℕ, false, List, [], ◌∷◌, ◌++◌, length, Option, None, Some, codes, decimal, inl, inr, refl, sym, subst, ap, ◌∙◌, arith}
+use Rattle.std.proofs.lemmas.List.{append_assoc, append_cancel_left, length-append}
 use Rattle.std.proofs.lemmas.Option.{none-some}
 use Rattle.relay_octets.specs.Beginning.{Begins}
 use Rattle.relay_octets.specs.Line.{crlf, HasNoCrlf}
@@ -10,7 +10,7 @@ use Rattle.relay_lines.specs.Reply.{Reply, reply_text}
 use Rattle.relay_server.specs.declared.offer.Answer.{Answer}
 use Rattle.relay_server.specs.declared.offer.Answer.TheVariants.{Queued, Full}
 use Rattle.relay_server.specs.declared.reply_table.Row.TheVariants.{Greeting}
-use Rattle.relay_server.specs.Dialogue.{Answers, IsDialogue, IsLeft, Offered, Said, Takes, Turn, Turns, answered_by, answers_in, offered_by, offers_in, read_by, row_of_answer, written_by}
+use Rattle.relay_server.specs.Dialogue.{IsDialogue, IsLeft, Offered, Said, Takes, Turn, Turns, answered_by, answers_in, offered_by, offers_in, read_by, row_of_answer, written_by}
 use Rattle.relay_server.specs.Reply.{reply_of}
 use Rattle.relay_server.specs.ReplyTable.{Course, Replies, Offers}
 use Rattle.relay_server.specs.Setup.{Setup}

@@ -9,6 +9,7 @@ mod UndecidedLemmas
 mod MoveLemmas
 mod OpenLemmas
 mod PieceLemmas
+mod TalkLemmas
 mod HearLemmas
 mod LinkLemmas
 mod WriteLemmas
@@ -64,4 +65,6 @@ mod CrashRunLemmas
 mod CrashRestLemmas
 mod GroupLemmas
 mod ReopenGroupLemmas
+mod GroupOnceLemmas
+mod LosingLemmas
 pub mod Theorems
