@@ -163,8 +163,7 @@ sent_formed : (setup : Setup) (said : Said) (turns : List Turn) (state : State) 
     → IsHostName setup.host → MayClose said closing → Turns setup start turns state → AreNumbered (answered_by turns)
     → AllByRecursion IsReply (sent_by setup.host turns closing)
 sent_formed setup said turns state closing host closes runs numbered =
-    let formed = replies_are_well_formed setup host in
-    (
+    let formed = replies_are_well_formed setup host in (
       formed.0,
       all_sent (replies_by turns) (option_to_list closing) (all_replies turns (formed.1 start state turns runs numbered))
           (closing_formed said closing closes),

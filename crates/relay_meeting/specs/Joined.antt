@@ -69,8 +69,8 @@ pub record AreJoined (setup : Setup) (errand : Errand) (said : Said) (closing : 
   pub up : Begins said.input output
   pub down : Begins input (output_with said.output closing)
 
--- what the two have said: turns of the script, of which the client has read a beginning of the replies, and of that of a
--- server that closed, and no fault; and the text was offered at most once
+-- what the two have said: turns of the script, of which the client has read a beginning of the replies, and behind all
+-- of these of the one with which the server closed, and no fault; and the text was offered at most once
 pub record HaveMet (setup : Setup) (errand : Errand) (tried : List Tried) (said : Said) (closing : Option Reply)
     (replies : List Reply)
     (rest : List ℕ) : Type 0 where
