@@ -3,14 +3,15 @@ use Rattle.std.proofs.Common.{inl, inr, ◌≡◌, ℕ, zero, suc, List, [], ◌
 use Rattle.std.specs.Prelude.{slice_get}
 use Rattle.std.proofs.lemmas.Bool.Decides.{eqb_tells}
 use Rattle.std.proofs.lemmas.Option.{same_Some}
+use Rattle.relay_lines.specs.Reply.{Reply}
 use Rattle.relay_disk.specs.Device.{DiskWords}
 use Rattle.relay_node.specs.Node.{NodeState}
 use Rattle.relay_routes.specs.declared.config.Config.{Config}
 use Rattle.relay_world.specs.declared.attempt.Fate.{Fate}
 use Rattle.relay_world.specs.declared.attempt.Fate.TheVariants.{Lost, Replied}
+use Rattle.relay_world.specs.Once.{BreaksOff, Closes, Drops, Ends, GivesUp, GoesOn, Happen, Happens, Hears, IsNotOpened, LetsGo, Loses, Opens, Reads, Reopens, Starts, Stops, StopsInGivingUp, StopsInHearing, StopsInLosing, StopsInReading, Ticks, Writes, HearsAll, ReopensBehindGroup}
+use Rattle.relay_world.specs.Steps.{AttemptOf, IsPut, RecordsHeard, RecordsOutcome, RecordsRead, without_note, EndsWith}
 use Rattle.relay_world.specs.Groups.{AcceptsInto, HasHeardAll, HasHeardEach, HasHeardInto, HasReopenedBehindGroup, IsOpenedAgain, IsUp, Piece}
-use Rattle.relay_world.specs.Once.{BreaksOff, Drops, Ends, GivesUp, GoesOn, Happen, Happens, Hears, HearsAll, IsNotOpened, LetsGo, Loses, Opens, Reads, Reopens, ReopensBehindGroup, Starts, Stops, StopsInGivingUp, StopsInHearing, StopsInLosing, StopsInReading, Ticks, Writes}
-use Rattle.relay_world.specs.Steps.{AttemptOf, EndsSession, IsPut, RecordsHeard, RecordsOutcome, RecordsRead, without_note}
 use Rattle.relay_world.specs.Stops.{Decides, DropsAtStop}
 use Rattle.relay_records.specs.Records.{Kept}
 use Rattle.relay_records.specs.Staged.{Row, no_row}
@@ -51,8 +52,9 @@ module _ {D : Type 0} where
       let before = first node was.0 was.1 in
       (before.0, before.1, was.2 ∙ before.2)
 
-  ended : (old new : World D) (number : ℕ) → EndsSession old new number → SameNames old.hosts new.hosts
-  ended old new number ends =
+  ended : (old new : World D) (number : ℕ) (closing : Option Reply) → EndsWith old new number closing
+      → SameNames old.hosts new.hosts
+  ended old new number closing ends =
       names_put old.hosts new.hosts ends.of.end.node ends.of.host (record ends.of.host { state = Up ends.after })
       ends.of.host_at ends.hosts refl
 
@@ -80,7 +82,7 @@ module _ {D : Type 0} where
         names_both old.hosts next.hosts new.hosts
         (elim first [
           | inl hears ↦ heard_into at old next node piece row more hears
-          | inr ends ↦ ended old next piece.number ends.0
+          | inr ends ↦ ended old next piece.number None ends.0
         ]) (heard_each at next new node pieces more left others)
 
     heard_all : (old new : World D) (node : ℕ) (pieces : List Piece) → HasHeardAll honest words old new node pieces
@@ -154,7 +156,8 @@ module _ {D : Type 0} where
     event_names (Hears number count hears) =
         heard hears.of.end.node number hears.of.host hears.after hears.received.change hears.of.host_at hears.records
     event_names {honest} {words} (HearsAll node pieces hears) = heard_all honest words old new node pieces hears
-    event_names (Ends number ends) = ended old new number ends
+    event_names (Ends number ends) = ended old new number None ends
+    event_names (Closes number reply cuts) = ended old new number (Some reply) cuts.ends
     event_names (Reads number count reads) = read number reads.of reads.after reads.replied.change reads.records
     event_names (Loses number change loses) = recorded number change loses.of loses.after (Lost change) loses.records
     event_names (Drops number drops) =

@@ -4,6 +4,7 @@ use Rattle.std.specs.Prelude.{slice_get}
 use Rattle.std.proofs.lemmas.List.{append-nil}
 use Rattle.std.proofs.lemmas.Option.{none-some}
 use Rattle.relay_octets.specs.Beginning.{Begins}
+use Rattle.relay_lines.specs.Reply.{Reply}
 use Rattle.relay_disk.specs.Device.{DiskWords}
 use Rattle.relay_book.specs.declared.change.Change.{Change}
 use Rattle.relay_book.specs.declared.fate.PlaceStep.{PlaceStep}
@@ -18,7 +19,7 @@ use Rattle.relay_world.specs.declared.link.ServerEnd.{ServerEnd}
 use Rattle.relay_world.specs.Bound.{IsBound}
 use Rattle.relay_world.specs.Ledger.{accepts_on, left_lines, report_told}
 use Rattle.relay_world.specs.Once.{IsTriedOnce}
-use Rattle.relay_world.specs.Steps.{AttemptOf, Breaks, DropsAttempt, EndsSession, HasGivenUp, HasHeard, HasLost, HasOpened, HasRead, HasWritten, IsPut, IsPutAt, RecordsOutcome, RecordsRead, SessionOf, WritesAs, heard_link, opened_link, read_link, without_note}
+use Rattle.relay_world.specs.Steps.{AttemptOf, Breaks, DropsAttempt, EndsWith, HasGivenUp, HasHeard, HasLost, HasOpened, HasRead, HasWritten, IsPut, IsPutAt, RecordsOutcome, RecordsRead, WritesAs, heard_link, opened_link, read_link, without_note, ended_link, SessionOf}
 use Rattle.relay_world.specs.World.{Host, Up, World, link_at}
 use Rattle.relay_world.proofs.AddedLemmas.{HasTakenDown, given_adds, heard_adds, left_by, lost_adds, taken_down}
 use Rattle.relay_world.proofs.TakerLemmas.{EndedStay, ListsAdd, ended_same, ended_still, lists_same, lists_stay, takers_kept}
@@ -195,12 +196,12 @@ module _ {D : Type 0} (honest : Type 0) (words : DiskWords D) (old new : World D
       hears.rest.0 (left_by hears.after hears.received.change) hears.received.change
       (taken_down old new hears.of.end.node number hears.of.host hears.after hears.received.change hears.records)
 
-  pub ended : (number : ℕ) → EndsSession old new number → IsTriedOnce new later
-  ended number ends =
+  pub ended : (number : ℕ) (closing : Option Reply) → EndsWith old new number closing → IsTriedOnce new later
+  ended number closing ends =
       kept (stayed ends.of.end.node ends.of.host ends.after ends.of.host_at ends.hosts) (there_same ends.rest.0)
       (list_stayed ends.of.end.node ends.of.host ends.after ends.of.host_at ends.hosts) (same_ends ends.rest.0)
       (given_at ends.of.end.node ends.of.host ends.after ends.of.host.records ends.hosts)
-      (served number (record ends.of.link { server = Some (record ends.of.end { session = None }) }) _ refl ends.links
+      (served number (ended_link ends.of.link ends.of.end closing) _ refl ends.links
       (λ other off. same_accepts ends.rest.1 other))
 
   -- an outcome of an attempt was recorded

@@ -63,7 +63,7 @@ module _ {D : Type 0} (honest : Type 0) (words : DiskWords D) where
               record {
                 unsettled = unsettled;
                 once = ended ⊥ words world next was.unsettled.later unsettled.later was.unsettled.bound was.once
-                    unsettled.bound piece.number ends.0;
+                    unsettled.bound piece.number None ends.0;
               }
         ]) others
 

@@ -6,6 +6,7 @@ use Rattle.std.proofs.lemmas.List.{append_assoc, append-nil}
 use Rattle.std.proofs.lemmas.Option.{same_Some}
 use Rattle.relay_octets.specs.Beginning.{Begins}
 use Rattle.relay_disk.specs.Device.{DiskWords}
+use Rattle.relay_lines.specs.Reply.{Reply, reply_text}
 use Rattle.relay_node.specs.Node.{NodeState}
 use Rattle.relay_records.specs.Records.{Kept}
 use Rattle.relay_records.specs.Staged.{Row, no_row}
@@ -16,8 +17,8 @@ use Rattle.relay_world.specs.Growth.{GrownListsBegin, HasGrown, LinkGrows, RunsG
 use Rattle.relay_world.specs.Crashes.{let_go as lets_go}
 use Rattle.relay_world.specs.Groups.{AcceptsInto, HasHeardAll, HasHeardEach, HasHeardInto, HasReopenedBehindGroup, IsOpenedAgain, IsUp, Piece}
 use Rattle.relay_world.specs.HangUp.{HangsUp}
-use Rattle.relay_world.specs.Once.{BreaksOff, Drops, Ends, GivesUp, GoesOn, Happens, Hears, HearsAll, IsNotOpened, LetsGo, Loses, Opens, Reads, Reopens, ReopensBehindGroup, Starts, Stops, StopsInGivingUp, StopsInHearing, StopsInLosing, StopsInReading, Ticks, Writes}
-use Rattle.relay_world.specs.Steps.{AttemptOf, EndsSession, IsPut, IsPutAt, RecordsHeard, RecordsOutcome, RecordsRead, WritesAs, heard_link, opened_link, read_link, unless_broken, without_note}
+use Rattle.relay_world.specs.Once.{BreaksOff, Drops, Ends, GivesUp, GoesOn, Happens, Hears, IsNotOpened, LetsGo, Loses, Opens, Reads, Reopens, Starts, Stops, StopsInGivingUp, StopsInHearing, StopsInLosing, StopsInReading, Ticks, Writes, Closes, HearsAll, ReopensBehindGroup}
+use Rattle.relay_world.specs.Steps.{AttemptOf, IsPut, IsPutAt, RecordsHeard, RecordsOutcome, RecordsRead, WritesAs, heard_link, opened_link, read_link, unless_broken, without_note, EndsWith, ended_link, closed_down}
 use Rattle.relay_world.specs.Stops.{Decides, DropsAtStop, Finds, FindsOutcome, HasFound, cut_off_link}
 use Rattle.relay_world.specs.World.{Down, FromClient, FromLoss, FromNoHop, FromReplies, Host, Origin, Undecided, Up, World, link_at}
 use Rattle.relay_world.proofs.ClaimLemmas.{there_too}
@@ -254,15 +255,19 @@ grown_on old next new first second = record {
       (other.0, other.1, link_on link one.0 other.0 one.2 other.2);
 }
 
--- a session that is gone
-ended : {D : Type 0} (old new : World D) (number : ℕ) → EndsSession old new number → HasGrown old new
-ended old new number is =
+-- a session that is gone, with a reply behind all others or none
+closed_grows : (link : Link) (closing : Option Reply) → Begins link.down (closed_down link closing)
+closed_grows link None = same_begins link.down
+closed_grows link (Some reply) = (unless_broken link (reply_text reply), refl)
+
+ended : {D : Type 0} (old new : World D) (number : ℕ) (closing : Option Reply) → EndsWith old new number closing
+    → HasGrown old new
+ended old new number closing is =
     grown old new (stays old new is.of.end.node is.of.host (record is.of.host { state = Up is.after }) is.of.host_at is.hosts refl)
     (same_ledger old new is.rest.1)
-    (octets_of old new number is.of.link (record is.of.link { server = Some (record is.of.end { session = None }) }) is.of.link_is
-    is.links (record {
+    (octets_of old new number is.of.link (ended_link is.of.link is.of.end closing) is.of.link_is is.links (record {
       up = same_begins is.of.link.up;
-      down = same_begins is.of.link.down;
+      down = closed_grows is.of.link closing;
       up_read = omega arith;
       down_read = omega arith;
     }))
@@ -305,7 +310,7 @@ module _ {D : Type 0} (honest : Type 0) (words : DiskWords D) where
       grown_on old next new
       (elim first [
         | inl hears ↦ heard_into at old next node piece row more hears
-        | inr ends ↦ ended old next piece.number ends.0
+        | inr ends ↦ ended old next piece.number None ends.0
       ])
       (heard_each at next new node pieces more left others)
 
@@ -361,7 +366,8 @@ event_grows honest words old new (Hears number count is) =
       down_read = omega arith;
     }))
 event_grows honest words old new (HearsAll node pieces is) = heard_all honest words old new node pieces is
-event_grows honest words old new (Ends number is) = ended old new number is
+event_grows honest words old new (Ends number is) = ended old new number None is
+event_grows honest words old new (Closes number reply is) = ended old new number (Some reply) is.ends
 event_grows honest words old new (Reads number count is) =
     read_on old new number is.of is.after is.replied.change is.records
     (octets_of old new number is.of.link (read_link is.of.link is.replied) is.of.link_is is.links (record {

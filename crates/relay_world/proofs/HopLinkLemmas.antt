@@ -4,6 +4,7 @@ use Rattle.std.specs.Prelude.{slice_get}
 use Rattle.std.proofs.lemmas.Bool.{cases_eq}
 use Rattle.std.proofs.lemmas.Option.{none-some, same_Some}
 use Rattle.relay_disk.specs.Device.{DiskWords}
+use Rattle.relay_lines.specs.Reply.{Reply}
 use Rattle.relay_node.specs.Node.{NodeState}
 use Rattle.relay_routes.specs.declared.config.Config.{Config}
 use Rattle.relay_world.specs.declared.attempt.Attempt.{Attempt}
@@ -15,8 +16,8 @@ use Rattle.relay_world.specs.Crashes.{let_go as lets_go}
 use Rattle.relay_world.specs.Groups.{AcceptsInto, HasHeardAll, HasHeardEach, HasHeardInto, HasReopenedBehindGroup, IsOpenedAgain, IsUp, Piece}
 use Rattle.relay_world.specs.HangUp.{HangsUp}
 use Rattle.relay_world.specs.HopLinks.{AreLinkedToHops, IsLinkedToHop, LeadsTo, HopLinksAtFirst}
-use Rattle.relay_world.specs.Once.{BreaksOff, Drops, Ends, GivesUp, GoesOn, Hears, HearsAll, IsNotOpened, LetsGo, Loses, HopLinksAreKept, Opens, Reads, Reopens, ReopensBehindGroup, Starts, Stops, StopsInGivingUp, StopsInHearing, StopsInLosing, StopsInReading, Ticks, Writes}
-use Rattle.relay_world.specs.Steps.{AttemptOf, EndsSession, HasStarted, IsPut, IsPutAt, RecordsHeard, RecordsOutcome, RecordsRead, WritesAs, heard_link, opened_link, read_link, session_after, without_note}
+use Rattle.relay_world.specs.Once.{BreaksOff, Drops, Ends, GivesUp, GoesOn, Hears, IsNotOpened, LetsGo, Loses, HopLinksAreKept, Opens, Reads, Reopens, Starts, Stops, StopsInGivingUp, StopsInHearing, StopsInLosing, StopsInReading, Ticks, Writes, Closes, HearsAll, ReopensBehindGroup}
+use Rattle.relay_world.specs.Steps.{AttemptOf, HasStarted, IsPut, IsPutAt, RecordsHeard, RecordsOutcome, RecordsRead, WritesAs, heard_link, opened_link, read_link, session_after, without_note, EndsWith, ended_link}
 use Rattle.relay_world.specs.Stops.{Decides, DropsAtStop, Finds, FindsOutcome, HasFound, cut_off_link}
 use Rattle.relay_records.specs.Records.{Kept}
 use Rattle.relay_records.specs.Staged.{Row, no_row}
@@ -324,14 +325,14 @@ written_server : (link written : Link) (octets : List ℕ) → WritesAs link oct
 written_server link written octets (inl up) = ap (λ (l : Link). l.server) up.1
 written_server link written octets (inr down) = ap (λ (l : Link). l.server) down.1
 
--- a session that is gone
-ended : {D : Type 0} (old new : World D) → AreLinkedToHops old → (number : ℕ) → EndsSession old new number → AreLinkedToHops new
-ended old new linked number ends =
+-- a session that is gone, with a reply behind all others or none
+ended : {D : Type 0} (old new : World D) → AreLinkedToHops old → (number : ℕ) (closing : Option Reply)
+    → EndsWith old new number closing → AreLinkedToHops new
+ended old new linked number closing ends =
     all_linked old new ends.rest.3
     (names_put old new ends.of.end.node ends.of.host (record ends.of.host { state = Up ends.after }) ends.of.host_at ends.hosts
     refl)
-    (ways_ended old new number ends.of.link
-    (record ends.of.link { server = Some (record ends.of.end { session = None }) }) ends.of.end None ends.of.link_is
+    (ways_ended old new number ends.of.link (ended_link ends.of.link ends.of.end closing) ends.of.end None ends.of.link_is
     ends.of.serves refl ends.links) linked (hops_same old new ends.rest.0)
 
 -- links that a node hears one behind another
@@ -362,7 +363,7 @@ module _ {D : Type 0} (honest : Type 0) (words : DiskWords D) where
       heard_each at next new
       (elim first [
         | inl hears ↦ heard_into at old next linked node piece row more hears
-        | inr ends ↦ ended old next linked piece.number ends.0
+        | inr ends ↦ ended old next linked piece.number None ends.0
       ]) node pieces more left others
 
   heard_all : (old new : World D) → AreLinkedToHops old → (node : ℕ) (pieces : List Piece)
@@ -411,7 +412,9 @@ hop_links_are_kept honest words old new linked (Hears number count hears) =
     (hops_same old new hears.rest.0)
 hop_links_are_kept honest words old new linked (HearsAll node pieces hears) =
     heard_all honest words old new linked node pieces hears
-hop_links_are_kept honest words old new linked (Ends number ends) = ended old new linked number ends
+hop_links_are_kept honest words old new linked (Ends number ends) = ended old new linked number None ends
+hop_links_are_kept honest words old new linked (Closes number reply cuts) =
+    ended old new linked number (Some reply) cuts.ends
 hop_links_are_kept honest words old new linked (Reads number count reads) =
     read_on old new linked number reads.of reads.after reads.replied.change reads.records reads.rest.1
     (ways_like old new number reads.of.link (read_link reads.of.link reads.replied) reads.of.link_is refl reads.links)

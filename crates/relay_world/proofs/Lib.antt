@@ -1,4 +1,5 @@
 mod AcknowledgedLemmas
+mod ClosingLemmas
 mod CauseLemmas
 mod CustodyLemmas
 mod ContentLemmas

@@ -1,5 +1,5 @@
 -- A run of events keeps two relays bound, each place tried once, and the links of attempts as they are meant.
-use Rattle.std.proofs.Common.{◌≡◌, ℕ, zero, suc, List, [], Some, sym, subst, ap, ◌∙◌}
+use Rattle.std.proofs.Common.{◌≡◌, ℕ, zero, suc, List, [], Some, sym, subst, ap, ◌∙◌, None}
 use Rattle.std.specs.Prelude.{slice_get}
 use Rattle.std.proofs.lemmas.Option.{none-some}
 use Rattle.relay_disk.specs.Device.{DiskWords}
@@ -10,10 +10,10 @@ use Rattle.relay_book.specs.Marks.{change_at}
 use Rattle.relay_world.specs.Bound.{IsBound}
 use Rattle.relay_world.specs.HopLinks.{AreLinkedToHops}
 use Rattle.relay_world.specs.Ledger.{accepts_on}
-use Rattle.relay_world.specs.Once.{BreaksOff, Drops, Ends, GivesUp, GoesOn, Happens, Hears, HearsAll, IsNotOpened, IsTriedOnce, LetsGo, Loses, OnceAtFirst, OnceIsKept, Opens, Reads, Reopens, ReopensBehindGroup, RunsKeepAll, Starts, Stops, StopsInGivingUp, StopsInHearing, StopsInLosing, StopsInReading, Ticks, Writes}
+use Rattle.relay_world.specs.Once.{BreaksOff, Drops, Ends, GivesUp, GoesOn, Happens, Hears, IsNotOpened, IsTriedOnce, LetsGo, Loses, OnceAtFirst, OnceIsKept, Opens, Reads, Reopens, RunsKeepAll, Starts, Stops, StopsInGivingUp, StopsInHearing, StopsInLosing, StopsInReading, Ticks, Writes, Closes, HearsAll, ReopensBehindGroup}
 use Rattle.relay_world.specs.World.{World}
 use Rattle.relay_world.proofs.BreakLemmas.{breaking_keeps}
-use Rattle.relay_world.proofs.EndLemmas.{ending_keeps}
+use Rattle.relay_world.proofs.EndLemmas.{ending_keeps, cutting_off_keeps}
 use Rattle.relay_world.proofs.EventLemmas.{broken, dropped, ended, given_up, heard, lost, opened, read_by, written}
 use Rattle.relay_world.proofs.AddedLemmas.{read_adds}
 use Rattle.relay_world.proofs.GiveUpLemmas.{giving_up_keeps}
@@ -70,7 +70,9 @@ once_is_kept honest words old new lists later bound once (Hears number count hea
 once_is_kept honest words old new lists later bound once (HearsAll node pieces hears) now =
     heard_all honest words old new lists later bound once now node pieces hears
 once_is_kept honest words old new lists later bound once (Ends number ends) now =
-    ended honest words old new lists later bound once now number ends
+    ended honest words old new lists later bound once now number None ends
+once_is_kept honest words old new lists later bound once (Closes number reply cuts) now =
+    ended honest words old new lists later bound once now number (Some reply) cuts.ends
 once_is_kept honest words old new lists later bound once (Reads number count reads) now =
     read_by honest words old new lists later bound once now number count reads reads.replied.change reads.records
     (read_adds honest words old new lists later bound once now number count reads)
@@ -121,6 +123,8 @@ event_keeps honest words old new lists sees is bound (HearsAll node pieces hears
     hearing_all_keeps honest words old new lists node pieces bound hears
 event_keeps honest words old new lists sees is bound (Ends number ends) =
     (lists, ending_keeps honest words old new lists number bound ends)
+event_keeps honest words old new lists sees is bound (Closes number reply cuts) =
+    (lists, cutting_off_keeps honest words old new lists number reply bound cuts)
 event_keeps honest words old new lists sees is bound (Reads number count reads) =
     reading_keeps honest words old new lists number count bound reads
 event_keeps honest words old new lists sees is bound (Loses number change loses) =

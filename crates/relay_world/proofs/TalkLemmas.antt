@@ -1,5 +1,5 @@
 -- A world stays bound where a call has heard octets of a link, whatever brings what it accepted into the records.
-use Rattle.std.proofs.Common.{◌≡◌, ◌≢◌, ◌≤◌, ◌+◌, ◌^◌, ℕ, suc, Bool, true, false, List, [], ◌∷◌, ◌++◌, length, map, take, Some, refl, sym, subst, ap, ◌∙◌, cond, arith}
+use Rattle.std.proofs.Common.{◌≡◌, ◌≢◌, ◌≤◌, ◌+◌, ◌^◌, ℕ, suc, Bool, true, false, List, [], ◌∷◌, ◌++◌, length, map, take, None, Some, refl, sym, subst, ap, ◌∙◌, cond, arith}
 use Rattle.std.specs.Prelude.{slice_get}
 use Rattle.std.specs.List.{AllByRecursion}
 use Rattle.std.proofs.Math.Numerals.{add-one}
@@ -38,6 +38,7 @@ use Rattle.relay_world.specs.Bound.{HasSession, HostKeeps, IsBound, IsServed, Is
 use Rattle.relay_world.specs.Ledger.{Accepts, accepts_on, steps_in, steps_of}
 use Rattle.relay_world.specs.Steps.{SessionOf, IsPut, IsPutAt, heard_link, session_after, unless_broken, waiting_up}
 use Rattle.relay_world.specs.World.{Host, Up, World, link_at}
+use Rattle.relay_world.proofs.ClosingLemmas.{whole_open, wrote_open}
 use Rattle.relay_world.proofs.FrameLemmas.{TellsOn, accepts_on_more, changes_stay, get_last, steps_in_more, steps_more, stored_on}
 use Rattle.relay_world.proofs.MoveLemmas.{link_cases, client_was, links_kept, Joins, Moves, Settled, moved_keeps, same_attempts, same_slots, still_tried}
 use Rattle.relay_world.proofs.UndecidedLemmas.{up_not_down}
@@ -116,14 +117,21 @@ module _ {D : Type 0} (honest : Type 0) (words : DiskWords D) (old : World D) (l
       abbrev out_now : List ℕ
       out_now = unless_broken of.link received.out.items
 
+      -- while the session goes on, what was written is of its dialogue alone
+      wrote_before : Begins of.link.down was.said.output
+      wrote_before = wrote_open of.host listed.0 old.ledger number of.link of.end was of.session of.goes_on
+
+      before : of.link.broken ≡ false → of.link.down ≡ was.said.output
+      before = whole_open of.host listed.0 old.ledger number of.link of.end was of.session of.goes_on
+
       written : of.link.broken ≡ false → of.link.down ++ out_now ≡ talk.later.output
       written whole =
           ap (λ l. of.link.down ++ l) (written_whole of.link received.out.items whole)
-          ∙ ap (λ l. l ++ received.out.items) (was.whole whole) ∙ sym talk.output
+          ∙ ap (λ l. l ++ received.out.items) (before whole) ∙ sym talk.output
 
       wrote : Begins (of.link.down ++ out_now) talk.later.output
       wrote = subst (λ l. Begins (of.link.down ++ out_now) l) (sym talk.output)
-          (begins_more of.link.broken of.link.down was.said.output received.out.items was.wrote was.whole)
+          (begins_more of.link.broken of.link.down was.said.output received.out.items wrote_before before)
 
       input_now : talk.later.input ≡ take (of.link.up_read + received.used) of.link.up
       input_now =
@@ -144,6 +152,9 @@ module _ {D : Type 0} (honest : Type 0) (words : DiskWords D) (old : World D) (l
         numbered = numbered;
         answered = answered;
         input = input_now;
+        closing = None;
+        closes = tt;
+        closed = tt;
         wrote = wrote;
         whole = written;
         accepts = accepts;

@@ -2,6 +2,7 @@
 -- it on.
 use Rattle.std.specs.Prelude.{◌≡◌, ◌⊎◌, ℕ, zero, suc, Bool, true, List, [], None, Some, slice_get}
 use Rattle.std.specs.List.{AllByRecursion, Contains}
+use Rattle.relay_lines.specs.Reply.{Reply}
 use Rattle.relay_disk.specs.Device.{DiskWords}
 use Rattle.relay_disk.specs.declared.disks.Disks.{Disks}
 use Rattle.relay_attempts.specs.Hops.{goes_to, hop_of_place}
@@ -25,7 +26,7 @@ use Rattle.relay_world.specs.HangUp.{HangsUp}
 use Rattle.relay_world.specs.Ledger.{accepts_on}
 use Rattle.relay_world.specs.HopLinks.{AreLinkedToHops}
 use Rattle.relay_world.specs.Passing.{Rules}
-use Rattle.relay_world.specs.Steps.{Breaks, DropsAttempt, EndsSession, HasGivenUp, HasHeard, HasLost, HasOpened, HasRead, HasStarted, HasTicked, HasWritten}
+use Rattle.relay_world.specs.Steps.{Breaks, CutsOff, DropsAttempt, EndsSession, HasGivenUp, HasHeard, HasLost, HasOpened, HasRead, HasStarted, HasTicked, HasWritten}
 use Rattle.relay_world.specs.Stops.{HasReopened, HasStopped, StaysDown, StaysUp, StopsGivingUp, StopsHearing, StopsLosing, StopsReading}
 use Rattle.relay_world.specs.World.{Down, FromNoHop, Host, Undecided, Up, World, link_at}
 
@@ -107,6 +108,7 @@ pub data Happens {D : Type 0} (honest : Type 0) (words : DiskWords D) (old new :
   HearsAll : (node : ℕ) (pieces : List Piece) → HasHeardAll honest words old new node pieces
       → Happens honest words old new
   Ends : (number : ℕ) → EndsSession old new number → Happens honest words old new
+  Closes : (number : ℕ) (reply : Reply) → CutsOff old new number reply → Happens honest words old new
   Reads : (number count : ℕ) → HasRead honest words old new number count → Happens honest words old new
   Loses : (number change : ℕ) → HasLost honest words old new number change → Happens honest words old new
   Drops : (number : ℕ) → DropsAttempt old new number → Happens honest words old new
