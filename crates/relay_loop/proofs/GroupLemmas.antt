@@ -6,7 +6,6 @@ use Rattle.relay_slots.specs.Slots.{slot_at}
 use Rattle.relay_server.specs.declared.offer.Answer.TheVariants.{Queued}
 use Rattle.relay_server.specs.Dialogue.{Said}
 use Rattle.relay_server.specs.Setup.{setup_of_config}
-use Rattle.relay_book.specs.declared.change.Accept.{Accept}
 use Rattle.relay_book.specs.declared.change.Change.{Change}
 use Rattle.relay_book.specs.declared.change.Change.TheVariants as change
 use Rattle.relay_records.specs.Records.{Kept}

@@ -5,4 +5,5 @@ mod HopLemmas
 mod GroupLemmas
 mod EachLemmas
 mod LawLemmas
+mod BecomesLemmas
 pub mod Theorems

@@ -1,5 +1,5 @@
 -- What a relay does with the octets of several clients, whose changes come into its records together.
-use Rattle.std.specs.Prelude.{◌≡◌, ◌≢◌, ◌⊎◌, ℕ, ◌+◌, ◌≤◌, ◌^◌, false, true, List, [], ◌∷◌, ◌++◌, length, take, Option, None, Some, Result, Ok, Err}
+use Rattle.std.specs.Prelude.{◌≡◌, ◌≢◌, ◌⊎◌, ℕ, ◌+◌, ◌≤◌, ◌^◌, false, true, List, [], ◌∷◌, ◌++◌, length, take, Option, None, Result, Ok, Err}
 use Rattle.std.specs.List.{AllByRecursion}
 use Rattle.relay_disk.specs.Device.{DiskWords}
 use Rattle.relay_slots.specs.Slots.{slot_at}
@@ -9,7 +9,6 @@ use Rattle.relay_spool.specs.Spool.{AtEachMoment}
 use Rattle.relay_server.specs.Dialogue.{Offered, Said}
 use Rattle.relay_server.specs.Setup.{setup_of_config}
 use Rattle.relay_book.specs.declared.change.Change.{Change}
-use Rattle.relay_records.specs.Records.{IsStopped}
 use Rattle.relay_records.specs.Staged.{Awaits, CutsAll, GrowsAll, Row, Settles, StandsForOrWithAll, no_row}
 use Rattle.relay_records.specs.declared.fault.NodeFault.{NodeFault}
 use Rattle.relay_records.specs.declared.fault.NodeFault.TheVariants.{NoMemory, Stopped, Unknown, Full}
@@ -112,6 +111,7 @@ module _ {D : Type 0} (honest : Type 0) (words : DiskWords D) (changes : List Ch
     pub each : AnswersEach pieces group.heard.items [] old no_row before row pending
     pub settles : Settles honest words new.node.records changes pending group.notes.items
     pub grows : GrowsAll words before.node.records row new.node.records
+    pub config : new.node.config ≡ before.node.config
     pub seats : new.node.seats ≡ before.node.seats
     pub clients : new.clients ≡ before.clients
     pub stop : honest → AtEachMoment words old.node.records.spool.disk new.node.records.spool.disk

@@ -6,3 +6,4 @@ pub mod Clients
 pub mod Groups
 pub mod Hops
 pub mod Laws
+pub mod GroupLaws

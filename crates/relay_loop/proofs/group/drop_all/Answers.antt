@@ -1,7 +1,6 @@
 -- One connection more is gone.
-use Rattle.std.proofs.Common.{◌≡◌, ◌<◌, ℕ, List, [], ◌∷◌, ◌++◌, length, take, get_or, refl, sym, subst, arith}
+use Rattle.std.proofs.Common.{◌<◌, List, length, take, get_or, refl, sym, subst, arith}
 use Rattle.std.proofs.lemmas.List.{take_all, take_more}
-use Rattle.relay_slots.specs.Slots.{slot_at}
 use Rattle.relay_loop.specs.declared.group.Piece.{Piece}
 use Rattle.relay_loop.specs.Groups.{AllAreGone, AreOfOthers}
 use Rattle.relay_loop.proofs.EachLemmas.{AreDropped, dropped_more, no_piece}

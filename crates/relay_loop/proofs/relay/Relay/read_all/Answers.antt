@@ -24,6 +24,7 @@ returns-in-Ok-settle-clause-reads g c = λ changes keeps.
       each = so.1;
       settles = c.in-Ok-settle.ensures.settles changes so.0 so.2;
       grows = c.in-Ok-settle.ensures.grows;
+      config = c.in-Ok-settle.ensures.rest.0;
       seats = c.in-Ok-settle.ensures.rest.1;
       clients = refl;
       stop = λ honest. subst (λ (d : Disks g.row.D.Denot). AtEachMoment g.D.Disk.words d c.settle.new.self.records.spool.disk (HasBodies (StandsForOrWithAll changes so.0))) disk (c.settle.ensures.stop changes so.0 so.2 honest);

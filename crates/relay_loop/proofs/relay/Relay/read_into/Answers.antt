@@ -1,7 +1,5 @@
 -- A piece is left unread, read, or refused.
-use Rattle.std.proofs.Common.{◌≡◌, ◌≢◌, ◌⊎◌, inl, inr, ℕ, List, [], None, Some, Result, Ok, Err, rules, refl, sym, ap, ◌∙◌, subst}
-use Rattle.relay_slots.specs.Slots.{slot_at}
-use Rattle.relay_records.specs.declared.fault.NodeFault.{NodeFault}
+use Rattle.std.proofs.Common.{◌≢◌, ◌⊎◌, inl, inr, [], Ok, Err, rules, refl, sym, ap, subst}
 use Rattle.relay_loop.specs.declared.clients.Heard.{Heard}
 use Rattle.relay_loop.specs.Groups.{AnswersOne, IsLaden}
 use Rattle.relay_loop.specs.Outboxes.{unwritten_at}
