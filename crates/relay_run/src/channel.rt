@@ -139,7 +139,7 @@ impl Channel {
         } else if waits {
             self.ready.writes
         } else {
-            self.ready.reads || self.end.is_some() || !self.block.is_empty()
+            !self.block.is_empty() || self.ready.reads || self.end.is_some()
         }
     }
 
