@@ -126,7 +126,7 @@ impl Shell {
             lanes: lanes.renewed(),
             spares,
             starts,
-            tidying: Tidying::new(),
+            tidying: Tidying::behind_failure(&Now::of(clock)),
             pauses,
         })
     }
