@@ -14,15 +14,16 @@ plain=()
 for it in "$folder"/*.in; do
     name=$(basename "$it" .in)
     case $name in
-        sequences | chunks | another_reply | another_offer | small_* | postmaster_routed | standard_paths) ;;
+        sequences | chunks | another_reply | another_offer | small_* | postmaster_routed | standard_paths | \
+            refused_line_ends) ;;
         *) plain+=("$name") ;;
     esac
 done
 
 "$program" dialogues "$folder" plain "${plain[@]}" small small_contents small_chunks open postmaster_routed standard_paths \
-    > /dev/null
+    strict refused_line_ends > /dev/null
 if "$program" dialogues "$folder" another_reply > /dev/null 2>&1; then
     echo "dialogues_of_a_node: a reply that is wrong was taken" >&2
     exit 1
 fi
-echo "dialogues_of_a_node: $((${#plain[@]} + 4)) dialogues, each with one session and with 64: as written down"
+echo "dialogues_of_a_node: $((${#plain[@]} + 5)) dialogues, each with one session and with 64: as written down"

@@ -54,6 +54,9 @@ printf 'listen = 1\n' > relayd.toml
 refused 1 'relayd: config Missing host' list --config relayd.toml
 printf 'host = "a b"\n' > relayd.toml
 refused 1 'relayd: config BadValue host' init --config relayd.toml
+configuration relay.spool
+sed -i '3a bare_newlines = "no"' relayd.toml
+refused 1 'relayd: config BadValue bare_newlines' list --config relayd.toml
 
 # The content of a configuration comes before the spool that it names.
 mkdir folder

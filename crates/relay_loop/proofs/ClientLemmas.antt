@@ -1,13 +1,14 @@
 -- What a call of the node does to the connection of a client.
-use Rattle.std.proofs.Common.{◌≡◌, ℕ, Bool, true, false, List, [], ◌∷◌, ◌++◌, length, take, drop, Option, None, Some, Result, Err, refl, sym, ap, ◌∙◌, subst, append_assoc, append-nil, take-append-drop, arith}
+use Rattle.std.proofs.Common.{◌≡◌, ℕ, ◌+◌, Bool, true, false, List, [], ◌∷◌, ◌++◌, length, take, drop, Option, None, Some, Result, Err, refl, sym, ap, ◌∙◌, subst, append_assoc, append-nil, take-append-drop, arith}
 use Rattle.std.specs.Option.{option_map}
 use Rattle.relay_disk.specs.Device.{DiskWords}
 use Rattle.relay_slots.specs.Slots.{slot_at}
 use Rattle.relay_routes.specs.declared.config.Config.{Config}
 use Rattle.relay_server.specs.declared.offer.Answer.TheVariants.{Queued}
-use Rattle.relay_server.specs.Dialogue.{Said}
+use Rattle.relay_server.specs.Dialogue.{Offered, Said}
 use Rattle.relay_server.specs.Setup.{setup_of_config}
 use Rattle.relay_server.proofs.Theorems.{offers_are_answered}
+use Rattle.relay_book.specs.declared.change.Accept.{Accept}
 use Rattle.relay_book.specs.declared.change.Change.{Change}
 use Rattle.relay_book.specs.declared.change.Change.TheVariants as change
 use Rattle.relay_records.specs.declared.fault.NodeFault.{NodeFault}
@@ -15,6 +16,7 @@ use Rattle.relay_records.specs.Records.{Keeps, Kept}
 use Rattle.relay_node.specs.declared.receive.Received.{Received}
 use Rattle.relay_node.specs.Acceptance.{IsAcceptOf, acceptance_by}
 use Rattle.relay_node.specs.Node.{HasClosed, NodeState, Makes, Receives, SeatHasSaid, SessionGoesOn}
+use Rattle.relay_node.specs.Queued.{queued_in}
 use Rattle.relay_node.proofs.Theorems.{queued_grows}
 use Rattle.relay_loop.specs.declared.clients.Heard.{Heard}
 use Rattle.relay_loop.specs.Accepted.{AreAccepted, GrowsBy}
@@ -48,17 +50,62 @@ talks_wrote {D = D} changes old new session peer said written count same left t 
   accepted = subst (λ (node : NodeState D). AreAccepted node.config peer changes said) (sym same) t.accepted;
 }
 
-module _ {D : Type 0} (honest : Type 0) (words : DiskWords D) (changes : List Change) (session : ℕ) (peer : List ℕ) (at : ℕ) (said : Said) (written piece : List ℕ) (old new : RelayState D) (received : Received) (heard : Heard)
-    (keeps : Keeps honest words old.node.records changes) (t : TalksTo changes old session peer said written) (drained : unwritten_at old.clients session ≡ [])
-    (r : Receives honest words old.node.config changes peer at session said piece old.node new.node received) (same : new.node.config ≡ old.node.config)
-    (h : IsHeardFrom received heard) (set : IsSetTo received.close session received.out.items heard.last new.clients) where
+-- a session that is talked to, and to which nothing waits to be written
+module _ {D : Type 0} (list : List Change) (session : ℕ) (peer : List ℕ) (said : Said) (written : List ℕ) (old new : RelayState D) (t : TalksTo list old session peer said written) where
   -- each offer has its answer
-  even : length said.offers ≡ length said.answers
+  pub even : length said.offers ≡ length said.answers
   even =
       let by = offers_are_answered (setup_of_config old.node.config) t.seat.seat.session said t.seat.says.stands in
       let none = ap length t.seat.says.settled in
       omega (arith, by, none)
 
+  module _ (drained : unwritten_at old.clients session ≡ []) (same : new.node.config ≡ old.node.config) (grown : List Change) (later : Said) (out : List ℕ) (said_more : later.output ≡ said.output ++ out)
+      (accepted : AreAccepted old.node.config peer grown later) where
+    -- all that was said is written
+    all_written : said.output ≡ written
+    all_written = t.output ∙ ap (λ l. written ++ l) (sym (waits_there old.clients session t.waiting t.connection) ∙ drained) ∙ append-nil written
+
+    output : later.output ≡ written ++ out
+    output = said_more ∙ ap (λ l. l ++ out) all_written
+
+    -- it goes on, or has closed
+    pub goes_on : (is_closed : Bool) (last : Option (List ℕ)) → SessionGoesOn old.node.config new.node.seats session peer later is_closed → IsSetTo is_closed session out last new.clients → GoesOn grown new session peer later written last
+    goes_on true last gone at_end =
+        subst (λ (octets : Option (List ℕ)). GoesOn grown new session peer later written octets) (sym at_end.1)
+        (record {
+          closed = subst (λ (config : Config). HasClosed (setup_of_config config) later) (sym same) gone.1;
+          seat = gone.0;
+          connection = at_end.0;
+          output = output;
+          accepted = subst (λ (config : Config). AreAccepted config peer grown later) (sym same) accepted;
+        })
+    goes_on false last says going =
+        subst (λ (octets : Option (List ℕ)). GoesOn grown new session peer later written octets) (sym going.1)
+        (record {
+          seat = subst (λ (config : Config). SeatHasSaid config new.node.seats session peer later) (sym same) says;
+          waiting = out;
+          connection = going.0;
+          output = output;
+          accepted = subst (λ (config : Config). AreAccepted config peer grown later) (sym same) accepted;
+        })
+
+-- an offer that was queued behind a list is accepted by the change that is added to it
+pub accepted_last : (config : Config) (peer : List ℕ) (at : ℕ) (list : List Change) (said later : Said) (number : ℕ) (offer : Offered) (accept : Accept) → number ≡ length list + 1 → IsAcceptOf (acceptance_by config peer (length list + 1) at) offer accept
+    → queued_in later ≡ queued_in said ++ (number, offer) ∷ [] → AreAccepted config peer list said → AreAccepted config peer (list ++ change.Accept accept ∷ []) later
+accepted_last config peer at list said later number offer accept number_is is_accept grows each =
+    accepted_more config peer list (change.Accept accept) said later number offer grows
+    (record {
+      at = at;
+      accept = accept;
+      is_accept = subst (λ n. IsAcceptOf (acceptance_by config peer n at) offer accept) (sym number_is) is_accept;
+      change_is = change_last list (change.Accept accept) number number_is;
+    })
+    each
+
+module _ {D : Type 0} (honest : Type 0) (words : DiskWords D) (changes : List Change) (session : ℕ) (peer : List ℕ) (at : ℕ) (said : Said) (written piece : List ℕ) (old new : RelayState D) (received : Received) (heard : Heard)
+    (keeps : Keeps honest words old.node.records changes) (t : TalksTo changes old session peer said written) (drained : unwritten_at old.clients session ≡ [])
+    (r : Receives honest words old.node.config changes peer at session said piece old.node new.node received) (same : new.node.config ≡ old.node.config)
+    (h : IsHeardFrom received heard) (set : IsSetTo received.close session received.out.items heard.last new.clients) where
   -- the list behind the call, which the node keeps, and by which the offers are accepted
   record Grown (made : Option ℕ) : Type 0 where
     pub list : List Change
@@ -71,53 +118,19 @@ module _ {D : Type 0} (honest : Type 0) (words : DiskWords D) (changes : List Ch
     list = changes;
     grows = refl;
     keeps_list = subst (λ (records : Kept D). Keeps honest words records changes) (sym unchanged) keeps;
-    accepted = accepted_alike old.node.config peer changes said r.later (queued_grows said r.later r.talks.refused [] [] even more) t.accepted;
+    accepted = accepted_alike old.node.config peer changes said r.later (queued_grows said r.later r.talks.refused [] [] (even changes session peer said written old new t) more) t.accepted;
   }
   grown_by (Some number) queues = record {
     list = changes ++ change.Accept queues.accept ∷ [];
     grows = (queues.accept, queues.number_is, refl);
     keeps_list = queues.adds.keeps;
     accepted =
-        accepted_more old.node.config peer changes (change.Accept queues.accept) said r.later number queues.offer
-        (queued_grows said r.later r.talks.refused (queues.offer ∷ []) (Queued number ∷ []) even queues.answers)
-        (record {
-          at = at;
-          accept = queues.accept;
-          is_accept = subst (λ n. IsAcceptOf (acceptance_by old.node.config peer n at) queues.offer queues.accept) (sym queues.number_is) queues.fits.is_accept;
-          change_is = change_last changes (change.Accept queues.accept) number queues.number_is;
-        })
-        t.accepted;
+        accepted_last old.node.config peer at changes said r.later number queues.offer queues.accept queues.number_is queues.fits.is_accept
+        (queued_grows said r.later r.talks.refused (queues.offer ∷ []) (Queued number ∷ []) (even changes session peer said written old new t) queues.answers) t.accepted;
   }
 
   grown : Grown received.change
   grown = grown_by received.change r.talks.makes
-
-  -- all that was said is written
-  all_written : said.output ≡ written
-  all_written = t.output ∙ ap (λ l. written ++ l) (sym (waits_there old.clients session t.waiting t.connection) ∙ drained) ∙ append-nil written
-
-  output : r.later.output ≡ written ++ received.out.items
-  output = r.talks.output ∙ ap (λ l. l ++ received.out.items) all_written
-
-  goes_on : (is_closed : Bool) → SessionGoesOn old.node.config new.node.seats session peer r.later is_closed → IsSetTo is_closed session received.out.items heard.last new.clients → GoesOn grown.list new session peer r.later written heard.last
-  goes_on true gone at_end =
-      subst (λ (last : Option (List ℕ)). GoesOn grown.list new session peer r.later written last) (sym at_end.1)
-      (record {
-        closed = subst (λ (config : Config). HasClosed (setup_of_config config) r.later) (sym same) gone.1;
-        seat = gone.0;
-        connection = at_end.0;
-        output = output;
-        accepted = subst (λ (config : Config). AreAccepted config peer grown.list r.later) (sym same) grown.accepted;
-      })
-  goes_on false says going =
-      subst (λ (last : Option (List ℕ)). GoesOn grown.list new session peer r.later written last) (sym going.1)
-      (record {
-        seat = subst (λ (config : Config). SeatHasSaid config new.node.seats session peer r.later) (sym same) says;
-        waiting = received.out.items;
-        connection = going.0;
-        output = output;
-        accepted = subst (λ (config : Config). AreAccepted config peer grown.list r.later) (sym same) grown.accepted;
-      })
 
   pub reads : Reads honest words changes session peer at said written piece old new heard
   reads = record {
@@ -131,5 +144,5 @@ module _ {D : Type 0} (honest : Type 0) (words : DiskWords D) (changes : List Ch
     list = grown.list;
     grows = subst (λ (made : Option ℕ). GrowsBy changes made grown.list) (sym h.change) grown.grows;
     keeps = grown.keeps_list;
-    goes_on = goes_on received.close r.goes_on set;
+    goes_on = goes_on changes session peer said written old new t drained same grown.list r.later received.out.items r.talks.output grown.accepted received.close heard.last r.goes_on set;
   }

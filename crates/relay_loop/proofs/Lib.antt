@@ -2,5 +2,8 @@ mod OutboxLemmas
 mod AcceptedLemmas
 mod ClientLemmas
 mod HopLemmas
+mod GroupLemmas
+mod EachLemmas
 mod LawLemmas
+mod BecomesLemmas
 pub mod Theorems

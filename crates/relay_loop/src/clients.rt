@@ -35,6 +35,19 @@ pub struct Heard {
     pub last: Option<Outbox>,
 }
 
+impl Heard {
+    /// Nothing was used, and nothing was done.
+    pub(crate) fn nothing() -> Self
+        ensures { result ≡ record { used = 0; change = None; last = None } }
+    {
+        Heard {
+            used: 0,
+            change: None,
+            last: None,
+        }
+    }
+}
+
 impl<D: Disk> Relay<D> {
     /// Opens a session for a client at this address, under the least free number, which is the answer. Its greeting
     /// waits to be written. The first fault in this order is answered, and nothing is changed then: `Stopped`,
@@ -89,11 +102,7 @@ impl<D: Disk> Relay<D> {
             return Err(NodeFault::Unknown);
         };
         if !waiting.is_empty() {
-            return Ok(Heard {
-                used: 0,
-                change: None,
-                last: None,
-            });
+            return Ok(Heard::nothing());
         }
         match self.node.receive(session, piece, now) {
             Ok(received) => Ok(set_by(&mut self.clients, session, received)),
@@ -153,7 +162,7 @@ impl<D: Disk> Relay<D> {
 }
 
 /// Sets a connection by what was received: what that leads to waits to be written, or comes back where it closed.
-fn set_by(clients: &mut Outboxes, session: usize, received: Received) -> Heard
+pub(crate) fn set_by(clients: &mut Outboxes, session: usize, received: Received) -> Heard
     requires { session < SLOT_COUNT }
     ensures heard { IsHeardFrom received result }
     ensures set { IsSetTo received.close session received.out.items result.last clients.new }

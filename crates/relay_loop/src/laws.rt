@@ -1,6 +1,9 @@
 //! What is true of the connections of a relay, whatever calls are made.
+ghost use Rattle.relay_loop.specs.GroupLaws.{GroupsTalk};
 ghost use Rattle.relay_loop.specs.Laws.{HandsStay, OthersHand};
 ghost use Rattle.relay_loop.specs.Laws.{OthersTalk, QueuedAreAccepted, TalksAreDialogues, TalksStay};
+
+use relay_disk::Disk;
 
 /// What was said to a client is a dialogue, and what was written to it begins its output.
 pub fn talks_are_dialogues<D>()
@@ -31,4 +34,11 @@ pub fn hands_stay<D>()
 /// A call on an attempt, or on a session, leaves what is handed on to all other next hops.
 pub fn others_hand<D>()
     ensures { OthersHand D }
+{}
+
+/// A call on several pieces leaves each client that was talked to so: it is talked to still, or it has closed, and its
+/// last octets are handed out, and what was used of its pieces is read behind its input; or a piece of it was refused,
+/// and its connection is gone.
+pub fn groups_talk<D: Disk>()
+    ensures { GroupsTalk D.honest D.words }
 {}

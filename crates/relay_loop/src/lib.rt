@@ -3,6 +3,7 @@
 
 mod clients;
 mod closing;
+mod group;
 mod hops;
 pub mod laws;
 mod outbox;
@@ -11,6 +12,7 @@ mod relay;
 
 pub use clients::Heard;
 pub use closing::{Closing, closing_line};
+pub use group::{Group, Piece};
 pub use hops::Answered;
 pub use outbox::Outbox;
 pub use relay::Relay;

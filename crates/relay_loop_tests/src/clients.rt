@@ -75,7 +75,7 @@ pub(crate) fn the_65th_client_is_refused(alloc: Global) -> Result<bool, Fail> {
 
 /// The message isn't answered, and its connection is gone.
 pub(crate) fn a_failed_device_ends_the_session(alloc: Global) -> Result<bool, Fail> {
-    let mut relay = failing_relay(alloc)?;
+    let mut relay = failing_relay(alloc, 0)?;
     let session = accept(&mut relay)?;
     let mut octets = Vec::new(alloc);
     let (lines, period) = COMMANDS.split_at(COMMANDS.len() - 3);
@@ -85,7 +85,7 @@ pub(crate) fn a_failed_device_ends_the_session(alloc: Global) -> Result<bool, Fa
 }
 
 /// Whether octets are these, and then those.
-fn is_joined(
+pub(crate) fn is_joined(
     alloc: Global,
     octets: &Vec<u8>,
     front: &[u8],

@@ -18,6 +18,9 @@ pub(crate) const FIRST: &[u8] = b"250 queued as 1\r\n";
 /// The reply to that of the second.
 pub(crate) const SECOND: &[u8] = b"250 queued as 2\r\n";
 
+/// The reply to that of a message for which the spool has no room.
+pub(crate) const SPOOL_FULL: &[u8] = b"452 spool full\r\n";
+
 /// The reply to QUIT.
 pub(crate) const BYE: &[u8] = b"221 relay.example closing\r\n";
 

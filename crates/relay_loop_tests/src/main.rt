@@ -1,9 +1,11 @@
 //! A relay over memory, without a socket: scenes of clients side by side, of one that reads nothing or says its octets
-//! one by one, of next hops that take the mail or are lost, and of a device that fails. Each scene has a line.
+//! one by one, of several that are heard at once, of next hops that take the mail or are lost, and of a device that
+//! fails. Each scene has a line.
 #![tactic(auto)]
 
 mod clients;
 mod closing;
+mod groups;
 mod hops;
 mod mail;
 mod setup;
@@ -15,6 +17,7 @@ use clients::{
     two_clients_side_by_side,
 };
 use closing::the_relay_closes_by_421;
+use groups::{a_failed_device_ends_a_group, a_group_answers_each, a_group_is_one_append};
 use hops::{
     a_hop_takes_the_mail, a_hop_that_is_lost_keeps_the_mail, an_attempt_waits_for_its_commands,
 };
@@ -23,6 +26,7 @@ use std::test::Fail;
 
 fn main(rt: HostRuntime) -> Result<(), Fail> {
     show_clients(&rt)?;
+    show_groups(&rt)?;
     show_hops(&rt)
 }
 
@@ -42,6 +46,17 @@ fn show_clients(rt: &HostRuntime) -> Result<(), Fail> {
     say(rt, "a failed device ends the session", holds)?;
     let holds = the_relay_closes_by_421(rt.alloc())?;
     say(rt, "the relay closes by 421", holds)?;
+    Ok(())
+}
+
+/// Prints a line for each scene of several clients at once.
+fn show_groups(rt: &HostRuntime) -> Result<(), Fail> {
+    let holds = a_group_is_one_append(rt.alloc())?;
+    say(rt, "a group is one append", holds)?;
+    let holds = a_group_answers_each(rt.alloc())?;
+    say(rt, "a group answers each", holds)?;
+    let holds = a_failed_device_ends_a_group(rt.alloc())?;
+    say(rt, "a failed device ends a group", holds)?;
     Ok(())
 }
 

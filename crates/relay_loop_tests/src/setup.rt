@@ -1,7 +1,7 @@
 //! A relay over memory at the first moment. Each call of it stands here alone, in a function without clauses: what
 //! calls these sees none of their contracts.
 use relay_disk::{Disks, MemoryDisk};
-use relay_loop::{Answered, Heard, Outbox, Relay};
+use relay_loop::{Answered, Group, Heard, Outbox, Piece, Relay};
 use relay_node::{Node, NodeFault, Work};
 use relay_routes::{Config, HostName};
 use relay_trace::Moment;
@@ -11,12 +11,17 @@ use std::test::Fail;
 /// A relay on disks in memory.
 pub type MemoryRelay = Relay<MemoryDisk>;
 
-const CONFIGURATION: &str = "host = \"relay.example\"
+const HEAD: &str = "host = \"relay.example\"
 listen = \"127.0.0.1:2525\"
 spool = \"relay.spool\"
-[routes]
+";
+
+const ROUTES: &str = "[routes]
 \"example.org\" = { name = \"next.example\", at = \"127.0.0.1:2526\" }
 ";
+
+/// A limit of the spool that no scene comes to.
+const WIDE: u64 = 1_048_576;
 
 /// The address of each client.
 const CLIENT: [u8; 4] = [127, 0, 0, 1];
@@ -29,9 +34,10 @@ fn first_moment() -> Moment {
     }
 }
 
-/// A node without changes.
-fn empty_node(alloc: Global) -> Result<Node<MemoryDisk>, Fail> {
-    let Ok(config) = Config::read(alloc, CONFIGURATION) else {
+/// A node without changes, with this limit of its spool in octets.
+fn empty_node(alloc: Global, limit: u64) -> Result<Node<MemoryDisk>, Fail> {
+    let text = format!(in alloc; "{HEAD}spool_limit = {limit}\n{ROUTES}")?;
+    let Ok(config) = Config::read(alloc, text.as_str()) else {
         return Err(Fail::new("no configuration"));
     };
     let disks = Disks {
@@ -53,14 +59,19 @@ fn relay_of(alloc: Global, node: Node<MemoryDisk>) -> Result<MemoryRelay, Fail> 
 
 /// A relay without changes.
 pub(crate) fn empty_relay(alloc: Global) -> Result<MemoryRelay, Fail> {
-    let node = empty_node(alloc)?;
+    narrow_relay(alloc, WIDE)
+}
+
+/// A relay without changes, with this limit of its spool in octets.
+pub(crate) fn narrow_relay(alloc: Global, limit: u64) -> Result<MemoryRelay, Fail> {
+    let node = empty_node(alloc, limit)?;
     relay_of(alloc, node)
 }
 
-/// A relay without changes whose device takes no call any more.
-pub(crate) fn failing_relay(alloc: Global) -> Result<MemoryRelay, Fail> {
-    let mut node = empty_node(alloc)?;
-    node.fuse(0);
+/// A relay without changes whose device takes so many calls, and no more.
+pub(crate) fn failing_relay(alloc: Global, calls: u64) -> Result<MemoryRelay, Fail> {
+    let mut node = empty_node(alloc, WIDE)?;
+    node.fuse(calls);
     relay_of(alloc, node)
 }
 
@@ -75,6 +86,10 @@ pub(crate) fn read(
     piece: &[u8],
 ) -> Result<Heard, NodeFault> {
     relay.read(session, piece, first_moment())
+}
+
+pub(crate) fn read_all(relay: &mut MemoryRelay, pieces: &[Piece<'_>]) -> Result<Group, NodeFault> {
+    relay.read_all(pieces, first_moment())
 }
 
 pub(crate) fn end_client(relay: &mut MemoryRelay, session: usize) -> Result<Outbox, NodeFault> {

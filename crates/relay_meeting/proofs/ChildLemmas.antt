@@ -166,11 +166,11 @@ there-by true false many bare offers child begins h = absurd (omega (arith, h, a
 there-by false fits many bare offers child begins h = absurd (omega (arith, h, ap length begins.1, length-append offers begins.0))
 
 pub child_holds_its_places : ChildHoldsItsPlaces
-child_holds_its_places setup errand said input output replies rest is ends some =
+child_holds_its_places setup errand said closing input output replies rest is ends some =
     let row_of = each_place_is_tried setup errand.envelope errand.places is.envelope is.within in
     let tried : List Tried = row_of.0 in
-    let met = two_relays_meet setup errand tried said input output replies rest is row_of.1 ends in
-    let held = offer_holds_its_places setup errand tried said input output replies rest is row_of.1 ends some in
+    let met = two_relays_meet setup errand tried said closing input output replies rest is row_of.1 ends in
+    let held = offer_holds_its_places setup errand tried said closing input output replies rest is row_of.1 ends some in
     let child : Offered = offered_of (client_in errand) (child_envelope errand tried) errand.text in
     let accepted = ap (λ l. recipients_at errand.envelope.recipients l)
     (read-accepted setup errand tried replies row_of.1 held)

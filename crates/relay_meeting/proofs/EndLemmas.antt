@@ -1,7 +1,8 @@
 -- What an attempt at a relay ends with.
-use Rattle.std.proofs.Common.{◌≡◌, ◌≢◌, ◌⊎◌, inl, inr, ℕ, suc, nat_le, Bool, true, false, List, [], ◌∷◌, ◌++◌, length, map, Some, None, refl, sym, ap, ◌∙◌, subst, cond, arith}
-use Rattle.std.specs.Prelude.{unwrap_or}
-use Rattle.std.proofs.lemmas.List.{append_assoc, append-nil, length-append}
+use Rattle.std.proofs.Common.{◌≡◌, ◌≢◌, ◌⊎◌, ◌<◌, ◌≤◌, ◌+◌, inl, inr, ℕ, suc, nat_le, Bool, true, false, List, [], ◌∷◌, ◌++◌, length, map, Option, Some, None, refl, sym, ap, ◌∙◌, subst, cond, arith}
+use Rattle.std.specs.Prelude.{option_to_list, unwrap_or}
+use Rattle.std.proofs.lemmas.List.{append_assoc, append-nil, append_cancel_left, length-append, length-map}
+use Rattle.std.proofs.lemmas.Option.{same_Some}
 use Rattle.relay_octets.specs.Beginning.{Begins}
 use Rattle.relay_lines.specs.Reply.{Reply}
 use Rattle.relay_body.specs.DotText.{ends_in_line_end}
@@ -11,7 +12,7 @@ use Rattle.relay_server.specs.declared.client.Client.{Client}
 use Rattle.relay_server.specs.declared.offer.Answer.{Answer}
 use Rattle.relay_server.specs.declared.offer.Answer.TheVariants as answer
 use Rattle.relay_server.specs.declared.reply_table.Row.TheVariants as row
-use Rattle.relay_server.specs.Dialogue.{Takes, Turn, answers_in, read_by, answered_by, row_of_answer}
+use Rattle.relay_server.specs.Dialogue.{IsDialogue, Offered, Said, Takes, Turn, answers_in, offers_in, read_by, offered_by, answered_by, row_of_answer}
 use Rattle.relay_server.specs.Reply.{reply_of}
 use Rattle.relay_routes.specs.declared.bare_newlines.BareNewlines.{BareNewlines}
 use Rattle.relay_server.specs.ReplyTable.{Replies, Offers, is_refused_by, unless_refused}
@@ -24,15 +25,17 @@ use Rattle.relay_course.specs.WrittenLine.{data_line, last_chunk}
 use Rattle.relay_course.specs.VerdictTable.{content_verdict_by, kind_of, rcpt_verdict, refusal, some_accepted, verdicts_of}
 use Rattle.relay_course.specs.Progress.{Errand, Answered, Progress, answer_of, progress}
 use Rattle.relay_course.specs.Course.{joined}
-use Rattle.relay_course.specs.RelayLaws.{answered_rcpts, content_answers, content_replies, last_verdict, relay_progress, relay_replies}
+use Rattle.relay_course.specs.Laws.{IsErrand}
+use Rattle.relay_course.specs.RelayLaws.{answered_rcpts, content_answers, content_replies, last_verdict, opening_replies, relay_progress, relay_replies}
 use Rattle.relay_course.proofs.Theorems.{commands_to_a_relay, end_is_end, end_waits_for_nothing}
 use Rattle.relay_meeting.specs.Meeting.{AreExpected, Plays, Step, replies_by, state_behind, step_of}
-use Rattle.relay_meeting.specs.Script.{AreRcpts, Tried, course_of_last_chunk, course_of_mail_data, row_of_hop, quit_step, content_steps, rcpt_steps, with_tried, client_in, envelope_behind, opened_of, script_of}
-use Rattle.relay_meeting.specs.Joined.{Tells, TwoRelaysEnd, child_envelope, verdict_at}
+use Rattle.relay_meeting.specs.Script.{AreRcpts, AreTried, Tried, course_of_last_chunk, course_of_mail_data, row_of_hop, quit_step, content_steps, rcpt_steps, with_tried, client_in, envelope_behind, opened_of, script_of}
+use Rattle.relay_meeting.specs.Joined.{AreJoined, HaveEnded, IsCutShort, MayClose, Tells, TwoRelaysEnd, child_envelope, verdict_at}
 use Rattle.relay_meeting.proofs.MeetLemmas.{either_begins, meeting, taken_expected}
 use Rattle.relay_meeting.proofs.ScriptLemmas.{script_is_servers}
-use Rattle.relay_meeting.proofs.WritesLemmas.{all_replies, as_many_tried, client_writes, content_replies_by, fill, has_some}
-use Rattle.relay_meeting.proofs.JoinLemmas.{all_written}
+use Rattle.relay_meeting.proofs.WritesLemmas.{AllReplies, all_replies, as_many_tried, client_writes, content_replies_by, fill, has_some}
+use Rattle.relay_meeting.proofs.JoinLemmas.{all_written, sent_by, turns-answered}
+use Rattle.relay_meeting.proofs.CutShortLemmas.{last_takes_none}
 
 pub plays_expected : (host : List ℕ) (script : List Step) (turns : List Turn) → Plays host script turns
     → AreExpected host script (replies_by turns)
@@ -280,46 +283,238 @@ each-answers errand greeting hello mail input content rcpts e =
     (answer_of Content content) (answer_of Content content) input content content in
     omega (arith, length-append answers last, length-append rcpts behind, rcpts-count errand.places rcpts e, same)
 
-some_is : {A : Type 0} (one two : A) → Some one ≡ Some two → one ≡ two
-some_is one two e = cc
+-- What both ends have said: the turns are of the script, and their replies, with others behind them, are those of a
+-- whole conversation. Of these the client has read a beginning, and that of a server that closed.
+pub record Conversed (setup : Setup) (errand : Errand) (tried : List Tried) (closing : Option Reply) (turns : List Turn)
+    (replies : List Reply) : Type 0 where
+  pub plays : Plays setup.host (script_of setup errand tried) turns
+  pub heard : Begins replies (sent_by setup.host turns closing)
+  pub later : List Reply
+  pub parts : AllReplies setup errand tried (replies_by turns ++ later)
 
-pub two_relays_end : TwoRelaysEnd
-two_relays_end setup errand tried said input output replies rest verdicts is all ends each ended =
-    let greeting : Reply = reply_of setup.host row.Greeting in
-    let hello : Reply = reply_of setup.host row.Extensions in
+pub conversed : (setup : Setup) (errand : Errand) (tried : List Tried) (said : Said) (closing : Option Reply)
+    (input output : List ℕ) (replies : List Reply) (rest : List ℕ)
+    → IsErrand errand → AreTried setup errand.envelope.recipients errand.places tried
+    → (ends : AreJoined setup errand said closing input output replies rest)
+    → Conversed setup errand tried closing ends.dialogue.turns replies
+conversed setup errand tried said closing input output replies rest is all ends =
     let script : List Step = script_of setup errand tried in
     let d = ends.dialogue in
-    let heard = all_written setup said input replies rest d ends.numbered ends.host ends.cut ends.down in
+    let heard = all_written setup said closing input replies rest d ends.numbered ends.closes ends.host ends.cut ends.down in
     let octets : joined (progress errand replies).commands ≡ read_by d.turns ++ (d.rest ++ ends.up.0) =
     sym ends.written ∙ ends.up.1 ∙ ap (λ l. l ++ ends.up.0) d.input ∙ append_assoc (read_by d.turns) d.rest ends.up.0 in
-    let meets = meeting setup greeting (λ l. (progress errand l).commands) script d.state d.turns replies heard.0
-    (d.rest ++ ends.up.0) (client_writes setup errand tried is all) (script_is_servers setup errand tried is all) d.runs octets
-    heard.1 in
-    let told : List Reply = replies_by d.turns in
-    let filled = fill setup.host script told (plays_expected setup.host script d.turns meets.plays) in
-    let parts = all_replies setup errand tried (told ++ filled.later) filled.expected filled.all in
-    let many = as_many_tried setup errand.envelope.recipients errand.places tried all in
-    let whole : List Reply = relay_replies errand greeting hello parts.mail parts.rcpts parts.input parts.content in
-    let behind : List Reply = content_replies errand parts.rcpts parts.input parts.content in
-    let at = commands_to_a_relay errand greeting hello parts.mail parts.input parts.content parts.rcpts parts.willing
-    (parts.count ∙ many) in
-    let answers : length (progress errand whole).answered ≡ length whole =
-    ap (λ (end : Progress). length end.answered) at
-    ∙ each-answers errand greeting hello parts.mail parts.input parts.content parts.rcpts (parts.count ∙ many) in
-    let line : replies ++ (heard.0 ++ filled.later) ≡ whole ++ parts.quit ∷ [] =
-    sym (append_assoc replies heard.0 filled.later) ∙ ap (λ l. l ++ filled.later) (sym heard.1) ∙ parts.replies_are in
-    let same = ended_whole errand replies whole verdicts (ap (λ (end : Progress). end.waits) at) answers ended each
-    (either_begins replies whole (heard.0 ++ filled.later) (parts.quit ∷ []) line) in
-    let last : Verdict = last_verdict parts.rcpts parts.content in
-    let turned : greeting ∷ told ≡ whole ++ heard.0 = heard.1 ∙ ap (λ l. l ++ heard.0) same in
-    let rest_is : told ≡ hello ∷ parts.mail ∷ ((parts.rcpts ++ behind) ++ heard.0) = cc in
+    let meets = meeting setup (reply_of setup.host row.Greeting) (λ l. (progress errand l).commands) script d.state d.turns
+    (option_to_list closing) replies heard.0 (d.rest ++ ends.up.0) (client_writes setup errand tried is all)
+    (script_is_servers setup errand tried is all) d.runs octets heard.1 in
+    let filled = fill setup.host script (replies_by d.turns) (plays_expected setup.host script d.turns meets.plays) in
     record {
-      last = last;
-      verdicts_are = some_is verdicts (verdicts_of errand.places parts.rcpts last)
-          (sym ended ∙ ap (λ l. (progress errand l).verdicts) same ∙ ap (λ (end : Progress). end.verdicts) at)
-          ∙ verdicts_are setup.host errand.places tried parts.rcpts last many parts.are;
-      tells = subst (λ (l : List Answer). Tells last l) (sym d.answers)
-          (script_tells setup.host setup errand tried d.turns hello parts.mail parts.rcpts
-          (some_accepted parts.rcpts) parts.input parts.content heard.0 meets.plays parts.are parts.some
-          (rest_is ∙ ap (λ l. hello ∷ parts.mail ∷ l) (append_assoc parts.rcpts behind heard.0)));
+      plays = meets.plays;
+      heard = heard;
+      later = filled.later;
+      parts = all_replies setup errand tried (replies_by d.turns ++ filled.later) filled.expected filled.all;
     }
+
+-- turns with an offer reach as far as the content's reply
+content_reached : (host : List ℕ) (client : Client) (envelope : Envelope) (text chunk : Step) (some ends : Bool)
+    (turns : List Turn) (input content : Reply)
+    → Plays host (cond some (cond ends (step_of data_line (Replies row.StartMailInput (Receiving client envelope)) ∷ text
+    ∷ quit_step ∷ []) (chunk ∷ quit_step ∷ [])) (quit_step ∷ [])) turns
+    → 0 < length (offered_by turns)
+    → length (cond some (cond ends (input ∷ content ∷ []) (content ∷ [])) []) ≤ length turns
+content_reached host client envelope text chunk true true [] input content plays h = absurd (omega (arith, h))
+content_reached host client envelope text chunk true true (turn ∷ []) input content plays h =
+    absurd (omega (arith, h, ap (λ o. length (offers_in o ++ [])) plays.1.1))
+content_reached host client envelope text chunk true true (turn ∷ next ∷ turns) input content plays h = omega arith
+content_reached host client envelope text chunk true false [] input content plays h = absurd (omega (arith, h))
+content_reached host client envelope text chunk true false (turn ∷ turns) input content plays h = omega arith
+content_reached host client envelope text chunk false ends turns input content plays h = omega arith
+
+rcpts_reached : (host : List ℕ) (setup : Setup) (client : Client) (errand : Errand) (envelope : Envelope)
+    (tried : List Tried) (turns : List Turn) (some : Bool) (input content : Reply)
+    → Plays host (rcpt_steps setup client errand envelope tried) turns
+    → has_some (envelope_behind envelope tried) ≡ some → 0 < length (offered_by turns)
+    → length tried + length (content_replies_by errand some input content) ≤ length turns
+rcpts_reached host setup client errand envelope [] turns some input content plays is h =
+    let reached = content_reached host client envelope
+    (step_of errand.dot_text (course_of_mail_data setup client envelope errand.text))
+    (step_of (last_chunk errand.text) (course_of_last_chunk setup client envelope errand.text)) some
+    (ends_in_line_end errand.text) turns input content
+    (subst (λ (b : Bool). Plays host (cond b (content_steps setup client errand envelope) (quit_step ∷ [])) turns) is plays)
+    h in
+    omega (arith, reached)
+rcpts_reached host setup client errand envelope (tried ∷ more) [] some input content plays is h =
+    absurd (omega (arith, h))
+rcpts_reached host setup client errand envelope (tried ∷ more) (turn ∷ turns) some input content plays is h =
+    let none = ap (λ o. length (offers_in o ++ offered_by turns)) plays.1.1 in
+    let behind = rcpts_reached host setup client errand (with_tried envelope tried) more turns some input content plays.2
+    is (omega (arith, h, none)) in
+    omega (arith, behind)
+
+pub script_reached : (setup : Setup) (errand : Errand) (tried : List Tried) (turns : List Turn) (some : Bool)
+    (input content : Reply) → Plays setup.host (script_of setup errand tried) turns
+    → has_some (child_envelope errand tried) ≡ some → 0 < length (offered_by turns)
+    → suc (suc (length tried + length (content_replies_by errand some input content))) ≤ length turns
+script_reached setup errand tried [] some input content plays is h = absurd (omega (arith, h))
+script_reached setup errand tried (first ∷ []) some input content plays is h =
+    absurd (omega (arith, h, ap (λ o. length (offers_in o ++ [])) plays.1.1))
+script_reached setup errand tried (first ∷ second ∷ turns) some input content plays is h =
+    let none = ap (λ o. length (offers_in o ++ offered_by (second ∷ turns))) plays.1.1 in
+    let nothing = ap (λ o. length (offers_in o ++ offered_by turns)) plays.2.1.1 in
+    let behind = rcpts_reached setup.host setup (client_in errand) errand (opened_of errand.envelope) tried turns some input
+    content plays.2.2 is (omega (arith, h, none, nothing)) in
+    omega (arith, behind)
+
+-- replies that were read begin those of the turns; or they are all of these, and that of a server that closed
+closed_or_not : (closing : Option Reply) (replies all : List Reply) → Begins replies (all ++ option_to_list closing)
+    → Begins replies all ⊎ ((reply : Reply) × (closing ≡ Some reply) × (replies ≡ all ++ reply ∷ []))
+closed_or_not None replies all heard = inl (heard.0, sym (append-nil all) ∙ heard.1)
+closed_or_not (Some reply) replies all heard = by (either_begins replies all heard.0 (reply ∷ []) (sym heard.1))
+  where
+    by : Begins replies all ⊎ Begins all replies
+        → Begins replies all ⊎ ((one : Reply) × (Some reply ≡ Some one) × (replies ≡ all ++ one ∷ []))
+    by (inl begins) = inl begins
+    by (inr ([], is)) = inl ([], sym (append-nil all) ∙ sym is ∙ sym (append-nil replies))
+    by (inr (one ∷ [], is)) =
+        let line : all ++ (one ∷ heard.0) ≡ all ++ reply ∷ [] =
+        sym (append_assoc all (one ∷ []) heard.0) ∙ ap (λ l. l ++ heard.0) (sym is) ∙ sym heard.1 in
+        let last : one ∷ heard.0 ≡ reply ∷ [] = append_cancel_left all (one ∷ heard.0) (reply ∷ []) line in
+        let same : one ≡ reply = cc in
+        inr (reply, refl, is ∙ ap (λ r. all ++ r ∷ []) same)
+    by (inr (one ∷ next ∷ more, is)) =
+        let a = ap length is in
+        let b = length-append all (one ∷ next ∷ more) in
+        let c = ap length heard.1 in
+        let d = length-append all (reply ∷ []) in
+        let e = length-append replies heard.0 in
+        absurd (omega (arith, a, b, c, d, e))
+
+none_offered : (offers : List Offered) → (0 < length offers → ⊥) → offers ≡ []
+none_offered [] h = refl
+none_offered (offer ∷ offers) h = absurd (h (omega arith))
+
+nothing_more : {A : Type 0} (xs : List A) → length xs ≡ 0 → xs ≡ []
+nothing_more [] e = refl
+nothing_more (x ∷ xs) e = absurd (omega (arith, e))
+
+module _ (setup : Setup) (errand : Errand) (tried : List Tried) (said : Said) (closing : Option Reply)
+    (input output : List ℕ) (replies : List Reply) (rest : List ℕ) (verdicts : List Verdict)
+    (is : IsErrand errand) (all : AreTried setup errand.envelope.recipients errand.places tried)
+    (ends : AreJoined setup errand said closing input output replies rest)
+    (each : length (progress errand replies).answered ≡ length replies)
+    (ended : (progress errand replies).verdicts ≡ Some verdicts) where
+  abbrev greeting : Reply
+  greeting = reply_of setup.host row.Greeting
+
+  abbrev hello : Reply
+  hello = reply_of setup.host row.Extensions
+
+  abbrev d : IsDialogue setup said
+  d = ends.dialogue
+
+  abbrev told : List Reply
+  told = replies_by d.turns
+
+  talk : Conversed setup errand tried closing d.turns replies
+  talk = conversed setup errand tried said closing input output replies rest is all ends
+
+  parts : AllReplies setup errand tried (told ++ talk.later)
+  parts = talk.parts
+
+  many : length tried ≡ length errand.places
+  many = as_many_tried setup errand.envelope.recipients errand.places tried all
+
+  abbrev whole : List Reply
+  whole = relay_replies errand greeting hello parts.mail parts.rcpts parts.input parts.content
+
+  abbrev behind : List Reply
+  behind = content_replies errand parts.rcpts parts.input parts.content
+
+  at : progress errand whole ≡ relay_progress errand greeting hello parts.mail parts.rcpts parts.input parts.content
+  at = commands_to_a_relay errand greeting hello parts.mail parts.input parts.content parts.rcpts parts.willing
+      (parts.count ∙ many)
+
+  -- the replies are all of a conversation, where they begin it or go beyond it
+  all_of_it : Begins replies whole ⊎ Begins whole replies → replies ≡ whole
+  all_of_it either =
+      ended_whole errand replies whole verdicts (ap (λ (end : Progress). end.waits) at)
+      (ap (λ (end : Progress). length end.answered) at
+      ∙ each-answers errand greeting hello parts.mail parts.input parts.content parts.rcpts (parts.count ∙ many))
+      ended each either
+
+  -- it was the dialogue's replies that ended the attempt
+  by_dialogue : Begins replies (greeting ∷ told) → HaveEnded setup errand tried said verdicts
+  by_dialogue heard =
+      let line : replies ++ (heard.0 ++ talk.later) ≡ whole ++ parts.quit ∷ [] =
+      sym (append_assoc replies heard.0 talk.later) ∙ ap (λ l. l ++ talk.later) (sym heard.1) ∙ parts.replies_are in
+      let same = all_of_it (either_begins replies whole (heard.0 ++ talk.later) (parts.quit ∷ []) line) in
+      let last : Verdict = last_verdict parts.rcpts parts.content in
+      let turned : greeting ∷ told ≡ whole ++ heard.0 = heard.1 ∙ ap (λ l. l ++ heard.0) same in
+      let rest_is : told ≡ hello ∷ parts.mail ∷ ((parts.rcpts ++ behind) ++ heard.0) = cc in
+      record {
+        last = last;
+        verdicts_are = same_Some verdicts (verdicts_of errand.places parts.rcpts last)
+            (sym ended ∙ ap (λ l. (progress errand l).verdicts) same ∙ ap (λ (end : Progress). end.verdicts) at)
+            ∙ verdicts_are setup.host errand.places tried parts.rcpts last many parts.are;
+        tells = subst (λ (l : List Answer). Tells last l) (sym d.answers)
+            (script_tells setup.host setup errand tried d.turns hello parts.mail parts.rcpts
+            (some_accepted parts.rcpts) parts.input parts.content heard.0 talk.plays parts.are parts.some
+            (rest_is ∙ ap (λ l. hello ∷ parts.mail ∷ l) (append_assoc parts.rcpts behind heard.0)));
+      }
+
+  -- it was the reply with which the server closed
+  module _ (reply : Reply) (closed : closing ≡ Some reply) (replies_are : replies ≡ (greeting ∷ told) ++ reply ∷ []) where
+    closes : MayClose said (Some reply)
+    closes = subst (λ (c : Option Reply). MayClose said c) closed ends.closes
+
+    -- with an offer all of a conversation was read before
+    reaches : length whole ≤ length (greeting ∷ told) → Begins whole replies
+    reaches short =
+        elim (either_begins (greeting ∷ told) whole talk.later (parts.quit ∷ []) parts.replies_are) [
+          | inl begins ↦
+              let a = ap length begins.1 in
+              let b = length-append (greeting ∷ told) begins.0 in
+              let none : begins.0 ≡ [] = nothing_more begins.0 (omega (arith, a, b, short)) in
+              let same : whole ≡ greeting ∷ told =
+              begins.1 ∙ ap (λ l. (greeting ∷ told) ++ l) none ∙ append-nil (greeting ∷ told) in
+              (reply ∷ [], replies_are ∙ ap (λ l. l ++ reply ∷ []) (sym same))
+          | inr begins ↦ (
+            begins.0 ++ reply ∷ [],
+            replies_are ∙ ap (λ l. l ++ reply ∷ []) begins.1 ∙ append_assoc whole begins.0 (reply ∷ []),
+          )
+        ]
+
+    no_offer : 0 < length said.offers → ⊥
+    no_offer some =
+        let even = closes.2 in
+        let answers = ap length d.answers in
+        let turned = turns-answered d.turns in
+        let reached = script_reached setup errand tried d.turns (some_accepted parts.rcpts) parts.input parts.content
+        talk.plays parts.some (omega (arith, some, even, answers, turned)) in
+        let count = length-map d.turns (λ (turn : Turn). turn.reply) in
+        let rcpts = parts.count in
+        let size = length-append (opening_replies greeting hello parts.mail parts.rcpts) behind in
+        let same = all_of_it (inr (reaches (omega (arith, reached, count, rcpts, size)))) in
+        let a = ap length same in
+        let b = ap length replies_are in
+        let c = length-append (greeting ∷ told) (reply ∷ []) in
+        omega (arith, a, b, c, reached, count, rcpts, size)
+
+    short : IsCutShort said closing verdicts
+    short = record {
+      reply = reply;
+      closed = closed;
+      none = none_offered said.offers no_offer;
+      untaken = last_takes_none errand (greeting ∷ told) reply verdicts (ap kind_of closes.1)
+          (subst (λ (l : List Reply). length (progress errand l).answered ≡ length l) replies_are each)
+          (subst (λ (l : List Reply). (progress errand l).verdicts ≡ Some verdicts) replies_are ended);
+    }
+
+  so_ended : HaveEnded setup errand tried said verdicts ⊎ IsCutShort said closing verdicts
+  so_ended = elim (closed_or_not closing replies (greeting ∷ told) talk.heard) [
+    | inl heard ↦ inl (by_dialogue heard)
+    | inr last ↦ inr (short last.0 last.1 last.2)
+  ]
+
+pub two_relays_end : TwoRelaysEnd
+two_relays_end setup errand tried said closing input output replies rest verdicts is all ends each ended =
+    so_ended setup errand tried said closing input output replies rest verdicts is all ends each ended

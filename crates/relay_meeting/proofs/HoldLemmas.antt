@@ -1,13 +1,13 @@
 -- Where content was offered, the client has read the replies to all RCPTs.
-use Rattle.std.proofs.Common.{◌≡◌, ◌≤◌, ◌<◌, ◌⊎◌, inl, inr, ℕ, nat_le, Bool, true, false, List, [], ◌∷◌, ◌++◌, length, map, sym, ap, ◌∙◌, subst, cond, arith}
-use Rattle.std.proofs.lemmas.List.{append_assoc, append-nil, length-append}
+use Rattle.std.proofs.Common.{◌≡◌, ◌≤◌, ◌<◌, ◌⊎◌, inl, inr, ℕ, nat_le, Bool, true, false, List, [], ◌∷◌, ◌++◌, length, map, Option, None, Some, refl, sym, ap, ◌∙◌, subst, cond, arith}
+use Rattle.std.proofs.lemmas.List.{append_assoc, append-nil, length-append, length-map}
 use Rattle.relay_lines.specs.Reply.{Reply}
 use Rattle.relay_body.specs.DotText.{ends_in_line_end}
 use Rattle.relay_envelope.specs.declared.envelope.Envelope.{Envelope}
 use Rattle.relay_envelope.specs.declared.envelope.Recipient.{Recipient}
 use Rattle.relay_server.specs.declared.client.Client.{Client}
 use Rattle.relay_server.specs.declared.reply_table.Row.TheVariants as row
-use Rattle.relay_server.specs.Dialogue.{Said, Turn, offered_by, offers_in, read_by}
+use Rattle.relay_server.specs.Dialogue.{IsDialogue, Said, Turn, offered_by, offers_in, read_by}
 use Rattle.relay_server.specs.Reply.{reply_of}
 use Rattle.relay_server.specs.ReplyTable.{Replies}
 use Rattle.relay_server.specs.Setup.{Setup}
@@ -15,18 +15,18 @@ use Rattle.relay_server.specs.State.{Receiving}
 use Rattle.relay_course.specs.WrittenLine.{data_line, ehlo_line, last_chunk, mail_line, rcpt_line_at}
 use Rattle.relay_course.specs.Progress.{Errand, Progress, progress}
 use Rattle.relay_octets.specs.Beginning.{Begins}
+use Rattle.relay_course.specs.VerdictTable.{some_accepted}
 use Rattle.relay_course.specs.RelayLaws.{AreWilling, content_replies, opening_commands, opening_replies}
 use Rattle.relay_course.specs.Course.{joined}
 use Rattle.relay_course.proofs.Theorems.{commands_stay, nothing_before_all_rcpts}
 use Rattle.relay_meeting.specs.Meeting.{Plays, Step, replies_by, step_of}
 use Rattle.relay_meeting.specs.Script.{Tried, course_of_last_chunk, course_of_mail_data, quit_step, last_steps, rcpt_steps, with_tried, client_in, opened_of, script_of, AreTried}
-use Rattle.relay_meeting.specs.Joined.{AreJoined, HaveMet, OfferHoldsItsPlaces}
-use Rattle.relay_meeting.proofs.MeetLemmas.{either_begins, joined-append, meeting}
+use Rattle.relay_meeting.specs.Joined.{AreJoined, HaveMet, MayClose, OfferHoldsItsPlaces}
+use Rattle.relay_meeting.proofs.MeetLemmas.{either_begins, joined-append}
 use Rattle.relay_meeting.proofs.TriedLemmas.{rcpt_line-at}
-use Rattle.relay_meeting.proofs.ScriptLemmas.{script_is_servers}
-use Rattle.relay_meeting.proofs.WritesLemmas.{all_replies, as_many_tried, client_writes, fill}
-use Rattle.relay_meeting.proofs.JoinLemmas.{all_written, two_relays_meet}
-use Rattle.relay_meeting.proofs.EndLemmas.{plays_expected}
+use Rattle.relay_meeting.proofs.WritesLemmas.{as_many_tried}
+use Rattle.relay_meeting.proofs.JoinLemmas.{turns-answered, two_relays_meet}
+use Rattle.relay_meeting.proofs.EndLemmas.{Conversed, conversed, script_reached}
 
 chunk_some : (text : List ℕ) → 0 < length (last_chunk text)
 chunk_some text = omega arith
@@ -172,11 +172,12 @@ pub record ReadPast (errand : Errand) (replies : List Reply) : Type 0 where
   pub octets : joined (progress errand replies).commands ≡ read ++ unread
   pub long : length (joined (opening_commands errand)) < length read
 
-script_offers : (setup : Setup) (errand : Errand) (tried : List Tried) (said : Said) (input output : List ℕ)
+script_offers : (setup : Setup) (errand : Errand) (tried : List Tried) (said : Said) (closing : Option Reply)
+    (input output : List ℕ)
     (replies : List Reply) (rest : List ℕ) → AreTried setup errand.envelope.recipients errand.places tried
-    → AreJoined setup errand said input output replies rest → HaveMet setup errand tried said replies rest
-    → 0 < length said.offers → ReadPast errand replies
-script_offers setup errand tried said input output replies rest all ends met some = record {
+    → AreJoined setup errand said closing input output replies rest
+    → HaveMet setup errand tried said closing replies rest → 0 < length said.offers → ReadPast errand replies
+script_offers setup errand tried said closing input output replies rest all ends met some = record {
   read = read_by met.turns;
   unread = met.unread ++ ends.up.0;
   octets = sym ends.written ∙ ends.up.1 ∙ ap (λ l. l ++ ends.up.0) met.input
@@ -184,32 +185,64 @@ script_offers setup errand tried said input output replies rest all ends met som
   long = script_read setup errand tried met.turns all met.meets.plays (omega (arith, some, ap length met.offered));
 }
 
+-- the replies that were read and those up to the RCPTs begin one list, with an offer
+one_line_of : (setup : Setup) (errand : Errand) (tried : List Tried) (said : Said) (closing : Option Reply)
+    (d : IsDialogue setup said) (replies front : List Reply)
+    (talk : Conversed setup errand tried closing d.turns replies)
+    → front ≡ opening_replies (reply_of setup.host row.Greeting) (reply_of setup.host row.Extensions) talk.parts.mail
+    talk.parts.rcpts → MayClose said closing → 0 < length said.offers → Begins replies front ⊎ Begins front replies
+one_line_of setup errand tried said None d replies front talk is closes some =
+    let parts = talk.parts in
+    let last : List Reply = content_replies errand parts.rcpts parts.input parts.content in
+    let greeting : Reply = reply_of setup.host row.Greeting in
+    let sent : List Reply = replies_by d.turns in
+    either_begins replies front (talk.heard.0 ++ talk.later) (last ++ parts.quit ∷ [])
+    (sym (append_assoc replies talk.heard.0 talk.later) ∙ ap (λ l. l ++ talk.later) (sym talk.heard.1)
+    ∙ ap (λ l. (greeting ∷ l) ++ talk.later) (append-nil sent) ∙ parts.replies_are
+    ∙ ap (λ l. (l ++ last) ++ parts.quit ∷ []) (sym is) ∙ append_assoc front last (parts.quit ∷ []))
+one_line_of setup errand tried said (Some reply) d replies front talk is closes some =
+    let parts = talk.parts in
+    let last : List Reply = content_replies errand parts.rcpts parts.input parts.content in
+    let greeting : Reply = reply_of setup.host row.Greeting in
+    let sent : List Reply = replies_by d.turns in
+    let even = closes.2 in
+    let answers = ap length d.answers in
+    let turned = turns-answered d.turns in
+    let reached = script_reached setup errand tried d.turns (some_accepted parts.rcpts) parts.input parts.content talk.plays
+    parts.some (omega (arith, some, even, answers, turned)) in
+    let count = length-map d.turns (λ (turn : Turn). turn.reply) in
+    let rcpts = parts.count in
+    let size = ap length is in
+    let line : front ++ (last ++ parts.quit ∷ []) ≡ (greeting ∷ sent) ++ talk.later =
+    sym (append_assoc front last (parts.quit ∷ [])) ∙ ap (λ l. (l ++ last) ++ parts.quit ∷ []) is ∙ sym parts.replies_are in
+    elim (either_begins front (greeting ∷ sent) (last ++ parts.quit ∷ []) talk.later line) [
+      | inl begins ↦
+          either_begins replies front talk.heard.0 (begins.0 ++ reply ∷ [])
+          (sym talk.heard.1 ∙ ap (λ l. l ++ reply ∷ []) begins.1 ∙ append_assoc front begins.0 (reply ∷ []))
+      | inr ([], same) ↦
+          let turned_is : front ≡ greeting ∷ sent = same ∙ append-nil (greeting ∷ sent) in
+          either_begins replies front talk.heard.0 (reply ∷ [])
+          (sym talk.heard.1 ∙ ap (λ l. l ++ reply ∷ []) (sym turned_is))
+      | inr (one ∷ more, same) ↦
+          let a = ap length same in
+          let b = length-append (greeting ∷ sent) (one ∷ more) in
+          absurd (omega (arith, a, b, reached, count, rcpts, size))
+    ]
+
 pub offer_holds_its_places : OfferHoldsItsPlaces
-offer_holds_its_places setup errand tried said input output replies rest is all ends some =
+offer_holds_its_places setup errand tried said closing input output replies rest is all ends some =
     let greeting : Reply = reply_of setup.host row.Greeting in
     let hello : Reply = reply_of setup.host row.Extensions in
-    let script : List Step = script_of setup errand tried in
     let d = ends.dialogue in
-    let heard = all_written setup said input replies rest d ends.numbered ends.host ends.cut ends.down in
-    let sent : List Reply = replies_by d.turns in
-    let octets : joined (progress errand replies).commands ≡ read_by d.turns ++ (d.rest ++ ends.up.0) =
-    sym ends.written ∙ ends.up.1 ∙ ap (λ l. l ++ ends.up.0) d.input ∙ append_assoc (read_by d.turns) d.rest ends.up.0 in
-    let meets = meeting setup greeting (λ l. (progress errand l).commands) script d.state d.turns replies heard.0
-    (d.rest ++ ends.up.0) (client_writes setup errand tried is all) (script_is_servers setup errand tried is all) d.runs octets
-    heard.1 in
-    let filled = fill setup.host script sent (plays_expected setup.host script d.turns meets.plays) in
-    let parts = all_replies setup errand tried (sent ++ filled.later) filled.expected filled.all in
-    let last : List Reply = content_replies errand parts.rcpts parts.input parts.content in
+    let talk = conversed setup errand tried said closing input output replies rest is all ends in
+    let parts = talk.parts in
     let n = parts.count ∙ as_many_tried setup errand.envelope.recipients errand.places tried all in
     let front : List Reply = opening_replies greeting hello parts.mail parts.rcpts in
-    let line : replies ++ (heard.0 ++ filled.later) ≡ front ++ (last ++ parts.quit ∷ []) =
-    sym (append_assoc replies heard.0 filled.later) ∙ ap (λ l. l ++ filled.later) (sym heard.1) ∙ parts.replies_are
-    ∙ append_assoc front last (parts.quit ∷ []) in
-    let read = script_offers setup errand tried said input output replies rest all ends
-    (two_relays_meet setup errand tried said input output replies rest is all ends) some in
+    let read = script_offers setup errand tried said closing input output replies rest all ends
+    (two_relays_meet setup errand tried said closing input output replies rest is all ends) some in
     let enough = enough_replies errand greeting hello parts.mail parts.input parts.rcpts replies read.read read.unread
-    parts.willing n is.some (either_begins replies front (heard.0 ++ filled.later) (last ++ parts.quit ∷ []) line)
-    read.octets read.long in
+    parts.willing n is.some
+    (one_line_of setup errand tried said closing d replies front talk refl ends.closes some) read.octets read.long in
     record {
       rcpts = parts.rcpts;
       later = enough.0;

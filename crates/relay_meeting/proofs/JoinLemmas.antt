@@ -1,6 +1,7 @@
 -- Two relays that meet.
-use Rattle.std.proofs.Common.{◌≡◌, inl, inr, ℕ, nat_le, Bool, true, false, List, [], ◌∷◌, ◌++◌, length, Some, refl, sym, ap, ◌∙◌, subst, cond}
-use Rattle.std.proofs.lemmas.List.{append_assoc, append-nil}
+use Rattle.std.proofs.Common.{◌≡◌, inl, inr, ℕ, nat_le, Bool, true, false, List, [], ◌∷◌, ◌++◌, length, Option, None, Some, refl, sym, ap, ◌∙◌, subst, cond, arith}
+use Rattle.std.specs.Prelude.{option_to_list}
+use Rattle.std.proofs.lemmas.List.{append_assoc, append-nil, length-append}
 use Rattle.std.proofs.lemmas.List.Concat.{flat_map-append}
 use Rattle.std.specs.List.{AllByRecursion, flat_map}
 use Rattle.relay_lines.specs.Reply.{Reply, IsReply, reply_text}
@@ -29,7 +30,7 @@ use Rattle.relay_octets.specs.Beginning.{Begins}
 use Rattle.relay_course.specs.Course.{joined}
 use Rattle.relay_meeting.specs.Meeting.{Plays, Step, replies_by, state_behind, step_of}
 use Rattle.relay_meeting.specs.Script.{Tried, course_of_last_chunk, course_of_mail_data, quit_step, content_steps, last_steps, rcpt_steps, with_tried, client_in, envelope_behind, opened_of, script_of}
-use Rattle.relay_meeting.specs.Joined.{TwoRelaysMeet, child_envelope, child_of}
+use Rattle.relay_meeting.specs.Joined.{MayClose, TwoRelaysMeet, child_envelope, child_of, output_with}
 use Rattle.relay_meeting.proofs.MeetLemmas.{meeting}
 use Rattle.relay_meeting.proofs.ScriptLemmas.{script_is_servers}
 use Rattle.relay_meeting.proofs.WritesLemmas.{client_writes}
@@ -117,15 +118,66 @@ script_offer setup errand tried =
     ∙ last_offer setup (client_in errand) errand (child_envelope errand tried)
     (nat_le 1 (length (child_envelope errand tried).recipients))
 
+pub replies_written : (turns : List Turn) → written_by turns ≡ written_replies (replies_by turns)
+replies_written [] = refl
+replies_written (turn ∷ turns) = ap (λ l. reply_text turn.reply ++ l) (replies_written turns)
+
+all_replies : (turns : List Turn) → AllByRecursion (λ turn. IsReply turn.reply) turns
+    → AllByRecursion IsReply (replies_by turns)
+all_replies [] h = tt
+all_replies (turn ∷ turns) h = (h.0, all_replies turns h.1)
+
+-- the replies of a server, and that with which it closed
+abbrev pub sent_by : List ℕ → List Turn → Option Reply → List Reply
+sent_by host turns closing = reply_of host row.Greeting ∷ (replies_by turns ++ option_to_list closing)
+
+-- they are what was written
+sent-written : (host : List ℕ) (turns : List Turn) (closing : Option Reply) (output : List ℕ)
+    → reply_text (reply_of host row.Greeting) ++ written_by turns ≡ output
+    → written_replies (sent_by host turns closing) ≡ output_with output closing
+sent-written host turns None output e =
+    let greeting : Reply = reply_of host row.Greeting in
+    ap (λ (l : List Reply). written_replies (greeting ∷ l)) (append-nil (replies_by turns))
+    ∙ ap (λ l. reply_text greeting ++ l) (sym (replies_written turns)) ∙ e
+sent-written host turns (Some reply) output e =
+    let greeting : Reply = reply_of host row.Greeting in
+    ap (λ l. reply_text greeting ++ l)
+    (flat_map-append reply_text (replies_by turns) (reply ∷ [])
+    ∙ ap (λ l. l ++ (reply_text reply ++ [])) (sym (replies_written turns))
+    ∙ ap (λ l. written_by turns ++ l) (append-nil (reply_text reply)))
+    ∙ sym (append_assoc (reply_text greeting) (written_by turns) (reply_text reply))
+    ∙ ap (λ l. l ++ reply_text reply) e
+
+all_sent : (replies more : List Reply) → AllByRecursion IsReply replies → AllByRecursion IsReply more
+    → AllByRecursion IsReply (replies ++ more)
+all_sent [] more a b = b
+all_sent (reply ∷ replies) more a b = (a.0, all_sent replies more a.1 b)
+
+closing_formed : (said : Said) (closing : Option Reply) → MayClose said closing
+    → AllByRecursion IsReply (option_to_list closing)
+closing_formed said None closes = tt
+closing_formed said (Some reply) closes = (closes.0, tt)
+
+-- and they are well formed
+sent_formed : (setup : Setup) (said : Said) (turns : List Turn) (state : State) (closing : Option Reply)
+    → IsHostName setup.host → MayClose said closing → Turns setup start turns state → AreNumbered (answered_by turns)
+    → AllByRecursion IsReply (sent_by setup.host turns closing)
+sent_formed setup said turns state closing host closes runs numbered =
+    let formed = replies_are_well_formed setup host in (
+      formed.0,
+      all_sent (replies_by turns) (option_to_list closing) (all_replies turns (formed.1 start state turns runs numbered))
+          (closing_formed said closing closes),
+    )
+
 -- the turns of a dialogue, with one more where an offer is unanswered: its answer might be that the spool is full
-pub record Turned (setup : Setup) (said : Said) : Type 0 where
+pub record Turned (setup : Setup) (said : Said) (closing : Option Reply) : Type 0 where
   pub turns : List Turn
   pub state : State
   pub runs : Turns setup start turns state
   pub unread : List ℕ
   pub input : said.input ≡ read_by turns ++ unread
   pub unwritten : List ℕ
-  pub output : reply_text (reply_of setup.host row.Greeting) ++ written_by turns ≡ said.output ++ unwritten
+  pub output : written_replies (sent_by setup.host turns closing) ≡ output_with said.output closing ++ unwritten
   pub offers : said.offers ≡ offered_by turns
   pub numbered : AreNumbered (answered_by turns)
 
@@ -133,20 +185,40 @@ numbered_more : (answers : List Answer) → AreNumbered answers → AreNumbered 
 numbered_more [] h = (tt, tt)
 numbered_more (one ∷ answers) h = (h.0, numbered_more answers h.1)
 
-pub turned_by : (setup : Setup) (said : Said) (d : IsDialogue setup said) → AreNumbered said.answers
-    → IsLeft setup d.state d.rest d.unanswered → Turned setup said
-turned_by setup said d numbered (inl none) = record {
+-- each offer of a turn has its answer
+one-answered : (offer : Option (Offered × Answer)) → length (answers_in offer) ≡ length (offers_in offer)
+one-answered None = refl
+one-answered (Some offer) = refl
+
+pub turns-answered : (turns : List Turn) → length (answered_by turns) ≡ length (offered_by turns)
+turns-answered [] = refl
+turns-answered (turn ∷ turns) =
+    let first = one-answered turn.offer in
+    let behind = turns-answered turns in
+    omega (
+      arith,
+      first,
+      behind,
+      length-append (answers_in turn.offer) (answered_by turns),
+      length-append (offers_in turn.offer) (offered_by turns),
+    )
+
+pub turned_by : (setup : Setup) (said : Said) (closing : Option Reply) (d : IsDialogue setup said)
+    → AreNumbered said.answers → MayClose said closing → IsLeft setup d.state d.rest d.unanswered
+    → Turned setup said closing
+turned_by setup said closing d numbered closes (inl none) = record {
   turns = d.turns;
   state = d.state;
   runs = d.runs;
   unread = d.rest;
   input = d.input;
   unwritten = [];
-  output = sym d.output ∙ sym (append-nil said.output);
+  output = sent-written setup.host d.turns closing said.output (sym d.output)
+      ∙ sym (append-nil (output_with said.output closing));
   offers = d.offers ∙ ap (λ l. offered_by d.turns ++ l) none.1 ∙ append-nil (offered_by d.turns);
   numbered = subst AreNumbered d.answers numbered;
 }
-turned_by setup said d numbered (inr waiting) =
+turned_by setup said None d numbered closes (inr waiting) =
     let offer : Offered = offered_of waiting.client waiting.envelope waiting.content in
     let reply : Reply = reply_of setup.host row.SpoolFull in
     let turn : Turn = record { asked = d.rest; reply = reply; offer = Some (offer, answer.Full) } in
@@ -166,41 +238,41 @@ turned_by setup said d numbered (inr waiting) =
       input = d.input ∙ ap (λ l. read_by d.turns ++ l) (sym (append-nil d.rest))
           ∙ sym (flat_map-append (λ t. t.asked) d.turns (turn ∷ [])) ∙ sym (append-nil (read_by (d.turns ++ turn ∷ [])));
       unwritten = reply_text reply;
-      output = ap (λ l. reply_text (reply_of setup.host row.Greeting) ++ l)
+      output = sent-written setup.host (d.turns ++ turn ∷ []) None (said.output ++ reply_text reply)
+          (ap (λ l. reply_text (reply_of setup.host row.Greeting) ++ l)
           (flat_map-append (λ t. reply_text t.reply) d.turns (turn ∷ [])
           ∙ ap (λ l. written_by d.turns ++ l) (append-nil (reply_text reply)))
           ∙ sym (append_assoc (reply_text (reply_of setup.host row.Greeting)) (written_by d.turns) (reply_text reply))
-          ∙ ap (λ l. l ++ reply_text reply) (sym d.output);
+          ∙ ap (λ l. l ++ reply_text reply) (sym d.output));
       offers = d.offers ∙ ap (λ l. offered_by d.turns ++ l) waiting.offer_is
           ∙ sym (flat_map-append (λ t. offers_in t.offer) d.turns (turn ∷ []));
       numbered = subst AreNumbered (sym (flat_map-append (λ t. answers_in t.offer) d.turns (turn ∷ [])))
           (numbered_more (answered_by d.turns) (subst AreNumbered d.answers numbered));
     }
-
-pub replies_written : (turns : List Turn) → written_by turns ≡ written_replies (replies_by turns)
-replies_written [] = refl
-replies_written (turn ∷ turns) = ap (λ l. reply_text turn.reply ++ l) (replies_written turns)
-
-all_replies : (turns : List Turn) → AllByRecursion (λ turn. IsReply turn.reply) turns
-    → AllByRecursion IsReply (replies_by turns)
-all_replies [] h = tt
-all_replies (turn ∷ turns) h = (h.0, all_replies turns h.1)
+turned_by setup said (Some reply) d numbered closes (inr waiting) =
+    absurd (omega (
+      arith,
+      closes.2,
+      ap length d.answers,
+      ap length d.offers,
+      ap length waiting.offer_is,
+      length-append (offered_by d.turns) d.unanswered,
+      turns-answered d.turns,
+    ))
 
 pub two_relays_meet : TwoRelaysMeet
-two_relays_meet setup errand tried said input output replies rest is all ends =
+two_relays_meet setup errand tried said closing input output replies rest is all ends =
     let greeting : Reply = reply_of setup.host row.Greeting in
-    let t = turned_by setup said ends.dialogue ends.numbered ends.dialogue.left in
-    let formed = replies_are_well_formed setup ends.host in
-    let sent : List Reply = greeting ∷ replies_by t.turns in
+    let t = turned_by setup said closing ends.dialogue ends.numbered ends.closes ends.dialogue.left in
+    let sent : List Reply = sent_by setup.host t.turns closing in
     let written : input ++ (ends.down.0 ++ t.unwritten) ≡ written_replies sent =
-    sym (append_assoc input ends.down.0 t.unwritten) ∙ ap (λ l. l ++ t.unwritten) (sym ends.down.1) ∙ sym t.output
-    ∙ ap (λ l. reply_text greeting ++ l) (replies_written t.turns) in
+    sym (append_assoc input ends.down.0 t.unwritten) ∙ ap (λ l. l ++ t.unwritten) (sym ends.down.1) ∙ sym t.output in
     let heard = beginning_is_cut input (ends.down.0 ++ t.unwritten) rest replies sent
-    (formed.0, all_replies t.turns (formed.1 start t.state t.turns t.runs t.numbered)) written ends.cut in
+    (sent_formed setup said t.turns t.state closing ends.host ends.closes t.runs t.numbered) written ends.cut in
     let octets : joined (progress errand replies).commands ≡ read_by t.turns ++ (t.unread ++ ends.up.0) =
     sym ends.written ∙ ends.up.1 ∙ ap (λ l. l ++ ends.up.0) t.input ∙ append_assoc (read_by t.turns) t.unread ends.up.0 in
     let meets = meeting setup greeting (λ l. (progress errand l).commands) (script_of setup errand tried)
-    t.state t.turns replies heard.0.0 (t.unread ++ ends.up.0)
+    t.state t.turns (option_to_list closing) replies heard.0.0 (t.unread ++ ends.up.0)
     (client_writes setup errand tried is all) (script_is_servers setup errand tried is all) t.runs octets heard.0.1 in
     record {
       turns = t.turns;
@@ -216,16 +288,15 @@ two_relays_meet setup errand tried said input output replies rest is all ends =
           (plays_offer setup.host (script_of setup errand tried) t.turns meets.plays));
     }
 
--- the replies that were read begin those of the turns
-pub all_written : (setup : Setup) (said : Said) (input : List ℕ) (replies : List Reply) (rest : List ℕ)
-    (d : IsDialogue setup said) → AreNumbered said.answers → IsHostName setup.host → CutsReplies input replies rest
-    → Begins input said.output → Begins replies (reply_of setup.host row.Greeting ∷ replies_by d.turns)
-all_written setup said input replies rest d numbered host cut down =
-    let greeting : Reply = reply_of setup.host row.Greeting in
-    let formed = replies_are_well_formed setup host in
-    let sent : List Reply = greeting ∷ replies_by d.turns in
+-- the replies that were read begin those of the turns, and that with which the server closed
+pub all_written : (setup : Setup) (said : Said) (closing : Option Reply) (input : List ℕ) (replies : List Reply)
+    (rest : List ℕ) (d : IsDialogue setup said) → AreNumbered said.answers → MayClose said closing
+    → IsHostName setup.host → CutsReplies input replies rest
+    → Begins input (output_with said.output closing) → Begins replies (sent_by setup.host d.turns closing)
+all_written setup said closing input replies rest d numbered closes host cut down =
+    let sent : List Reply = sent_by setup.host d.turns closing in
     let written : input ++ down.0 ≡ written_replies sent =
-    sym down.1 ∙ d.output ∙ ap (λ l. reply_text greeting ++ l) (replies_written d.turns) in
+    sym down.1 ∙ sym (sent-written setup.host d.turns closing said.output (sym d.output)) in
     (beginning_is_cut input down.0 rest replies sent
-    (formed.0, all_replies d.turns (formed.1 start d.state d.turns d.runs (subst AreNumbered d.answers numbered)))
+    (sent_formed setup said d.turns d.state closing host closes d.runs (subst AreNumbered d.answers numbered))
     written cut).0

@@ -3,6 +3,7 @@ mod ScriptLemmas
 mod TriedLemmas
 mod WritesLemmas
 mod JoinLemmas
+mod CutShortLemmas
 mod EndLemmas
 mod HoldLemmas
 mod ChildLemmas

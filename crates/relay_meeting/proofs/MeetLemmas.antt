@@ -203,51 +203,51 @@ length-commands (step ∷ script) = ap suc (length-commands script)
 
 pub meet : (setup : Setup) (greeting : Reply) (commands : List Reply → List (List ℕ)) (done todo : List Step)
     → Writes setup.host greeting commands (done ++ todo)
-    → (replies : List Reply) (old new : State) (turns : List Turn) (heard more : List Reply) (unread : List ℕ)
+    → (replies : List Reply) (old new : State) (turns : List Turn) (behind heard more : List Reply) (unread : List ℕ)
     → length replies ≡ length done → AreExpected setup.host done replies → IsScript setup old todo → Turns setup old turns new
     → joined (commands heard) ≡ joined (commands_in done) ++ (read_by turns ++ unread)
-    → (greeting ∷ replies) ++ replies_by turns ≡ heard ++ more
+    → (greeting ∷ replies) ++ (replies_by turns ++ behind) ≡ heard ++ more
     → Meets setup todo turns new
-meet setup greeting commands done todo writes replies old new [] heard more unread n expected script runs e r =
+meet setup greeting commands done todo writes replies old new [] behind heard more unread n expected script runs e r =
     record { plays = tt; goes_on = subst (λ (s : State). IsScript setup s todo) runs script }
-meet setup greeting commands done [] writes replies old new (turn ∷ turns) heard more unread n expected script runs e r =
+meet setup greeting commands done [] writes replies old new (turn ∷ turns) behind heard more unread n expected script runs e r =
     absurd (none_closed setup old runs.0 turn script runs.1)
-meet setup greeting commands done (step ∷ todo) writes replies old new (turn ∷ turns) heard more unread n expected script
-    runs e r =
+meet setup greeting commands done (step ∷ todo) writes replies old new (turn ∷ turns) behind heard more unread n expected
+    script runs e r =
     let mid : State = runs.0 in
-    let behind : List ℕ = turn.asked ++ (read_by turns ++ unread) in
-    let octets : joined (commands heard) ≡ joined (commands_in done) ++ behind =
+    let last : List ℕ = turn.asked ++ (read_by turns ++ unread) in
+    let octets : joined (commands heard) ≡ joined (commands_in done) ++ last =
     e ∙ ap (λ l. joined (commands_in done) ++ l) (append_assoc turn.asked (read_by turns) unread) in
     let some_asked = some_octets turn.asked (no_unit_is_empty old turn.asked (asked_is_a_unit setup old mid turn runs.1)) in
     let some = length-append turn.asked (read_by turns ++ unread) in
     let all =
     subst (λ (l : List Reply). AreExpected setup.host (done ++ step ∷ todo) l) (append-nil replies)
     (expected_behind setup.host done (step ∷ todo) replies [] n expected tt) in
-    let either = either_begins heard (greeting ∷ replies) more (replies_by (turn ∷ turns)) (sym r) in
+    let either = either_begins heard (greeting ∷ replies) more (replies_by (turn ∷ turns) ++ behind) (sym r) in
     let written = written_so_far setup.host greeting commands (done ++ step ∷ todo) writes replies heard all either in
     let count : length (greeting ∷ replies) ≡ suc (length (commands_in done)) = ap suc (n ∙ sym (length-commands done)) in
     let here = subst (λ k. Written (commands heard) (commands_in done ++ step.command ∷ commands_in todo) k) count
     (subst (λ l. Written (commands heard) l (length (greeting ∷ replies)))
     (map-append (λ s. s.command) done (step ∷ todo)) written) in
     let next =
-    next_is (commands_in done) (commands_in todo) (commands heard) step.command behind here octets
+    next_is (commands_in done) (commands_in todo) (commands heard) step.command last here octets
     (omega (arith, some, some_asked)) in
     let is = turn_is setup old mid step turn (read_by turns ++ unread) next.later script.0 runs.1 next.behind_is in
     let later = meet setup greeting commands (done ++ step ∷ []) todo
     (subst (λ (s : List Step). Writes setup.host greeting commands s) (sym (append_assoc done (step ∷ []) todo)) writes)
-    (replies ++ turn.reply ∷ []) mid new turns heard more unread
+    (replies ++ turn.reply ∷ []) mid new turns behind heard more unread
     (length-append replies (turn.reply ∷ []) ∙ ap (λ k. k + 1) n ∙ sym (length-append done (step ∷ [])))
     (expected_behind setup.host done (step ∷ []) replies (turn.reply ∷ []) n expected
     (taken_expected setup.host step.course turn mid is.takes, tt))
     (subst (λ (s : State). IsScript setup s todo) (sym is.new_is) script.1) runs.2
     (octets ∙ sym (append_assoc (joined (commands_in done)) turn.asked (read_by turns ++ unread))
     ∙ ap (λ l. l ++ (read_by turns ++ unread)) (done_more done step turn is.asked_is))
-    (append_assoc (greeting ∷ replies) (turn.reply ∷ []) (replies_by turns) ∙ r) in
+    (append_assoc (greeting ∷ replies) (turn.reply ∷ []) (replies_by turns ++ behind) ∙ r) in
     record {
       plays = (is.asked_is, subst (λ (s : State). Takes setup.host step.course turn s) is.new_is is.takes, later.plays);
       goes_on = later.goes_on;
     }
 
 pub meeting : Meeting
-meeting setup greeting commands script new turns heard more unread writes is runs e r =
-    meet setup greeting commands [] script writes [] start new turns heard more unread refl tt is runs e r
+meeting setup greeting commands script new turns behind heard more unread writes is runs e r =
+    meet setup greeting commands [] script writes [] start new turns behind heard more unread refl tt is runs e r

@@ -1,8 +1,8 @@
 -- Two relays that meet: both ends by their histories, each of which has read a beginning of what the other wrote.
-use Rattle.std.specs.Prelude.{◌≡◌, ◌≢◌, ◌⊎◌, ◌<◌, ℕ, nat_le, Bool, true, List, [], ◌∷◌, ◌++◌, length, map, slice_get, option_to_list, if◌then◌else◌, Some}
-use Rattle.std.specs.List.{flat_map}
+use Rattle.std.specs.Prelude.{◌≡◌, ◌≢◌, ◌⊎◌, ◌<◌, ℕ, nat_le, Bool, true, List, [], ◌∷◌, ◌++◌, length, map, slice_get, option_to_list, if◌then◌else◌, Option, None, Some}
+use Rattle.std.specs.List.{AllByRecursion, flat_map}
 use Rattle.relay_octets.specs.Beginning.{Begins}
-use Rattle.relay_lines.specs.Reply.{Reply}
+use Rattle.relay_lines.specs.Reply.{Reply, IsReply, reply_text}
 use Rattle.relay_lines.specs.ReplyReading.{CutsReplies, HasFault}
 use Rattle.relay_lines.specs.declared.reply_reader.ReplyFault.{ReplyFault}
 use Rattle.relay_envelope.specs.declared.envelope.Envelope.{Envelope}
@@ -44,26 +44,40 @@ child_of setup errand tried =
     else [])
     else []
 
--- a server end with a dialogue, and a client end with a course of this errand, which has read these replies and a rest:
--- each has read a beginning of what the other wrote
-pub record AreJoined (setup : Setup) (errand : Errand) (said : Said) (input output : List ℕ) (replies : List Reply)
+-- what a server end wrote: the output of its dialogue, and behind that the reply with which it closed, if it did so
+-- unasked
+abbrev pub output_with : List ℕ → Option Reply → List ℕ
+output_with output None = output
+output_with output (Some reply) = output ++ reply_text reply
+
+-- a server that closes unasked has answered each offer, and says so by a reply of code 421 (RFC 5321, section 3.8)
+abbrev pub MayClose : Said → Option Reply → Type 0
+MayClose said None = Unit {0}
+MayClose said (Some reply) = IsReply reply × (reply.code ≡ 421) × (length said.answers ≡ length said.offers)
+
+-- a server end with a dialogue, and perhaps a reply with which it closed unasked, and a client end with a course of
+-- this errand, which has read these replies and a rest: each has read a beginning of what the other wrote
+pub record AreJoined (setup : Setup) (errand : Errand) (said : Said) (closing : Option Reply) (input output : List ℕ)
+    (replies : List Reply)
     (rest : List ℕ) : Type 0 where
   pub dialogue : IsDialogue setup said
   pub numbered : AreNumbered said.answers
+  pub closes : MayClose said closing
   pub host : IsHostName setup.host
   pub cut : CutsReplies input replies rest
   pub written : output ≡ joined (progress errand replies).commands
   pub up : Begins said.input output
-  pub down : Begins input said.output
+  pub down : Begins input (output_with said.output closing)
 
--- what the two have said: turns of the script, of which the client has read a beginning of the replies, and no fault;
--- and the text was offered at most once
-pub record HaveMet (setup : Setup) (errand : Errand) (tried : List Tried) (said : Said) (replies : List Reply)
+-- what the two have said: turns of the script, of which the client has read a beginning of the replies, and behind all
+-- of these of the one with which the server closed, and no fault; and the text was offered at most once
+pub record HaveMet (setup : Setup) (errand : Errand) (tried : List Tried) (said : Said) (closing : Option Reply)
+    (replies : List Reply)
     (rest : List ℕ) : Type 0 where
   pub turns : List Turn
   pub state : State
   pub meets : Meets setup (script_of setup errand tried) turns state
-  pub read : Begins replies (reply_of setup.host Greeting ∷ replies_by turns)
+  pub read : Begins replies (reply_of setup.host Greeting ∷ (replies_by turns ++ option_to_list closing))
   pub sound : (fault : ReplyFault) → ¬ HasFault rest fault
   pub unread : List ℕ
   pub input : said.input ≡ read_by turns ++ unread
@@ -73,11 +87,11 @@ pub record HaveMet (setup : Setup) (errand : Errand) (tried : List Tried) (said 
 -- Two relays meet so.
 abbrev pub TwoRelaysMeet : Type 0
 TwoRelaysMeet =
-    (setup : Setup) (errand : Errand) (tried : List Tried) (said : Said) (input output : List ℕ)
-    (replies : List Reply) (rest : List ℕ)
+    (setup : Setup) (errand : Errand) (tried : List Tried) (said : Said) (closing : Option Reply)
+    (input output : List ℕ) (replies : List Reply) (rest : List ℕ)
     → IsErrand errand → AreTried setup errand.envelope.recipients errand.places tried
-    → AreJoined setup errand said input output replies rest
-    → HaveMet setup errand tried said replies rest
+    → AreJoined setup errand said closing input output replies rest
+    → HaveMet setup errand tried said closing replies rest
 
 -- the verdict of a place: where the server's table has no hop for it, it is refused, and else it has the last verdict
 abbrev pub verdict_at : List ℕ → Verdict → Tried → Verdict
@@ -96,16 +110,23 @@ pub record HaveEnded (setup : Setup) (errand : Errand) (tried : List Tried) (sai
   pub verdicts_are : verdicts ≡ map (verdict_at setup.host last) tried
   pub tells : Tells last said.answers
 
+-- an attempt that was ended by the reply with which the server closed: nothing was offered, and no place is Taken
+pub record IsCutShort (said : Said) (closing : Option Reply) (verdicts : List Verdict) : Type 0 where
+  pub reply : Reply
+  pub closed : closing ≡ Some reply
+  pub none : said.offers ≡ []
+  pub untaken : AllByRecursion (λ verdict. (dsn : Bool) → verdict ≢ Taken dsn) verdicts
+
 -- An attempt at a relay ends so.
 abbrev pub TwoRelaysEnd : Type 0
 TwoRelaysEnd =
-    (setup : Setup) (errand : Errand) (tried : List Tried) (said : Said) (input output : List ℕ)
-    (replies : List Reply) (rest : List ℕ) (verdicts : List Verdict)
+    (setup : Setup) (errand : Errand) (tried : List Tried) (said : Said) (closing : Option Reply)
+    (input output : List ℕ) (replies : List Reply) (rest : List ℕ) (verdicts : List Verdict)
     → IsErrand errand → AreTried setup errand.envelope.recipients errand.places tried
-    → AreJoined setup errand said input output replies rest
+    → AreJoined setup errand said closing input output replies rest
     → length (progress errand replies).answered ≡ length replies
     → (progress errand replies).verdicts ≡ Some verdicts
-    → HaveEnded setup errand tried said verdicts
+    → HaveEnded setup errand tried said verdicts ⊎ IsCutShort said closing verdicts
 
 -- the client has read the replies to all RCPTs, each by the server's table, and those before them
 pub record HaveReadRcpts (setup : Setup) (tried : List Tried) (replies : List Reply) : Type 0 where
@@ -119,10 +140,10 @@ pub record HaveReadRcpts (setup : Setup) (tried : List Tried) (replies : List Re
 -- Where there is an offer, the client has read them.
 abbrev pub OfferHoldsItsPlaces : Type 0
 OfferHoldsItsPlaces =
-    (setup : Setup) (errand : Errand) (tried : List Tried) (said : Said) (input output : List ℕ)
-    (replies : List Reply) (rest : List ℕ)
+    (setup : Setup) (errand : Errand) (tried : List Tried) (said : Said) (closing : Option Reply)
+    (input output : List ℕ) (replies : List Reply) (rest : List ℕ)
     → IsErrand errand → AreTried setup errand.envelope.recipients errand.places tried
-    → AreJoined setup errand said input output replies rest → 0 < length said.offers
+    → AreJoined setup errand said closing input output replies rest → 0 < length said.offers
     → HaveReadRcpts setup tried replies
 
 -- the recipients of these places
@@ -142,25 +163,29 @@ child_by errand replies =
 -- Where there is an offer, it is one, of the recipients whose RCPTs the client has read to be accepted, in order.
 abbrev pub ChildHoldsItsPlaces : Type 0
 ChildHoldsItsPlaces =
-    (setup : Setup) (errand : Errand) (said : Said) (input output : List ℕ) (replies : List Reply) (rest : List ℕ)
-    → IsErrand errand → AreJoined setup errand said input output replies rest → 0 < length said.offers
+    (setup : Setup) (errand : Errand) (said : Said) (closing : Option Reply) (input output : List ℕ)
+    (replies : List Reply) (rest : List ℕ)
+    → IsErrand errand → AreJoined setup errand said closing input output replies rest → 0 < length said.offers
     → said.offers ≡ child_by errand replies ∷ []
 
 -- all of it: each place is tried as the server's table says; what was said; what the client has read where there is an
 -- offer, and that this is one; and how an attempt ends whose replies each answered something
-pub record HaveTalked (setup : Setup) (errand : Errand) (said : Said) (replies : List Reply) (rest : List ℕ)
+pub record HaveTalked (setup : Setup) (errand : Errand) (said : Said) (closing : Option Reply) (replies : List Reply)
+    (rest : List ℕ)
     : Type 0 where
   pub tried : List Tried
   pub are_tried : AreTried setup errand.envelope.recipients errand.places tried
-  pub met : HaveMet setup errand tried said replies rest
+  pub met : HaveMet setup errand tried said closing replies rest
   pub held : 0 < length said.offers → HaveReadRcpts setup tried replies
   pub child : 0 < length said.offers → said.offers ≡ child_by errand replies ∷ []
   pub ended : (verdicts : List Verdict) → length (progress errand replies).answered ≡ length replies
-      → (progress errand replies).verdicts ≡ Some verdicts → HaveEnded setup errand tried said verdicts
+      → (progress errand replies).verdicts ≡ Some verdicts
+      → HaveEnded setup errand tried said verdicts ⊎ IsCutShort said closing verdicts
 
 -- What two relays have said to each other: of a valid errand all of it is so.
 abbrev pub WhatRelaysSay : Type 0
 WhatRelaysSay =
-    (setup : Setup) (errand : Errand) (said : Said) (input output : List ℕ) (replies : List Reply) (rest : List ℕ)
-    → IsErrand errand → AreJoined setup errand said input output replies rest
-    → HaveTalked setup errand said replies rest
+    (setup : Setup) (errand : Errand) (said : Said) (closing : Option Reply) (input output : List ℕ)
+    (replies : List Reply) (rest : List ℕ)
+    → IsErrand errand → AreJoined setup errand said closing input output replies rest
+    → HaveTalked setup errand said closing replies rest

@@ -82,11 +82,11 @@ pub record Meets (setup : Setup) (script : List Step) (turns : List Turn) (new :
   pub goes_on : IsScript setup new (behind_turns script turns)
 
 -- Of a client that writes a script and a server that has read a beginning of what the client wrote behind a beginning
--- of the server's replies, the turns are of the script.
+-- of the server's replies, and of any that come behind those, the turns are of the script.
 abbrev pub Meeting : Type 0
 Meeting =
     (setup : Setup) (greeting : Reply) (commands : List Reply → List (List ℕ)) (script : List Step) (new : State)
-    (turns : List Turn) (heard more : List Reply) (unread : List ℕ)
+    (turns : List Turn) (behind heard more : List Reply) (unread : List ℕ)
     → Writes setup.host greeting commands script → IsScript setup start script → Turns setup start turns new
-    → joined (commands heard) ≡ read_by turns ++ unread → greeting ∷ replies_by turns ≡ heard ++ more
+    → joined (commands heard) ≡ read_by turns ++ unread → greeting ∷ (replies_by turns ++ behind) ≡ heard ++ more
     → Meets setup script turns new

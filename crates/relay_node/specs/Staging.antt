@@ -87,8 +87,8 @@ module _ (config : Config) (changes pending : List Change) (peer : List ℕ) (at
       AllByRecursion (Overfills next_behind config.spool_limit (old.spool.size + room_of row.bodies)) offers
 
   -- behind the refused offers one was staged: the change of this number accepts it, and no octet behind it was read
-  pub record QueuesInto {D : Type 0} (said later : Said) (refused : List Offered) (used : ℕ) (old : Kept D) (row left : Row)
-      (more : List Change) (number : ℕ)
+  pub record QueuesInto {D : Type 0} (said later : Said) (refused : List Offered) (used : ℕ) (old : Kept D)
+      (row left : Row) (more : List Change) (number : ℕ)
       : Type 0 where
     pub number_is : number ≡ length changes + length pending + 1
     pub offer : Offered

@@ -3,7 +3,8 @@ ghost use Rattle.std.specs.Prelude.{◌≡◌, ℕ, None, List, length, IfErr, I
 ghost use Rattle.relay_book.specs.declared.change.Change.{Change};
 ghost use Rattle.relay_node.specs.Node.{HasHistory, RefusesAt, SeatHasSaid, SessionHasSaid};
 ghost use Rattle.relay_node.specs.Room.{ComesToOffer};
-ghost use Rattle.relay_node.specs.Staging.{HearsBehind, IsHeardInto, ReceivesBehind, RefusesToHearInto, RefusesToReceiveInto, TakesInto, UsesPiece};
+ghost use Rattle.relay_node.specs.Staging.{HearsBehind, IsHeardInto, ReceivesBehind, TakesInto, UsesPiece};
+ghost use Rattle.relay_node.specs.Staging.{RefusesToHearInto, RefusesToReceiveInto};
 ghost use Rattle.relay_records.specs.Staged.{Awaits};
 ghost use Rattle.relay_server.specs.Dialogue.{Said};
 ghost use Rattle.relay_server.specs.Setup.{setup_of_config};

@@ -1,5 +1,6 @@
 //! Mail of sessions that stand outside of the node, which comes into its records together.
-ghost use Rattle.std.specs.Prelude.{◌≡◌, ◌≢◌, ◌⊎◌, ◌+◌, [], ◌<◌, ◌^◌, false, true, List, Err, IfErr, IfOk, MatchResult, OnOk};
+ghost use Rattle.std.specs.Prelude.{◌≡◌, ◌≢◌, ◌⊎◌, ◌+◌, ◌<◌, ◌^◌, [], false, true, List};
+ghost use Rattle.std.specs.Prelude.{Err, IfErr, IfOk, MatchResult, OnOk};
 ghost use Rattle.relay_book.specs.declared.change.Change.{Change};
 ghost use Rattle.relay_node.specs.Acceptance.{IsStorable};
 ghost use Rattle.relay_node.specs.Staging.{HasStaged, RefusesOffer, RefusesToStage, StagesOffer};

@@ -32,9 +32,16 @@ const OPEN: Host = Host {
     table: "example.org next.example * next.example",
 };
 
+/// Refuses a content in which a CR or an LF stands alone.
+const STRICT: Host = Host {
+    keys: "bare_newlines = \"refuse\"",
+    table: "example.org next.example",
+};
+
 /// Holds the dialogues of a folder that the words name: the client's octets stand in `NAME.in`, the replies in
 /// `NAME.ref`. Behind the word `small` the host takes contents of up to four octets, behind `open` mail for every
-/// domain, behind `plain` and at first neither. It prints a line for each, and fails where one comes otherwise.
+/// domain, behind `strict` no content in which a CR or an LF stands alone, behind `plain` and at first none of these.
+/// It prints a line for each, and fails where one comes otherwise.
 pub fn dialogues(rt: &HostRuntime, folder: &str, words: &[String]) -> Result<(), Fail> {
     let mut host = PLAIN;
     let mut are_right = true;
@@ -43,6 +50,7 @@ pub fn dialogues(rt: &HostRuntime, folder: &str, words: &[String]) -> Result<(),
             "plain" => host = PLAIN,
             "small" => host = SMALL,
             "open" => host = OPEN,
+            "strict" => host = STRICT,
             name => are_right = hold(rt, folder, name, host)? && are_right,
         }
     }

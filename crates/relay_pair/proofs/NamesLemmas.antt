@@ -1,17 +1,20 @@
 -- Each node goes by the configuration that it had, so that names stay apart.
-use Rattle.std.proofs.Common.{inl, inr, ◌≡◌, ℕ, zero, suc, List, [], ◌∷◌, ◌++◌, Option, None, Some, refl, sym, ap, ◌∙◌}
+use Rattle.std.proofs.Common.{inl, inr, ◌≡◌, ℕ, zero, suc, List, [], ◌∷◌, ◌++◌, Option, None, Some, refl, sym, subst, ap, ◌∙◌}
 use Rattle.std.specs.Prelude.{slice_get}
 use Rattle.std.proofs.lemmas.Bool.Decides.{eqb_tells}
 use Rattle.std.proofs.lemmas.Option.{same_Some}
+use Rattle.relay_lines.specs.Reply.{Reply}
 use Rattle.relay_disk.specs.Device.{DiskWords}
 use Rattle.relay_node.specs.Node.{NodeState}
 use Rattle.relay_routes.specs.declared.config.Config.{Config}
 use Rattle.relay_world.specs.declared.attempt.Fate.{Fate}
 use Rattle.relay_world.specs.declared.attempt.Fate.TheVariants.{Lost, Replied}
-use Rattle.relay_world.specs.Once.{BreaksOff, Drops, Ends, GivesUp, GoesOn, Happen, Happens, Hears, IsNotOpened, LetsGo, Loses, Opens, Reads, Reopens, Starts, Stops, StopsInGivingUp, StopsInHearing, StopsInLosing, StopsInReading, Ticks, Writes}
-use Rattle.relay_world.specs.Steps.{AttemptOf, IsPut, RecordsHeard, RecordsOutcome, RecordsRead, without_note}
+use Rattle.relay_world.specs.Once.{BreaksOff, Closes, Drops, Ends, GivesUp, GoesOn, Happen, Happens, Hears, IsNotOpened, LetsGo, Loses, Opens, Reads, Reopens, Starts, Stops, StopsInGivingUp, StopsInHearing, StopsInLosing, StopsInReading, Ticks, Writes, HearsAll, ReopensBehindGroup}
+use Rattle.relay_world.specs.Steps.{AttemptOf, IsPut, RecordsHeard, RecordsOutcome, RecordsRead, without_note, EndsWith}
+use Rattle.relay_world.specs.Groups.{AcceptsInto, HasHeardAll, HasHeardEach, HasHeardInto, HasReopenedBehindGroup, IsOpenedAgain, IsUp, Piece}
 use Rattle.relay_world.specs.Stops.{Decides, DropsAtStop}
 use Rattle.relay_records.specs.Records.{Kept}
+use Rattle.relay_records.specs.Staged.{Row, no_row}
 use Rattle.relay_world.specs.World.{Down, FromClient, FromNoHop, Host, Origin, Undecided, Up, World}
 use Rattle.relay_pair.specs.Relays.{HaveOwnNames}
 
@@ -48,6 +51,63 @@ module _ {D : Type 0} where
       let was = more node host at in
       let before = first node was.0 was.1 in
       (before.0, before.1, was.2 ∙ before.2)
+
+  ended : (old new : World D) (number : ℕ) (closing : Option Reply) → EndsWith old new number closing
+      → SameNames old.hosts new.hosts
+  ended old new number closing ends =
+      names_put old.hosts new.hosts ends.of.end.node ends.of.host (record ends.of.host { state = Up ends.after })
+      ends.of.host_at ends.hosts refl
+
+  -- links that a node hears one behind another
+  module _ (honest : Type 0) (words : DiskWords D) where
+    heard_into : (at : ℕ) (old new : World D) (node : ℕ) (piece : Piece) (row left : Row)
+        → HasHeardInto honest words at old new node piece row left → SameNames old.hosts new.hosts
+    heard_into at old new node piece row left hears = by hears.received.change hears.accepts
+      where
+        by : (change : Option ℕ) → AcceptsInto honest words old new piece.number hears.of hears.after row left change
+            → SameNames old.hosts new.hosts
+        by None accepts =
+            names_put old.hosts new.hosts hears.of.end.node hears.of.host
+            (record hears.of.host { state = Up hears.after }) hears.of.host_at accepts.0 refl
+        by (Some change) accepts =
+            names_put old.hosts new.hosts hears.of.end.node hears.of.host
+            (record hears.of.host { state = Up hears.after; records = hears.of.host.records ++ accepts.0.octets ∷ [] })
+            hears.of.host_at accepts.2 refl
+
+    heard_each : (at : ℕ) (old new : World D) (node : ℕ) (pieces : List Piece) (row left : Row)
+        → HasHeardEach honest words at old new node pieces row left → SameNames old.hosts new.hosts
+    heard_each at old new node [] row left each =
+        names_same old.hosts new.hosts (ap (λ (w : World D). w.hosts) each.0)
+    heard_each at old new node (piece ∷ pieces) row left (next, more, first, others) =
+        names_both old.hosts next.hosts new.hosts
+        (elim first [
+          | inl hears ↦ heard_into at old next node piece row more hears
+          | inr ends ↦ ended old next piece.number None ends.0
+        ]) (heard_each at next new node pieces more left others)
+
+    heard_all : (old new : World D) (node : ℕ) (pieces : List Piece) → HasHeardAll honest words old new node pieces
+        → SameNames old.hosts new.hosts
+    heard_all old new node pieces hears =
+        names_both old.hosts hears.heard.hosts new.hosts
+        (heard_each old.clock old hears.heard node pieces no_row hears.row hears.each)
+        (names_put hears.heard.hosts new.hosts node hears.staged.host (record hears.staged.host { state = Up hears.after })
+        hears.staged.host_at hears.hosts refl)
+
+    opened_again : (world new : World D) (node : ℕ) (is : IsUp world node) (after : NodeState D)
+        → IsOpenedAgain world new node is.host after → SameNames world.hosts new.hosts
+    opened_again world new node is after again =
+        subst (λ (w : World D). SameNames world.hosts w.hosts) (sym again.new_is)
+        (names_put world.hosts again.hosts node is.host (record is.host { state = Up after }) is.host_at again.put refl)
+
+    reopened_behind : (old new : World D) (node : ℕ) (pieces : List Piece)
+        → HasReopenedBehindGroup honest words old new node pieces → SameNames old.hosts new.hosts
+    reopened_behind old new node pieces reopens = elim reopens.decides [
+      | inl none ↦ opened_again old new node reopens.before reopens.after none.1
+      | inr all ↦
+          names_both old.hosts reopens.heard.hosts new.hosts
+          (heard_each reopens.at old reopens.heard node pieces no_row reopens.row reopens.each)
+          (opened_again reopens.heard new node reopens.staged reopens.after all.1)
+    ]
 
   module _ (old new : World D) where
     recorded : (number change : ℕ) (of : AttemptOf old number) (after : NodeState D) (fate : Fate)
@@ -95,9 +155,9 @@ module _ {D : Type 0} where
     event_names (Writes number octets writes) = names_same old.hosts new.hosts (ap (λ (w : World D). w.hosts) writes.new_is)
     event_names (Hears number count hears) =
         heard hears.of.end.node number hears.of.host hears.after hears.received.change hears.of.host_at hears.records
-    event_names (Ends number ends) =
-        names_put old.hosts new.hosts ends.of.end.node ends.of.host (record ends.of.host { state = Up ends.after })
-        ends.of.host_at ends.hosts refl
+    event_names {honest} {words} (HearsAll node pieces hears) = heard_all honest words old new node pieces hears
+    event_names (Ends number ends) = ended old new number None ends
+    event_names (Closes number reply cuts) = ended old new number (Some reply) cuts.ends
     event_names (Reads number count reads) = read number reads.of reads.after reads.replied.change reads.records
     event_names (Loses number change loses) = recorded number change loses.of loses.after (Lost change) loses.records
     event_names (Drops number drops) =
@@ -131,6 +191,8 @@ module _ {D : Type 0} where
         stays.host_at stays.hosts refl
     event_names (Reopens node reopens) =
         decided node reopens.host reopens.after reopens.undecided reopens.host_at reopens.decides
+    event_names {honest} {words} (ReopensBehindGroup node pieces reopens) =
+        reopened_behind honest words old new node pieces reopens
     event_names (Ticks clock ticks) = names_same old.hosts new.hosts (ap (λ (w : World D). w.hosts) ticks.new_is)
     event_names (LetsGo node hangs) = names_same old.hosts new.hosts (ap (λ (w : World D). w.hosts) hangs.new_is)
     event_names (GoesOn node stays) =

@@ -2,3 +2,4 @@ pub mod Sessions
 pub mod Lanes
 pub mod Reopening
 pub mod Spares
+pub mod Readiness

@@ -1,3 +1,6 @@
+ghost use Rattle.std.specs.Prelude.{◌≡◌, ◌≢◌, [], false};
+ghost use Rattle.relay_run.specs.Readiness.{HasUnread};
+
 use mio::net::TcpStream;
 use std::alloc::Global;
 use std::io::{self, Read};
@@ -35,7 +38,9 @@ impl Block {
     }
 
     /// What was read and isn't used yet.
-    pub(crate) fn piece(&self) -> &[u8] {
+    pub(crate) fn piece(&self) -> &[u8]
+        ensures { HasUnread self.now → result.now ≢ [] }
+    {
         match self.octets.as_slice().get(self.start..self.end) {
             Some(piece) => piece,
             None => &[],
@@ -43,7 +48,9 @@ impl Block {
     }
 
     /// Whether all that was read is used.
-    pub(crate) fn is_empty(&self) -> bool {
+    pub(crate) fn is_empty(&self) -> bool
+        ensures { HasUnread self.now → result ≡ false }
+    {
         self.piece().is_empty()
     }
 

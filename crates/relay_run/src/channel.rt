@@ -1,3 +1,6 @@
+ghost use Rattle.std.specs.Prelude.{◌≡◌, false, true};
+ghost use Rattle.relay_run.specs.Readiness.{HasUnread};
+
 use crate::block::{BLOCK_SIZE, Block};
 use mio::event::Event;
 use mio::net::TcpStream;
@@ -128,13 +131,15 @@ impl Channel {
     }
 
     /// Whether something can be done with it at once, where octets wait to be written to it or don't.
-    pub(crate) fn is_ready(&self, waits: bool) -> bool {
+    pub(crate) fn is_ready(&self, waits: bool) -> bool
+        ensures { HasUnread self.now.block → waits ≡ false → result ≡ true }
+    {
         if self.end == Some(End::Broken) {
             true
         } else if waits {
             self.ready.writes
         } else {
-            self.ready.reads || self.end.is_some() || !self.block.is_empty()
+            !self.block.is_empty() || self.ready.reads || self.end.is_some()
         }
     }
 

@@ -234,7 +234,7 @@ fn end_session(relay: &mut Relay<FileDisk>, session: usize) -> Result<Next, Faul
 }
 
 /// Ends the session of a client whose connection is broken.
-fn drop_session(relay: &mut Relay<FileDisk>, session: usize) -> Result<Next, Fault>
+pub(crate) fn drop_session(relay: &mut Relay<FileDisk>, session: usize) -> Result<Next, Fault>
     ensures ends { EndsAlone session relay.old relay.new }
     ensures next { IfOk result (λ next. next ≡ Next.Gone) }
     ensures stopped { IfErr result (HasStopped relay.old) }

@@ -1,5 +1,8 @@
+ghost use Rattle.std.specs.Prelude.{◌≡◌, ℕ, true};
+ghost use Rattle.relay_run.specs.Readiness.{IsLeftClient};
+
 use crate::channel::{Channel, Readiness};
-use crate::client::{Client, Intake, Next, cut_off};
+use crate::client::{Client, Intake, Next, cut_off, drop_session};
 use crate::clocks::Now;
 use crate::leaving::Leaving;
 use crate::slot::{count, holds, put_back};
@@ -8,12 +11,15 @@ use mio::net::TcpStream;
 use relay_disk::FileDisk;
 use relay_limits::Limits;
 use relay_log::Log;
-use relay_loop::Relay;
+use relay_loop::{Group, Heard, Piece, Relay};
 use relay_node::NodeFault;
 use relay_service::Fault;
 use relay_slots::{SLOT_COUNT, Slots};
 use std::alloc::{AllocError, Global};
 use std::net::{Ipv4Addr, SocketAddrV4};
+
+/// What came of octets of a client.
+type Answer = Result<Heard, NodeFault>;
 
 /// The connections of clients, up to 64, each under its session's number.
 pub(crate) struct Clients {
@@ -110,7 +116,7 @@ impl Clients {
     }
 
     /// Serves each of them once, each time beginning with another: first a block is read of each that has nothing to be
-    /// written, and then their sessions hear what was read.
+    /// written, and then their sessions hear what was read, all in one call.
     pub(crate) fn serve(
         &mut self,
         registry: &Registry,
@@ -127,9 +133,15 @@ impl Clients {
             let number = self.nth(step);
             self.read_one(number, registry, relay, leaving, now, &mut intake, log)?;
         }
-        for step in 0..SLOT_COUNT {
-            let number = self.nth(step);
-            self.hear_one(number, registry, relay, leaving, now, &mut intake, log)?;
+        match self.hear_all(relay, now)? {
+            Some((numbers, answers)) => {
+                for (number, answer) in numbers.into_iter().zip(answers) {
+                    self.answer_one(
+                        number, answer, registry, relay, leaving, now, &mut intake, log,
+                    )?;
+                }
+            }
+            None => self.give_one_up(relay, &mut intake)?,
         }
         self.first = self.nth(1);
         Ok(intake)
@@ -171,10 +183,59 @@ impl Clients {
         }
     }
 
-    /// Lets the session of a number hear what was read, where something was.
-    fn hear_one(
+    /// Lets all sessions that have something to hear do so in one call, so that the mail they bring comes into the spool
+    /// behind one pair of syncs. It answers their numbers, and what came of each; none where no memory is left for
+    /// that, and nothing was heard.
+    fn hear_all(
+        &self,
+        relay: &mut Relay<FileDisk>,
+        now: &Now,
+    ) -> Result<Option<(Vec<usize>, Vec<Answer>)>, Fault> {
+        let Ok(numbers) = self.hearing() else {
+            return Ok(None);
+        };
+        let Ok(pieces) = self.pieces_of(numbers.as_slice()) else {
+            return Ok(None);
+        };
+        match relay.read_all(pieces.as_slice(), now.moment) {
+            Ok(Group { heard, notes: _notes }) => Ok(Some((numbers, heard))),
+            Err(NodeFault::Stopped) => Err(Fault::Device),
+            Err(_) => Ok(None),
+        }
+    }
+
+    /// The numbers of those whose sessions have something to hear, in the order in which they are served.
+    fn hearing(&self) -> Result<Vec<usize>, AllocError> {
+        let mut numbers = Vec::new(self.alloc);
+        for step in 0..SLOT_COUNT {
+            let number = self.nth(step);
+            match self.clients.as_slice().get(number) {
+                Some(Some(client)) if client.hears => numbers.push(number)?,
+                _ => {}
+            }
+        }
+        Ok(numbers)
+    }
+
+    /// What was read of each of these.
+    fn pieces_of(&self, numbers: &[usize]) -> Result<Vec<Piece<'_>>, AllocError> {
+        let mut pieces = Vec::with_capacity(self.alloc, numbers.len())?;
+        for number in numbers {
+            if let Some(Some(client)) = self.clients.as_slice().get(*number) {
+                pieces.push(Piece {
+                    session: *number,
+                    octets: client.channel.piece(),
+                })?;
+            }
+        }
+        Ok(pieces)
+    }
+
+    /// Takes what came of the octets of the client of a number.
+    fn answer_one(
         &mut self,
         number: usize,
+        answer: Answer,
         registry: &Registry,
         relay: &mut Relay<FileDisk>,
         leaving: &mut Leaving,
@@ -182,23 +243,36 @@ impl Clients {
         intake: &mut Intake,
         log: &mut Log<'_, Vec<u8>>,
     ) -> Result<(), Fault> {
-        let heard = match self.clients.as_slice().get(number) {
-            Some(Some(client)) if client.hears => relay.read(
-                number,
-                client.channel.piece(),
-                now.moment,
-            ),
-            _ => return Ok(()),
-        };
         let Some(taken) = self.clients.take(number) else {
             return Ok(());
         };
         let mut client = taken;
         client.hears = false;
-        let next = client.answer(relay, number, heard, self.timeout, now, intake, log)?;
+        let next = client.answer(relay, number, answer, self.timeout, now, intake, log)?;
         self.settle(
             number, client, next, registry, relay, leaving, now, intake, log,
         )
+    }
+
+    /// Closes the first of those whose sessions have something to hear, since no memory is left.
+    fn give_one_up(
+        &mut self,
+        relay: &mut Relay<FileDisk>,
+        intake: &mut Intake,
+    ) -> Result<(), Fault> {
+        for step in 0..SLOT_COUNT {
+            let number = self.nth(step);
+            match self.clients.as_slice().get(number) {
+                Some(Some(client)) if client.hears => {
+                    let _client = self.clients.take(number);
+                    let _gone = drop_session(relay, number)?;
+                    intake.closed = true;
+                    return Ok(());
+                }
+                _ => {}
+            }
+        }
+        Ok(())
     }
 
     /// Puts a client where it belongs behind a turn. One that is late is cut off.
@@ -230,7 +304,9 @@ impl Clients {
     }
 
     /// Whether one is left with something to be done at once.
-    pub(crate) fn is_ready(&self, relay: &Relay<FileDisk>) -> bool {
+    pub(crate) fn is_ready(&self, relay: &Relay<FileDisk>) -> bool
+        ensures { (number : ℕ) → IsLeftClient self.now.clients relay.now number → result ≡ true }
+    {
         for (number, slot) in self.clients.as_slice().iter().enumerate() {
             if let Some(client) = slot {
                 if client.channel.is_ready(!relay.to_client(number).is_empty()) {

@@ -1,4 +1,8 @@
 //! The connection to a next hop, and what is done with it at a turn.
+ghost use Rattle.std.specs.Prelude.{◌≡◌, ℕ, [], Some, true};
+ghost use Rattle.relay_loop.specs.Outboxes.{unwritten_at};
+ghost use Rattle.relay_run.specs.Readiness.{HasUnread};
+
 use crate::channel::{Channel, End};
 use crate::clocks::Now;
 use relay_disk::FileDisk;
@@ -207,7 +211,10 @@ impl Hop {
     }
 
     /// Whether something can be done with it at once.
-    pub(crate) fn is_ready(&self, relay: &Relay<FileDisk>) -> bool {
+    pub(crate) fn is_ready(&self, relay: &Relay<FileDisk>) -> bool
+        ensures { (attempt : ℕ) → self.now.attempt ≡ Some attempt → HasUnread self.now.channel.block
+            → unwritten_at relay.now.hops attempt ≡ [] → result ≡ true }
+    {
         match self.attempt {
             Some(attempt) => self.channel.is_ready(!relay.to_hop(attempt).is_empty()),
             None => self.channel.may_write(),

@@ -1,3 +1,6 @@
+ghost use Rattle.std.specs.Prelude.{◌≡◌, ℕ, true};
+ghost use Rattle.relay_run.specs.Readiness.{IsLeftHop};
+
 use crate::channel::{Channel, Readiness};
 use crate::clocks::Now;
 use crate::ending::conclude;
@@ -174,7 +177,9 @@ impl Hops {
     }
 
     /// Whether one is left with something to be done at once.
-    pub(crate) fn is_ready(&self, relay: &Relay<FileDisk>) -> bool {
+    pub(crate) fn is_ready(&self, relay: &Relay<FileDisk>) -> bool
+        ensures { (number : ℕ) → IsLeftHop self.now.hops relay.now number → result ≡ true }
+    {
         for slot in self.hops.as_slice() {
             if let Some(hop) = slot {
                 if hop.is_ready(relay) {

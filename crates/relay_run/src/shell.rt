@@ -1,4 +1,5 @@
-ghost use Rattle.std.specs.Prelude.{◌≡◌, IsErr};
+ghost use Rattle.std.specs.Prelude.{◌≡◌, ℕ, true, IsErr};
+ghost use Rattle.relay_run.specs.Readiness.{IsLeftClient, IsLeftHop};
 ghost use Rattle.relay_run.specs.Reopening.{HasFailedToSync};
 
 use crate::channel::Readiness;
@@ -244,7 +245,11 @@ impl Shell {
     }
 
     /// Whether something can be done at once.
-    fn is_ready(&self, now: &Now) -> bool {
+    fn is_ready(&self, now: &Now) -> bool
+        ensures client { (number : ℕ) → IsLeftClient self.now.clients.clients self.now.relay number
+            → result ≡ true }
+        ensures hop { (number : ℕ) → IsLeftHop self.now.hops.hops self.now.relay number → result ≡ true }
+    {
         self.door.is_ready(now)
             || self.clients.is_ready(&self.relay)
             || self.hops.is_ready(&self.relay)
@@ -253,7 +258,11 @@ impl Shell {
     }
 
     /// How many milliseconds may be waited for the system to tell of something.
-    pub(crate) fn wait(&self, now: &Now) -> u64 {
+    pub(crate) fn wait(&self, now: &Now) -> u64
+        ensures client { (number : ℕ) → IsLeftClient self.now.clients.clients self.now.relay number
+            → result ≡ 0 }
+        ensures hop { (number : ℕ) → IsLeftHop self.now.hops.hops self.now.relay number → result ≡ 0 }
+    {
         if self.is_ready(now) {
             return 0;
         }

@@ -14,11 +14,13 @@ use Rattle.relay_server.specs.Setup.{Setup, setup_of_config}
 use Rattle.relay_server.proofs.Theorems.{beginnings_have_beginnings}
 use Rattle.relay_routes.specs.declared.config.Config.{Config}
 use Rattle.relay_book.specs.declared.change.Change.{Change}
+use Rattle.relay_meeting.specs.Joined.{output_with}
 use Rattle.relay_book.specs.Marks.{Added, made_by}
 use Rattle.relay_node.specs.Queued.{queued_by, queued_in}
 use Rattle.relay_world.specs.Bound.{IsBound, IsServed, IsStored, IsStoredAs, ServesLink, StandsAt}
 use Rattle.relay_world.specs.Custody.{Acknowledged}
 use Rattle.relay_world.specs.World.{Host, World}
+use Rattle.relay_world.proofs.ClosingLemmas.{begins_dialogue}
 
 pub begins_on : {A : Type 0} (front mid whole : List A) → Begins front mid → Begins mid whole → Begins front whole
 begins_on front mid whole first second =
@@ -85,7 +87,9 @@ module _ {D : Type 0} (honest : Type 0) (words : DiskWords D) (world : World D) 
       let input : Begins told.said.input serves.said.input =
       subst (λ l. Begins told.said.input l) (sym serves.input) told.was_read in
       let output : Begins told.said.output serves.said.output =
-      begins_on told.said.output told.link.down serves.said.output told.written serves.wrote in
+      begins_dialogue (setup_of_config served.host.config) told.said serves.said serves.closing dialogue serves.dialogue
+      serves.closes input
+      (begins_on told.said.output told.link.down (output_with serves.said.output serves.closing) told.written serves.wrote) in
       let stored : IsStoredAs served.host.config told.end.peer served.changes number told.offer =
       last_stored (IsStored served.host.config told.end.peer served.changes) (setup_of_config served.host.config)
       told.said serves.said told.answers told.offers number told.offer dialogue serves.dialogue serves.numbered input output

@@ -35,7 +35,7 @@ use Rattle.relay_world.specs.declared.line.Line.TheVariants.{Accepted}
 use Rattle.relay_world.specs.Bound.{HostKeeps, IsBound, IsListOf, NodeKeeps, told_by}
 use Rattle.relay_world.specs.Ledger.{Accepts, Becomes, Step, steps_by, steps_in, steps_of}
 use Rattle.relay_world.specs.Once.{HasNoHops, IsTriedOnce}
-use Rattle.relay_world.specs.Steps.{HasGivenUp, HasHeard, HasLost, HasRead, IsPut, RecordsHeard, RecordsRead, waiting_down, without_note}
+use Rattle.relay_world.specs.Steps.{HasGivenUp, HasLost, HasRead, IsPut, RecordsHeard, RecordsRead, SessionOf, waiting_down, without_note}
 use Rattle.relay_world.specs.World.{Host, Up, World}
 use Rattle.relay_world.proofs.AmongLemmas.{found_in, in_found, of_map, ruled_by}
 use Rattle.relay_world.proofs.AttemptLemmas.{KnowsAttempt, known}
@@ -103,6 +103,26 @@ pub noted_octets : (noted : Option Noted) (note : Noted) (changes : List Change)
 noted_octets noted note changes one used is has =
     ap (λ (n : Noted). n.octets) (same_Some note has.note (sym is ∙ has.is)) ∙ has.octets
 
+-- what a node that heard octets has recorded, and is now: nothing; or the accept of this number
+abbrev pub HasTakenDown : {D : Type 0} → World D → World D → ℕ → ℕ → Host D → NodeState D → Option ℕ → Type 0
+HasTakenDown old new node number host after None =
+    IsPut old.hosts new.hosts node (record host { state = Up after }) × (new.ledger ≡ old.ledger)
+HasTakenDown old new node number host after (Some change) =
+    (noted : Noted)
+    × IsPut old.hosts new.hosts node (record host { state = Up after; records = host.records ++ noted.octets ∷ [] })
+    × (new.ledger ≡ old.ledger ++ Accepted node change noted.accepted number ∷ [])
+
+-- a call whose note was taken leaves it so
+abbrev pub left_by : {D : Type 0} → NodeState D → Option ℕ → NodeState D
+left_by after None = after
+left_by after (Some change) = without_note after
+
+pub taken_down : {D : Type 0} (old new : World D) (node number : ℕ) (host : Host D) (after : NodeState D) (change : Option ℕ)
+    → RecordsHeard old new node number host after change
+    → HasTakenDown old new node number host (left_by after change) change
+taken_down old new node number host after None records = records
+taken_down old new node number host after (Some change) records = (records.0, records.2, records.3)
+
 module _ {D : Type 0} (honest : Type 0) (words : DiskWords D) (old new : World D) (lists later : List (List Change))
     (bound : IsBound honest words old lists) (once : IsTriedOnce old lists) (now : IsBound honest words new later) where
   abbrev Adds : Type 0
@@ -134,29 +154,26 @@ module _ {D : Type 0} (honest : Type 0) (words : DiskWords D) (old new : World D
       )))
 
   -- what a node has heard adds an accept, or nothing
-  pub heard_adds : (number count : ℕ) (hears : HasHeard honest words old new number count) (change_now : Option ℕ)
-      → RecordsHeard old new hears.of.end.node number hears.of.host hears.after change_now → Adds
-  heard_adds number count hears None records =
-      lists_stay honest words old new lists later bound once now hears.of.end.node hears.of.host
-      (record hears.of.host { state = Up hears.after }) hears.of.host_at records.0 refl
-  heard_adds number count hears (Some change_now) records =
-      lists_put honest words old new lists later bound once now hears.of.end.node hears.of.host
-      (record hears.of.host {
-        state = Up (without_note hears.after);
-        records = hears.of.host.records ++ records.0.octets ∷ [];
-      }) hears.of.host_at records.2
+  pub heard_adds : (number : ℕ) (of : SessionOf old number) (after : NodeState D) (change_now : Option ℕ)
+      → HasTakenDown old new of.end.node number of.host after change_now → Adds
+  heard_adds number of after None records =
+      lists_stay honest words old new lists later bound once now of.end.node of.host
+      (record of.host { state = Up after }) of.host_at records.0 refl
+  heard_adds number of after (Some change_now) records =
+      lists_put honest words old new lists later bound once now of.end.node of.host
+      (record of.host { state = Up after; records = of.host.records ++ records.0.octets ∷ [] }) of.host_at records.1
       (λ before more first second is more_is.
-      let added = some_more hears.of.host.records records.0.octets before more is more_is in
+      let added = some_more of.host.records records.0.octets before more is more_is in
       inr (added.0, added.1, λ outcome same was at. absurd (by before more first second added.0 added.1 outcome same)))
     where
-      by : (before more : List Change) → slice_get lists hears.of.end.node ≡ Some before
-          → slice_get later hears.of.end.node ≡ Some more → (one : Change) → more ≡ before ++ one ∷ [] → (outcome : Outcome)
+      by : (before more : List Change) → slice_get lists of.end.node ≡ Some before
+          → slice_get later of.end.node ≡ Some more → (one : Change) → more ≡ before ++ one ∷ [] → (outcome : Outcome)
           → one ≡ change.Outcome outcome → ⊥
       by before more first second one is outcome same =
-          let node : ℕ = hears.of.end.node in
+          let node : ℕ = of.end.node in
           let accept : Step = Accepts change_now records.0.accepted in
           let ledger : steps_in node new.ledger ≡ steps_in node old.ledger ++ accept ∷ [] =
-          ap (λ l. steps_in node l) records.3
+          ap (λ l. steps_in node l) records.2
           ∙ steps_in_more node old.ledger (Accepted node change_now records.0.accepted number ∷ [])
           ∙ ap (λ b. steps_in node old.ledger ++ (cond b (accept ∷ []) [] ++ [])) (same_number node) in
           let steps : steps_of before ++ steps_by before one ≡ steps_of before ++ accept ∷ [] =

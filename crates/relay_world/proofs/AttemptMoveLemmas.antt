@@ -7,6 +7,7 @@ use Rattle.relay_octets.specs.Beginning.{Begins}
 use Rattle.relay_disk.specs.Device.{DiskWords}
 use Rattle.relay_server.specs.Dialogue.{Said}
 use Rattle.relay_book.specs.declared.change.Change.{Change}
+use Rattle.relay_meeting.specs.Joined.{output_with}
 use Rattle.relay_attempts.specs.Reply.{Told}
 use Rattle.relay_node.specs.Attempts.{Tells}
 use Rattle.relay_node.specs.Node.{SeatHasSaid, NodeState}
@@ -124,7 +125,11 @@ module _ {D : Type 0} (honest : Type 0) (words : DiskWords D) (old new : World D
         answered = served.serves.answered;
         input = served.serves.input ∙ read_stays of.link.up_read of.link.up more (bound.reads number of.link of.link_is).up
             ∙ ap (λ l. take of.link.up_read l) (sym moves.up) ∙ ap (λ n. take n link.up) (sym moves.up_read);
-        wrote = subst (λ l. Begins l served.serves.said.output) (sym moves.down) served.serves.wrote;
+        closing = served.serves.closing;
+        closes = served.serves.closes;
+        closed = served.serves.closed;
+        wrote = subst (λ l. Begins l (output_with served.serves.said.output served.serves.closing)) (sym moves.down)
+            served.serves.wrote;
         whole = λ is. moves.down ∙ served.serves.whole (sym moves.broken ∙ is);
         accepts = served.serves.accepts;
         stored = served.serves.stored;

@@ -128,7 +128,7 @@ module _ {D : Type 0} (honest : Type 0) (words : DiskWords D) (world : World D) 
       let errand : Errand = errand_by tried.host tried.changes link tried.attempt passes in
       let replies : List Reply = passes.course.runs.replies in
       let only : 0 < length serves.said.offers → serves.said.offers ≡ child_by errand replies ∷ [] =
-      child_holds_its_places (setup_of_config served.host.config) errand serves.said (take link.down_read link.down)
+      child_holds_its_places (setup_of_config served.host.config) errand serves.said serves.closing (take link.down_read link.down)
       passes.output replies passes.course.runs.rest (errand_is tried.host tried.changes link tried.attempt passes)
       (joined_by tried.host served.host tried.changes served.changes world.ledger on link tried.attempt end passes serves) in
       let Its : Offered → Type 0 = λ offer. MayBeStored (setup_of_config served.host.config) offer

@@ -147,9 +147,10 @@ module _ {D : Type 0} (host : Host D) (changes : List Change) (link : Link) (att
     child_now = child_by its_errand passes.course.runs.replies
 
     -- all that both ends have said
-    pub talked : HaveTalked (setup_of_config other.config) its_errand serves.said passes.course.runs.replies
-        passes.course.runs.rest
-    talked = what_relays_say (setup_of_config other.config) its_errand serves.said (take link.down_read link.down) passes.output
+    pub talked : HaveTalked (setup_of_config other.config) its_errand serves.said serves.closing
+        passes.course.runs.replies passes.course.runs.rest
+    talked = what_relays_say (setup_of_config other.config) its_errand serves.said serves.closing
+        (take link.down_read link.down) passes.output
         passes.course.runs.replies passes.course.runs.rest (errand_is host changes link attempt passes)
         (joined_by host other changes others world.ledger attempt.link link attempt end passes serves)
 

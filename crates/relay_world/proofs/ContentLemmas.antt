@@ -21,7 +21,7 @@ use Rattle.relay_course.specs.Course.{errand_of}
 use Rattle.relay_course.specs.Laws.{IsErrand}
 use Rattle.relay_course.specs.Progress.{Errand, progress}
 use Rattle.relay_course.proofs.Theorems.{each_command_is_read}
-use Rattle.relay_meeting.specs.Joined.{AreJoined, child_by}
+use Rattle.relay_meeting.specs.Joined.{AreJoined, child_by, output_with}
 use Rattle.relay_meeting.proofs.Theorems.{child_holds_its_places}
 use Rattle.relay_node.specs.Queued.{queued_by, queued_in}
 use Rattle.relay_world.specs.declared.attempt.Attempt.{Attempt}
@@ -111,17 +111,18 @@ module _ {D : Type 0} where
   pub joined_by : (host other : Host D) (changes others : List Change) (ledger : List Line) (number : ℕ) (link : Link)
       (attempt : Attempt) (end : ServerEnd) (passes : PassesOn host changes link attempt)
       (serves : ServesLink other others ledger number link end)
-      → AreJoined (setup_of_config other.config) (errand_by host changes link attempt passes) serves.said
+      → AreJoined (setup_of_config other.config) (errand_by host changes link attempt passes) serves.said serves.closing
       (take link.down_read link.down) passes.output passes.course.runs.replies passes.course.runs.rest
   joined_by host other changes others ledger number link attempt end passes serves = record {
     dialogue = serves.dialogue;
     numbered = serves.numbered;
+    closes = serves.closes;
     host = (named other.config).is_name;
     cut = passes.course.runs.cut;
     written = passes.course.runs.written;
     up = subst (λ l. Begins l passes.output) (sym serves.input)
         (begins_on (take link.up_read link.up) link.up passes.output (begins_taken link.up_read link.up) passes.wrote);
-    down = begins_on (take link.down_read link.down) link.down serves.said.output
+    down = begins_on (take link.down_read link.down) link.down (output_with serves.said.output serves.closing)
         (begins_taken link.down_read link.down) serves.wrote;
   }
 
@@ -147,8 +148,8 @@ module _ {D : Type 0} where
       let errand : Errand = errand_by host changes link attempt passes in
       let replies : List Reply = passes.course.runs.replies in
       let one : 0 < length serves.said.offers → serves.said.offers ≡ child_by errand replies ∷ [] =
-      child_holds_its_places (setup_of_config other.config) errand serves.said (take link.down_read link.down) passes.output
-      replies passes.course.runs.rest (errand_is host changes link attempt passes)
+      child_holds_its_places (setup_of_config other.config) errand serves.said serves.closing (take link.down_read link.down)
+      passes.output replies passes.course.runs.rest (errand_is host changes link attempt passes)
       (joined_by host other changes others ledger number link attempt end passes serves) in
       let told : Contains {X = ℕ × ℕ} (map accept_told (queued_in serves.said)) (child, places) =
       subst (λ (l : List (ℕ × ℕ)). Contains {X = ℕ × ℕ} l (child, places)) serves.accepts has in

@@ -4,6 +4,7 @@ use Rattle.std.specs.Prelude.{slice_get}
 use Rattle.std.proofs.lemmas.List.{append-nil}
 use Rattle.std.proofs.lemmas.Option.{none-some}
 use Rattle.relay_octets.specs.Beginning.{Begins}
+use Rattle.relay_lines.specs.Reply.{Reply}
 use Rattle.relay_disk.specs.Device.{DiskWords}
 use Rattle.relay_book.specs.declared.change.Change.{Change}
 use Rattle.relay_book.specs.declared.fate.PlaceStep.{PlaceStep}
@@ -18,9 +19,9 @@ use Rattle.relay_world.specs.declared.link.ServerEnd.{ServerEnd}
 use Rattle.relay_world.specs.Bound.{IsBound}
 use Rattle.relay_world.specs.Ledger.{accepts_on, left_lines, report_told}
 use Rattle.relay_world.specs.Once.{IsTriedOnce}
-use Rattle.relay_world.specs.Steps.{AttemptOf, Breaks, DropsAttempt, EndsSession, HasGivenUp, HasHeard, HasLost, HasOpened, HasRead, HasWritten, IsPut, IsPutAt, RecordsHeard, RecordsOutcome, RecordsRead, WritesAs, heard_link, opened_link, read_link, without_note}
+use Rattle.relay_world.specs.Steps.{AttemptOf, Breaks, DropsAttempt, EndsWith, HasGivenUp, HasHeard, HasLost, HasOpened, HasRead, HasWritten, IsPut, IsPutAt, RecordsOutcome, RecordsRead, WritesAs, heard_link, opened_link, read_link, without_note, ended_link, SessionOf}
 use Rattle.relay_world.specs.World.{Host, Up, World, link_at}
-use Rattle.relay_world.proofs.AddedLemmas.{given_adds, heard_adds, lost_adds}
+use Rattle.relay_world.proofs.AddedLemmas.{HasTakenDown, given_adds, heard_adds, left_by, lost_adds, taken_down}
 use Rattle.relay_world.proofs.TakerLemmas.{EndedStay, ListsAdd, ended_same, ended_still, lists_same, lists_stay, takers_kept}
 use Rattle.relay_world.proofs.ClaimLemmas.{GivenUpKept, HostsGrow, NoneOutside, WasThere, all_same, given_same, given_up_at, hosts_put, hosts_same, once_kept, one_ended, outside_put, outside_same}
 use Rattle.relay_world.proofs.FrameLemmas.{accepts_on_more}
@@ -160,42 +161,47 @@ module _ {D : Type 0} (honest : Type 0) (words : DiskWords D) (old new : World D
       links_alone breaks.links number breaks.link (record breaks.link { broken = true }) breaks.new_is breaks.link_is refl
       breaks.put
 
-  heard_grow : (number count : ℕ) (hears : HasHeard honest words old new number count) (change : Option ℕ)
-      → RecordsHeard old new hears.of.end.node number hears.of.host hears.after change → Grow
-  heard_grow number count hears None records =
-      stayed hears.of.end.node hears.of.host hears.after hears.of.host_at records.0
-  heard_grow number count hears (Some change) records =
-      recorded_more hears.of.end.node hears.of.host (without_note hears.after) records.0.octets hears.of.host_at records.2
+  heard_grow : (number : ℕ) (of : SessionOf old number) (after : NodeState D) (change : Option ℕ)
+      → HasTakenDown old new of.end.node number of.host after change → Grow
+  heard_grow number of after None records = stayed of.end.node of.host after of.host_at records.0
+  heard_grow number of after (Some change) records =
+      recorded_more of.end.node of.host after records.0.octets of.host_at records.1
 
-  heard_given : (number count : ℕ) (hears : HasHeard honest words old new number count) (change : Option ℕ)
-      → RecordsHeard old new hears.of.end.node number hears.of.host hears.after change → Given
-  heard_given number count hears None records =
-      given_at hears.of.end.node hears.of.host hears.after hears.of.host.records records.0
-  heard_given number count hears (Some change) records =
-      given_at hears.of.end.node hears.of.host (without_note hears.after) (hears.of.host.records ++ records.0.octets ∷ [])
-      records.2
+  heard_given : (number : ℕ) (of : SessionOf old number) (after : NodeState D) (change : Option ℕ)
+      → HasTakenDown old new of.end.node number of.host after change → Given
+  heard_given number of after None records = given_at of.end.node of.host after of.host.records records.0
+  heard_given number of after (Some change) records =
+      given_at of.end.node of.host after (of.host.records ++ records.0.octets ∷ []) records.1
 
-  heard_elsewhere : (number count : ℕ) (hears : HasHeard honest words old new number count) (change : Option ℕ)
-      → RecordsHeard old new hears.of.end.node number hears.of.host hears.after change
+  heard_elsewhere : (number : ℕ) (of : SessionOf old number) (after : NodeState D) (change : Option ℕ)
+      → HasTakenDown old new of.end.node number of.host after change
       → (other : ℕ) → other ≢ number → accepts_on other new.ledger ≡ accepts_on other old.ledger
-  heard_elsewhere number count hears None records other off = same_accepts records.1 other
-  heard_elsewhere number count hears (Some change) records other off =
-      accepted_elsewhere old.ledger new.ledger hears.of.end.node change records.0.accepted number records.3 other off
+  heard_elsewhere number of after None records other off = same_accepts records.1 other
+  heard_elsewhere number of after (Some change) records other off =
+      accepted_elsewhere old.ledger new.ledger of.end.node change records.0.accepted number records.2 other off
+
+  -- a session was heard, and its link has its end
+  pub heard_of : (number : ℕ) (of : SessionOf old number) (link : Link) (end : ServerEnd) → link.server ≡ Some end
+      → IsPutAt old.links new.links number link → new.attempts ≡ old.attempts → (after : NodeState D) (change : Option ℕ)
+      → HasTakenDown old new of.end.node number of.host after change → IsTriedOnce new later
+  heard_of number of link end serves links attempts after change records =
+      kept (heard_grow number of after change records) (there_same attempts)
+      (heard_adds honest words old new lists later bound once now number of after change records)
+      (same_ends attempts) (heard_given number of after change records)
+      (served number link end serves links (heard_elsewhere number of after change records))
 
   pub heard : (number count : ℕ) → HasHeard honest words old new number count → IsTriedOnce new later
   heard number count hears =
-      kept (heard_grow number count hears hears.received.change hears.records) (there_same hears.rest.0)
-      (heard_adds honest words old new lists later bound once now number count hears hears.received.change hears.records)
-      (same_ends hears.rest.0) (heard_given number count hears hears.received.change hears.records)
-      (served number (heard_link hears.of.link hears.of.end hears.of.session hears.received) _ refl hears.links
-      (heard_elsewhere number count hears hears.received.change hears.records))
+      heard_of number hears.of (heard_link hears.of.link hears.of.end hears.of.session hears.received) _ refl hears.links
+      hears.rest.0 (left_by hears.after hears.received.change) hears.received.change
+      (taken_down old new hears.of.end.node number hears.of.host hears.after hears.received.change hears.records)
 
-  pub ended : (number : ℕ) → EndsSession old new number → IsTriedOnce new later
-  ended number ends =
+  pub ended : (number : ℕ) (closing : Option Reply) → EndsWith old new number closing → IsTriedOnce new later
+  ended number closing ends =
       kept (stayed ends.of.end.node ends.of.host ends.after ends.of.host_at ends.hosts) (there_same ends.rest.0)
       (list_stayed ends.of.end.node ends.of.host ends.after ends.of.host_at ends.hosts) (same_ends ends.rest.0)
       (given_at ends.of.end.node ends.of.host ends.after ends.of.host.records ends.hosts)
-      (served number (record ends.of.link { server = Some (record ends.of.end { session = None }) }) _ refl ends.links
+      (served number (ended_link ends.of.link ends.of.end closing) _ refl ends.links
       (λ other off. same_accepts ends.rest.1 other))
 
   -- an outcome of an attempt was recorded

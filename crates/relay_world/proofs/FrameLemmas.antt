@@ -80,6 +80,9 @@ module _ {D : Type 0} where
     numbered = serves.numbered;
     answered = serves.answered;
     input = serves.input;
+    closing = serves.closing;
+    closes = serves.closes;
+    closed = serves.closed;
     wrote = serves.wrote;
     whole = serves.whole;
     accepts = same ∙ serves.accepts;

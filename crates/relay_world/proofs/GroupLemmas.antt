@@ -1,13 +1,12 @@
 -- What a node hears of several links, and brings into its spool together, keeps a world bound. Between two of them
 -- nothing is said of disks, so each keeps bound what is said without them.
-use Rattle.std.proofs.Common.{inl, inr, ◌≡◌, ◌≢◌, ◌≤◌, ◌+◌, ◌^◌, ℕ, List, [], ◌∷◌, ◌++◌, fold, length, Option, None, Some, refl, sym, subst, ap, ◌∙◌, arith}
+use Rattle.std.proofs.Common.{inl, inr, ◌≡◌, ◌≢◌, ◌+◌, ℕ, List, [], ◌∷◌, ◌++◌, fold, length, Option, None, Some, refl, sym, subst, ap, ◌∙◌, arith}
 use Rattle.std.specs.Prelude.{slice_get}
 use Rattle.std.proofs.lemmas.Bool.{cases_eq}
 use Rattle.std.proofs.lemmas.List.{append-nil, append_assoc, length-append}
 use Rattle.std.proofs.lemmas.Option.{same_Some}
 use Rattle.relay_disk.specs.Device.{DiskWords}
-use Rattle.relay_disk.specs.declared.disks.Disks.{Disks}
-use Rattle.relay_server.specs.Dialogue.{Offered, Said}
+use Rattle.relay_server.specs.Dialogue.{Said}
 use Rattle.relay_routes.specs.declared.config.Config.{Config}
 use Rattle.relay_book.specs.declared.change.Accept.{Accept}
 use Rattle.relay_book.specs.declared.change.Change.{Change}
@@ -19,18 +18,17 @@ use Rattle.relay_records.specs.Note.{NotesNext}
 use Rattle.relay_records.specs.Records.{Keeps, Kept}
 use Rattle.relay_records.specs.Staged.{AreNotes, Awaits, Row, Settles, no_row}
 use Rattle.relay_records.proofs.Theorems.{none_awaited}
-use Rattle.relay_node.specs.declared.receive.Received.{Received}
 use Rattle.relay_node.specs.Acceptance.{IsAcceptOf, acceptance_by}
 use Rattle.relay_node.specs.Node.{NodeState}
 use Rattle.relay_node.specs.Staging.{MakesInto, QueuesInto, ReceivesBehind, ReceivesInto}
 use Rattle.relay_world.specs.declared.line.Line.TheVariants.{Accepted}
 use Rattle.relay_world.specs.Bound.{HostKeeps, IsBound, NodeKeeps, StandsAt, StateKeeps}
-use Rattle.relay_world.specs.Groups.{AcceptsInto, HasHeardAll, HasHeardEach, HasHeardInto, HasHeardOrEnded, HearingAllKeeps, IsNotedBehind, IsUp, Piece}
+use Rattle.relay_world.specs.Groups.{AcceptsInto, HasHeardAll, HasHeardEach, HasHeardInto, HearingAllKeeps, IsNotedBehind, IsUp, Piece}
 use Rattle.relay_world.specs.Steps.{EndsSession, IsPut, SessionOf, waiting_up}
 use Rattle.relay_world.specs.Stops.{StaysUp}
 use Rattle.relay_world.specs.World.{Down, Host, HostState, Up, World}
 use Rattle.relay_world.proofs.EndLemmas.{ending_keeps}
-use Rattle.relay_world.proofs.HearLemmas.{TakesMail, Talk, heard_accept, heard_nothing, its_node, lists_now, listed, says_before, was}
+use Rattle.relay_world.proofs.TalkLemmas.{TakesMail, Talk, heard_accept, heard_nothing, listed, says_before, was}
 use Rattle.relay_world.proofs.OpenLemmas.{list_there, node_kept, same_Up}
 use Rattle.relay_world.proofs.PieceLemmas.{with_at, with_at-put}
 use Rattle.relay_world.proofs.StayUpLemmas.{staying_up_keeps}
@@ -140,7 +138,8 @@ module _ {D : Type 0} (honest : Type 0) (words : DiskWords D) where
       pub other_lists : (other : ℕ) → other ≢ node → slice_get later other ≡ slice_get lists other
 
     -- so it is at first
-    pub unsettled_first : IsBound honest words old lists → (is : IsUp old node) → slice_get lists node ≡ Some changes
+    abbrev pub unsettled_first : IsBound honest words old lists → (is : IsUp old node)
+        → slice_get lists node ≡ Some changes
         → Keeps honest words is.now.records changes → Unsettled old no_row
     unsettled_first bound is list_at keeps = record {
       later = lists;
@@ -182,7 +181,7 @@ module _ {D : Type 0} (honest : Type 0) (words : DiskWords D) where
         others_there host put other off = put.others other (λ same. off (same ∙ here)) ∙ unsettled.others other off
 
       -- a session there is gone
-      unsettled_ended : (number : ℕ) (ends : EndsSession world next number) → ends.of.end.node ≡ node → left ≡ row
+      pub unsettled_ended : (number : ℕ) (ends : EndsSession world next number) → ends.of.end.node ≡ node → left ≡ row
           → Unsettled next left
       unsettled_ended number ends here same = record {
         later = unsettled.later;
@@ -430,20 +429,20 @@ module _ {D : Type 0} (honest : Type 0) (words : DiskWords D) where
 
   module _ (old new : World D) (lists : List (List Change)) (node : ℕ) (pieces : List Piece)
       (bound : IsBound honest words old lists) (heard : HasHeardAll honest words old new node pieces) where
-    abbrev changes : List Change
+    abbrev pub changes : List Change
     changes = (first old lists node bound heard.before old.clock pieces heard.heard heard.row heard.each heard.staged).0
 
-    abbrev unsettled : Unsettled old lists node changes heard.heard heard.row
+    abbrev pub unsettled : Unsettled old lists node changes heard.heard heard.row
     unsettled = last old lists node bound heard.before old.clock pieces heard.heard heard.row heard.each heard.staged
 
-    awaits : Awaits honest words heard.staged.now.records changes unsettled.pending heard.row
+    pub awaits : Awaits honest words heard.staged.now.records changes unsettled.pending heard.row
     awaits = last_awaits old lists node bound heard.before old.clock pieces heard.heard heard.row heard.each
         heard.staged
 
-    settled : Settles honest words heard.after.records changes unsettled.pending heard.row.notes
+    pub settled : Settles honest words heard.after.records changes unsettled.pending heard.row.notes
     settled = heard.settles changes unsettled.pending awaits
 
-    stays : StaysUp ⊥ words heard.heard new node
+    pub stays : StaysUp ⊥ words heard.heard new node
     stays = record {
       host = heard.staged.host;
       host_at = heard.staged.host_at;
@@ -465,7 +464,7 @@ module _ {D : Type 0} (honest : Type 0) (words : DiskWords D) where
       rest = heard.rest;
     }
 
-    hearing_all : (later : List (List Change)) × IsBound honest words new later
+    abbrev pub hearing_all : (later : List (List Change)) × IsBound honest words new later
     hearing_all = (
       unsettled.later,
       settled_keeps old lists node changes heard.heard new heard.row unsettled bound

@@ -6,18 +6,23 @@ use Rattle.std.proofs.lemmas.List.{append_assoc, append-nil}
 use Rattle.std.proofs.lemmas.Option.{same_Some}
 use Rattle.relay_octets.specs.Beginning.{Begins}
 use Rattle.relay_disk.specs.Device.{DiskWords}
+use Rattle.relay_lines.specs.Reply.{Reply, reply_text}
 use Rattle.relay_node.specs.Node.{NodeState}
 use Rattle.relay_records.specs.Records.{Kept}
+use Rattle.relay_records.specs.Staged.{Row, no_row}
 use Rattle.relay_world.specs.declared.attempt.Fate.{Fate}
 use Rattle.relay_world.specs.declared.attempt.Fate.TheVariants.{Lost, Replied}
 use Rattle.relay_world.specs.declared.link.Link.{Link}
 use Rattle.relay_world.specs.Growth.{GrownListsBegin, HasGrown, LinkGrows, RunsGrow}
+use Rattle.relay_world.specs.Crashes.{let_go as lets_go}
+use Rattle.relay_world.specs.Groups.{AcceptsInto, HasHeardAll, HasHeardEach, HasHeardInto, HasReopenedBehindGroup, IsOpenedAgain, IsUp, Piece}
 use Rattle.relay_world.specs.HangUp.{HangsUp}
-use Rattle.relay_world.specs.Once.{BreaksOff, Drops, Ends, GivesUp, GoesOn, Happens, Hears, IsNotOpened, LetsGo, Loses, Opens, Reads, Reopens, Starts, Stops, StopsInGivingUp, StopsInHearing, StopsInLosing, StopsInReading, Ticks, Writes}
-use Rattle.relay_world.specs.Steps.{AttemptOf, IsPut, IsPutAt, RecordsHeard, RecordsOutcome, RecordsRead, WritesAs, heard_link, opened_link, read_link, unless_broken, without_note}
+use Rattle.relay_world.specs.Once.{BreaksOff, Drops, Ends, GivesUp, GoesOn, Happens, Hears, IsNotOpened, LetsGo, Loses, Opens, Reads, Reopens, Starts, Stops, StopsInGivingUp, StopsInHearing, StopsInLosing, StopsInReading, Ticks, Writes, Closes, HearsAll, ReopensBehindGroup}
+use Rattle.relay_world.specs.Steps.{AttemptOf, IsPut, IsPutAt, RecordsHeard, RecordsOutcome, RecordsRead, WritesAs, heard_link, opened_link, read_link, unless_broken, without_note, EndsWith, ended_link, closed_down}
 use Rattle.relay_world.specs.Stops.{Decides, DropsAtStop, Finds, FindsOutcome, HasFound, cut_off_link}
 use Rattle.relay_world.specs.World.{Down, FromClient, FromLoss, FromNoHop, FromReplies, Host, Origin, Undecided, Up, World, link_at}
 use Rattle.relay_world.proofs.ClaimLemmas.{there_too}
+use Rattle.relay_world.proofs.CrashRestLemmas.{hangs}
 use Rattle.relay_world.proofs.GrowLemmas.{list_grown}
 use Rattle.relay_world.proofs.HangUpLemmas.{Loose, link_onward}
 use Rattle.relay_world.proofs.OpenLemmas.{number_within}
@@ -224,6 +229,121 @@ module _ {D : Type 0} (old new : World D) where
         loose_grows was next.0 next.2,
       ))
 
+link_on : (was then now : Link) → LinkGrows was then → LinkGrows then now → LinkGrows was now
+link_on was then now first second =
+    let up = first.up_read in
+    let more_up = second.up_read in
+    let down = first.down_read in
+    let more_down = second.down_read in
+    record {
+      up = begins_on was.up then.up now.up first.up second.up;
+      down = begins_on was.down then.down now.down first.down second.down;
+      up_read = omega (arith, up, more_up);
+      down_read = omega (arith, down, more_down);
+    }
+
+grown_on : {D : Type 0} (old next new : World D) → HasGrown old next → HasGrown next new → HasGrown old new
+grown_on old next new first second = record {
+  records = λ node host is.
+      let one = first.records node host is in
+      let other = second.records node one.0 one.1 in
+      (other.0, other.1, begins_on host.records one.0.records other.0.records one.2 other.2);
+  ledger = begins_on old.ledger next.ledger new.ledger first.ledger second.ledger;
+  octets = λ number link is.
+      let one = first.octets number link is in
+      let other = second.octets number one.0 one.1 in
+      (other.0, other.1, link_on link one.0 other.0 one.2 other.2);
+}
+
+-- a session that is gone, with a reply behind all others or none
+closed_grows : (link : Link) (closing : Option Reply) → Begins link.down (closed_down link closing)
+closed_grows link None = same_begins link.down
+closed_grows link (Some reply) = (unless_broken link (reply_text reply), refl)
+
+ended : {D : Type 0} (old new : World D) (number : ℕ) (closing : Option Reply) → EndsWith old new number closing
+    → HasGrown old new
+ended old new number closing is =
+    grown old new (stays old new is.of.end.node is.of.host (record is.of.host { state = Up is.after }) is.of.host_at is.hosts refl)
+    (same_ledger old new is.rest.1)
+    (octets_of old new number is.of.link (ended_link is.of.link is.of.end closing) is.of.link_is is.links (record {
+      up = same_begins is.of.link.up;
+      down = closed_grows is.of.link closing;
+      up_read = omega arith;
+      down_read = omega arith;
+    }))
+
+-- links that a node hears one behind another
+module _ {D : Type 0} (honest : Type 0) (words : DiskWords D) where
+  heard_into : (at : ℕ) (old new : World D) (node : ℕ) (piece : Piece) (row left : Row)
+      → HasHeardInto honest words at old new node piece row left → HasGrown old new
+  heard_into at old new node piece row left is = by is.received.change is.accepts
+    where
+      octets : Octets old new
+      octets = octets_of old new piece.number is.of.link (heard_link is.of.link is.of.end is.of.session is.received)
+          is.of.link_is is.links (record {
+            up = same_begins is.of.link.up;
+            down = (unless_broken is.of.link is.received.out.items, refl);
+            up_read = omega arith;
+            down_read = omega arith;
+          })
+
+      by : (change : Option ℕ) → AcceptsInto honest words old new piece.number is.of is.after row left change
+          → HasGrown old new
+      by None accepts =
+          grown old new
+          (stays old new is.of.end.node is.of.host (record is.of.host { state = Up is.after }) is.of.host_at accepts.0 refl)
+          (same_ledger old new accepts.1) octets
+      by (Some change) accepts =
+          grown old new
+          (records_put old new is.of.end.node is.of.host
+          (record is.of.host { state = Up is.after; records = is.of.host.records ++ accepts.0.octets ∷ [] }) is.of.host_at
+          accepts.2 (accepts.0.octets ∷ [], refl))
+          (_, accepts.3) octets
+
+  heard_each : (at : ℕ) (old new : World D) (node : ℕ) (pieces : List Piece) (row left : Row)
+      → HasHeardEach honest words at old new node pieces row left → HasGrown old new
+  heard_each at old new node [] row left each =
+      grown old new (records_same old new (ap (λ (w : World D). w.hosts) each.0))
+      (same_ledger old new (ap (λ (w : World D). w.ledger) each.0))
+      (octets_same old new (ap (λ (w : World D). w.links) each.0))
+  heard_each at old new node (piece ∷ pieces) row left (next, more, first, others) =
+      grown_on old next new
+      (elim first [
+        | inl hears ↦ heard_into at old next node piece row more hears
+        | inr ends ↦ ended old next piece.number None ends.0
+      ])
+      (heard_each at next new node pieces more left others)
+
+  heard_all : (old new : World D) (node : ℕ) (pieces : List Piece) → HasHeardAll honest words old new node pieces
+      → HasGrown old new
+  heard_all old new node pieces is =
+      grown_on old is.heard new (heard_each old.clock old is.heard node pieces no_row is.row is.each)
+      (grown is.heard new
+      (stays is.heard new node is.staged.host (record is.staged.host { state = Up is.after }) is.staged.host_at is.hosts refl)
+      (same_ledger is.heard new is.rest.2) (octets_same is.heard new is.rest.0))
+
+  -- a node of the world that is opened again
+  opened_again : (world new : World D) (node : ℕ) (is : IsUp world node) (after : NodeState D)
+      → IsOpenedAgain world new node is.host after → HasGrown world new
+  opened_again world new node is after again =
+      subst (λ w. HasGrown world w) (sym again.new_is)
+      (grown_on world (lets_go node world) (record (lets_go node world) { hosts = again.hosts })
+      (let_go world (lets_go node world) node (hangs node world))
+      (grown (lets_go node world) (record (lets_go node world) { hosts = again.hosts })
+      (stays (lets_go node world) (record (lets_go node world) { hosts = again.hosts }) node is.host
+      (record is.host { state = Up after }) is.host_at again.put refl)
+      (same_ledger (lets_go node world) (record (lets_go node world) { hosts = again.hosts }) refl)
+      (octets_same (lets_go node world) (record (lets_go node world) { hosts = again.hosts }) refl)))
+
+  reopened_behind : (old new : World D) (node : ℕ) (pieces : List Piece)
+      → HasReopenedBehindGroup honest words old new node pieces → HasGrown old new
+  reopened_behind old new node pieces is = elim is.decides [
+    | inl none ↦ opened_again old new node is.before is.after none.1
+    | inr all ↦
+        grown_on old is.heard new (heard_each is.at old is.heard node pieces no_row is.row is.each)
+        (opened_again is.heard new node is.staged is.after all.1)
+  ]
+
 -- each event, in a line
 event_grows : {D : Type 0} (honest : Type 0) (words : DiskWords D) (old new : World D) → Happens honest words old new
     → HasGrown old new
@@ -245,16 +365,9 @@ event_grows honest words old new (Hears number count is) =
       up_read = omega arith;
       down_read = omega arith;
     }))
-event_grows honest words old new (Ends number is) =
-    grown old new (stays old new is.of.end.node is.of.host (record is.of.host { state = Up is.after }) is.of.host_at is.hosts refl)
-    (same_ledger old new is.rest.1)
-    (octets_of old new number is.of.link (record is.of.link { server = Some (record is.of.end { session = None }) }) is.of.link_is
-    is.links (record {
-      up = same_begins is.of.link.up;
-      down = same_begins is.of.link.down;
-      up_read = omega arith;
-      down_read = omega arith;
-    }))
+event_grows honest words old new (HearsAll node pieces is) = heard_all honest words old new node pieces is
+event_grows honest words old new (Ends number is) = ended old new number None is
+event_grows honest words old new (Closes number reply is) = ended old new number (Some reply) is.ends
 event_grows honest words old new (Reads number count is) =
     read_on old new number is.of is.after is.replied.change is.records
     (octets_of old new number is.of.link (read_link is.of.link is.replied) is.of.link_is is.links (record {
@@ -332,6 +445,7 @@ event_grows honest words old new (IsNotOpened node is) =
     (same_ledger old new is.rest.2) (octets_same old new is.rest.0)
 event_grows honest words old new (Reopens node is) =
     decided old new node is.host is.after is.undecided is.host_at is.decides
+event_grows honest words old new (ReopensBehindGroup node pieces is) = reopened_behind honest words old new node pieces is
 event_grows honest words old new (Ticks clock is) =
     grown old new (records_same old new (ap (λ (w : World _). w.hosts) is.new_is))
     (same_ledger old new (ap (λ (w : World _). w.ledger) is.new_is))
@@ -340,32 +454,6 @@ event_grows honest words old new (LetsGo node is) = let_go old new node is
 event_grows honest words old new (GoesOn node is) =
     grown old new (stays old new node is.host (record is.host { state = Up is.after }) is.host_at is.hosts refl)
     (same_ledger old new is.rest.2) (octets_same old new is.rest.0)
-
-link_on : (was then now : Link) → LinkGrows was then → LinkGrows then now → LinkGrows was now
-link_on was then now first second =
-    let up = first.up_read in
-    let more_up = second.up_read in
-    let down = first.down_read in
-    let more_down = second.down_read in
-    record {
-      up = begins_on was.up then.up now.up first.up second.up;
-      down = begins_on was.down then.down now.down first.down second.down;
-      up_read = omega (arith, up, more_up);
-      down_read = omega (arith, down, more_down);
-    }
-
-grown_on : {D : Type 0} (old next new : World D) → HasGrown old next → HasGrown next new → HasGrown old new
-grown_on old next new first second = record {
-  records = λ node host is.
-      let one = first.records node host is in
-      let other = second.records node one.0 one.1 in
-      (other.0, other.1, begins_on host.records one.0.records other.0.records one.2 other.2);
-  ledger = begins_on old.ledger next.ledger new.ledger first.ledger second.ledger;
-  octets = λ number link is.
-      let one = first.octets number link is in
-      let other = second.octets number one.0 one.1 in
-      (other.0, other.1, link_on link one.0 other.0 one.2 other.2);
-}
 
 pub runs_grow : {D : Type 0} (honest : Type 0) (words : DiskWords D) → RunsGrow honest words
 runs_grow honest words zero old new same =

@@ -5,6 +5,7 @@ use Rattle.std.specs.Option.{option_map}
 use Rattle.std.proofs.lemmas.Bool.{false≢true}
 use Rattle.std.proofs.lemmas.Option.{none-some, same_Some}
 use Rattle.relay_disk.specs.Device.{DiskWords}
+use Rattle.relay_lines.specs.Reply.{Reply}
 use Rattle.relay_octets.specs.Beginning.{Begins}
 use Rattle.relay_server.specs.Dialogue.{Said}
 use Rattle.relay_book.specs.declared.change.Accept.{Accept}
@@ -16,10 +17,12 @@ use Rattle.relay_world.specs.declared.attempt.Fate.TheVariants.{Dropped, Lost, R
 use Rattle.relay_world.specs.declared.line.Line.{Line}
 use Rattle.relay_world.specs.declared.link.Link.{Link}
 use Rattle.relay_world.specs.declared.link.ServerEnd.{ServerEnd}
-use Rattle.relay_world.specs.Bound.{HasFate, HasLink, HasSession, HasSlot, IsBound, IsServed, IsTried, PassesOn, ReadsWithin, SaysThere, ServesLink}
+use Rattle.relay_meeting.specs.Joined.{output_with}
+use Rattle.relay_world.specs.Bound.{HasFate, HasLink, HasSession, HasSlot, IsBound, IsServed, IsTried, MayHaveClosed, PassesOn, ReadsWithin, SaysThere, ServesLink}
 use Rattle.relay_world.specs.HangUp.{HangingUpEnds, HangingUpKeeps, IsLetGo, broken_link, dropped, hung_up_attempt, hung_up_end, hung_up_link}
 use Rattle.relay_world.specs.World.{Host, World, link_at}
 use Rattle.relay_world.proofs.FateLemmas.{dropped_ends, lost_ends, replied_ends}
+use Rattle.relay_world.proofs.ClosingLemmas.{may_be_over}
 use Rattle.relay_world.proofs.OpenLemmas.{lines_within}
 use Rattle.relay_world.proofs.PieceLemmas.{passes_whole, same_number}
 use Rattle.relay_world.proofs.UndecidedLemmas.{Remains, still_may_be_in}
@@ -214,16 +217,20 @@ module _ {D : Type 0} where
   -- a server end that is the same, or without its session
   serves_loose : (host : Host D) (changes : List Change) (ledger : List Line) (number : ℕ) (was now : Link) (end : ServerEnd)
       (session : Option ℕ) → Loose was now
+      → ((closing : Option Reply) → MayHaveClosed end.session closing → MayHaveClosed session closing)
       → ((said : Said) → SaysThere host end.session end.peer said → SaysThere host session end.peer said)
       → ServesLink host changes ledger number was end
       → ServesLink host changes ledger number now (record end { session = session })
-  serves_loose host changes ledger number was now end session loose live serves = record {
+  serves_loose host changes ledger number was now end session loose closed live serves = record {
     said = serves.said;
     dialogue = serves.dialogue;
     numbered = serves.numbered;
     answered = serves.answered;
     input = serves.input ∙ sym (ap (λ n. take n now.up) loose.up_read ∙ ap (λ (l : List ℕ). take was.up_read l) loose.up);
-    wrote = subst (λ l. Begins l serves.said.output) (sym loose.down) serves.wrote;
+    closing = serves.closing;
+    closes = serves.closes;
+    closed = closed serves.closing serves.closed;
+    wrote = subst (λ l. Begins l (output_with serves.said.output serves.closing)) (sym loose.down) serves.wrote;
     whole = λ is. loose.down ∙ serves.whole (loose.whole is);
     accepts = serves.accepts;
     stored = serves.stored;
@@ -361,7 +368,7 @@ module _ {D : Type 0} where
                   changes = was.changes;
                   stands = record { host_at = was.stands.host_at; list_at = was.stands.list_at };
                   serves = serves_loose was.host was.changes old.ledger number its.was link end end.session its.loose
-                      (λ said says. says) was.serves;
+                      (λ closing may. may) (λ said says. says) was.serves;
                 }
             | inr gone ↦
                 let was : IsServed old lists number its.was gone.0 = bound.servers number its.was gone.0 its.was_is gone.1 in
@@ -372,7 +379,7 @@ module _ {D : Type 0} where
                   changes = was.changes;
                   stands = record { host_at = was.stands.host_at; list_at = was.stands.list_at };
                   serves = serves_loose was.host was.changes old.ledger number its.was link gone.0 None its.loose
-                      (λ said says. tt) was.serves;
+                      (λ closing may. may_be_over closing) (λ said says. tt) was.serves;
                 })
           ]
 

@@ -4,6 +4,7 @@ use Rattle.std.specs.Prelude.{slice_get}
 use Rattle.std.proofs.lemmas.Bool.{cases_eq}
 use Rattle.std.proofs.lemmas.Option.{none-some, same_Some}
 use Rattle.relay_disk.specs.Device.{DiskWords}
+use Rattle.relay_lines.specs.Reply.{Reply}
 use Rattle.relay_node.specs.Node.{NodeState}
 use Rattle.relay_routes.specs.declared.config.Config.{Config}
 use Rattle.relay_world.specs.declared.attempt.Attempt.{Attempt}
@@ -11,14 +12,18 @@ use Rattle.relay_world.specs.declared.attempt.Fate.{Fate}
 use Rattle.relay_world.specs.declared.attempt.Fate.TheVariants.{Dropped, Lost, Replied}
 use Rattle.relay_world.specs.declared.link.Link.{Link}
 use Rattle.relay_world.specs.declared.link.ServerEnd.{ServerEnd}
+use Rattle.relay_world.specs.Crashes.{let_go as lets_go}
+use Rattle.relay_world.specs.Groups.{AcceptsInto, HasHeardAll, HasHeardEach, HasHeardInto, HasReopenedBehindGroup, IsOpenedAgain, IsUp, Piece}
 use Rattle.relay_world.specs.HangUp.{HangsUp}
 use Rattle.relay_world.specs.HopLinks.{AreLinkedToHops, IsLinkedToHop, LeadsTo, HopLinksAtFirst}
-use Rattle.relay_world.specs.Once.{BreaksOff, Drops, Ends, GivesUp, GoesOn, Hears, IsNotOpened, LetsGo, Loses, HopLinksAreKept, Opens, Reads, Reopens, Starts, Stops, StopsInGivingUp, StopsInHearing, StopsInLosing, StopsInReading, Ticks, Writes}
-use Rattle.relay_world.specs.Steps.{AttemptOf, HasStarted, IsPut, IsPutAt, RecordsHeard, RecordsOutcome, RecordsRead, WritesAs, heard_link, opened_link, read_link, session_after, without_note}
+use Rattle.relay_world.specs.Once.{BreaksOff, Drops, Ends, GivesUp, GoesOn, Hears, IsNotOpened, LetsGo, Loses, HopLinksAreKept, Opens, Reads, Reopens, Starts, Stops, StopsInGivingUp, StopsInHearing, StopsInLosing, StopsInReading, Ticks, Writes, Closes, HearsAll, ReopensBehindGroup}
+use Rattle.relay_world.specs.Steps.{AttemptOf, HasStarted, IsPut, IsPutAt, RecordsHeard, RecordsOutcome, RecordsRead, WritesAs, heard_link, opened_link, read_link, session_after, without_note, EndsWith, ended_link}
 use Rattle.relay_world.specs.Stops.{Decides, DropsAtStop, Finds, FindsOutcome, HasFound, cut_off_link}
 use Rattle.relay_records.specs.Records.{Kept}
+use Rattle.relay_records.specs.Staged.{Row, no_row}
 use Rattle.relay_world.specs.World.{Down, FromClient, FromLoss, FromNoHop, FromReplies, Host, Origin, Undecided, Up, World, link_at}
 use Rattle.relay_world.proofs.ClaimLemmas.{there_too}
+use Rattle.relay_world.proofs.CrashRestLemmas.{hangs}
 use Rattle.relay_world.proofs.HangUpLemmas.{LooseAttempt, LooseServer, attempt_back, link_onward}
 use Rattle.relay_world.proofs.MoveLemmas.{put_cases}
 use Rattle.relay_world.proofs.OpenLemmas.{number_within}
@@ -320,6 +325,73 @@ written_server : (link written : Link) (octets : List ℕ) → WritesAs link oct
 written_server link written octets (inl up) = ap (λ (l : Link). l.server) up.1
 written_server link written octets (inr down) = ap (λ (l : Link). l.server) down.1
 
+-- a session that is gone, with a reply behind all others or none
+ended : {D : Type 0} (old new : World D) → AreLinkedToHops old → (number : ℕ) (closing : Option Reply)
+    → EndsWith old new number closing → AreLinkedToHops new
+ended old new linked number closing ends =
+    all_linked old new ends.rest.3
+    (names_put old new ends.of.end.node ends.of.host (record ends.of.host { state = Up ends.after }) ends.of.host_at ends.hosts
+    refl)
+    (ways_ended old new number ends.of.link (ended_link ends.of.link ends.of.end closing) ends.of.end None ends.of.link_is
+    ends.of.serves refl ends.links) linked (hops_same old new ends.rest.0)
+
+-- links that a node hears one behind another
+module _ {D : Type 0} (honest : Type 0) (words : DiskWords D) where
+  heard_into : (at : ℕ) (old new : World D) → AreLinkedToHops old → (node : ℕ) (piece : Piece) (row left : Row)
+      → HasHeardInto honest words at old new node piece row left → AreLinkedToHops new
+  heard_into at old new linked node piece row left hears =
+      all_linked old new hears.rest.2 (by hears.received.change hears.accepts)
+      (ways_ended old new piece.number hears.of.link
+      (heard_link hears.of.link hears.of.end hears.of.session hears.received) hears.of.end
+      (session_after hears.received.close hears.of.session) hears.of.link_is hears.of.serves refl hears.links) linked
+      (hops_same old new hears.rest.0)
+    where
+      by : (change : Option ℕ) → AcceptsInto honest words old new piece.number hears.of hears.after row left change
+          → SameNames old new
+      by None accepts =
+          names_put old new hears.of.end.node hears.of.host (record hears.of.host { state = Up hears.after })
+          hears.of.host_at accepts.0 refl
+      by (Some change) accepts =
+          names_put old new hears.of.end.node hears.of.host
+          (record hears.of.host { state = Up hears.after; records = hears.of.host.records ++ accepts.0.octets ∷ [] })
+          hears.of.host_at accepts.2 refl
+
+  heard_each : (at : ℕ) (old new : World D) → AreLinkedToHops old → (node : ℕ) (pieces : List Piece) (row left : Row)
+      → HasHeardEach honest words at old new node pieces row left → AreLinkedToHops new
+  heard_each at old new linked node [] row left each = subst (λ (w : World D). AreLinkedToHops w) (sym each.0) linked
+  heard_each at old new linked node (piece ∷ pieces) row left (next, more, first, others) =
+      heard_each at next new
+      (elim first [
+        | inl hears ↦ heard_into at old next linked node piece row more hears
+        | inr ends ↦ ended old next linked piece.number None ends.0
+      ]) node pieces more left others
+
+  heard_all : (old new : World D) → AreLinkedToHops old → (node : ℕ) (pieces : List Piece)
+      → HasHeardAll honest words old new node pieces → AreLinkedToHops new
+  heard_all old new linked node pieces hears =
+      one_node hears.heard new (heard_each old.clock old hears.heard linked node pieces no_row hears.row hears.each) node
+      hears.staged.host (record hears.staged.host { state = Up hears.after }) hears.staged.host_at hears.hosts refl
+      hears.rest.4 hears.rest.0 hears.rest.1
+
+  -- a node of the world that is opened again
+  opened_again : (world new : World D) → AreLinkedToHops world → (node : ℕ) (is : IsUp world node) (after : NodeState D)
+      → IsOpenedAgain world new node is.host after → AreLinkedToHops new
+  opened_again world new linked node is after again =
+      subst (λ (w : World D). AreLinkedToHops w) (sym again.new_is)
+      (one_node (lets_go node world) (record (lets_go node world) { hosts = again.hosts })
+      (let_go world (lets_go node world) linked node (hangs node world)) node is.host (record is.host { state = Up after })
+      is.host_at again.put refl again.as_many refl refl)
+
+  reopened_behind : (old new : World D) → AreLinkedToHops old → (node : ℕ) (pieces : List Piece)
+      → HasReopenedBehindGroup honest words old new node pieces → AreLinkedToHops new
+  reopened_behind old new linked node pieces reopens = elim reopens.decides [
+    | inl none ↦ opened_again old new linked node reopens.before reopens.after none.1
+    | inr all ↦
+        opened_again reopens.heard new
+        (heard_each reopens.at old reopens.heard linked node pieces no_row reopens.row reopens.each) node reopens.staged
+        reopens.after all.1
+  ]
+
 pub hop_links_are_kept : {D : Type 0} (honest : Type 0) (words : DiskWords D) → HopLinksAreKept honest words
 hop_links_are_kept honest words old new linked (Opens node peer opens) =
     all_linked old new opens.rest.3
@@ -338,13 +410,11 @@ hop_links_are_kept honest words old new linked (Hears number count hears) =
     (ways_ended old new number hears.of.link (heard_link hears.of.link hears.of.end hears.of.session hears.received)
     hears.of.end (session_after hears.received.close hears.of.session) hears.of.link_is hears.of.serves refl hears.links) linked
     (hops_same old new hears.rest.0)
-hop_links_are_kept honest words old new linked (Ends number ends) =
-    all_linked old new ends.rest.3
-    (names_put old new ends.of.end.node ends.of.host (record ends.of.host { state = Up ends.after }) ends.of.host_at ends.hosts
-    refl)
-    (ways_ended old new number ends.of.link
-    (record ends.of.link { server = Some (record ends.of.end { session = None }) }) ends.of.end None ends.of.link_is
-    ends.of.serves refl ends.links) linked (hops_same old new ends.rest.0)
+hop_links_are_kept honest words old new linked (HearsAll node pieces hears) =
+    heard_all honest words old new linked node pieces hears
+hop_links_are_kept honest words old new linked (Ends number ends) = ended old new linked number None ends
+hop_links_are_kept honest words old new linked (Closes number reply cuts) =
+    ended old new linked number (Some reply) cuts.ends
 hop_links_are_kept honest words old new linked (Reads number count reads) =
     read_on old new linked number reads.of reads.after reads.replied.change reads.records reads.rest.1
     (ways_like old new number reads.of.link (read_link reads.of.link reads.replied) reads.of.link_is refl reads.links)
@@ -390,6 +460,8 @@ hop_links_are_kept honest words old new linked (IsNotOpened node stays) =
     stays.hosts refl stays.rest.4 stays.rest.0 stays.rest.1
 hop_links_are_kept honest words old new linked (Reopens node reopens) =
     decided old new linked node reopens.host reopens.after reopens.undecided reopens.host_at reopens.rest.1 reopens.decides
+hop_links_are_kept honest words old new linked (ReopensBehindGroup node pieces reopens) =
+    reopened_behind honest words old new linked node pieces reopens
 hop_links_are_kept honest words old new linked (Ticks clock ticks) =
     all_linked old new (ap (λ (w : World _). length w.hosts) ticks.new_is)
     (names_same old new (ap (λ (w : World _). w.hosts) ticks.new_is))

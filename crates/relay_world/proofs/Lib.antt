@@ -1,4 +1,5 @@
 mod AcknowledgedLemmas
+mod ClosingLemmas
 mod CauseLemmas
 mod CustodyLemmas
 mod ContentLemmas
@@ -8,6 +9,7 @@ mod UndecidedLemmas
 mod MoveLemmas
 mod OpenLemmas
 mod PieceLemmas
+mod TalkLemmas
 mod HearLemmas
 mod LinkLemmas
 mod WriteLemmas
@@ -63,4 +65,6 @@ mod CrashRunLemmas
 mod CrashRestLemmas
 mod GroupLemmas
 mod ReopenGroupLemmas
+mod GroupOnceLemmas
+mod LosingLemmas
 pub mod Theorems

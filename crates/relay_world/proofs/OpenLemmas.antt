@@ -153,6 +153,9 @@ module _ {D : Type 0} (honest : Type 0) (words : DiskWords D) where
         numbered = tt;
         answered = refl;
         input = refl;
+        closing = None;
+        closes = tt;
+        closed = tt;
         wrote = ([], sym (append-nil opens.connected.out.items));
         whole = λ _. refl;
         accepts = ap (λ l. accepts_on number l) opens.rest.1

@@ -31,7 +31,7 @@ use Rattle.relay_course.specs.Laws.{WasTaken, accepted_places}
 use Rattle.relay_course.specs.Progress.{Errand, Progress, progress}
 use Rattle.relay_course.specs.VerdictTable.{all_later, refusal}
 use Rattle.relay_course.proofs.Theorems.{taken_where_answered}
-use Rattle.relay_meeting.specs.Joined.{HaveEnded, HaveTalked, Tells, child_envelope, verdict_at}
+use Rattle.relay_meeting.specs.Joined.{HaveEnded, HaveTalked, IsCutShort, Tells, child_envelope, verdict_at}
 use Rattle.relay_meeting.specs.Script.{AreTried, Tried, client_in, envelope_behind, opened_of, with_tried}
 use Rattle.relay_world.specs.declared.attempt.Attempt.{Attempt}
 use Rattle.relay_world.specs.declared.attempt.Fate.TheVariants.{Replied}
@@ -41,7 +41,7 @@ use Rattle.relay_world.specs.Bound.{HasFate, IsItsOutcome, IsServed, PassesOn, S
 use Rattle.relay_world.specs.Children.{HasOneChild}
 use Rattle.relay_world.specs.Passing.{AcceptsPlace, NoChildHolds, OthersAreNotHeld, RepliesGave, TakenIsAccepted}
 use Rattle.relay_world.specs.World.{Host, World}
-use Rattle.relay_world.proofs.AmongLemmas.{found_in, in_map, of_map, one_ruling, outcome_rises, ruled_at, ruled_by}
+use Rattle.relay_world.proofs.AmongLemmas.{all_of, found_in, in_map, of_map, one_ruling, outcome_rises, ruled_at, ruled_by}
 use Rattle.relay_world.proofs.AnsweredLemmas.{WasAccepted, accepted_is, is_completion, rcpt_is_there, was_accepted}
 use Rattle.relay_world.proofs.ChildrenLemmas.{child_now, child_or_none, has_answers, its_answers, one_child, one_row, passes_of, place_at, serves_of, talked}
 use Rattle.relay_world.proofs.ContentLemmas.{errand_by}
@@ -199,7 +199,7 @@ module _ {D : Type 0} (host : Host D) (changes : List Change) (link : Link) (att
     abbrev setup : Setup
     setup = setup_of_config other.config
 
-    says : HaveTalked setup errand serves.said passes.course.runs.replies passes.course.runs.rest
+    says : HaveTalked setup errand serves.said serves.closing passes.course.runs.replies passes.course.runs.rest
     says = talked host changes link attempt passes other others world end serves
 
     -- what comes of a node of ours is whole replies
@@ -209,8 +209,13 @@ module _ {D : Type 0} (host : Host D) (changes : List Change) (link : Link) (att
     ended_sound all (inl ended) = ended
     ended_sound all (inr later) = absurd (says.met.sound later.0.0 later.0.1)
 
-    ends : (all : List Verdict) → its_progress.verdicts ≡ Some all → HaveEnded setup errand says.tried serves.said all
-    ends all is = says.ended all passes.course.runs.each is
+    -- where a place is Taken or something was offered, it wasn't the node's closing that ended the attempt
+    ends : (all : List Verdict) → its_progress.verdicts ≡ Some all → (IsCutShort serves.said serves.closing all → ⊥)
+        → HaveEnded setup errand says.tried serves.said all
+    ends all is whole = elim (says.ended all passes.course.runs.each is) [
+      | inl have ↦ have
+      | inr short ↦ absurd (whole short)
+    ]
 
     taken_child : (place : ℕ) (dsn : Bool) (gave : RepliesGave changes attempt place (Taken dsn))
         → (one : HasOneChild world host changes link attempt others) × Contains one.places place
@@ -218,7 +223,9 @@ module _ {D : Type 0} (host : Host D) (changes : List Change) (link : Link) (att
         let out : Outcomes place (Taken dsn) gave = outcomes place (Taken dsn) gave in
         let ended : its_progress.verdicts ≡ Some out.all =
         ended_taken out.all out.k dsn out.verdict_is (ended_by out.all out.not_told out.verdicts_are) in
-        let have : HaveEnded setup errand says.tried serves.said out.all = ends out.all ended in
+        let have : HaveEnded setup errand says.tried serves.said out.all =
+        ends out.all ended (λ short. all_of (λ verdict. (dsn : Bool) → verdict ≢ Taken dsn) out.all out.k (Taken dsn)
+        short.untaken out.verdict_is dsn refl) in
         let one = of_map (verdict_at setup.host have.last) says.tried out.k (Taken dsn)
         (ap (λ l. slice_get l out.k) (sym have.verdicts_are) ∙ out.verdict_is) in
         let last : have.last ≡ Taken dsn = last_by one.0.goes have.last (reply_of setup.host NoRoute) dsn one.2 in
@@ -241,7 +248,8 @@ module _ {D : Type 0} (host : Host D) (changes : List Change) (link : Link) (att
         → serves.said.answers ≡ Queued number ∷ []
         → (k : ℕ) × (place : ℕ) × WasTaken its_progress k place true
     content_taken all ended number offers answers =
-        let have : HaveEnded setup errand says.tried serves.said all = ends all ended in
+        let have : HaveEnded setup errand says.tried serves.said all =
+        ends all ended (λ short. let none = ap length (sym short.none ∙ offers) in absurd (omega (arith, none))) in
         let last : have.last ≡ Taken true = tells_taken have.last serves.said.answers number answers have.tells in
         let envelope : Envelope = child_envelope errand says.tried in
         let child : List Offered =

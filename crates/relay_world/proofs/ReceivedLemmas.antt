@@ -16,18 +16,18 @@ use Rattle.relay_trace.specs.declared.received.Protocol.{Protocol}
 use Rattle.relay_trace.specs.declared.received.Protocol.TheVariants.{Smtp, Esmtp}
 use Rattle.relay_trace.proofs.Theorems.{date_text_has_no_crlf, header_goes_on}
 
-is_no_lf : ℕ → Bool
+unfoldable pub is_no_lf : ℕ → Bool
 is_no_lf octet = not (octet == 10)
 
 -- no LF stands in the text
-record HasNoLf (text : List ℕ) : Type 0 where
-  test : list_all is_no_lf text ≡ true
+pub record HasNoLf (text : List ℕ) : Type 0 where
+  pub test : list_all is_no_lf text ≡ true
 
 both_true : (a b : Bool) → a ≡ true → b ≡ true → a && b ≡ true
 both_true a b one two = ap (λ x. x && b) one ∙ two
 
 -- parts without an LF join without one
-both : {front back : List ℕ} → HasNoLf front → HasNoLf back → HasNoLf (front ++ back)
+pub both : {front back : List ℕ} → HasNoLf front → HasNoLf back → HasNoLf (front ++ back)
 both {front} {back} one two = record {
   test = list_all-append is_no_lf front back ∙ both_true _ _ one.test two.test;
 }
@@ -51,10 +51,10 @@ no_lf_no_crlf (octet ∷ next ∷ text) free =
     ∙ ap (λ b. b || has_crlf (next ∷ text)) (and-false (octet == 13)) ∙ no_lf_no_crlf (next ∷ text) later
 
 -- so no CR LF does
-no_crlf : {text : List ℕ} → HasNoLf text → HasNoCrlf text
+pub no_crlf : {text : List ℕ} → HasNoLf text → HasNoCrlf text
 no_crlf {text} free = no_crlf_by_test text (no_lf_no_crlf text free.test)
 
-literal_free : (text : List ℕ) → list_all is_no_lf text ≡ true → HasNoLf text
+pub literal_free : (text : List ℕ) → list_all is_no_lf text ≡ true → HasNoLf text
 literal_free text test = record { test = test }
 
 above_free : (octet : ℕ) → is_no_lf (48 + octet) ≡ true
@@ -88,7 +88,7 @@ onto_free (suc count) number text free =
           ∙ onto_free count (number / 10) more more_free
     ]
 
-decimal_free : (number : ℕ) → HasNoLf (decimal number)
+pub decimal_free : (number : ℕ) → HasNoLf (decimal number)
 unfolding digits
 decimal_free number = record { test = onto_free 64 number [] refl }
 

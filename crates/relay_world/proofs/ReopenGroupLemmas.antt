@@ -7,7 +7,7 @@ use Rattle.relay_book.specs.declared.change.Change.{Change}
 use Rattle.relay_book.specs.Queue.{Queue}
 use Rattle.relay_node.specs.Node.{NodeState}
 use Rattle.relay_records.specs.Records.{Keeps, Kept}
-use Rattle.relay_records.specs.Staged.{Awaits, CutsAll}
+use Rattle.relay_records.specs.Staged.{CutsAll}
 use Rattle.relay_records.proofs.Theorems.{halted_all_is_opened, next_is_one_more}
 use Rattle.relay_world.specs.Bound.{IsBound}
 use Rattle.relay_world.specs.Crashes.{let_go}
@@ -19,7 +19,7 @@ use Rattle.relay_world.proofs.HangUpLemmas.{hanging_up_keeps}
 use Rattle.relay_world.proofs.StopLemmas.{state_moved}
 use Rattle.relay_world.proofs.UndecidedLemmas.{up_not_down}
 
-none_of : (pending : List Change) → length pending ≡ 0 → pending ≡ []
+pub none_of : (pending : List Change) → length pending ≡ 0 → pending ≡ []
 none_of [] same = refl
 none_of (one ∷ pending) same = absurd (omega (arith, same))
 

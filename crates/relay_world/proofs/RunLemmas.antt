@@ -1,5 +1,5 @@
 -- A run of events keeps two relays bound, each place tried once, and the links of attempts as they are meant.
-use Rattle.std.proofs.Common.{◌≡◌, ℕ, zero, suc, List, [], Some, sym, subst, ap, ◌∙◌}
+use Rattle.std.proofs.Common.{◌≡◌, ℕ, zero, suc, List, [], Some, sym, subst, ap, ◌∙◌, None}
 use Rattle.std.specs.Prelude.{slice_get}
 use Rattle.std.proofs.lemmas.Option.{none-some}
 use Rattle.relay_disk.specs.Device.{DiskWords}
@@ -10,20 +10,23 @@ use Rattle.relay_book.specs.Marks.{change_at}
 use Rattle.relay_world.specs.Bound.{IsBound}
 use Rattle.relay_world.specs.HopLinks.{AreLinkedToHops}
 use Rattle.relay_world.specs.Ledger.{accepts_on}
-use Rattle.relay_world.specs.Once.{BreaksOff, Drops, Ends, GivesUp, GoesOn, Happens, Hears, IsNotOpened, IsTriedOnce, LetsGo, Loses, OnceAtFirst, OnceIsKept, Opens, Reads, Reopens, RunsKeepAll, Starts, Stops, StopsInGivingUp, StopsInHearing, StopsInLosing, StopsInReading, Ticks, Writes}
+use Rattle.relay_world.specs.Once.{BreaksOff, Drops, Ends, GivesUp, GoesOn, Happens, Hears, IsNotOpened, IsTriedOnce, LetsGo, Loses, OnceAtFirst, OnceIsKept, Opens, Reads, Reopens, RunsKeepAll, Starts, Stops, StopsInGivingUp, StopsInHearing, StopsInLosing, StopsInReading, Ticks, Writes, Closes, HearsAll, ReopensBehindGroup}
 use Rattle.relay_world.specs.World.{World}
 use Rattle.relay_world.proofs.BreakLemmas.{breaking_keeps}
-use Rattle.relay_world.proofs.EndLemmas.{ending_keeps}
+use Rattle.relay_world.proofs.EndLemmas.{ending_keeps, cutting_off_keeps}
 use Rattle.relay_world.proofs.EventLemmas.{broken, dropped, ended, given_up, heard, lost, opened, read_by, written}
 use Rattle.relay_world.proofs.AddedLemmas.{read_adds}
 use Rattle.relay_world.proofs.GiveUpLemmas.{giving_up_keeps}
 use Rattle.relay_world.proofs.HangUpLemmas.{hanging_up_keeps}
+use Rattle.relay_world.proofs.GroupLemmas.{hearing_all_keeps}
+use Rattle.relay_world.proofs.GroupOnceLemmas.{heard_all, reopened_behind}
 use Rattle.relay_world.proofs.HearLemmas.{hearing_keeps}
 use Rattle.relay_world.proofs.LoseLemmas.{dropping_keeps, losing_keeps}
 use Rattle.relay_world.proofs.HopLinkLemmas.{hop_links_are_kept}
 use Rattle.relay_world.proofs.OpenLemmas.{opening_keeps}
 use Rattle.relay_world.proofs.OnceLemmas.{once_started}
 use Rattle.relay_world.proofs.OnceMoreLemmas.{let_go, ticked}
+use Rattle.relay_world.proofs.ReopenGroupLemmas.{reopening_behind_group_keeps}
 use Rattle.relay_world.proofs.ReopenLemmas.{reopening_keeps}
 use Rattle.relay_world.proofs.ReopenOnceLemmas.{reopened}
 use Rattle.relay_world.proofs.StopHearLemmas.{stopping_hearing_keeps}
@@ -64,8 +67,12 @@ once_is_kept honest words old new lists later bound once (Writes number octets w
     written honest words old new lists later bound once now number octets writes
 once_is_kept honest words old new lists later bound once (Hears number count hears) now =
     heard honest words old new lists later bound once now number count hears
+once_is_kept honest words old new lists later bound once (HearsAll node pieces hears) now =
+    heard_all honest words old new lists later bound once now node pieces hears
 once_is_kept honest words old new lists later bound once (Ends number ends) now =
-    ended honest words old new lists later bound once now number ends
+    ended honest words old new lists later bound once now number None ends
+once_is_kept honest words old new lists later bound once (Closes number reply cuts) now =
+    ended honest words old new lists later bound once now number (Some reply) cuts.ends
 once_is_kept honest words old new lists later bound once (Reads number count reads) now =
     read_by honest words old new lists later bound once now number count reads reads.replied.change reads.records
     (read_adds honest words old new lists later bound once now number count reads)
@@ -93,6 +100,8 @@ once_is_kept honest words old new lists later bound once (IsNotOpened node stays
     stayed_down honest words old new lists later bound once now node stays
 once_is_kept honest words old new lists later bound once (Reopens node reopens) now =
     reopened honest words old new lists later bound once now node reopens
+once_is_kept honest words old new lists later bound once (ReopensBehindGroup node pieces reopens) now =
+    reopened_behind honest words old new lists later bound once now node pieces reopens
 once_is_kept honest words old new lists later bound once (Ticks clock ticks) now =
     ticked honest words old new lists later bound once now clock ticks
 once_is_kept honest words old new lists later bound once (LetsGo node hangs) now =
@@ -110,8 +119,12 @@ event_keeps honest words old new lists sees is bound (Writes number octets write
     (lists, writing_keeps honest words old new lists number octets bound writes)
 event_keeps honest words old new lists sees is bound (Hears number count hears) =
     hearing_keeps honest words old new lists number count bound hears
+event_keeps honest words old new lists sees is bound (HearsAll node pieces hears) =
+    hearing_all_keeps honest words old new lists node pieces bound hears
 event_keeps honest words old new lists sees is bound (Ends number ends) =
     (lists, ending_keeps honest words old new lists number bound ends)
+event_keeps honest words old new lists sees is bound (Closes number reply cuts) =
+    (lists, cutting_off_keeps honest words old new lists number reply bound cuts)
 event_keeps honest words old new lists sees is bound (Reads number count reads) =
     reading_keeps honest words old new lists number count bound reads
 event_keeps honest words old new lists sees is bound (Loses number change loses) =
@@ -138,6 +151,8 @@ event_keeps honest words old new lists sees is bound (IsNotOpened node stays) =
     (lists, staying_down_keeps honest words old new lists node bound stays)
 event_keeps honest words old new lists sees is bound (Reopens node reopens) =
     reopening_keeps honest words sees is old new lists node bound reopens
+event_keeps honest words old new lists sees is bound (ReopensBehindGroup node pieces reopens) =
+    reopening_behind_group_keeps honest words sees is old new lists node pieces bound reopens
 event_keeps honest words old new lists sees is bound (Ticks clock ticks) =
     (lists, ticking_keeps honest words old new lists clock bound ticks)
 event_keeps honest words old new lists sees is bound (LetsGo node hangs) =

@@ -223,6 +223,9 @@ module _ {D : Type 0} (honest : Type 0) (words : DiskWords D) where
               numbered = still.serves.numbered;
               answered = still.serves.answered;
               input = still.serves.input;
+              closing = still.serves.closing;
+              closes = still.serves.closes;
+              closed = still.serves.closed;
               wrote = still.serves.wrote;
               whole = still.serves.whole;
               accepts = still.serves.accepts;

@@ -29,6 +29,7 @@ use Rattle.relay_world.specs.Steps.{waiting_up}
 use Rattle.relay_world.specs.Stops.{StoppingHearingKeeps, StopsHearing, cut_off_link}
 use Rattle.relay_world.specs.World.{Down, FromClient, Host, Undecided, World}
 use Rattle.relay_world.proofs.CutLemmas.{LinkMoves, link_moved, link_moved_so, passes_cut, still_there}
+use Rattle.relay_world.proofs.ClosingLemmas.{may_be_over, wrote_open}
 use Rattle.relay_world.proofs.DownLemmas.{Notes, accept_steps, down_halted, fits_more, notes, same_undecided}
 use Rattle.relay_world.proofs.FrameLemmas.{accepts_on_more, changes_stay, get_last, stored_on}
 use Rattle.relay_world.proofs.MoveLemmas.{Settled, same_attempts, still_tried}
@@ -109,6 +110,9 @@ module _ {D : Type 0} (honest : Type 0) (words : DiskWords D) (old new : World D
     numbered = was.numbered;
     answered = was.answered;
     input = was.input;
+    closing = was.closing;
+    closes = was.closes;
+    closed = may_be_over was.closing;
     wrote = was.wrote;
     whole = was.whole;
     accepts = was.accepts;
@@ -180,10 +184,15 @@ module _ {D : Type 0} (honest : Type 0) (words : DiskWords D) (old new : World D
       ∙ sym (read_more stops.of.link.up_read stops.noted.used count stops.of.link.up used_within)
 
   -- what was written stays a beginning, since nothing was
+  wrote_before : Begins stops.of.link.down was.said.output
+  wrote_before =
+      wrote_open stops.of.host listed.0 old.ledger number stops.of.link stops.of.end was stops.of.session stops.of.goes_on
+
   wrote_with : Begins stops.of.link.down talk.later.output
   wrote_with = (
-    was.wrote.0 ++ talk.unwritten,
-    talk.output ∙ ap (λ l. l ++ talk.unwritten) was.wrote.1 ∙ append_assoc stops.of.link.down was.wrote.0 talk.unwritten,
+    wrote_before.0 ++ talk.unwritten,
+    talk.output ∙ ap (λ l. l ++ talk.unwritten) wrote_before.1
+        ∙ append_assoc stops.of.link.down wrote_before.0 talk.unwritten,
   )
 
   serves_with : ServesLink moved grown (new.ledger ++ its_lines) number (record link_now { up_read = read_to }) end_now
@@ -195,6 +204,9 @@ module _ {D : Type 0} (honest : Type 0) (words : DiskWords D) (old new : World D
     answered = still_answered was.said talk.later talk.refused (talk.offer ∷ []) (Queued (length listed.0 + 1) ∷ []) talk.answers
         was.answered refl;
     input = input_with;
+    closing = None;
+    closes = tt;
+    closed = tt;
     wrote = wrote_with;
     whole = λ is. absurd (false≢true (sym is));
     accepts = accepts_with;

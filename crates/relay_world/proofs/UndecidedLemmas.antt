@@ -11,6 +11,7 @@ use Rattle.relay_records.specs.declared.noted.Noted.{Noted}
 use Rattle.relay_report.specs.Report.{Reported}
 use Rattle.relay_node.specs.Node.{NodeState}
 use Rattle.relay_world.specs.declared.attempt.Attempt.{Attempt}
+use Rattle.relay_meeting.specs.Joined.{output_with}
 use Rattle.relay_world.specs.declared.attempt.Fate.{Fate}
 use Rattle.relay_world.specs.declared.attempt.Fate.TheVariants.{Running, Replied, Lost, Dropped}
 use Rattle.relay_world.specs.declared.line.Line.{Line}
@@ -63,7 +64,10 @@ serves_cut host changes ledger number link now end read wrote broken serves = re
   numbered = serves.numbered;
   answered = serves.answered;
   input = serves.input ∙ sym read;
-  wrote = subst (λ l. Begins l serves.said.output) (sym wrote) serves.wrote;
+  closing = serves.closing;
+  closes = serves.closes;
+  closed = serves.closed;
+  wrote = subst (λ l. Begins l (output_with serves.said.output serves.closing)) (sym wrote) serves.wrote;
   whole = λ is. absurd (false≢true (sym is ∙ broken));
   accepts = serves.accepts;
   stored = serves.stored;

@@ -32,6 +32,9 @@ module _ {D : Type 0} (honest : Type 0) (words : DiskWords D) (old : World D) (l
           numbered = was.serves.numbered;
           answered = was.serves.answered;
           input = was.serves.input ∙ read_stays link.up_read link.up octets (bound.reads number link link_is).up;
+          closing = was.serves.closing;
+          closes = was.serves.closes;
+          closed = was.serves.closed;
           wrote = was.serves.wrote;
           whole = was.serves.whole;
           accepts = was.serves.accepts;

@@ -6,6 +6,7 @@ use Rattle.relay_octets.specs.Beginning.{Begins}
 use Rattle.relay_disk.specs.Device.{DiskWords}
 use Rattle.relay_disk.specs.declared.disks.Disks.{Disks}
 use Rattle.relay_spool.specs.Spool.{EveryImageHas}
+use Rattle.relay_lines.specs.Reply.{Reply}
 use Rattle.relay_routes.specs.declared.config.Config.{Config}
 use Rattle.relay_server.specs.Dialogue.{IsDialogue, Offered, Said}
 use Rattle.relay_server.specs.DialogueLaws.{AreNumbered}
@@ -30,6 +31,7 @@ use Rattle.relay_node.specs.Acceptance.{IsAcceptOf, acceptance_by}
 use Rattle.relay_node.specs.Attempts.{Tells}
 use Rattle.relay_node.specs.Node.{SeatHasSaid, NodeState}
 use Rattle.relay_node.specs.Queued.{queued_in}
+use Rattle.relay_meeting.specs.Joined.{MayClose, output_with}
 use Rattle.relay_world.specs.declared.attempt.Attempt.{Attempt}
 use Rattle.relay_world.specs.declared.attempt.Fate.{Fate}
 use Rattle.relay_world.specs.declared.attempt.Fate.TheVariants.{Running, Replied, Lost, Dropped}
@@ -86,6 +88,12 @@ SaysThere {D} host None peer said = Unit {0}
 SaysThere {D} host (Some session) peer said =
     (node : NodeState D) × (host.state ≡ Up node) × SeatHasSaid host.config node.seats session peer said
 
+-- where a session goes on, the server hasn't closed unasked
+abbrev pub MayHaveClosed : Option ℕ → Option Reply → Type 0
+MayHaveClosed session None = Unit {0}
+MayHaveClosed None (Some reply) = Unit {0}
+MayHaveClosed (Some session) (Some reply) = ⊥
+
 -- the change of this number accepts the offer, from this address
 pub record IsStoredAs (config : Config) (peer : List ℕ) (changes : List Change) (number : ℕ) (offer : Offered)
     : Type 0 where
@@ -99,8 +107,8 @@ abbrev pub IsStored : Config → List ℕ → List Change → ℕ × Offered →
 IsStored config peer changes one = IsStoredAs config peer changes one.0 one.1
 
 -- The server end of the link of a number, at a node that keeps these changes: what it has read and written is a
--- dialogue, and where the link is whole all of it was written; the accepts on the link are the queued offers, in order,
--- and each is stored.
+-- dialogue, and perhaps a reply behind it, with which it closed unasked, and where the link is whole all of it was
+-- written; the accepts on the link are the queued offers, in order, and each is stored.
 pub record ServesLink {D : Type 0} (host : Host D) (changes : List Change) (ledger : List Line) (number : ℕ)
     (link : Link)
     (end : ServerEnd) : Type 0 where
@@ -109,8 +117,11 @@ pub record ServesLink {D : Type 0} (host : Host D) (changes : List Change) (ledg
   pub numbered : AreNumbered said.answers
   pub answered : length said.answers ≡ length said.offers
   pub input : said.input ≡ take link.up_read link.up
-  pub wrote : Begins link.down said.output
-  pub whole : link.broken ≡ false → link.down ≡ said.output
+  pub closing : Option Reply
+  pub closes : MayClose said closing
+  pub closed : MayHaveClosed end.session closing
+  pub wrote : Begins link.down (output_with said.output closing)
+  pub whole : link.broken ≡ false → link.down ≡ output_with said.output closing
   pub accepts : accepts_on number ledger ≡ map (λ one. (one.0, length one.1.envelope.recipients)) (queued_in said)
   pub stored : AllByRecursion (IsStored host.config end.peer changes) (queued_in said)
   pub live : SaysThere host end.session end.peer said

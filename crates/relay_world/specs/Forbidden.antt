@@ -1,20 +1,24 @@
 -- What the invariant doesn't let through besides: mail that is dropped, a line that the ledger forgets, and an attempt
 -- whose link leads elsewhere than to its hop. Each is said of the worlds alone, whatever call has made the one of the
--- other.
-use Rattle.std.specs.Prelude.{◌≡◌, ◌≢◌, ℕ, List, [], ◌∷◌, ◌++◌, Some, slice_get}
+-- other. And what the event of a group of accepts doesn't let through: a record that isn't in the row, and a row that
+-- doesn't come into the spool.
+use Rattle.std.specs.Prelude.{◌≡◌, ◌≢◌, ℕ, List, [], ◌∷◌, ◌++◌, None, Some, slice_get}
 use Rattle.std.specs.List.{Contains}
 use Rattle.relay_disk.specs.Device.{DiskWords}
 use Rattle.relay_book.specs.declared.change.Change.{Change}
 use Rattle.relay_book.specs.Marks.{Held}
 use Rattle.relay_book.specs.Queue.{held_of}
+use Rattle.relay_book.specs.StandsFor.{StandsFor}
 use Rattle.relay_node.specs.Node.{NodeState}
+use Rattle.relay_records.specs.Staged.{Awaits, Row}
 use Rattle.relay_world.specs.declared.attempt.Attempt.{Attempt}
 use Rattle.relay_world.specs.declared.line.Line.{Line}
 use Rattle.relay_world.specs.declared.link.Link.{Link}
 use Rattle.relay_world.specs.declared.link.ServerEnd.{ServerEnd}
-use Rattle.relay_world.specs.Bound.{HostKeeps, IsBound}
+use Rattle.relay_world.specs.Bound.{HostKeeps, IsBound, StandsAt}
+use Rattle.relay_world.specs.Groups.{HasHeardAll, HasHeardInto, Piece}
 use Rattle.relay_world.specs.HopLinks.{AreLinkedToHops}
-use Rattle.relay_world.specs.Ledger.{if_of_node}
+use Rattle.relay_world.specs.Ledger.{if_of_node, steps_in}
 use Rattle.relay_world.specs.Steps.{IsPut}
 use Rattle.relay_world.specs.World.{Host, Up, World, link_at}
 
@@ -67,3 +71,20 @@ pub record LeadsElsewhere {D : Type 0} (world : World D) : Type 0 where
 -- Then attempts don't have the links that they are meant to have.
 abbrev pub LeadingElsewhereBreaks : Type 0 → Type 0
 LeadingElsewhereBreaks D = (world : World D) → LeadsElsewhere world → AreLinkedToHops world → ⊥
+
+-- A node that is heard as one that awaits changes, and whose row has the bodies that it had, has accepted nothing.
+abbrev pub LosingRecordBreaks : {D : Type 0} → Type 0 → DiskWords D → Type 0
+LosingRecordBreaks {D} honest words =
+    (at : ℕ) (old new : World D) (node : ℕ) (piece : Piece) (row left : Row) (changes pending : List Change)
+    (hears : HasHeardInto honest words at old new node piece row left)
+    → Awaits honest words hears.of.before.records changes pending row → left.bodies ≡ row.bodies
+    → hears.received.change ≡ None
+
+-- A node that heard links one behind another, and in whose spool there is still no more than the list from before, has
+-- accepted nothing on them.
+abbrev pub LosingRowBreaks : {D : Type 0} → Type 0 → DiskWords D → Type 0
+LosingRowBreaks {D} honest words =
+    honest → (old new : World D) (lists : List (List Change)) (node : ℕ) (pieces : List Piece) (changes : List Change)
+    → IsBound honest words old lists → (hears : HasHeardAll honest words old new node pieces)
+    → StandsAt old lists node hears.before.host changes → StandsFor hears.after.records.spool.bodies changes
+    → (hears.row.bodies ≡ []) × (steps_in node new.ledger ≡ steps_in node old.ledger)

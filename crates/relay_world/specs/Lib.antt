@@ -7,6 +7,8 @@ pub mod HopLinks
 pub mod Steps
 pub mod Stops
 pub mod HangUp
+pub mod Crashes
+pub mod Groups
 pub mod Children
 pub mod Passing
 pub mod Once
@@ -18,6 +20,4 @@ pub mod Copies
 pub mod Chain
 pub mod Growth
 pub mod Promise
-pub mod Crashes
 pub mod CrashRuns
-pub mod Groups

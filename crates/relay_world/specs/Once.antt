@@ -2,6 +2,7 @@
 -- it on.
 use Rattle.std.specs.Prelude.{◌≡◌, ◌⊎◌, ℕ, zero, suc, Bool, true, List, [], None, Some, slice_get}
 use Rattle.std.specs.List.{AllByRecursion, Contains}
+use Rattle.relay_lines.specs.Reply.{Reply}
 use Rattle.relay_disk.specs.Device.{DiskWords}
 use Rattle.relay_disk.specs.declared.disks.Disks.{Disks}
 use Rattle.relay_attempts.specs.Hops.{goes_to, hop_of_place}
@@ -20,11 +21,12 @@ use Rattle.relay_world.specs.declared.attempt.Fate.{Fate}
 use Rattle.relay_world.specs.declared.attempt.Fate.TheVariants.{Running, Replied, Lost, Dropped}
 use Rattle.relay_world.specs.declared.link.Link.{Link}
 use Rattle.relay_world.specs.Bound.{IsBound, StandsAt}
+use Rattle.relay_world.specs.Groups.{HasHeardAll, HasReopenedBehindGroup, Piece}
 use Rattle.relay_world.specs.HangUp.{HangsUp}
 use Rattle.relay_world.specs.Ledger.{accepts_on}
 use Rattle.relay_world.specs.HopLinks.{AreLinkedToHops}
 use Rattle.relay_world.specs.Passing.{Rules}
-use Rattle.relay_world.specs.Steps.{Breaks, DropsAttempt, EndsSession, HasGivenUp, HasHeard, HasLost, HasOpened, HasRead, HasStarted, HasTicked, HasWritten}
+use Rattle.relay_world.specs.Steps.{Breaks, CutsOff, DropsAttempt, EndsSession, HasGivenUp, HasHeard, HasLost, HasOpened, HasRead, HasStarted, HasTicked, HasWritten}
 use Rattle.relay_world.specs.Stops.{HasReopened, HasStopped, StaysDown, StaysUp, StopsGivingUp, StopsHearing, StopsLosing, StopsReading}
 use Rattle.relay_world.specs.World.{Down, FromNoHop, Host, Undecided, Up, World, link_at}
 
@@ -103,7 +105,10 @@ pub data Happens {D : Type 0} (honest : Type 0) (words : DiskWords D) (old new :
   Opens : (node : ℕ) (peer : List ℕ) → HasOpened old new node peer → Happens honest words old new
   Writes : (number : ℕ) (octets : List ℕ) → HasWritten old new number octets → Happens honest words old new
   Hears : (number count : ℕ) → HasHeard honest words old new number count → Happens honest words old new
+  HearsAll : (node : ℕ) (pieces : List Piece) → HasHeardAll honest words old new node pieces
+      → Happens honest words old new
   Ends : (number : ℕ) → EndsSession old new number → Happens honest words old new
+  Closes : (number : ℕ) (reply : Reply) → CutsOff old new number reply → Happens honest words old new
   Reads : (number count : ℕ) → HasRead honest words old new number count → Happens honest words old new
   Loses : (number change : ℕ) → HasLost honest words old new number change → Happens honest words old new
   Drops : (number : ℕ) → DropsAttempt old new number → Happens honest words old new
@@ -119,6 +124,8 @@ pub data Happens {D : Type 0} (honest : Type 0) (words : DiskWords D) (old new :
   StopsInGivingUp : (node message : ℕ) → StopsGivingUp honest words old new node message → Happens honest words old new
   IsNotOpened : (node : ℕ) → StaysDown honest words old new node → Happens honest words old new
   Reopens : (node : ℕ) → HasReopened honest words old new node → Happens honest words old new
+  ReopensBehindGroup : (node : ℕ) (pieces : List Piece) → HasReopenedBehindGroup honest words old new node pieces
+      → Happens honest words old new
   Ticks : (now : ℕ) → HasTicked old new now → Happens honest words old new
   LetsGo : (node : ℕ) → HangsUp old new node → Happens honest words old new
   GoesOn : (node : ℕ) → StaysUp honest words old new node → Happens honest words old new

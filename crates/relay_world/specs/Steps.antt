@@ -1,5 +1,6 @@
 -- What an event does to two relays and their links.
 use Rattle.std.specs.Prelude.{◌≡◌, ◌≢◌, ◌⊎◌, ◌≤◌, ℕ, ◌+◌, suc, Bool, true, false, List, [], ◌∷◌, ◌++◌, length, take, drop, Option, Some, None, if◌then◌else◌, slice_get}
+use Rattle.relay_lines.specs.Reply.{IsReply, Reply, reply_text}
 use Rattle.relay_disk.specs.Device.{DiskWords}
 use Rattle.relay_book.specs.declared.change.Change.{Change}
 use Rattle.relay_attempts.specs.declared.reply.Replied.{Replied}
@@ -170,9 +171,19 @@ pub record HasHeard {D : Type 0} (honest : Type 0) (words : DiskWords D) (old ne
   pub records : RecordsHeard old new of.end.node number of.host after received.change
   pub rest : (new.attempts ≡ old.attempts) × (new.clock ≡ old.clock) × (length new.hosts ≡ length old.hosts)
 
--- The session at a link's server end is gone: its node was told that the connection has ended, or had no memory or room
--- for it.
-pub record EndsSession {D : Type 0} (old new : World D) (number : ℕ) : Type 0 where
+-- what stands on a link behind the reply with which its server end closes unasked, if it does: on a broken link nothing
+-- more
+abbrev pub closed_down : Link → Option Reply → List ℕ
+closed_down link None = link.down
+closed_down link (Some reply) = link.down ++ unless_broken link (reply_text reply)
+
+-- the link, whose session is gone
+abbrev pub ended_link : Link → ServerEnd → Option Reply → Link
+ended_link link end closing =
+    record link { server = Some (record end { session = None }); down = closed_down link closing }
+
+-- The session at a link's server end is gone, with a reply of its own behind all others, or with none.
+pub record EndsWith {D : Type 0} (old new : World D) (number : ℕ) (closing : Option Reply) : Type 0 where
   pub of : SessionOf old number
   pub after : NodeState D
   pub records : after.records ≡ of.before.records
@@ -180,9 +191,21 @@ pub record EndsSession {D : Type 0} (old new : World D) (number : ℕ) : Type 0 
   pub config : after.config ≡ of.before.config
   pub attempts : after.attempts ≡ of.before.attempts
   pub hosts : IsPut old.hosts new.hosts of.end.node (record of.host { state = Up after })
-  pub links : IsPutAt old.links new.links number (record of.link { server = Some (record of.end { session = None }) })
+  pub links : IsPutAt old.links new.links number (ended_link of.link of.end closing)
   pub rest : (new.attempts ≡ old.attempts) × (new.ledger ≡ old.ledger) × (new.clock ≡ old.clock)
       × (length new.hosts ≡ length old.hosts)
+
+-- The session at a link's server end is gone: its node was told that the connection has ended, or had no memory or room
+-- for it.
+abbrev pub EndsSession : {D : Type 0} → World D → World D → ℕ → Type 0
+EndsSession old new number = EndsWith old new number None
+
+-- A node has cut a client off, as one that was waited for too long: its session is gone, and behind whole replies stands
+-- one more, of code 421 (RFC 5321, section 3.8).
+pub record CutsOff {D : Type 0} (old new : World D) (number : ℕ) (reply : Reply) : Type 0 where
+  pub formed : IsReply reply
+  pub code : reply.code ≡ 421
+  pub ends : EndsWith old new number (Some reply)
 
 -- the octets that a call of a client end is handed: so many of those that wait, or all
 abbrev pub waiting_down : ℕ → Link → List ℕ
@@ -362,6 +385,11 @@ abbrev pub EndingKeeps : {D : Type 0} → Type 0 → DiskWords D → Type 0
 EndingKeeps {D} honest words =
     (old new : World D) (lists : List (List Change)) (number : ℕ) → IsBound honest words old lists
     → EndsSession old new number → IsBound honest words new lists
+
+abbrev pub CuttingOffKeeps : {D : Type 0} → Type 0 → DiskWords D → Type 0
+CuttingOffKeeps {D} honest words =
+    (old new : World D) (lists : List (List Change)) (number : ℕ) (reply : Reply) → IsBound honest words old lists
+    → CutsOff old new number reply → IsBound honest words new lists
 
 abbrev pub ReadingKeeps : {D : Type 0} → Type 0 → DiskWords D → Type 0
 ReadingKeeps {D} honest words =

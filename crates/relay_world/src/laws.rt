@@ -3,7 +3,7 @@ ghost use Rattle.relay_world.specs.Content.{ContentIsKept};
 ghost use Rattle.relay_world.specs.Custody.{CustodyIsKept};
 ghost use Rattle.relay_world.specs.HangUp.{HangingUpEnds, HangingUpKeeps};
 ghost use Rattle.relay_world.specs.Stops.{DownIsNotRefused, ReopeningKeeps, StayingDownKeeps, StayingUpKeeps, StoppingGivingUpKeeps, StoppingHearingKeeps, StoppingKeeps, StoppingLosingKeeps, StoppingReadingKeeps};
-ghost use Rattle.relay_world.specs.Steps.{BreakingKeeps, DroppingKeeps, EndingKeeps, GivingUpKeeps, HearingKeeps, LosingKeeps, OpeningKeeps, ReadingKeeps, StartingKeeps, TickingKeeps, WritingKeeps};
+ghost use Rattle.relay_world.specs.Steps.{BreakingKeeps, CuttingOffKeeps, DroppingKeeps, EndingKeeps, GivingUpKeeps, HearingKeeps, LosingKeeps, OpeningKeeps, ReadingKeeps, StartingKeeps, TickingKeeps, WritingKeeps};
 ghost use Rattle.relay_world.specs.Crashes.{CrashingInHearingKeeps, CrashingInLosingKeeps, CrashingInReadingKeeps};
 ghost use Rattle.relay_world.specs.Groups.{HearingAllKeeps, ReopeningBehindGroupKeeps};
 
@@ -45,6 +45,11 @@ pub fn hearing_all_keeps<D: Disk>()
 /// A session that is gone keeps a world bound.
 pub fn ending_keeps<D: Disk>()
     ensures { EndingKeeps D.honest D.words }
+{}
+
+/// A session that is cut off, with one reply behind all others, keeps a world bound.
+pub fn cutting_off_keeps<D: Disk>()
+    ensures { CuttingOffKeeps D.honest D.words }
 {}
 
 /// An attempt that begins on a link keeps a world bound.

@@ -4,7 +4,7 @@ ghost use Rattle.relay_world.specs.Chain.{ChainsAreShort};
 ghost use Rattle.relay_world.specs.Copies.{CopiesAreFew};
 ghost use Rattle.relay_world.specs.CrashRuns.{CompactingHappens, CrashingHappens, CrashingKeepsOnce, RestingCrashHappens};
 ghost use Rattle.relay_world.specs.Growth.{GrownListsBegin, RunsGrow};
-ghost use Rattle.relay_world.specs.Forbidden.{DroppingBreaks, ForgettingBreaks, LeadingElsewhereBreaks};
+ghost use Rattle.relay_world.specs.Forbidden.{DroppingBreaks, ForgettingBreaks, LeadingElsewhereBreaks, LosingRecordBreaks, LosingRowBreaks};
 ghost use Rattle.relay_world.specs.Invented.{InventingBreaks};
 ghost use Rattle.relay_world.specs.HopLinks.{HopLinksAtFirst};
 ghost use Rattle.relay_world.specs.Once.{HopLinksAreKept, OnceAtFirst, OnceIsKept, RunsKeepAll};
@@ -81,6 +81,17 @@ pub fn dropping_breaks<D: Disk>()
 /// A ledger that forgets a line breaks what events keep.
 pub fn forgetting_breaks<D: Disk>()
     ensures { ForgettingBreaks D.honest D.words }
+{}
+
+/// A node that answers a client that its mail was accepted, while the record isn't in the row that comes into the
+/// spool, does none of what events do.
+pub fn losing_record_breaks<D: Disk>()
+    ensures { LosingRecordBreaks D.honest D.words }
+{}
+
+/// Nor does a node whose row never comes into an honest spool: it has accepted nothing.
+pub fn losing_row_breaks<D: Disk>()
+    ensures { LosingRowBreaks D.honest D.words }
 {}
 
 /// An attempt for a node's name whose link leads to another node breaks what events keep.

@@ -1,0 +1,118 @@
+-- Pieces that are answered one behind another, and a piece more.
+use Rattle.std.proofs.Common.{◌≡◌, ◌≢◌, ◌⊎◌, ◌≤◌, ◌^◌, inl, inr, ℕ, ◌+◌, true, List, [], ◌∷◌, ◌++◌, length, take, Option, None, Result, refl, sym, ap, ◌∙◌, subst, length-append, arith}
+use Rattle.std.proofs.lemmas.Bool.{cases_eq}
+use Rattle.std.proofs.lemmas.List.{take_all}
+use Rattle.std.specs.List.{AllByRecursion}
+use Rattle.relay_disk.specs.Device.{DiskWords}
+use Rattle.relay_slots.specs.Slots.{OthersStay, slot_at}
+use Rattle.relay_spool.specs.Image.{room_of}
+use Rattle.relay_book.specs.declared.change.Change.{Change}
+use Rattle.relay_records.specs.Staged.{Awaits, Row}
+use Rattle.relay_records.specs.declared.fault.NodeFault.{NodeFault}
+use Rattle.relay_loop.specs.declared.clients.Heard.{Heard}
+use Rattle.relay_loop.specs.declared.group.Piece.{Piece}
+use Rattle.relay_loop.specs.Groups.{AllAreGone, AnswersEach, AnswersOne, AreOfOthers, OnlyClients}
+use Rattle.relay_loop.specs.Relay.{OnlyClient, RelayState}
+use Rattle.relay_loop.proofs.GroupLemmas.{each_more}
+
+-- what a list of pieces has behind its end
+abbrev pub no_piece : Piece
+no_piece = record { session = 0; octets = record { ref_ptr = (0, 0); now = [] } }
+
+-- what is so of a row of things is so of those in front, and of the last
+pub all_split : {A : Type 0} (P : A → Type 0) (xs : List A) (x : A) → AllByRecursion P (xs ++ x ∷ []) → AllByRecursion P xs × P x
+all_split P [] x all = (tt, all.0)
+all_split P (first ∷ xs) x all = let rest = all_split P xs x all.1 in ((all.0, rest.0), rest.1)
+
+-- and the other way
+pub all_join : {A : Type 0} (P : A → Type 0) (xs : List A) (x : A) → AllByRecursion P xs → P x → AllByRecursion P (xs ++ x ∷ [])
+all_join P [] x all last = (last, tt)
+all_join P (first ∷ xs) x all last = (all.0, all_join P xs x all.1 last)
+
+-- a piece more leaves the others
+only_more : {D : Type 0} (first mid new : RelayState D) (pieces : List Piece) (piece : Piece) → OnlyClients first mid pieces → OnlyClient mid new piece.session → OnlyClients first new (pieces ++ piece ∷ [])
+only_more first mid new pieces piece before only = record {
+  others = λ session all.
+      let parts = all_split (λ (p : Piece). session ≢ p.session) pieces piece all in
+      let same = before.others session parts.0 in
+      (only.seats session parts.1 ∙ same.0, only.clients session parts.1 ∙ same.1);
+  config = only.config ∙ before.config;
+  attempts = only.attempts ∙ before.attempts;
+  hops = only.hops ∙ before.hops;
+}
+
+-- connections that are gone stay so
+stays_gone : (old new : List (Option (List ℕ))) (pieces : List Piece) (number : ℕ) → AllAreGone old pieces → slot_at new number ≡ None → OthersStay old new number → AllAreGone new pieces
+stays_gone old new [] number gone one others = tt
+stays_gone old new (piece ∷ pieces) number gone one others = (still (cases_eq piece.session number), stays_gone old new pieces number gone.1 one others)
+  where
+    still : (piece.session ≡ number) ⊎ (piece.session ≡ number → ⊥) → slot_at new piece.session ≡ None
+    still (inl same) = ap (slot_at new) same ∙ one
+    still (inr other) = others piece.session other ∙ gone.0
+
+-- the connections of these pieces are gone, and no others
+pub record AreDropped (old new : List (Option (List ℕ))) (pieces : List Piece) : Type 0 where
+  pub gone : AllAreGone new pieces
+  pub others : (session : ℕ) → AreOfOthers session pieces → slot_at new session ≡ slot_at old session
+
+pub dropped_more : (old mid new : List (Option (List ℕ))) (pieces : List Piece) (piece : Piece) → AreDropped old mid pieces → slot_at new piece.session ≡ None → OthersStay mid new piece.session → AreDropped old new (pieces ++ piece ∷ [])
+dropped_more old mid new pieces piece so one others = record {
+  gone = all_join (λ (p : Piece). slot_at new p.session ≡ None) pieces piece (stays_gone mid new pieces piece.session so.gone one others) one;
+  others = λ session all.
+      let parts = all_split (λ (p : Piece). session ≢ p.session) pieces piece all in
+      others session parts.1 ∙ so.others session parts.0;
+}
+
+-- so many pieces are answered, from this relay and row to those
+module _ {D : Type 0} (honest : Type 0) (words : DiskWords D) (at : ℕ) (first : RelayState D) (row : Row) where
+  -- what was pending grows
+  abbrev pub HasEach : List Piece → List (Result Heard NodeFault) → RelayState D → Row → Type 0
+  HasEach pieces answers mid between =
+      (changes pending : List Change) → Awaits honest words first.node.records changes pending row
+      → (all : List Change) × AnswersEach honest words changes at pieces answers pending first row mid between all × Awaits honest words mid.node.records changes all between
+
+  pub record Goes (pieces : List Piece) (answers : List (Result Heard NodeFault)) (mid : RelayState D) (between : Row) : Type 0 where
+    pub live : mid.node.records.spool.live ≡ true
+    pub spool : mid.node.records.spool ≡ first.node.records.spool
+    pub room : (between ≡ row) ⊎ (mid.node.records.spool.size + room_of between.bodies ≤ 2 ^ 40)
+    pub only : OnlyClients first mid pieces
+    pub lengths : length answers ≡ length pieces
+    pub each : HasEach pieces answers mid between
+
+  pub goes_nowhere : first.node.records.spool.live ≡ true → (answers : List (Result Heard NodeFault)) → answers ≡ [] → Goes [] answers first row
+  goes_nowhere live answers none = record {
+    live = live;
+    spool = refl;
+    room = inl refl;
+    only = record { others = λ session all. (refl, refl); config = refl; attempts = refl; hops = refl };
+    lengths = ap length none;
+    each = λ changes pending awaits. (pending, (none, refl, refl, refl), awaits);
+  }
+
+  -- all are
+  pub all_pieces : (pieces : List Piece) (index : ℕ) (answers : List (Result Heard NodeFault)) (mid : RelayState D) (between : Row) → length pieces ≤ index → Goes (take index pieces) answers mid between → Goes pieces answers mid between
+  all_pieces pieces index answers mid between long goes = subst (λ (l : List Piece). Goes l answers mid between) (take_all index pieces long) goes
+
+  module _ (mid new : RelayState D) (between left : Row) (piece : Piece) (answer : Result Heard NodeFault)
+      (answers_one : (changes pending : List Change) → Awaits honest words mid.node.records changes pending between → (more : List Change) × AnswersOne honest words changes at pending piece mid between new left more answer)
+      (only : OnlyClient mid new piece.session) (spool : new.node.records.spool ≡ mid.node.records.spool) (room : (left ≡ between) ⊎ (new.node.records.spool.size + room_of left.bodies ≤ 2 ^ 40)) where
+    room_more : (between ≡ row) ⊎ (mid.node.records.spool.size + room_of between.bodies ≤ 2 ^ 40) → (left ≡ between) ⊎ (new.node.records.spool.size + room_of left.bodies ≤ 2 ^ 40) → (left ≡ row) ⊎ (new.node.records.spool.size + room_of left.bodies ≤ 2 ^ 40)
+    room_more before (inr within) = inr within
+    room_more (inl same) (inl unmoved) = inl (unmoved ∙ same)
+    room_more (inr within) (inl unmoved) =
+        let size = ap (λ s. s.size) spool in
+        let bodies = ap (λ (r : Row). room_of r.bodies) unmoved in
+        inr (omega (arith, size, bodies, within))
+
+    pub goes_on : (pieces : List Piece) (answers : List (Result Heard NodeFault)) → Goes pieces answers mid between → Goes (pieces ++ piece ∷ []) (answers ++ answer ∷ []) new left
+    goes_on pieces answers so = record {
+      live = ap (λ s. s.live) spool ∙ so.live;
+      spool = spool ∙ so.spool;
+      room = room_more so.room room;
+      only = only_more first mid new pieces piece so.only only;
+      lengths = length-append answers (answer ∷ []) ∙ ap (λ n. n + 1) so.lengths ∙ sym (length-append pieces (piece ∷ []));
+      each = λ changes pending awaits.
+          let before = so.each changes pending awaits in
+          let one = answers_one changes before.0 before.2 in
+          (before.0 ++ one.0, each_more honest words changes at pieces answers pending before.0 one.0 first mid new row between left piece answer before.1 one.1, one.1.awaits);
+    }

@@ -1,0 +1,127 @@
+-- Links that a node hears one behind another, and its opening behind a stop in that, keep a place from being tried
+-- twice.
+use Rattle.std.proofs.Common.{inl, inr, ℕ, List, [], ◌∷◌, Option, None, Some, refl, sym, subst}
+use Rattle.relay_disk.specs.Device.{DiskWords}
+use Rattle.relay_book.specs.declared.change.Change.{Change}
+use Rattle.relay_node.specs.Node.{NodeState}
+use Rattle.relay_records.specs.Staged.{Row, no_row}
+use Rattle.relay_world.specs.Bound.{IsBound}
+use Rattle.relay_world.specs.Crashes.{let_go as lets_go}
+use Rattle.relay_world.specs.Groups.{AcceptsInto, HasHeardAll, HasHeardEach, HasHeardInto, HasReopenedBehindGroup, IsOpenedAgain, IsUp, Piece}
+use Rattle.relay_world.specs.Once.{IsTriedOnce}
+use Rattle.relay_world.specs.Steps.{heard_link}
+use Rattle.relay_world.specs.World.{Up, World}
+use Rattle.relay_world.proofs.AddedLemmas.{HasTakenDown}
+use Rattle.relay_world.proofs.ClaimLemmas.{given_up_at}
+use Rattle.relay_world.proofs.CrashRestLemmas.{hangs}
+use Rattle.relay_world.proofs.EventLemmas.{ended, heard_of}
+use Rattle.relay_world.proofs.GroupLemmas.{Unsettled, bound_unsaid, first, first_kept, stays, unsettled_ended, unsettled_first, unsettled_heard}
+use Rattle.relay_world.proofs.HangUpLemmas.{hanging_up_keeps}
+use Rattle.relay_world.proofs.OnceMoreLemmas.{let_go}
+use Rattle.relay_world.proofs.StayUpLemmas.{stayed_up}
+use Rattle.relay_world.proofs.StopOnceLemmas.{state_alone}
+
+module _ {D : Type 0} (honest : Type 0) (words : DiskWords D) where
+  -- what was heard into a row was taken down
+  taken_into : (at : ℕ) (old new : World D) (node : ℕ) (piece : Piece) (row left : Row)
+      (hears : HasHeardInto honest words at old new node piece row left) (change : Option ℕ)
+      → AcceptsInto honest words old new piece.number hears.of hears.after row left change
+      → HasTakenDown old new hears.of.end.node piece.number hears.of.host hears.after change
+  taken_into at old new node piece row left hears None accepts = accepts
+  taken_into at old new node piece row left hears (Some change) accepts = (accepts.0, accepts.2, accepts.3)
+
+  module _ (old : World D) (lists : List (List Change)) (node : ℕ) (changes : List Change) where
+    -- a world in which a node awaits changes, and each place is tried once
+    record OnceUnsettled (world : World D) (row : Row) : Type 0 where
+      pub unsettled : Unsettled honest words old lists node changes world row
+      pub once : IsTriedOnce world unsettled.later
+
+    once_each : (pieces : List Piece) (at : ℕ) (world heard : World D) (row left : Row) → OnceUnsettled world row
+        → HasHeardEach honest words at world heard node pieces row left → OnceUnsettled heard left
+    once_each [] at world heard row left was each =
+        subst (λ (r : Row). OnceUnsettled heard r) (sym each.1)
+        (subst (λ (w : World D). OnceUnsettled w row) (sym each.0) was)
+    once_each (piece ∷ pieces) at world heard row left was (next, more, one, others) =
+        once_each pieces at next heard more left
+        (elim one [
+          | inl hears ↦
+              let unsettled : Unsettled honest words old lists node changes next more =
+              unsettled_heard honest words old lists node changes world next row more was.unsettled at piece hears in
+              record {
+                unsettled = unsettled;
+                once = heard_of ⊥ words world next was.unsettled.later unsettled.later was.unsettled.bound was.once
+                    unsettled.bound piece.number hears.of
+                    (heard_link hears.of.link hears.of.end hears.of.session hears.received) _ refl hears.links
+                    hears.rest.0
+                    hears.after hears.received.change
+                    (taken_into at world next node piece row more hears hears.received.change hears.accepts);
+              }
+          | inr ends ↦
+              let unsettled : Unsettled honest words old lists node changes next more =
+              unsettled_ended honest words old lists node changes world next row more was.unsettled piece.number ends.0
+              ends.1 ends.2 in
+              record {
+                unsettled = unsettled;
+                once = ended ⊥ words world next was.unsettled.later unsettled.later was.unsettled.bound was.once
+                    unsettled.bound piece.number None ends.0;
+              }
+        ]) others
+
+  -- a node that was up has heard links one behind another
+  once_heard : (old : World D) (lists : List (List Change)) (node : ℕ) (bound : IsBound honest words old lists)
+      → IsTriedOnce old lists → (before : IsUp old node) (at : ℕ) (pieces : List Piece) (heard : World D) (row : Row)
+      (each : HasHeardEach honest words at old heard node pieces no_row row) (staged : IsUp heard node)
+      → OnceUnsettled old lists node (first honest words old lists node bound before at pieces heard row each
+      staged).0 heard row
+  once_heard old lists node bound once before at pieces heard row each staged =
+      let its_list = first honest words old lists node bound before at pieces heard row each staged in
+      let kept = first_kept honest words old lists node bound before at pieces heard row each staged in
+      once_each old lists node its_list.0 pieces at old heard no_row row (record {
+        unsettled = unsettled_first honest words old lists node its_list.0 bound before its_list.1 kept.keeps;
+        once = once;
+      }) each
+
+  pub heard_all : (old new : World D) (lists later : List (List Change)) → IsBound honest words old lists
+      → IsTriedOnce old lists
+      → IsBound honest words new later → (node : ℕ) (pieces : List Piece)
+      → HasHeardAll honest words old new node pieces → IsTriedOnce new later
+  heard_all old new lists later bound once now node pieces hears =
+      let last = once_heard old lists node bound once hears.before old.clock pieces hears.heard hears.row hears.each
+      hears.staged in
+      stayed_up ⊥ words hears.heard new last.unsettled.later later last.unsettled.bound last.once
+      (bound_unsaid honest words new later now) node (stays honest words old new lists node pieces bound hears)
+
+  -- a node of the world that is opened again
+  opened_again : (world new : World D) (lists later : List (List Change)) → IsBound honest words world lists
+      → IsTriedOnce world lists → IsBound honest words new later → (node : ℕ) (is : IsUp world node)
+      (after : NodeState D)
+      → IsOpenedAgain world new node is.host after → IsTriedOnce new later
+  opened_again world new lists later bound once now node is after again =
+      let then : World D = record (lets_go node world) { hosts = again.hosts } in
+      let gone : IsBound honest words (lets_go node world) lists =
+      hanging_up_keeps honest words world (lets_go node world) lists node bound (hangs node world) in
+      let still : IsTriedOnce (lets_go node world) lists =
+      let_go honest words world (lets_go node world) lists lists bound once gone node (hangs node world) in
+      let there : IsBound honest words then later = subst (λ w. IsBound honest words w later) again.new_is now in
+      subst (λ w. IsTriedOnce w later) (sym again.new_is)
+      (state_alone honest words (lets_go node world) then lists later gone still there node is.host
+      (Up after) is.host_at
+      again.put refl refl refl
+      (given_up_at honest words (lets_go node world) then lists later gone still there node is.host after
+      is.host.records
+      again.put))
+
+pub reopened_behind : {D : Type 0} (honest : Type 0) (words : DiskWords D) (old new : World D)
+    (lists later : List (List Change))
+    → IsBound honest words old lists → IsTriedOnce old lists → IsBound honest words new later → (node : ℕ)
+    (pieces : List Piece) → HasReopenedBehindGroup honest words old new node pieces → IsTriedOnce new later
+reopened_behind honest words old new lists later bound once now node pieces reopens = elim reopens.decides [
+  | inl none ↦
+      opened_again honest words old new lists later bound once now node reopens.before reopens.after none.1
+  | inr all ↦
+      let last = once_heard honest words old lists node bound once reopens.before reopens.at pieces reopens.heard
+      reopens.row
+      reopens.each reopens.staged in
+      opened_again ⊥ words reopens.heard new last.unsettled.later later last.unsettled.bound last.once
+      (bound_unsaid honest words new later now) node reopens.staged reopens.after all.1
+]
