@@ -25,8 +25,8 @@ from running_relay import SOON, TEXT, Client, clients_of, comes_to_rest, greeted
 
 HERE = pathlib.Path(__file__).resolve().parent
 DAY = 86400
-# What those that couldn't be handed on wait first, in seconds.
-FIRST_WAIT = 1800
+# So the spool is longer than the log, which may not grow either then.
+LONG = b"Subject: long\r\n\r\n" + b"x" * 70 * 300 + b"\r\n.\r\n"
 
 
 def shim(field, name, relay, **environment):
@@ -71,7 +71,7 @@ def empty(process):
 def a_full_device_closes_all_and_goes_on_with_room(field):
     relay = field.relay()
     with relay.running(preexec_fn=without_signals) as process, clients_of(relay, 3) as clients:
-        clients[0].hand_in()
+        clients[0].hand_in(text=LONG)
         field.arrived(1)
         until("an empty list", lambda: relay.held() == [])
         fill(process, relay)
@@ -93,7 +93,7 @@ def a_full_device_closes_all_and_goes_on_with_room(field):
 def the_spool_is_opened_later_each_time(field):
     relay = field.relay()
     with relay.running(preexec_fn=without_signals) as process:
-        hand_in(relay)
+        hand_in(relay, LONG)
         field.arrived(1)
         until("an empty list", lambda: relay.held() == [])
         fill(process, relay)

@@ -127,7 +127,7 @@ impl Shell {
             lanes: lanes.renewed(),
             spares,
             starts,
-            tidying: Tidying::new(),
+            tidying: Tidying::behind_failure(&Now::of(clock)),
             pauses,
         })
     }

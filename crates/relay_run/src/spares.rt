@@ -1,5 +1,5 @@
 //! Descriptors that are kept for attempts, so that clients can't take all that there are.
-ghost use Rattle.std.specs.Prelude.{◌≡◌, ◌↔◌, ◌≤◌, ◌<◌, IsTrue};
+ghost use Rattle.std.specs.Prelude.{◌≡◌, ◌-◌, ◌↔◌, ◌≤◌, ◌<◌, IsTrue};
 ghost use Rattle.relay_run.specs.Spares.{held_of};
 ghost use Rattle.relay_run.specs.declared.spares.TheConstants.{SPARE_COUNT};
 

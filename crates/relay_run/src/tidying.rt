@@ -9,6 +9,9 @@ use relay_service::{Fault, is_worth_it};
 /// The least milliseconds between two times that the spool is written anew.
 const PAUSE: u64 = 1_000;
 
+/// How many seconds the spool isn't written anew behind a failure of its device, since that takes room.
+const FAILURE_PAUSE: u64 = 600;
+
 /// How many seconds it isn't told again that the spool is full.
 const TELLING_SECONDS: u64 = 60;
 
@@ -32,6 +35,16 @@ impl Tidying {
             has_shrunk: true,
             was_full: false,
             next: 0,
+            next_telling: 0,
+        }
+    }
+
+    /// The spool was opened again behind a failure of its device.
+    pub(crate) fn behind_failure(now: &Now) -> Self {
+        Tidying {
+            has_shrunk: true,
+            was_full: false,
+            next: now.behind(FAILURE_PAUSE),
             next_telling: 0,
         }
     }
