@@ -1,5 +1,5 @@
 -- What a relay does with the octets of several clients, whose changes come into its records together.
-use Rattle.std.specs.Prelude.{◌≡◌, ◌≢◌, ◌⊎◌, ℕ, ◌+◌, ◌≤◌, ◌^◌, false, true, List, [], ◌∷◌, ◌++◌, length, take, Option, None, Result, Ok, Err}
+use Rattle.std.specs.Prelude.{◌≡◌, ◌≢◌, ◌⊎◌, ℕ, ◌+◌, ◌≤◌, ◌<◌, ◌^◌, false, true, List, [], ◌∷◌, ◌++◌, length, take, Option, None, Result, Ok, Err}
 use Rattle.std.specs.List.{AllByRecursion}
 use Rattle.relay_disk.specs.Device.{DiskWords}
 use Rattle.relay_slots.specs.Slots.{slot_at}
@@ -50,12 +50,16 @@ module _ {D : Type 0} (honest : Type 0) (words : DiskWords D) (changes : List Ch
         new.node.records left more heard.change
     pub goes_on : GoesOn (changes ++ (pending ++ more)) new session peer later written heard.last
 
-  -- the piece was heard: it is left unread where octets wait for its client, or the row is laden
+  -- The piece was heard: it is left unread where octets wait for its client, or the row is laden. Otherwise it is used up,
+  -- unless a change or a close stopped that.
   pub record ReadsOne (pending : List Change) (piece : Piece) (old : RelayState D) (row : Row) (new : RelayState D)
       (left : Row) (more : List Change) (heard : Heard)
       : Type 0 where
     pub known : slot_at old.clients piece.session ≢ None
     pub within : heard.used ≤ length piece.octets.now
+    pub some : heard.change ≢ None → 0 < heard.used
+    pub whole : unwritten_at old.clients piece.session ≡ [] → (IsLaden row → ⊥) → heard.change ≡ None
+        → heard.last ≡ None → heard.used ≡ length piece.octets.now
     pub staged : IsStaged (length changes + length pending + 1) heard.change more
     pub unread : (unwritten_at old.clients piece.session ≢ []) ⊎ IsLaden row
         → (heard ≡ unread) × (new ≡ old) × (left ≡ row)
