@@ -34,6 +34,11 @@ unread = record { used = 0; change = None; last = None }
 abbrev pub AreOfOthers : ℕ → List Piece → Type 0
 AreOfOthers session pieces = AllByRecursion (λ piece. session ≢ piece.session) pieces
 
+-- no call went to a device yet
+pub record IsUndone {D : Type 0} (old new : RelayState D) : Type 0 where
+  pub spool : new.node.records.spool ≡ old.node.records.spool
+  pub noted : new.node.records.noted ≡ old.node.records.noted
+
 -- The words below are of a call at a moment, of a relay whose node keeps these changes and awaits those that are
 -- pending, which the row records. What one piece stages are the changes that it adds to these, one at most.
 module _ {D : Type 0} (honest : Type 0) (words : DiskWords D) (changes : List Change) (at : ℕ) where
@@ -113,6 +118,7 @@ module _ {D : Type 0} (honest : Type 0) (words : DiskWords D) (changes : List Ch
     pub before : RelayState D
     pub row : Row
     pub each : AnswersEach pieces group.heard.items [] old no_row before row pending
+    pub undone : IsUndone old before
     pub settles : Settles honest words new.node.records changes pending group.notes.items
     pub grows : GrowsAll words before.node.records row new.node.records
     pub config : new.node.config ≡ before.node.config
@@ -128,6 +134,7 @@ module _ {D : Type 0} (honest : Type 0) (words : DiskWords D) (changes : List Ch
     pub before : RelayState D
     pub row : Row
     pub each : AnswersEach pieces answers [] old no_row before row pending
+    pub undone : IsUndone old before
     pub notes : List Noted
     pub cuts : CutsAll honest words new.node.records changes pending notes
     pub stop : honest → AtEachMoment words old.node.records.spool.disk new.node.records.spool.disk
