@@ -6,4 +6,5 @@ mod GroupLemmas
 mod EachLemmas
 mod LawLemmas
 mod BecomesLemmas
+mod GroupHopLemmas
 pub mod Theorems
