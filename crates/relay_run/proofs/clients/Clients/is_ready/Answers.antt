@@ -16,12 +16,13 @@ loop-number-preserved c =
     none_more (IsLeftClient c.args.self.now.clients c.args.relay.now) c.loop-number.number c.loop-number.invariant (λ left.
     let found : c.slot-item.result ≡ Some left.client = sym there ∙ ap (λ slots. slot_at slots c.loop-number.number) c.as_slice-slot-items.ensures ∙ left.there in
     elim c.match-slot.branch [
-    in-Some+else-is_ready w ↦
-        let same = same_value w.in-Some.client left.client (sym w.in-Some.is ∙ found) in
-        let unread = subst (λ client. HasUnread client.channel.block) (sym same) left.unread in
-        let idle : not w.is_empty.result ≡ false = ap not (w.is_empty.ensures ∙ ap (λ octets. length octets == 0) (w.to_client.ensures ∙ left.written)) in
-        absurd (false≢true (sym w.if-is_ready.false ∙ w.is_ready.ensures unread idle))
-    | in_default w ↦ absurd (w.in_default.not-Some left.client found) ])
+      | in-Some+else-is_ready w ↦
+          let same = same_value w.in-Some.client left.client (sym w.in-Some.is ∙ found) in
+          let unread = subst (λ client. HasUnread client.channel.block) (sym same) left.unread in
+          let idle : not w.is_empty.result ≡ false = ap not (w.is_empty.ensures ∙ ap (λ octets. length octets == 0) (w.to_client.ensures ∙ left.written)) in
+          absurd (false≢true (sym w.if-is_ready.false ∙ w.is_ready.ensures unread idle))
+      | in_default w ↦ absurd (w.in_default.not-Some left.client found)
+    ])
 
 pub returns : goal.returns
 returns c = λ number left.

@@ -15,12 +15,13 @@ loop-slot-preserved c =
     none_more (IsLeftHop c.args.self.now.hops c.args.relay.now) c.loop-slot.slot-index c.loop-slot.invariant (λ left.
     let found : c.slot-item.result ≡ Some left.hop = sym there ∙ ap (λ slots. slot_at slots c.loop-slot.slot-index) c.as_slice-slot-items.ensures ∙ left.there in
     elim c.match-slot.branch [
-    in-Some+else-is_ready w ↦
-        let same = same_value w.in-Some.hop left.hop (sym w.in-Some.is ∙ found) in
-        let runs = ap (λ hop. hop.attempt) same ∙ left.runs in
-        let unread = subst (λ hop. HasUnread hop.channel.block) (sym same) left.unread in
-        absurd (false≢true (sym w.if-is_ready.false ∙ w.is_ready.ensures left.attempt runs unread left.written))
-    | in_default w ↦ absurd (w.in_default.not-Some left.hop found) ])
+      | in-Some+else-is_ready w ↦
+          let same = same_value w.in-Some.hop left.hop (sym w.in-Some.is ∙ found) in
+          let runs = ap (λ hop. hop.attempt) same ∙ left.runs in
+          let unread = subst (λ hop. HasUnread hop.channel.block) (sym same) left.unread in
+          absurd (false≢true (sym w.if-is_ready.false ∙ w.is_ready.ensures left.attempt runs unread left.written))
+      | in_default w ↦ absurd (w.in_default.not-Some left.hop found)
+    ])
 
 pub returns : goal.returns
 returns c = λ number left.
