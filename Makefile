@@ -61,12 +61,13 @@ hostile: relayd
 bench: relayd relay_bench
 	bench/run.sh build/relayd build/relay_bench
 
-# Measures a relay over sockets beside bare syncs, kills one at thirty moments while mail comes in, and looks at what much
-# mail costs one that stays up.
+# Measures a relay over sockets beside bare syncs, kills one at thirty moments and one that stays up at a hundred while mail
+# comes in, and looks at what much mail costs it.
 load: relayd
 	bench/load.py build/relayd
 	bench/crashes.py build/relayd
 	bench/crashes.py build/relayd 64
+	KILLS=100 SESSIONS=64 tests/run.py build/relayd a_kill_loses_nothing
 	DUE=100000 THROUGH=200000 tests/run_load.py build/relayd
 
 # Counts the instructions of the same with callgrind, which valgrind brings.
