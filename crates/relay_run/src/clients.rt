@@ -137,7 +137,14 @@ impl Clients {
             Some((numbers, answers)) => {
                 for (number, answer) in numbers.into_iter().zip(answers) {
                     self.answer_one(
-                        number, answer, registry, relay, leaving, now, &mut intake, log,
+                        number,
+                        answer,
+                        registry,
+                        relay,
+                        leaving,
+                        now,
+                        &mut intake,
+                        log,
                     )?;
                 }
             }
@@ -198,7 +205,12 @@ impl Clients {
             return Ok(None);
         };
         match relay.read_all(pieces.as_slice(), now.moment) {
-            Ok(Group { heard, notes: _notes }) => Ok(Some((numbers, heard))),
+            Ok(
+                Group {
+                    heard,
+                    notes: _notes,
+                },
+            ) => Ok(Some((numbers, heard))),
             Err(NodeFault::Stopped) => Err(Fault::Device),
             Err(_) => Ok(None),
         }

@@ -25,23 +25,23 @@ const LONGEST_PAUSE: u64 = 60;
 pub(crate) struct Pauses {
     /// How many seconds the next pause has.
     seconds: u64,
-    /// The number that the next change had when the spool was opened last.
-    opened_at: u64,
+    /// How many octets the spool had when it was opened last.
+    opened_size: usize,
 }
 
 impl Pauses {
-    /// The device of a spool hasn't failed yet, whose next change has this number.
-    pub(crate) fn new(next_number: u64) -> Self {
+    /// The device of a spool of this size hasn't failed yet.
+    pub(crate) fn new(size: usize) -> Self {
         Pauses {
             seconds: FIRST_PAUSE,
-            opened_at: next_number,
+            opened_size: size,
         }
     }
 
-    /// The device has failed. Where a change was made since the spool was opened, there was room meanwhile, and the
-    /// pauses begin anew.
-    fn note_failure(&mut self, next_number: u64) {
-        if self.opened_at < next_number {
+    /// The device has failed, and the spool has this size. Where that is another than when it was opened, there was room
+    /// meanwhile, and the pauses begin anew.
+    fn note_failure(&mut self, size: usize) {
+        if self.opened_size != size {
             self.seconds = FIRST_PAUSE;
         }
     }
@@ -94,7 +94,7 @@ pub(crate) fn open_again<C: Clock, E: Write>(
 ) -> Result<Relay<FileDisk>, Fault>
     ensures { HasFailedToSync relay.node.records.spool.disk → IsErr result }
 {
-    pauses.note_failure(relay.node().next_number());
+    pauses.note_failure(relay.node().size());
     let mut closed = Closed::of(relay.into_node());
     sync(&mut closed.disks)?;
     wait_for_room(alloc, clock, closed, pauses, quiet, errors)
@@ -117,7 +117,7 @@ fn wait_for_room<C: Clock, E: Write>(
         clock.sleep(Duration::from_secs(seconds));
         match closed.open(alloc)? {
             Opening::Done(relay) => {
-                pauses.opened_at = relay.node().next_number();
+                pauses.opened_size = relay.node().size();
                 let mut log = Log::stamped(alloc, errors, !quiet, clock_moment(clock));
                 log.opened_again();
                 return Ok(relay);

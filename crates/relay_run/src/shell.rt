@@ -72,7 +72,7 @@ impl Shell {
         let clients = Clients::new(alloc, limits)?;
         let hops = Hops::new(alloc)?;
         let leaving = Leaving::new(alloc, u64::from(limits.client_timeout))?;
-        let pauses = Pauses::new(relay.node().next_number());
+        let pauses = Pauses::new(relay.node().size());
         Ok(Shell {
             relay,
             door,
