@@ -8,3 +8,4 @@ mod LawLemmas
 mod BecomesLemmas
 mod GroupHopLemmas
 pub mod Theorems
+mod ClosingLemmas
