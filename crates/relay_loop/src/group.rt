@@ -31,6 +31,7 @@ const MOST_ROOM: usize = 4_194_304;
 pub struct Piece<'a> {
     /// The number of the client's session.
     pub session: usize,
+    /// What was read of its connection, and isn't used yet.
     pub octets: &'a [u8],
 }
 
@@ -47,8 +48,8 @@ impl<D: Disk> Relay<D> {
     /// Uses octets of several clients, one behind another, each as [`Relay::read`] does, and brings the changes
     /// that they lead to into the spool behind one pair of syncs: from then on every stop leaves them, and before
     /// that no octet can be written that tells of them. A piece is left unread, as one whose client has octets
-    /// waiting, once the group has 64 changes or their records take 4 MiB. A fault of one piece, want of memory or
-    /// of a number for its mail, ends its connection alone, and is its answer.
+    /// waiting, once the group has 64 changes or their records take 4 MiB. A fault of one piece is its answer:
+    /// `Unknown`, and want of memory or of a number for its mail, which end its connection alone.
     ///
     /// The first fault in this order is the call's: `Stopped`, where the node was; want of memory for the answers,
     /// at which nothing changes; and `Stopped`, where the device fails: a stop leaves none of the changes or all.
