@@ -37,6 +37,7 @@ test:
 	tests/attempts_of_a_node.py crates/relay_node_tests/out/relay_node_tests
 	tests/node_without_memory.sh crates/relay_node_tests/out/relay_node_tests
 	tests/hub_without_memory.sh crates/relay_hub_tests/out/relay_hub_tests
+	tests/groups_without_memory.sh crates/relay_loop_tests/out/relay_loop_tests
 	tests/spool_on_a_file.sh crates/relay_spool_tests/out/relay_spool_tests
 	tests/reports_read_by_python.py crates/relay_book_tests/out/relay_book_tests
 	tail -n 1 build/gate.log
@@ -60,12 +61,13 @@ hostile: relayd
 bench: relayd relay_bench
 	bench/run.sh build/relayd build/relay_bench
 
-# Measures a relay over sockets beside bare syncs, kills one at thirty moments while mail comes in, and looks at what much
-# mail costs one that stays up.
+# Measures a relay over sockets beside bare syncs, kills one at thirty moments and one that stays up at a hundred while mail
+# comes in, and looks at what much mail costs it.
 load: relayd
 	bench/load.py build/relayd
 	bench/crashes.py build/relayd
 	bench/crashes.py build/relayd 64
+	KILLS=100 SESSIONS=64 tests/run.py build/relayd a_kill_loses_nothing
 	DUE=100000 THROUGH=200000 tests/run_load.py build/relayd
 
 # Counts the instructions of the same with callgrind, which valgrind brings.

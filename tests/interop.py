@@ -2,7 +2,7 @@
 """The rows of tests/interop.sh, which gives the packages that it has: relayd with other mail programs as its clients
 and as its next hops, by `serve` and by `run`. Behind them all stands a sink in Python.
 
-    tests/interop.py build/relayd build/interop postfix exim4-daemon-light opensmtpd swaks
+    tests/interop.py build/relayd build/interop postfix exim4-daemon-light opensmtpd swaks haproxy
 """
 import contextlib
 import email
@@ -19,7 +19,7 @@ import time
 
 sys.dont_write_bytecode = True
 
-from mail_servers import Exim, OpenSmtpd, Postfix, can_make_rooms
+from mail_servers import Exim, HaProxy, OpenSmtpd, Postfix, can_make_rooms
 from relay_program import Difference, Relay, free_port, same
 from smtp_sink import Sink
 
@@ -256,6 +256,27 @@ def run_server(program, packages, package, folder, runs):
     return f"{make.name}: {', '.join(row.__name__ for row in rows)}"
 
 
+def run_balanced(program, packages, _balancer, folder, runs):
+    """Two relays behind a balancer, which gives each the next connection: to both all clients are at one address."""
+    count = 10
+    fields = [Field(program, packages, pathlib.Path(folder) / name, runs) for name in ("one", "two")]
+    with contextlib.ExitStack() as stack:
+        for field in fields:
+            stack.enter_context(contextlib.closing(field))
+            stack.enter_context(field.serving())
+        one, two = (field.relay.port for field in fields)
+        balancer = stack.enter_context(contextlib.closing(HaProxy(packages, one, two)))
+        for number in range(count):
+            hand_in(balancer.port, [f"b{number}@out.example"], SMALL)
+    taken = [sorted(told.split(b" ")[0] for message in field.sink.messages for told in message.recipients)
+             for field in fields]
+    same("recipients at both sinks", sorted(taken[0] + taken[1]),
+         sorted(b"<b%d@out.example>" % number for number in range(count)))
+    if not all(taken):
+        raise Difference("one relay was handed nothing")
+    return f"{HaProxy.name}: two relays behind it"
+
+
 def run_client(program, packages, client, folder, runs):
     with contextlib.closing(Field(program, packages, folder, runs)) as field:
         client(field, packages)
@@ -272,6 +293,8 @@ def main():
         print(f"interop: skipped: {', '.join(servers)}: no roots of their own can be mounted by this user")
         servers = []
     runs += [(run_server, package) for package in servers]
+    if "haproxy" in had and can_make_rooms():
+        runs.append((run_balanced, "haproxy"))
     for by, (run, what) in itertools.product(("serve", "run"), runs):
         with tempfile.TemporaryDirectory() as folder:
             try:

@@ -1,6 +1,6 @@
 #!/usr/bin/env bash
 # Runs relayd with other mail programs over 127.0.0.1: Postfix, Exim and OpenSMTPD, each as a client of it and as its
-# next hop, swaks and Python's smtplib as clients.
+# next hop, swaks and Python's smtplib as clients, and two relays behind HAProxy.
 #
 #   tests/interop.sh build/relayd
 #
@@ -55,7 +55,7 @@ unpack() {
 }
 
 had=()
-for package in postfix exim4-daemon-light opensmtpd swaks; do
+for package in postfix exim4-daemon-light opensmtpd swaks haproxy; do
     if unpack "$package"; then
         had+=("$package")
     else

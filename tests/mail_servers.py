@@ -1,4 +1,4 @@
-"""Postfix, Exim and OpenSMTPD, each in a root of its own that ends with it: an overlay of an unpacked package over
+"""Postfix, Exim and OpenSMTPD, and HAProxy before other servers, each in a root of its own that ends with it: an overlay of an unpacked package over
 this machine's files, in name spaces of its own for mounts and processes.
 
 Each takes mail from 127.0.0.1, sends mail for out.example to one port and mail for in.example to another, and
@@ -223,5 +223,32 @@ match from any for domain "in.example" action "in"
 mkdir -p /var/lib/opensmtpd/empty /var/spool/smtpd
 chmod 711 /var/spool/smtpd
 exec smtpd -d
+""",
+        }
+
+
+class HaProxy(Server):
+    """A balancer before two relays: it hands on connections, in turn, and knows nothing of mail but its greeting."""
+
+    name, package, users = "HAProxy", "haproxy", ("haproxy",)
+
+    def files(self):
+        return {
+            "etc/balancer.cfg": f"""
+frontend smtp
+    mode tcp
+    bind 127.0.0.1:{self.port}
+    timeout client 400s
+    default_backend relays
+backend relays
+    mode tcp
+    timeout connect 5s
+    timeout server 400s
+    option smtpchk EHLO balancer.example
+    server one 127.0.0.1:{self.to_out} check inter 10s
+    server two 127.0.0.1:{self.to_in} check inter 10s
+""",
+            "start": """
+exec haproxy -db -f /etc/balancer.cfg
 """,
         }

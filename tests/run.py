@@ -5,7 +5,7 @@ away or hang, kills, and few descriptors. It ends at the first difference.
     tests/run.py build/relayd [ROW..]
 
 With the names of rows it runs these alone. What has to be prompt may take as many times as long as TIMES says in the
-environment (2 where it says nothing).
+environment (2 where it says nothing); KILLS and SESSIONS (8) say how often it is killed, and under how many sessions.
 """
 import contextlib
 import os
@@ -33,7 +33,9 @@ ACCEPTED = re.compile(r"relayd: message 1 accepted from 127\.0\.0\.1:\d+ for 1 r
 SENT = re.compile(r"relayd: message 1 next\.example at 127\.0\.0\.1:\d+ ended \d+ s behind its acceptance, "
                   r"place 0 transferred")
 MOMENT = re.compile(rb"\d{4}-\d\d-\d\dT\d\d:\d\d:\d\d(\.\d+)?Z [ -~]+")
-KILLS = 8
+# At how many moments a relay is killed, and under how many sessions.
+KILLS = int(os.environ.get("KILLS", 8))
+SESSIONS = int(os.environ.get("SESSIONS", 8))
 
 
 # The rows. Each says in its name what holds.
@@ -333,11 +335,11 @@ def room_is_made_without_a_restart(field):
 
 
 def a_kill_loses_nothing(field):
-    """Under eight sessions, with passing on and, by the spool's limit, with compaction."""
-    relay, chance, answered = field.relay(spool_limit=400000), random.Random(43), {}
+    """Under SESSIONS sessions, with passing on and, by the spool's limit, with compaction."""
+    relay, chance, answered = field.relay(spool_limit=400000, sessions_per_client=64), random.Random(43), {}
     for kill in range(KILLS):
         process = relay.begin()
-        feeders = [Feeder(relay, (kill * 8 + at) * 10000) for at in range(8)]
+        feeders = [Feeder(relay, (kill * SESSIONS + at) * 10000) for at in range(SESSIONS)]
         for feeder in feeders:
             feeder.start()
         time.sleep(chance.uniform(0.05, 0.6))

@@ -11,7 +11,7 @@ use Rattle.relay_records.specs.Staged.{Awaits, Row}
 use Rattle.relay_records.specs.declared.fault.NodeFault.{NodeFault}
 use Rattle.relay_loop.specs.declared.clients.Heard.{Heard}
 use Rattle.relay_loop.specs.declared.group.Piece.{Piece}
-use Rattle.relay_loop.specs.Groups.{AllAreGone, AnswersEach, AnswersOne, AreOfOthers, OnlyClients}
+use Rattle.relay_loop.specs.Groups.{AllAreGone, AnswersEach, AnswersOne, AreOfOthers, IsUndone, OnlyClients}
 use Rattle.relay_loop.specs.Relay.{OnlyClient, RelayState}
 use Rattle.relay_loop.proofs.GroupLemmas.{each_more}
 
@@ -73,7 +73,7 @@ module _ {D : Type 0} (honest : Type 0) (words : DiskWords D) (at : ℕ) (first 
 
   pub record Goes (pieces : List Piece) (answers : List (Result Heard NodeFault)) (mid : RelayState D) (between : Row) : Type 0 where
     pub live : mid.node.records.spool.live ≡ true
-    pub spool : mid.node.records.spool ≡ first.node.records.spool
+    pub undone : IsUndone first mid
     pub room : (between ≡ row) ⊎ (mid.node.records.spool.size + room_of between.bodies ≤ 2 ^ 40)
     pub only : OnlyClients first mid pieces
     pub lengths : length answers ≡ length pieces
@@ -82,7 +82,7 @@ module _ {D : Type 0} (honest : Type 0) (words : DiskWords D) (at : ℕ) (first 
   pub goes_nowhere : first.node.records.spool.live ≡ true → (answers : List (Result Heard NodeFault)) → answers ≡ [] → Goes [] answers first row
   goes_nowhere live answers none = record {
     live = live;
-    spool = refl;
+    undone = record { spool = refl; noted = refl };
     room = inl refl;
     only = record { others = λ session all. (refl, refl); config = refl; attempts = refl; hops = refl };
     lengths = ap length none;
@@ -95,19 +95,19 @@ module _ {D : Type 0} (honest : Type 0) (words : DiskWords D) (at : ℕ) (first 
 
   module _ (mid new : RelayState D) (between left : Row) (piece : Piece) (answer : Result Heard NodeFault)
       (answers_one : (changes pending : List Change) → Awaits honest words mid.node.records changes pending between → (more : List Change) × AnswersOne honest words changes at pending piece mid between new left more answer)
-      (only : OnlyClient mid new piece.session) (spool : new.node.records.spool ≡ mid.node.records.spool) (room : (left ≡ between) ⊎ (new.node.records.spool.size + room_of left.bodies ≤ 2 ^ 40)) where
+      (only : OnlyClient mid new piece.session) (undone : IsUndone mid new) (room : (left ≡ between) ⊎ (new.node.records.spool.size + room_of left.bodies ≤ 2 ^ 40)) where
     room_more : (between ≡ row) ⊎ (mid.node.records.spool.size + room_of between.bodies ≤ 2 ^ 40) → (left ≡ between) ⊎ (new.node.records.spool.size + room_of left.bodies ≤ 2 ^ 40) → (left ≡ row) ⊎ (new.node.records.spool.size + room_of left.bodies ≤ 2 ^ 40)
     room_more before (inr within) = inr within
     room_more (inl same) (inl unmoved) = inl (unmoved ∙ same)
     room_more (inr within) (inl unmoved) =
-        let size = ap (λ s. s.size) spool in
+        let size = ap (λ s. s.size) undone.spool in
         let bodies = ap (λ (r : Row). room_of r.bodies) unmoved in
         inr (omega (arith, size, bodies, within))
 
     pub goes_on : (pieces : List Piece) (answers : List (Result Heard NodeFault)) → Goes pieces answers mid between → Goes (pieces ++ piece ∷ []) (answers ++ answer ∷ []) new left
     goes_on pieces answers so = record {
-      live = ap (λ s. s.live) spool ∙ so.live;
-      spool = spool ∙ so.spool;
+      live = ap (λ s. s.live) undone.spool ∙ so.live;
+      undone = record { spool = undone.spool ∙ so.undone.spool; noted = undone.noted ∙ so.undone.noted };
       room = room_more so.room room;
       only = only_more first mid new pieces piece so.only only;
       lengths = length-append answers (answer ∷ []) ∙ ap (λ n. n + 1) so.lengths ∙ sym (length-append pieces (piece ∷ []));

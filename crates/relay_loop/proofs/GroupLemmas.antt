@@ -1,5 +1,5 @@
 -- What a relay does with the octets of one client behind a row, and of several one behind another.
-use Rattle.std.proofs.Common.{◌≡◌, ◌≢◌, ◌⊎◌, ◌≤◌, inl, inr, ℕ, ◌+◌, ◌==◌, Bool, true, List, [], ◌∷◌, ◌++◌, length, take, Option, None, Some, Result, Ok, Err, refl, sym, ap, ◌∙◌, subst, append_assoc, append-nil, length-append, arith}
+use Rattle.std.proofs.Common.{◌≡◌, ◌≢◌, ◌⊎◌, ◌≤◌, ◌<◌, inl, inr, ℕ, ◌+◌, ◌==◌, Bool, true, false, List, [], ◌∷◌, ◌++◌, length, take, Option, None, Some, Result, Ok, Err, refl, sym, ap, ◌∙◌, subst, append_assoc, append-nil, length-append, arith}
 use Rattle.std.proofs.lemmas.Bool.Decides.{nat_tests}
 use Rattle.relay_disk.specs.Device.{DiskWords}
 use Rattle.relay_slots.specs.Slots.{slot_at}
@@ -16,7 +16,7 @@ use Rattle.relay_node.specs.declared.receive.Received.{Received}
 use Rattle.relay_node.specs.Acceptance.{IsAcceptOf, acceptance_by}
 use Rattle.relay_node.specs.Node.{NodeState, SeatHasSaid}
 use Rattle.relay_node.specs.Room.{ComesToOffer}
-use Rattle.relay_node.specs.Staging.{IsStaged, MakesInto, ReceivesBehind, ReceivesInto, RefusesToReceiveInto}
+use Rattle.relay_node.specs.Staging.{IsStaged, MakesInto, ReceivesBehind, ReceivesInto, RefusesToReceiveInto, UsesPiece}
 use Rattle.relay_node.proofs.Theorems.{queued_grows}
 use Rattle.relay_loop.specs.declared.clients.Heard.{Heard}
 use Rattle.relay_loop.specs.declared.group.Piece.{Piece}
@@ -44,6 +44,14 @@ pub is_drained : (connections : List (Option (List ℕ))) (number : ℕ) (waitin
 is_drained connections number waiting is there test so =
     let none : length waiting ≡ 0 = grind (arith, nat_tests) in
     waits_there connections number waiting there ∙ no_octets waiting none
+
+-- without last octets nothing has closed
+goes_on_by : (close : Bool) (session : ℕ) (out : List ℕ) (last : Option (List ℕ)) (clients : List (Option (List ℕ))) → IsSetTo close session out last clients → last ≡ None → close ≡ false
+goes_on_by true session out last clients set none = absurd (some_none (sym set.1 ∙ none))
+  where
+    some_none : Some out ≡ None → ⊥
+    some_none e = cc
+goes_on_by false session out last clients set none = refl
 
 -- the next number behind changes and those that are pending
 numbered : (changes pending : List Change) → length changes + length pending + 1 ≡ length (changes ++ pending) + 1
@@ -117,6 +125,8 @@ module _ {D : Type 0} (honest : Type 0) (words : DiskWords D) (changes : List Ch
     by = record {
       known = known;
       within = omega arith;
+      some = λ made. absurd (made refl);
+      whole = λ drained light _ _. absurd (stays_unread old piece.session row why drained light);
       staged = refl;
       unread = λ _. (refl, refl, refl);
       reads = λ drained light peer said written t. absurd (stays_unread old piece.session row why drained light);
@@ -127,12 +137,14 @@ module _ {D : Type 0} (honest : Type 0) (words : DiskWords D) (changes : List Ch
 
   -- a piece was read
   pub was_read : (pending : List Change) (piece : Piece) (old new : RelayState D) (row left : Row) (received : Received) (heard : Heard) → slot_at old.clients piece.session ≢ None → unwritten_at old.clients piece.session ≡ [] → (IsLaden row → ⊥)
-      → (b : ReceivesBehind honest words old.node.config changes pending at piece.session piece.octets.now old.node row new.node left received) → received.used ≤ length piece.octets.now → OnlyClient old new piece.session → IsHeardFrom received heard
+      → (b : ReceivesBehind honest words old.node.config changes pending at piece.session piece.octets.now old.node row new.node left received) → UsesPiece (length piece.octets.now) received → OnlyClient old new piece.session → IsHeardFrom received heard
       → IsSetTo received.close piece.session received.out.items heard.last new.clients → AnswersOne honest words changes at pending piece old row new left b.more (Ok heard)
-  was_read pending piece old new row left received heard known drained light b within only h set = record {
+  was_read pending piece old new row left received heard known drained light b uses only h set = record {
     by = record {
       known = known;
-      within = subst (λ n. n ≤ length piece.octets.now) (sym h.used) within;
+      within = subst (λ n. n ≤ length piece.octets.now) (sym h.used) uses.within;
+      some = λ made. subst (λ n. 0 < n) (sym h.used) (uses.some (λ none. made (h.change ∙ none)));
+      whole = λ _ _ unchanged unclosed. h.used ∙ uses.whole (sym h.change ∙ unchanged) (goes_on_by received.close piece.session received.out.items heard.last new.clients set unclosed);
       staged = subst (λ (made : Option ℕ). IsStaged (length changes + length pending + 1) made b.more) (sym h.change) b.staged;
       unread = λ why. absurd (stays_unread old piece.session row why drained light);
       reads = λ _ _ peer said written t.

@@ -6,4 +6,6 @@ mod GroupLemmas
 mod EachLemmas
 mod LawLemmas
 mod BecomesLemmas
+mod GroupHopLemmas
 pub mod Theorems
+mod ClosingLemmas

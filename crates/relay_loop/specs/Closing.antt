@@ -1,6 +1,7 @@
 -- The reply with which the relay closes a connection by itself (RFC 5321, section 3.8).
 use Rattle.std.specs.Prelude.{ℕ, List, ◌++◌, codes}
-use Rattle.relay_lines.specs.Reply.{one_line, reply_text}
+use Rattle.relay_envelope.specs.HostName.{IsHostName}
+use Rattle.relay_lines.specs.Reply.{IsReply, one_line, reply_text}
 use Rattle.relay_loop.specs.declared.closing.Closing.{Closing}
 use Rattle.relay_loop.specs.declared.closing.Closing.TheVariants.{TooMany, Timeout}
 
@@ -12,3 +13,8 @@ text_of Timeout = codes " timeout, closing"
 -- the reply of a host of this name, as it is written
 abbrev pub closing_of : List ℕ → Closing → List ℕ
 closing_of host why = reply_text (one_line 421 (host ++ text_of why))
+
+-- It is one reply.
+abbrev pub ClosingIsReply : Type 0
+ClosingIsReply =
+    (host : List ℕ) (why : Closing) → IsHostName host → IsReply (one_line 421 (host ++ text_of why))

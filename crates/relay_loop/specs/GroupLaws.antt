@@ -1,8 +1,9 @@
--- What a call on several pieces leaves of a client that was talked to.
+-- What a call on several pieces leaves of a client that was talked to, and of a next hop.
 use Rattle.std.specs.Prelude.{◌≡◌, ◌⊎◌, ℕ, ◌==◌, List, [], ◌∷◌, ◌++◌, take, Some, None, Result, Ok, Err, if◌then◌else◌}
 use Rattle.std.specs.Result.{IsErr}
 use Rattle.relay_disk.specs.Device.{DiskWords}
 use Rattle.relay_slots.specs.Slots.{slot_at}
+use Rattle.relay_attempts.specs.Reply.{Told}
 use Rattle.relay_server.specs.Dialogue.{Said}
 use Rattle.relay_book.specs.declared.change.Change.{Change}
 use Rattle.relay_records.specs.declared.fault.NodeFault.{NodeFault}
@@ -10,7 +11,8 @@ use Rattle.relay_loop.specs.declared.clients.Heard.{Heard}
 use Rattle.relay_loop.specs.declared.group.Group.{Group}
 use Rattle.relay_loop.specs.declared.group.Piece.{Piece}
 use Rattle.relay_loop.specs.Clients.{HasLeft, TalksTo}
-use Rattle.relay_loop.specs.Groups.{ReadsAll}
+use Rattle.relay_loop.specs.Groups.{OnlyClients, ReadsAll}
+use Rattle.relay_loop.specs.Hops.{HandsTo}
 use Rattle.relay_loop.specs.Relay.{RelayState}
 
 -- what was used of a piece with this answer
@@ -77,3 +79,11 @@ GroupsTalk {D = D} honest words =
     (peer : List ℕ) (said : Said) (written : List ℕ)
     → (all : ReadsAll honest words changes at pieces old new group) → TalksTo changes old session peer said written
     → Becomes (changes ++ all.pending) new session peer said written pieces group.heard.items
+
+-- To a next hop mail is handed on as before such a call, by the list with all that were pending.
+abbrev pub GroupsHand : {D : Type 0} → Type 0 → DiskWords D → Type 0
+GroupsHand {D = D} honest words =
+    (changes : List Change) (at : ℕ) (pieces : List Piece) (old new : RelayState D) (group : Group) (attempt : ℕ)
+    (told : Told) (written : List ℕ)
+    → (all : ReadsAll honest words changes at pieces old new group) → OnlyClients old new pieces
+    → HandsTo changes old attempt told written → HandsTo (changes ++ all.pending) new attempt told written

@@ -1,5 +1,5 @@
 -- What a relay does with the octets of several clients, whose changes come into its records together.
-use Rattle.std.specs.Prelude.{◌≡◌, ◌≢◌, ◌⊎◌, ℕ, ◌+◌, ◌≤◌, ◌^◌, false, true, List, [], ◌∷◌, ◌++◌, length, take, Option, None, Result, Ok, Err}
+use Rattle.std.specs.Prelude.{◌≡◌, ◌≢◌, ◌⊎◌, ℕ, ◌+◌, ◌≤◌, ◌<◌, ◌^◌, false, true, List, [], ◌∷◌, ◌++◌, length, take, Option, None, Result, Ok, Err}
 use Rattle.std.specs.List.{AllByRecursion}
 use Rattle.relay_disk.specs.Device.{DiskWords}
 use Rattle.relay_slots.specs.Slots.{slot_at}
@@ -34,6 +34,11 @@ unread = record { used = 0; change = None; last = None }
 abbrev pub AreOfOthers : ℕ → List Piece → Type 0
 AreOfOthers session pieces = AllByRecursion (λ piece. session ≢ piece.session) pieces
 
+-- no call went to a device yet
+pub record IsUndone {D : Type 0} (old new : RelayState D) : Type 0 where
+  pub spool : new.node.records.spool ≡ old.node.records.spool
+  pub noted : new.node.records.noted ≡ old.node.records.noted
+
 -- The words below are of a call at a moment, of a relay whose node keeps these changes and awaits those that are
 -- pending, which the row records. What one piece stages are the changes that it adds to these, one at most.
 module _ {D : Type 0} (honest : Type 0) (words : DiskWords D) (changes : List Change) (at : ℕ) where
@@ -50,12 +55,16 @@ module _ {D : Type 0} (honest : Type 0) (words : DiskWords D) (changes : List Ch
         new.node.records left more heard.change
     pub goes_on : GoesOn (changes ++ (pending ++ more)) new session peer later written heard.last
 
-  -- the piece was heard: it is left unread where octets wait for its client, or the row is laden
+  -- The piece was heard: it is left unread where octets wait for its client, or the row is laden. Otherwise it is used up,
+  -- unless a change or a close stopped that.
   pub record ReadsOne (pending : List Change) (piece : Piece) (old : RelayState D) (row : Row) (new : RelayState D)
       (left : Row) (more : List Change) (heard : Heard)
       : Type 0 where
     pub known : slot_at old.clients piece.session ≢ None
     pub within : heard.used ≤ length piece.octets.now
+    pub some : heard.change ≢ None → 0 < heard.used
+    pub whole : unwritten_at old.clients piece.session ≡ [] → (IsLaden row → ⊥) → heard.change ≡ None
+        → heard.last ≡ None → heard.used ≡ length piece.octets.now
     pub staged : IsStaged (length changes + length pending + 1) heard.change more
     pub unread : (unwritten_at old.clients piece.session ≢ []) ⊎ IsLaden row
         → (heard ≡ unread) × (new ≡ old) × (left ≡ row)
@@ -109,6 +118,7 @@ module _ {D : Type 0} (honest : Type 0) (words : DiskWords D) (changes : List Ch
     pub before : RelayState D
     pub row : Row
     pub each : AnswersEach pieces group.heard.items [] old no_row before row pending
+    pub undone : IsUndone old before
     pub settles : Settles honest words new.node.records changes pending group.notes.items
     pub grows : GrowsAll words before.node.records row new.node.records
     pub config : new.node.config ≡ before.node.config
@@ -124,6 +134,7 @@ module _ {D : Type 0} (honest : Type 0) (words : DiskWords D) (changes : List Ch
     pub before : RelayState D
     pub row : Row
     pub each : AnswersEach pieces answers [] old no_row before row pending
+    pub undone : IsUndone old before
     pub notes : List Noted
     pub cuts : CutsAll honest words new.node.records changes pending notes
     pub stop : honest → AtEachMoment words old.node.records.spool.disk new.node.records.spool.disk

@@ -3,7 +3,7 @@ ghost use Rattle.std.specs.Prelude.{◌≡◌, ◌⊎◌, ◌+◌, ◌↔◌, �
 ghost use Rattle.std.specs.Prelude.{Err, IfErr, IfOk, IsTrue, OnErr};
 ghost use Rattle.relay_book.specs.declared.change.Change.{Change};
 ghost use Rattle.relay_loop.specs.Groups.{AllAreGone, AnswersEach, AnswersOne, AreOfOthers, CutsGroup, IsLaden};
-ghost use Rattle.relay_loop.specs.Groups.{OnlyClients, ReadsAll, RefusesToReadAll};
+ghost use Rattle.relay_loop.specs.Groups.{IsUndone, OnlyClients, ReadsAll, RefusesToReadAll};
 ghost use Rattle.relay_loop.specs.Relay.{OnlyClient};
 ghost use Rattle.relay_records.specs.Records.{Keeps};
 ghost use Rattle.relay_records.specs.Staged.{Awaits};
@@ -99,7 +99,7 @@ impl<D: Disk> Relay<D> {
             self.new row.new all
             × Awaits D.honest D.words self.new.node.records changes all row.new) }
         ensures only { OnlyClients self.old self.new pieces.now }
-        ensures spool { self.new.node.records.spool ≡ self.old.node.records.spool }
+        ensures undone { IsUndone self.old self.new }
         ensures room { (row.new ≡ row.old)
             ⊎ (self.new.node.records.spool.size + room_of row.new.bodies ≤ 2 ^ 40) }
         ensures lengths { IfOk result (λ heard. length heard.items ≡ length pieces.now) }
@@ -131,7 +131,7 @@ impl<D: Disk> Relay<D> {
             × AnswersOne D.honest D.words changes now pending piece.now self.old row.old self.new row.new more
             result }
         ensures only { OnlyClient self.old self.new piece.now.session }
-        ensures spool { self.new.node.records.spool ≡ self.old.node.records.spool }
+        ensures undone { IsUndone self.old self.new }
         ensures room { (row.new ≡ row.old)
             ⊎ (self.new.node.records.spool.size + room_of row.new.bodies ≤ 2 ^ 40) }
     {

@@ -1,5 +1,6 @@
 //! What is true of the connections of a relay, whatever calls are made.
-ghost use Rattle.relay_loop.specs.GroupLaws.{GroupsTalk};
+ghost use Rattle.relay_loop.specs.Closing.{ClosingIsReply};
+ghost use Rattle.relay_loop.specs.GroupLaws.{GroupsHand, GroupsTalk};
 ghost use Rattle.relay_loop.specs.Laws.{HandsStay, OthersHand};
 ghost use Rattle.relay_loop.specs.Laws.{OthersTalk, QueuedAreAccepted, TalksAreDialogues, TalksStay};
 
@@ -41,4 +42,14 @@ pub fn others_hand<D>()
 /// and its connection is gone.
 pub fn groups_talk<D: Disk>()
     ensures { GroupsTalk D.honest D.words }
+{}
+
+/// A call on several pieces leaves what is handed on to each next hop.
+pub fn groups_hand<D: Disk>()
+    ensures { GroupsHand D.honest D.words }
+{}
+
+/// What the relay says where it closes a connection by itself is one reply.
+pub fn closing_is_reply()
+    ensures { ClosingIsReply }
 {}

@@ -18,9 +18,9 @@ const PERIOD: &[u8] = b".\r\n";
 const ROOM_FOR_TWO: u64 = 400;
 
 /// A client that has said all of its message but the last line, and what was written to it.
-struct Client {
-    session: usize,
-    octets: Vec<u8>,
+pub(crate) struct Client {
+    pub(crate) session: usize,
+    pub(crate) octets: Vec<u8>,
 }
 
 impl Drop for Client {
@@ -32,7 +32,7 @@ impl Drop for Client {
     }
 }
 
-fn client_of(alloc: Global, relay: &mut MemoryRelay) -> Result<Client, Fail> {
+pub(crate) fn client_of(alloc: Global, relay: &mut MemoryRelay) -> Result<Client, Fail> {
     let session = accept(relay)?;
     let mut octets = Vec::new(alloc);
     let (lines, _period) = COMMANDS.split_at(COMMANDS.len() - 3);
@@ -41,7 +41,7 @@ fn client_of(alloc: Global, relay: &mut MemoryRelay) -> Result<Client, Fail> {
 }
 
 /// The line that ends a client's content.
-fn period_of(client: &Client) -> Piece<'static> {
+pub(crate) fn period_of(client: &Client) -> Piece<'static> {
     Piece {
         session: client.session,
         octets: PERIOD,

@@ -10,6 +10,7 @@ mod hops;
 mod mail;
 mod setup;
 mod talk;
+mod want;
 
 use clients::{
     a_client_that_ends_gets_what_waits, a_client_that_reads_nothing_is_not_heard,
@@ -21,13 +22,32 @@ use groups::{a_failed_device_ends_a_group, a_group_answers_each, a_group_is_one_
 use hops::{
     a_hop_takes_the_mail, a_hop_that_is_lost_keeps_the_mail, an_attempt_waits_for_its_commands,
 };
+use std::env;
 use std::io::{self, Print};
 use std::test::Fail;
+use want::{Came, three_at_once};
 
+/// The word `three` gives three messages at once, and nothing else: its line says what came of them.
 fn main(rt: HostRuntime) -> Result<(), Fail> {
+    let words: Vec<String> = env::args(&rt)?.collect(rt.alloc())?;
+    if let Some(word) = words.get(1)
+        && word.as_str() == "three"
+    {
+        return show_three(&rt);
+    }
     show_clients(&rt)?;
     show_groups(&rt)?;
     show_hops(&rt)
+}
+
+/// Prints what came of three messages at once.
+fn show_three(rt: &HostRuntime) -> Result<(), Fail> {
+    match three_at_once(rt.alloc())? {
+        Came::NotBegun => println!(rt; "not begun")?,
+        Came::Stopped => println!(rt; "stopped")?,
+        Came::Queued(count) => println!(rt; "{count} of 3 queued")?,
+    }
+    Ok(())
 }
 
 /// Prints a line for each scene of clients.

@@ -250,11 +250,13 @@ impl Shell {
             → result ≡ true }
         ensures hop { (number : ℕ) → IsLeftHop self.now.hops.hops self.now.relay number → result ≡ true }
     {
-        self.door.is_ready(now)
-            || self.clients.is_ready(&self.relay)
-            || self.hops.is_ready(&self.relay)
-            || self.leaving.is_ready()
-            || self.lanes.is_ready()
+        if self.clients.is_ready(&self.relay) {
+            return true;
+        }
+        if self.hops.is_ready(&self.relay) {
+            return true;
+        }
+        self.door.is_ready(now) || self.leaving.is_ready() || self.lanes.is_ready()
     }
 
     /// How many milliseconds may be waited for the system to tell of something.

@@ -5,6 +5,7 @@ use Rattle.relay_spool.specs.Pair.{HasBodies}
 use Rattle.relay_spool.specs.Spool.{AtEachMoment}
 use Rattle.relay_records.specs.Staged.{Row, StandsForOrWithAll}
 use Rattle.relay_records.specs.declared.fault.NodeFault.TheVariants.{Stopped}
+use Rattle.relay_loop.specs.Groups.{IsUndone}
 use Rattle.relay_loop.specs.Relay.{RelayState}
 use Rattle.relay_loop.proofs.EachLemmas.{HasEach}
 use Rattle.relay_loop.proofs.relay.Relay.read_all.Goals as goal
@@ -16,12 +17,13 @@ returns-in-Ok-settle-clause-reads g c = λ changes keeps.
     subst (λ (r : Row). HasEach g.D.Disk.honest g.D.Disk.words c.args.now c.args.self.now r c.args.pieces.now c.in-Ok.heard.items before c.read_each.new.row) c.new-row.ensures
     (subst (λ (s : RelayState g.row.D.Denot). HasEach g.D.Disk.honest g.D.Disk.words c.args.now c.args.self.now c.new-row.result c.args.pieces.now c.in-Ok.heard.items s c.read_each.new.row) (sym c.self-2.view_is) c.in-Ok.ensures.each) in
     let so = each changes [] (c.none_is_awaited.ensures _ changes keeps) in
-    let disk = ap (λ (s : RelayState g.row.D.Denot). s.node.records.spool.disk) c.self-2.view_is ∙ ap (λ s. s.disk) c.in-Ok.ensures.spool in
+    let disk = ap (λ (s : RelayState g.row.D.Denot). s.node.records.spool.disk) c.self-2.view_is ∙ ap (λ s. s.disk) c.in-Ok.ensures.undone.spool in
     record {
       pending = so.0;
       before = before;
       row = c.read_each.new.row;
       each = so.1;
+      undone = subst (IsUndone c.args.self.now) (sym c.self-2.view_is) c.in-Ok.ensures.undone;
       settles = c.in-Ok-settle.ensures.settles changes so.0 so.2;
       grows = c.in-Ok-settle.ensures.grows;
       config = c.in-Ok-settle.ensures.rest.0;
@@ -38,13 +40,14 @@ returns-in-Err-clause-cut g c = λ changes keeps stopped.
     subst (λ (r : Row). HasEach g.D.Disk.honest g.D.Disk.words c.args.now c.args.self.now r c.args.pieces.now c.in-Ok.heard.items before c.read_each.new.row) c.new-row.ensures
     (subst (λ (s : RelayState g.row.D.Denot). HasEach g.D.Disk.honest g.D.Disk.words c.args.now c.args.self.now c.new-row.result c.args.pieces.now c.in-Ok.heard.items s c.read_each.new.row) (sym c.self-2.view_is) c.in-Ok.ensures.each) in
     let so = each changes [] (c.none_is_awaited.ensures _ changes keeps) in
-    let disk = ap (λ (s : RelayState g.row.D.Denot). s.node.records.spool.disk) c.self-2.view_is ∙ ap (λ s. s.disk) c.in-Ok.ensures.spool in
+    let disk = ap (λ (s : RelayState g.row.D.Denot). s.node.records.spool.disk) c.self-2.view_is ∙ ap (λ s. s.disk) c.in-Ok.ensures.undone.spool in
     record {
       answers = c.in-Ok.heard.items;
       pending = so.0;
       before = before;
       row = c.read_each.new.row;
       each = so.1;
+      undone = subst (IsUndone c.args.self.now) (sym c.self-2.view_is) c.in-Ok.ensures.undone;
       notes = c.in-Err.unsettled.notes.items;
       cuts = c.in-Err.ensures.cut changes so.0 so.2 is;
       stop = λ honest. subst (λ (d : Disks g.row.D.Denot). AtEachMoment g.D.Disk.words d c.settle.new.self.records.spool.disk (HasBodies (StandsForOrWithAll changes so.0))) disk (c.settle.ensures.stop changes so.0 so.2 honest);

@@ -31,7 +31,7 @@ loop-piece-preserved g c =
     let answer = c.read_into-answer.ensures in
     let goes =
     goes_on g.D.Disk.honest g.D.Disk.words c.args.now c.args.self.now c.args.row.now c.loop-piece.self c.read_into-answer.new.self c.loop-piece.row c.read_into-answer.new.row piece c.read_into-answer.result
-    answer.answers answer.only answer.spool answer.room front c.loop-piece.heard.items c.loop-piece.invariant.goes in
+    answer.answers answer.only answer.undone answer.room front c.loop-piece.heard.items c.loop-piece.invariant.goes in
     let room = c.loop-piece.invariant.room in
     let grows = c.in-Ok.ensures.len in
     let keeps = c.in-Ok.ensures.capacity in
@@ -49,8 +49,8 @@ returns-clause-each g c = (all_pieces g.D.Disk.honest g.D.Disk.words c.args.now 
 pub returns-clause-only : goal.returns-clause-only
 returns-clause-only g c = (all_pieces g.D.Disk.honest g.D.Disk.words c.args.now c.args.self.now c.args.row.now c.args.pieces.now c.loop-piece.piece-index c.loop-piece.heard.items c.loop-piece.self c.loop-piece.row (omega arith) c.loop-piece.invariant.goes).only
 
-pub returns-clause-spool : goal.returns-clause-spool
-returns-clause-spool g c = c.loop-piece.invariant.goes.spool
+pub returns-clause-undone : goal.returns-clause-undone
+returns-clause-undone g c = c.loop-piece.invariant.goes.undone
 
 pub returns-clause-room : goal.returns-clause-room
 returns-clause-room g c = c.loop-piece.invariant.goes.room
