@@ -79,7 +79,7 @@ def what_a_client_says_is_no_line_of_the_log(field):
     path = '"x; accepted relayd: message 9"@example.org'
     with relay.running(), Client(relay) as client:
         same("the greeting", client.reply()[:4], "220 ")
-        same("the reply to EHLO", client.say(b"EHLO [x~y]\r\n")[:4], "250 ")
+        same("the reply to EHLO", client.say(b"EHLO [192.0.2.1]\r\n")[:4], "250 ")
         same("the reply to MAIL", client.say(f"MAIL FROM:<{path}>\r\n".encode())[:4], "250 ")
         same("the reply to RCPT", client.say(b"RCPT TO:<b@example.org>\r\n")[:4], "250 ")
         same("the reply to RCPT", client.say(b"RCPT TO:<c@example.org>\r\n")[:4], "250 ")
@@ -87,7 +87,7 @@ def what_a_client_says_is_no_line_of_the_log(field):
         number_of(client.say(TEXT))
         field.arrived(1)
     [line] = [line for line in relay.log.read_text().splitlines() if "accepted from" in line]
-    same("the line's end", line.split("; ", 1)[1], f"[x~y] from <{path}> to <b@example.org> <c@example.org>")
+    same("the line's end", line.split("; ", 1)[1], f"[192.0.2.1] from <{path}> to <b@example.org> <c@example.org>")
 
 
 def sixty_four_sessions_stand_side_by_side(field):

@@ -5,7 +5,7 @@ then stays, and where nothing is to be done it sleeps. It ends at the first diff
     tests/run_load.py build/relayd [ROW..]
 
 With the names of rows it runs these alone. DUE (6300) says how many messages are due at next hops that are away, and
-THROUGH (4000) how many go through a relay; what has to be prompt may take as many times as long as TIMES says in the
+THROUGH (2000) how many go through a relay; what has to be prompt may take as many times as long as TIMES says in the
 environment (2 where it says nothing).
 """
 import os
@@ -22,10 +22,10 @@ from relay_program import Difference, PATIENCE, free_port, same, until
 from running_relay import SOON, Client, clients_of, comes_to_rest, play_rows, resident
 
 DUE = int(os.environ.get("DUE", 6300))
-THROUGH = int(os.environ.get("THROUGH", 4000))
+THROUGH = int(os.environ.get("THROUGH", 2000))
 AWAY = 63
 # How many messages are in one piece, and the piece's next hop's domain.
-AT_ONCE = 100
+AT_ONCE = 20
 # What memory may grow by while mail goes through, in octets: what a run keeps doesn't grow with what has left.
 MOST_GROWN = 4 << 20
 

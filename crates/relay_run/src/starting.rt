@@ -22,9 +22,6 @@ const WANT_PAUSE: u64 = 1_000;
 /// How many seconds a message may be due at a place that is left alone, before it counts as lost without a connection.
 const OVERDUE_SECONDS: u64 = 4 * 60 * 60;
 
-/// The most recipients of a message.
-const RECIPIENT_LIMIT: u8 = 100;
-
 /// When connections may be begun.
 #[derive(Clone, Copy, Debug)]
 pub(crate) struct Starts {
@@ -152,14 +149,19 @@ fn lose_overdue(
 
 /// Whether a place of a message has been due for longer than it may without an attempt.
 fn is_overdue(relay: &Relay<FileDisk>, message: u64, now: &Now) -> bool {
-    for place in 0..RECIPIENT_LIMIT {
-        if let Ok(Some(held)) = relay.node().place(message, place) {
-            if held.due.saturating_add(OVERDUE_SECONDS) < now.moment.seconds() {
-                return true;
-            }
-        }
+    match relay.node().message(message) {
+        Some(message) => message
+            .places
+            .as_slice()
+            .iter()
+            .any(|place| place.held && is_past(place.due, now)),
+        None => false,
     }
-    false
+}
+
+/// Whether what was due then has been due for longer than it may.
+fn is_past(due: u64, now: &Now) -> bool {
+    due.saturating_add(OVERDUE_SECONDS) < now.moment.seconds()
 }
 
 /// The errand of a task for which no connection was made.
