@@ -132,6 +132,8 @@ def what_was_answered_stays_behind_a_full_device(field):
                 while not done.is_set():
                     client.ask_for_text()
                     answered.append(number_of(client.say(TEXT)))
+                    # No more than the sink takes meanwhile.
+                    time.sleep(0.01)
 
     with relay.running(preexec_fn=without_signals) as process:
         threads = [threading.Thread(target=feed) for _ in range(4)]
