@@ -159,6 +159,21 @@ def commands_and_chunks_come_in_one_piece(field):
     same("the contents", contents, sorted([b"chunk\r\nthe 2nd\n", text, text]))
 
 
+def a_bare_line_end_is_refused_where_that_is_asked(field):
+    """As a text and as a last chunk; the session goes on."""
+    relay, bare = field.relay(bare_newlines='"refuse"'), b"Subject: bare\r\n\r\nx\n.\r\n"
+    with relay.running(), Client(relay) as client:
+        client.begin()
+        client.ask_for_text()
+        same("the reply to the text", client.say(bare + b".\r\n"), "554 bare line end in content")
+        same("the reply to MAIL", client.say(b"MAIL FROM:<a@example.org>\r\n")[:4], "250 ")
+        same("the reply to RCPT", client.say(b"RCPT TO:<b@example.org>\r\n")[:4], "250 ")
+        chunk = b"BDAT %d LAST\r\n%b" % (len(bare), bare)
+        same("the reply to the chunk", client.say(chunk), "554 bare line end in content")
+        client.hand_in()
+        field.arrived(1)
+
+
 def slow_clients_hold_up_nobody(field):
     relay = field.relay()
 
@@ -441,6 +456,7 @@ ROWS = [
     the_next_of_one_address_is_sent_away,
     the_65th_is_sent_away,
     commands_and_chunks_come_in_one_piece,
+    a_bare_line_end_is_refused_where_that_is_asked,
     slow_clients_hold_up_nobody,
     a_silent_client_is_told_and_left,
     a_client_that_drips_is_told_and_left,
