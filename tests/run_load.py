@@ -90,7 +90,8 @@ def memory_and_descriptors_stay_as_mail_goes_through(field):
                 thread.start()
             for thread in threads:
                 thread.join()
-            field.sink.wait_for(THROUGH // 32 // AT_ONCE * AT_ONCE * 8, 10 * PATIENCE)
+            # The sink takes a hundred a second at the least.
+            field.sink.wait_for(THROUGH // 32 // AT_ONCE * AT_ONCE * 8, 10 * PATIENCE + THROUGH / 400)
             field.sink.take_all()
             until("an empty list", lambda: relay.held() == [])
             comes_to_rest(process, "behind much mail")
