@@ -39,9 +39,19 @@ pub fn list<F: Files<File = File>, W: Write>(
     Err(Fault::Device)
 }
 
-/// The node of the spool that the configuration names; none where the spool is refused, and a file of it has another
-/// size than before. A process that serves adds to the files beside this one, and what it adds then may pass the end
-/// that a file had before; or it has written the spool anew meanwhile.
+/// What the head of a spool's file has, in octets: the mark of a spool, a gate, and the generation.
+const HEAD_SIZE: usize = 17;
+
+/// What shows that a spool's file was written anew, or added to: its size, and its head, as far as these can be read.
+#[derive(Clone, Copy, Debug, PartialEq, Eq)]
+struct Sight {
+    size: Result<usize, DiskFault>,
+    head: Result<[u8; HEAD_SIZE], DiskFault>,
+}
+
+/// The node of the spool that the configuration names; none where a file of it has another head than before, or where
+/// the spool is refused and a file has another size. A process that serves adds to the files beside this one, and what
+/// it adds then may pass the end that a file had before; or it has written the spool anew meanwhile.
 fn open_unless_it_changed<F: Files<File = File>>(
     alloc: Global,
     files: &F,
@@ -49,12 +59,19 @@ fn open_unless_it_changed<F: Files<File = File>>(
 ) -> Result<Option<Node<FileDisk>>, Fault> {
     let config = configuration(alloc, files, path)?;
     let mut disks = spool_files_to_read(alloc, files, &config)?;
-    let sizes = sizes_of(&mut disks);
+    let sights = sights_of(&mut disks);
     match Node::open(alloc, config, disks) {
-        Ok(node) => Ok(Some(node)),
+        Ok(node) => {
+            let mut disks = spool_files_to_read(alloc, files, node.config())?;
+            if have_heads_of(&sights_of(&mut disks), &sights) {
+                Ok(Some(node))
+            } else {
+                Ok(None)
+            }
+        }
         Err(refused) => {
             let mut disks = refused.disk;
-            if sizes_of(&mut disks) == sizes {
+            if sights_of(&mut disks) == sights {
                 Err(Fault::from(refused.cause))
             } else {
                 Ok(None)
@@ -63,9 +80,29 @@ fn open_unless_it_changed<F: Files<File = File>>(
     }
 }
 
-/// How many octets each of two files has.
-fn sizes_of(disks: &mut Disks<FileDisk>) -> [Result<usize, DiskFault>; 2] {
-    [disks.first.size(), disks.second.size()]
+/// What each of two files shows.
+fn sights_of(disks: &mut Disks<FileDisk>) -> [Sight; 2] {
+    [sight_of(&mut disks.first), sight_of(&mut disks.second)]
+}
+
+fn sight_of(disk: &mut FileDisk) -> Sight {
+    let size = disk.size();
+    let mut head = [0; HEAD_SIZE];
+    match disk.read(0, &mut head) {
+        Ok(()) => Sight {
+            size,
+            head: Ok(head),
+        },
+        Err(fault) => Sight {
+            size,
+            head: Err(fault),
+        },
+    }
+}
+
+/// Whether each file has the same head as before: so what was read of it wasn't written anew meanwhile.
+fn have_heads_of(now: &[Sight; 2], before: &[Sight; 2]) -> bool {
+    now[0].head == before[0].head && now[1].head == before[1].head
 }
 
 /// Writes the line of each held recipient.
