@@ -1,5 +1,5 @@
 -- When a connection to a next hop may be begun, and how long a next hop is left alone.
-use Rattle.std.specs.Prelude.{◌≡◌, ◌⊎◌, ℕ, ◌<◌, ◌*◌, min, Bool, true, false, Option, None, Some}
+use Rattle.std.specs.Prelude.{◌≡◌, ◌⊎◌, ℕ, ◌<◌, ◌*◌, min, false, Option, None, Some}
 use Rattle.relay_run.specs.declared.lane.Hold.{Hold}
 use Rattle.relay_run.specs.declared.lane.Lane.{Lane}
 
@@ -8,12 +8,11 @@ abbrev pub IsHeld : Option Hold → ℕ → Type 0
 IsHeld None tick = ⊥
 IsHeld (Some hold) tick = tick < hold.until
 
--- No connection stands, or fewer than the most, and the place isn't left alone; before one has come about there is none, and
--- where connections are scarce there is none before the next hop has said something.
-pub record MayBegin (most : ℕ) (is_scarce : Bool) (tick : ℕ) (lane : Lane) : Type 0 where
+-- No connection stands, or fewer than the most, and the place isn't left alone; before the next hop has said something there is
+-- none.
+pub record MayBegin (most : ℕ) (tick : ℕ) (lane : Lane) : Type 0 where
   pub fewer : (lane.running ≡ 0) ⊎ (lane.running < most)
-  pub reached : lane.is_reached ≡ false → lane.running ≡ 0
-  pub answered : is_scarce ≡ true → lane.has_answered ≡ false → lane.running ≡ 0
+  pub answered : lane.has_answered ≡ false → lane.running ≡ 0
   pub alone : IsHeld lane.hold tick → ⊥
 
 -- profile: a minute the first time, and then twice as long each time, up to half an hour

@@ -3,3 +3,5 @@ pub mod Lanes
 pub mod Reopening
 pub mod Spares
 pub mod Readiness
+pub mod Phases
+pub mod Hearing

@@ -1,4 +1,5 @@
 ghost use Rattle.std.specs.Prelude.{◌≡◌, ◌≢◌, [], false};
+ghost use Rattle.relay_run.specs.Hearing.{IsLeftOf};
 ghost use Rattle.relay_run.specs.Readiness.{HasUnread};
 
 use mio::net::TcpStream;
@@ -39,7 +40,8 @@ impl Block {
 
     /// What was read and isn't used yet.
     pub(crate) fn piece(&self) -> &[u8]
-        ensures { HasUnread self.now → result.now ≢ [] }
+        ensures some { HasUnread self.now → result.now ≢ [] }
+        ensures own { IsLeftOf self.now result.now }
     {
         match self.octets.as_slice().get(self.start..self.end) {
             Some(piece) => piece,

@@ -1,4 +1,5 @@
 ghost use Rattle.std.specs.Prelude.{◌≡◌, false, true};
+ghost use Rattle.relay_run.specs.Hearing.{IsLeftOf};
 ghost use Rattle.relay_run.specs.Readiness.{HasUnread};
 
 use crate::block::{BLOCK_SIZE, Block};
@@ -36,6 +37,8 @@ impl Readiness {
 pub(crate) struct Channel {
     alloc: Global,
     stream: TcpStream,
+    /// The system tells of it.
+    is_registered: bool,
     ready: Readiness,
     /// What it ends with: its input has come to its end, or a call has failed.
     end: Option<End>,
@@ -57,6 +60,7 @@ impl Drop for Channel {
         let Channel {
             alloc: _,
             stream: _stream,
+            is_registered: _,
             ready: _,
             end: _,
             block: _block,
@@ -70,6 +74,7 @@ impl Channel {
         Channel {
             alloc,
             stream,
+            is_registered: false,
             ready: Readiness {
                 reads: false,
                 writes: true,
@@ -80,14 +85,14 @@ impl Channel {
         }
     }
 
-    /// Has the system tell of it under this token.
+    /// Has the system tell of it under this token from now on, also of what it is ready for already.
     pub(crate) fn register(&mut self, registry: &Registry, token: usize) -> io::Result<()> {
-        registry.register(&mut self.stream, Token(token), both_ways())
-    }
-
-    /// Has the system tell of it under another token from now on, also of what it is ready for already.
-    pub(crate) fn reregister(&mut self, registry: &Registry, token: usize) -> io::Result<()> {
-        registry.reregister(&mut self.stream, Token(token), both_ways())
+        if self.is_registered {
+            return registry.reregister(&mut self.stream, Token(token), both_ways());
+        }
+        registry.register(&mut self.stream, Token(token), both_ways())?;
+        self.is_registered = true;
+        Ok(())
     }
 
     /// Whether the connection that was begun has come about, or why it hasn't.
@@ -121,7 +126,9 @@ impl Channel {
     }
 
     /// What was read and isn't used yet.
-    pub(crate) fn piece(&self) -> &[u8] {
+    pub(crate) fn piece(&self) -> &[u8]
+        ensures { IsLeftOf self.now.block result.now }
+    {
         self.block.piece()
     }
 

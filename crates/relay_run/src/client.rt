@@ -28,13 +28,13 @@ const SPOOL_FULL: &[u8] = b"452 spool full";
 pub(crate) struct Client {
     pub(crate) channel: Channel,
     pub(crate) peer: SocketAddrV4,
-    /// Octets were read at this turn that its session hasn't heard yet.
+    /// Octets were read that its session hasn't heard yet, and may hear.
     pub(crate) hears: bool,
     /// How many octets were read since the last answer.
     unanswered: usize,
     /// The tick at which it is cut off. It is set anew by the first octet behind an answer, by each 65,536 octets that
-    /// lead to none, since they are of a text or a chunk, and by each write of which it takes something: so a
-    /// command line has to stand whole within the timeout of its first octet.
+    /// lead to none, since they are of a text or a chunk, or of a line without an end, and by each write of which it
+    /// takes something: so a command line has to stand whole within the timeout of its first octet.
     idle_deadline: u64,
     /// The tick at which it is cut off, unless mail of it is accepted before.
     session_deadline: u64,
@@ -151,6 +151,11 @@ impl Client {
         }
     }
 
+    /// Whether it has octets for its session to hear, which may do so.
+    pub(crate) fn has_more(&self, relay: &Relay<FileDisk>, session: usize) -> bool {
+        !self.channel.piece().is_empty() && relay.to_client(session).is_empty()
+    }
+
     /// A block was read.
     fn note_read(&mut self, timeout: u64, now: &Now) {
         let is_first = self.unanswered == 0;
@@ -184,13 +189,15 @@ impl Client {
         if !relay.to_client(session).is_empty() {
             self.unanswered = self.channel.piece().len();
         }
-        match change {
-            Some(number) => {
-                self.session_deadline = now.behind(SESSION_SECONDS);
-                tell_accepted(relay, self.peer, number, log);
-            }
-            None => intake.was_full = intake.was_full || tells_full(relay.to_client(session)),
+        if let Some(number) = change {
+            self.session_deadline = now.behind(SESSION_SECONDS);
+            tell_accepted(relay, self.peer, number, log);
         }
+        let replies = match &last {
+            Some(outbox) => outbox.as_slice(),
+            None => relay.to_client(session),
+        };
+        intake.was_full = intake.was_full || tells_full(replies);
         match last {
             Some(outbox) => Ok(Next::Leaves(outbox)),
             None => {

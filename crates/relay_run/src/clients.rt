@@ -4,6 +4,7 @@ ghost use Rattle.relay_run.specs.Readiness.{IsLeftClient};
 use crate::channel::{Channel, Readiness};
 use crate::client::{Client, Intake, Next, cut_off, drop_session};
 use crate::clocks::Now;
+use crate::hearing::{Answer, Hearing, hear_all};
 use crate::leaving::Leaving;
 use crate::slot::{count, holds, put_back};
 use mio::Registry;
@@ -11,15 +12,12 @@ use mio::net::TcpStream;
 use relay_disk::FileDisk;
 use relay_limits::Limits;
 use relay_log::Log;
-use relay_loop::{Group, Heard, Piece, Relay};
+use relay_loop::Relay;
 use relay_node::NodeFault;
 use relay_service::Fault;
 use relay_slots::{SLOT_COUNT, Slots};
 use std::alloc::{AllocError, Global};
 use std::net::{Ipv4Addr, SocketAddrV4};
-
-/// What came of octets of a client.
-type Answer = Result<Heard, NodeFault>;
 
 /// The connections of clients, up to 64, each under its session's number.
 pub(crate) struct Clients {
@@ -116,7 +114,8 @@ impl Clients {
     }
 
     /// Serves each of them once, each time beginning with another: first a block is read of each that has nothing to be
-    /// written, and then their sessions hear what was read, all in one call.
+    /// written, and then their sessions hear what was read, all in one call. What stands behind a message in the same
+    /// block is heard in a second one, since clients send the commands of the next message with it (RFC 2920).
     pub(crate) fn serve(
         &mut self,
         registry: &Registry,
@@ -133,25 +132,48 @@ impl Clients {
             let number = self.nth(step);
             self.read_one(number, registry, relay, leaving, now, &mut intake, log)?;
         }
-        match self.hear_all(relay, now)? {
-            Some((numbers, answers)) => {
-                for (number, answer) in numbers.into_iter().zip(answers) {
-                    self.answer_one(
-                        number,
-                        answer,
-                        registry,
-                        relay,
-                        leaving,
-                        now,
-                        &mut intake,
-                        log,
-                    )?;
-                }
-            }
-            None => self.give_one_up(relay, &mut intake)?,
-        }
+        self.hear(registry, relay, leaving, now, &mut intake, log)?;
+        self.hear(registry, relay, leaving, now, &mut intake, log)?;
         self.first = self.nth(1);
         Ok(intake)
+    }
+
+    /// Lets all sessions that have something to hear do so, and writes what they say.
+    fn hear(
+        &mut self,
+        registry: &Registry,
+        relay: &mut Relay<FileDisk>,
+        leaving: &mut Leaving,
+        now: &Now,
+        intake: &mut Intake,
+        log: &mut Log<'_, Vec<u8>>,
+    ) -> Result<(), Fault> {
+        if !self.is_any_to_hear() {
+            return Ok(());
+        }
+        let clients = self.clients.as_slice();
+        let Some(Hearing { sessions, heard }) = hear_all(
+            self.alloc, clients, self.first, relay, now,
+        )?
+        else {
+            return self.give_one_up(relay, intake);
+        };
+        for (session, heard) in sessions.into_iter().zip(heard) {
+            self.answer_one(session, heard, registry, relay, leaving, now, intake, log)?;
+        }
+        Ok(())
+    }
+
+    /// Whether one has octets that its session may hear.
+    fn is_any_to_hear(&self) -> bool {
+        for slot in self.clients.as_slice() {
+            if let Some(client) = slot {
+                if client.hears {
+                    return true;
+                }
+            }
+        }
+        false
     }
 
     /// The number that is served so many places behind the first.
@@ -190,64 +212,11 @@ impl Clients {
         }
     }
 
-    /// Lets all sessions that have something to hear do so in one call, so that the mail they bring comes into the spool
-    /// behind one pair of syncs. It answers their numbers, and what came of each; none where no memory is left for
-    /// that, and nothing was heard.
-    fn hear_all(
-        &self,
-        relay: &mut Relay<FileDisk>,
-        now: &Now,
-    ) -> Result<Option<(Vec<usize>, Vec<Answer>)>, Fault> {
-        let Ok(numbers) = self.hearing() else {
-            return Ok(None);
-        };
-        let Ok(pieces) = self.pieces_of(numbers.as_slice()) else {
-            return Ok(None);
-        };
-        match relay.read_all(pieces.as_slice(), now.moment) {
-            Ok(
-                Group {
-                    heard,
-                    notes: _notes,
-                },
-            ) => Ok(Some((numbers, heard))),
-            Err(NodeFault::Stopped) => Err(Fault::Device),
-            Err(_) => Ok(None),
-        }
-    }
-
-    /// The numbers of those whose sessions have something to hear, in the order in which they are served.
-    fn hearing(&self) -> Result<Vec<usize>, AllocError> {
-        let mut numbers = Vec::new(self.alloc);
-        for step in 0..SLOT_COUNT {
-            let number = self.nth(step);
-            match self.clients.as_slice().get(number) {
-                Some(Some(client)) if client.hears => numbers.push(number)?,
-                _ => {}
-            }
-        }
-        Ok(numbers)
-    }
-
-    /// What was read of each of these.
-    fn pieces_of(&self, numbers: &[usize]) -> Result<Vec<Piece<'_>>, AllocError> {
-        let mut pieces = Vec::with_capacity(self.alloc, numbers.len())?;
-        for number in numbers {
-            if let Some(Some(client)) = self.clients.as_slice().get(*number) {
-                pieces.push(Piece {
-                    session: *number,
-                    octets: client.channel.piece(),
-                })?;
-            }
-        }
-        Ok(pieces)
-    }
-
     /// Takes what came of the octets of the client of a number.
     fn answer_one(
         &mut self,
         number: usize,
-        answer: Answer,
+        heard: Answer,
         registry: &Registry,
         relay: &mut Relay<FileDisk>,
         leaving: &mut Leaving,
@@ -259,8 +228,8 @@ impl Clients {
             return Ok(());
         };
         let mut client = taken;
-        client.hears = false;
-        let next = client.answer(relay, number, answer, self.timeout, now, intake, log)?;
+        let next = client.answer(relay, number, heard, self.timeout, now, intake, log)?;
+        client.hears = client.has_more(relay, number);
         self.settle(
             number, client, next, registry, relay, leaving, now, intake, log,
         )

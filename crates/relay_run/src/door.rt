@@ -1,12 +1,14 @@
 //! The listener, and the clients that come by it.
+use crate::channel::Channel;
 use crate::clients::Clients;
 use crate::clocks::Now;
+use crate::leaving::Leaving;
 use crate::spares::Spares;
 use mio::net::{TcpListener, TcpStream};
 use mio::{Interest, Registry, Token};
 use relay_disk::FileDisk;
 use relay_log::Log;
-use relay_loop::{Closing, Relay, closing_line};
+use relay_loop::{Closing, Outbox, Relay, closing_line};
 use relay_service::Fault;
 use relay_slots::SLOT_COUNT;
 use std::alloc::Global;
@@ -111,6 +113,7 @@ impl Door {
         registry: &Registry,
         relay: &mut Relay<FileDisk>,
         clients: &mut Clients,
+        leaving: &mut Leaving,
         spares: &mut Spares,
         now: &Now,
         log: &mut Log<'_, Vec<u8>>,
@@ -129,7 +132,7 @@ impl Door {
                         clients.open(registry, relay, stream, peer, now)?;
                     } else {
                         log.refused(peer);
-                        turn_away(self.alloc, relay, stream);
+                        turn_away(self.alloc, registry, relay, leaving, stream, now);
                     }
                 }
                 Found::Missed => {}
@@ -155,9 +158,26 @@ fn accept(listener: &TcpListener) -> Found {
     }
 }
 
-/// Tells a client that there is no room for it, as far as that goes without waiting, and closes its connection.
-fn turn_away(alloc: Global, relay: &Relay<FileDisk>, stream: TcpStream) {
-    if let Ok(line) = closing_line(alloc, &relay.node().config().host, Closing::TooMany) {
+/// Tells a client that there is no room for it. Where many are told so, its connection is closed at once.
+fn turn_away(
+    alloc: Global,
+    registry: &Registry,
+    relay: &Relay<FileDisk>,
+    leaving: &mut Leaving,
+    stream: TcpStream,
+    now: &Now,
+) {
+    let Ok(line) = closing_line(alloc, &relay.node().config().host, Closing::TooMany) else {
+        return;
+    };
+    if leaving.has_room_for_strangers() {
+        leaving.take(
+            registry,
+            Channel::new(alloc, stream),
+            Outbox::new(line),
+            now,
+        );
+    } else {
         // A client that doesn't hear it finds the connection closed.
         let _ = write(&stream, line.as_slice());
         let _ = stream.shutdown(Shutdown::Write);

@@ -5,6 +5,7 @@ ghost use Rattle.relay_run.specs.Readiness.{HasUnread};
 
 use crate::channel::{Channel, End};
 use crate::clocks::Now;
+use crate::phase::Phase;
 use relay_disk::FileDisk;
 use relay_log::{Deferral, Loss, Replies};
 use relay_loop::{Answered, Outbox, Relay};
@@ -14,16 +15,6 @@ use relay_service::Fault;
 use relay_trace::Moment;
 use std::alloc::Global;
 use std::net::SocketAddrV4;
-
-/// How many seconds a next hop may take to answer a connection.
-const CONNECT_SECONDS: u64 = 30;
-
-/// How many seconds a next hop may take to greet (RFC 5321, section 4.5.3.2.1).
-const GREETING_SECONDS: u64 = 300;
-
-/// How many seconds a next hop may say nothing, and take nothing: as long as its reply to a content may take (RFC 5321,
-/// section 4.5.3.2.6). All other waits of a client are shorter there.
-const IDLE_SECONDS: u64 = 600;
 
 /// How many seconds a next hop may take octet by octet to answer what was written to it.
 const ANSWER_SECONDS: u64 = 30 * 60;
@@ -63,6 +54,8 @@ pub(crate) struct Hop {
     pub(crate) has_spoken: bool,
     /// What it puts off, for the log.
     pub(crate) replies: Replies,
+    /// What it is waited for.
+    phase: Phase,
     /// The tick at which it is lost, unless an octet is read or written before.
     idle_deadline: u64,
     /// The tick at which it is lost, unless an octet is written before.
@@ -80,6 +73,7 @@ impl Drop for Hop {
             attempt: _,
             has_spoken: _,
             replies: _replies,
+            phase: _,
             idle_deadline: _,
             answer_deadline: _,
         } = self;
@@ -160,7 +154,8 @@ impl Hop {
             attempt: None,
             has_spoken: false,
             replies: Replies::new(alloc, tells),
-            idle_deadline: now.behind(CONNECT_SECONDS),
+            phase: Phase::Connecting,
+            idle_deadline: now.behind(Phase::Connecting.seconds(false)),
             answer_deadline: now.behind(ANSWER_SECONDS),
         }
     }
@@ -175,6 +170,7 @@ impl Hop {
             attempt,
             has_spoken,
             replies,
+            phase: _,
             idle_deadline: _,
             answer_deadline: _,
         } = self;
@@ -187,6 +183,14 @@ impl Hop {
             deferral: replies.into_deferral(),
         };
         (channel, errand)
+    }
+
+    /// Whether it is being made for this message and next hop, in this lane.
+    pub(crate) fn is_connecting(&self, message: u64, lane: usize, name: &HostName) -> bool {
+        self.attempt.is_none()
+            && self.message == message
+            && self.aim.lane == lane
+            && self.name.as_slice() == name.as_slice()
     }
 
     /// The tick at which it is lost as things stand.
@@ -241,7 +245,8 @@ impl Hop {
         match relay.start(self.message, &self.name, now.moment) {
             Ok(started) => {
                 self.attempt = Some(started.attempt);
-                self.idle_deadline = now.behind(GREETING_SECONDS);
+                self.phase = Phase::Command;
+                self.wait_on(relay, started.attempt, now);
                 self.answer_deadline = now.behind(ANSWER_SECONDS);
                 Ok(Course::Stays)
             }
@@ -266,7 +271,7 @@ impl Hop {
         }
         if self.channel.fill() {
             self.has_spoken = true;
-            self.idle_deadline = now.behind(IDLE_SECONDS);
+            self.wait_on(relay, attempt, now);
             self.replies.hear(self.channel.piece());
         }
         if !self.channel.piece().is_empty() {
@@ -300,10 +305,18 @@ impl Hop {
         match last {
             Some(outbox) => Ok(Course::Ended(outbox)),
             None => {
+                self.phase = self.phase.behind(relay.to_hop(attempt));
+                self.wait_on(relay, attempt, now);
                 self.flush(relay, attempt, now);
                 Ok(Course::Stays)
             }
         }
+    }
+
+    /// It has as long from now on as what it is waited for may take.
+    fn wait_on(&mut self, relay: &Relay<FileDisk>, attempt: usize, now: &Now) {
+        let writes = !relay.to_hop(attempt).is_empty();
+        self.idle_deadline = now.behind(self.phase.seconds(writes));
     }
 
     /// Writes what waits for the next hop as far as that goes at once.
@@ -314,7 +327,7 @@ impl Hop {
                 return;
             }
             relay.wrote_to_hop(attempt, count);
-            self.idle_deadline = now.behind(IDLE_SECONDS);
+            self.wait_on(relay, attempt, now);
             self.answer_deadline = now.behind(ANSWER_SECONDS);
         }
     }

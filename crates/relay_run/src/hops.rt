@@ -8,25 +8,28 @@ use crate::hop::{Aim, Course, Hop};
 use crate::lane::Task;
 use crate::lanes::Lanes;
 use crate::leaving::Leaving;
-use crate::slot::{count, holds, put_back};
+use crate::slot::{holds, put_back};
 use mio::Registry;
 use mio::net::TcpStream;
 use relay_disk::FileDisk;
 use relay_log::Log;
 use relay_loop::Relay;
+use relay_routes::HostName;
 use relay_service::Fault;
 use relay_slots::{SLOT_COUNT, Slots};
 use std::alloc::{AllocError, Global};
 use std::io;
 use std::net::{Net, SocketAddr, SocketAddrV4};
 
-/// Fewer connections than these are few.
-const FEW: usize = 16;
+/// The most attempts that end at a turn. Each takes two syncs, for which clients wait.
+const MOST_ENDS: usize = 4;
 
 /// The connections to next hops, up to 64.
 pub(crate) struct Hops {
     alloc: Global,
     hops: Slots<Hop>,
+    /// Which is served first at the next turn.
+    first: usize,
 }
 
 // Written out, so that what drops them calls this, and doesn't look into each.
@@ -35,6 +38,7 @@ impl Drop for Hops {
         let Hops {
             alloc: _,
             hops: _hops,
+            first: _,
         } = self;
     }
 }
@@ -48,6 +52,7 @@ impl Hops {
         Ok(Hops {
             alloc,
             hops: Slots::new(alloc)?,
+            first: 0,
         })
     }
 
@@ -56,16 +61,11 @@ impl Hops {
         self.hops.free()
     }
 
-    /// Whether few more of them may be made.
-    pub(crate) fn are_scarce(&self) -> bool {
-        SLOT_COUNT.saturating_sub(count(self.hops.as_slice())) < FEW
-    }
-
-    /// Whether a connection is being made for this message, in this lane.
-    pub(crate) fn is_connecting(&self, message: u64, lane: usize) -> bool {
+    /// Whether a connection is being made for this message and next hop, in this lane.
+    pub(crate) fn is_connecting(&self, message: u64, lane: usize, name: &HostName) -> bool {
         for slot in self.hops.as_slice() {
             if let Some(hop) = slot {
-                if hop.attempt.is_none() && hop.message == message && hop.aim.lane == lane {
+                if hop.is_connecting(message, lane, name) {
                     return true;
                 }
             }
@@ -124,7 +124,8 @@ impl Hops {
         }
     }
 
-    /// Serves each of them once. It tells whether one was closed.
+    /// Serves each of them once, each time beginning with another, until so many attempts have ended that clients are
+    /// to have their turn; it goes on behind these then. It tells whether one was closed.
     pub(crate) fn serve(
         &mut self,
         registry: &Registry,
@@ -134,14 +135,27 @@ impl Hops {
         now: &Now,
         log: &mut Log<'_, Vec<u8>>,
     ) -> Result<bool, Fault> {
-        let mut closed = false;
-        for number in 0..SLOT_COUNT {
-            if holds(self.hops.as_slice(), number) {
-                let stays = self.serve_one(number, registry, relay, lanes, leaving, now, log)?;
-                closed = closed || !stays;
+        let mut closed: usize = 0;
+        for step in 0..SLOT_COUNT {
+            let number = self.nth(step);
+            if !holds(self.hops.as_slice(), number) {
+                continue;
+            }
+            if !self.serve_one(number, registry, relay, lanes, leaving, now, log)? {
+                closed = closed.saturating_add(1);
+            }
+            if closed == MOST_ENDS {
+                self.first = self.nth(step.saturating_add(1));
+                return Ok(true);
             }
         }
-        Ok(closed)
+        self.first = self.nth(1);
+        Ok(0 < closed)
+    }
+
+    /// The number that is served so many places behind the first.
+    fn nth(&self, step: usize) -> usize {
+        self.first.saturating_add(step) % SLOT_COUNT
     }
 
     /// Serves the connection of a number. It tells whether that stays.
@@ -159,12 +173,9 @@ impl Hops {
             return Ok(false);
         };
         let mut hop = taken;
-        let was_connecting = hop.attempt.is_none();
+        let had_spoken = hop.has_spoken;
         let course = hop.attend(relay, now)?;
-        if was_connecting && hop.attempt.is_some() {
-            lanes.reached(hop.aim.lane);
-        }
-        if hop.has_spoken {
+        if hop.has_spoken && !had_spoken {
             lanes.answered(hop.aim.lane);
         }
         if matches!(&course, Course::Stays) {

@@ -52,9 +52,7 @@ pub(crate) struct Lane {
     pub(crate) at: SocketAddrV4,
     tasks: VecDeque<Task>,
     running: usize,
-    /// A connection has come about since the place was left alone last, or since the relay began.
-    is_reached: bool,
-    /// The next hop has said something since then.
+    /// The next hop has said something since the place was left alone last, or since the relay began.
     has_answered: bool,
     hold: Option<Hold>,
 }
@@ -66,7 +64,6 @@ impl Drop for Lane {
             at: _,
             tasks: _tasks,
             running: _,
-            is_reached: _,
             has_answered: _,
             hold: _,
         } = self;
@@ -80,7 +77,6 @@ impl Lane {
             at,
             tasks: VecDeque::new(alloc),
             running: 0,
-            is_reached: false,
             has_answered: false,
             hold: None,
         }
@@ -116,13 +112,12 @@ impl Lane {
     }
 
     /// Takes the next task, where one may be begun: fewer than `most` connections stand, and the place isn't left
-    /// alone. Before one has come about one alone is made, and where connections are scarce before the next hop has
-    /// said something, so that a place that can't be reached takes no more of those that there may be.
-    pub(crate) fn next(&mut self, most: usize, is_scarce: bool, now: &Now) -> Option<Task>
-        ensures begins { IfSome result (λ _. MayBegin most is_scarce now.now.tick self.old) }
+    /// alone. Before the next hop has said something one alone is made, so that one that can't be reached, or is
+    /// silent, takes no more of those that there may be.
+    pub(crate) fn next(&mut self, most: usize, now: &Now) -> Option<Task>
+        ensures begins { IfSome result (λ _. MayBegin most now.now.tick self.old) }
     {
-        let is_trusted = self.is_reached && (self.has_answered || !is_scarce);
-        let most_now = if is_trusted { most } else { 1 };
+        let most_now = if self.has_answered { most } else { 1 };
         if self.running < most_now && !self.is_held(now) {
             self.tasks.pop_front()
         } else {
@@ -156,13 +151,6 @@ impl Lane {
         self.running = self.running.saturating_sub(1);
     }
 
-    /// A connection has come about. It tells whether it is the first.
-    pub(crate) fn reached(&mut self) -> bool {
-        let is_first = !self.is_reached;
-        self.is_reached = true;
-        is_first
-    }
-
     /// The next hop has said something: when it can't be reached the next time, it is left alone for as short as the
     /// first time.
     pub(crate) fn answered(&mut self) {
@@ -188,7 +176,6 @@ impl Lane {
             Some(hold) => hold.seconds.saturating_mul(2).min(LONGEST_HOLD),
             None => FIRST_HOLD,
         };
-        self.is_reached = false;
         self.has_answered = false;
         self.hold = Some(Hold {
             until: now.behind(seconds),

@@ -123,17 +123,12 @@ impl Lanes {
     }
 
     /// Takes the next task of a lane that may be begun, and where it goes.
-    pub(crate) fn next(
-        &mut self,
-        number: usize,
-        is_scarce: bool,
-        now: &Now,
-    ) -> Option<(Task, SocketAddrV4)> {
+    pub(crate) fn next(&mut self, number: usize, now: &Now) -> Option<(Task, SocketAddrV4)> {
         let most = self.most;
         match self.lanes.get_mut(number) {
             Some(lane) => {
                 let at = lane.at;
-                lane.next(most, is_scarce, now).map(|task| (task, at))
+                lane.next(most, now).map(|task| (task, at))
             }
             None => None,
         }
@@ -196,19 +191,11 @@ impl Lanes {
         }
     }
 
-    /// A connection of a lane has come about: more may be begun.
-    pub(crate) fn reached(&mut self, number: usize) {
-        if let Some(lane) = self.lanes.get_mut(number) {
-            if lane.reached() {
-                self.is_open = true;
-            }
-        }
-    }
-
-    /// The next hop of a lane has said something.
+    /// The next hop of a lane has said something: more may be begun.
     pub(crate) fn answered(&mut self, number: usize) {
         if let Some(lane) = self.lanes.get_mut(number) {
             lane.answered();
+            self.is_open = true;
         }
     }
 

@@ -2,7 +2,7 @@
 //! read and dropped for a moment, since the system else resets the connection, and the last octets with it.
 use crate::channel::{Channel, End, Readiness};
 use crate::clocks::Now;
-use crate::slot::{holds, put_back};
+use crate::slot::{count, holds, put_back};
 use mio::Registry;
 use relay_loop::Outbox;
 use relay_slots::{SLOT_COUNT, Slots};
@@ -10,6 +10,9 @@ use std::alloc::{AllocError, Global};
 
 /// How many seconds a connection is read behind its last octets.
 const DRAIN_SECONDS: u64 = 1;
+
+/// Where so many connections are leaving, one that had no session is closed at once.
+const MOST_STRANGERS: usize = SLOT_COUNT / 2;
 
 /// A connection that is leaving.
 struct Leaver {
@@ -83,9 +86,14 @@ impl Leaving {
             return;
         };
         let token = Leaving::FIRST_TOKEN.saturating_add(number);
-        if leaver.channel.reregister(registry, token).is_ok() {
+        if leaver.channel.register(registry, token).is_ok() {
             self.leavers.put(number, leaver);
         }
+    }
+
+    /// Whether a connection may be taken that had no session: so many of these at once leave room for others.
+    pub(crate) fn has_room_for_strangers(&self) -> bool {
+        count(self.leavers.as_slice()) < MOST_STRANGERS
     }
 
     /// Closes all connections.

@@ -213,7 +213,7 @@ impl Lanes {
                 let Some(number) = self.number_of(at) else {
                     return;
                 };
-                if hops.is_connecting(message, number) {
+                if hops.is_connecting(message, number, &hop) {
                     return;
                 }
                 if let Some(lane) = self.lanes.get_mut(number) {

@@ -51,8 +51,8 @@ pub fn run<
     let Ok(door) = Door::open(alloc, rt, poll.registry(), at) else {
         return Err(Fault::Socket);
     };
-    say_ready(alloc, &relay, at, writer)?;
     let shell = Shell::new(alloc, relay, door, spares, &limits)?;
+    say_ready(alloc, &shell.relay, at, writer)?;
     serve(alloc, rt, poll, shell, quiet, errors)
 }
 

@@ -1,4 +1,4 @@
-ghost use Rattle.std.specs.Prelude.{◌≡◌, ℕ, true, IsErr};
+ghost use Rattle.std.specs.Prelude.{◌≡◌, ◌≤◌, ◌-◌, ℕ, true, IsErr};
 ghost use Rattle.relay_run.specs.Readiness.{IsLeftClient, IsLeftHop};
 ghost use Rattle.relay_run.specs.Reopening.{HasFailedToSync};
 
@@ -165,6 +165,7 @@ impl Shell {
             registry,
             &mut self.relay,
             &mut self.clients,
+            &mut self.leaving,
             &mut self.spares,
             now,
             log,
@@ -259,11 +260,13 @@ impl Shell {
         self.door.is_ready(now) || self.leaving.is_ready() || self.lanes.is_ready()
     }
 
-    /// How many milliseconds may be waited for the system to tell of something.
+    /// How many milliseconds may be waited for the system to tell of something: none while a connection was left in
+    /// mid-read, and never past the tick at which the node has told that work may start.
     pub(crate) fn wait(&self, now: &Now) -> u64
         ensures client { (number : ℕ) → IsLeftClient self.now.clients.clients self.now.relay number
             → result ≡ 0 }
         ensures hop { (number : ℕ) → IsLeftHop self.now.hops.hops self.now.relay number → result ≡ 0 }
+        ensures due { result ≤ self.now.lanes.next_due - now.now.tick }
     {
         if self.is_ready(now) {
             return 0;
@@ -273,9 +276,9 @@ impl Shell {
         next = self.clients.next_deadline(next);
         next = self.hops.next_deadline(next);
         next = self.leaving.next_deadline(next);
-        next = self.lanes.next_deadline(next);
         next = self.starts_deadline(next);
         next = self.tidying.next_deadline(next);
+        next = self.lanes.next_deadline(next);
         next.saturating_sub(now.tick)
     }
 

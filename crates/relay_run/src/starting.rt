@@ -96,7 +96,7 @@ fn start_lane<N: Net>(
         let Some(number) = hops.free() else {
             return Ok(Begun::IsFull);
         };
-        let Some((task, at)) = lanes.next(lane, hops.are_scarce(), now) else {
+        let Some((task, at)) = lanes.next(lane, now) else {
             return Ok(Begun::GoesOn);
         };
         let aim = aim_of(relay, task.message, lane, at);
@@ -133,7 +133,9 @@ fn lose_overdue(
     log: &mut Log<'_, Vec<u8>>,
 ) -> Result<bool, Fault> {
     match lanes.held_message(lane, now) {
-        Some(message) if is_overdue(relay, message, now) => {}
+        // Where 64 attempts run, none can be recorded now.
+        Some(message) if is_overdue(relay, message, now) && !relay.node().is_full_of_attempts() =>
+            {}
         _ => return Ok(false),
     }
     let Some(at) = lanes.place_of(lane) else {

@@ -1,4 +1,5 @@
-//! The spool is written anew where much of it has gone: in a quiet moment, or at once where it was full.
+//! The spool is written anew where much of it has gone: in a quiet moment, or at once where it is more than half full, or
+//! was full.
 use crate::clocks::Now;
 use relay_disk::FileDisk;
 use relay_log::Log;
@@ -63,9 +64,15 @@ impl Tidying {
         }
     }
 
-    /// Whether the spool is to be looked at now.
-    fn is_due(&self, is_quiet: bool, now: &Now) -> bool {
-        self.next <= now.tick && (self.was_full || (is_quiet && self.has_shrunk))
+    /// Whether the spool is to be looked at now: it was full, or something has left it, and nothing else is to be done or
+    /// it is more than half full.
+    fn is_due(&self, relay: &Relay<FileDisk>, is_quiet: bool, now: &Now) -> bool {
+        if now.tick < self.next {
+            return false;
+        }
+        let node = relay.node();
+        self.was_full
+            || (self.has_shrunk && (is_quiet || node.config().spool_limit / 2 < node.size() as u64))
     }
 
     /// The tick at which the spool is to be looked at, or the given one where that is earlier.
@@ -86,7 +93,7 @@ impl Tidying {
         now: &Now,
         log: &mut Log<'_, Vec<u8>>,
     ) -> Result<(), Fault> {
-        if !self.is_due(is_quiet, now) {
+        if !self.is_due(relay, is_quiet, now) {
             return Ok(());
         }
         let was_full = self.was_full;

@@ -1,0 +1,86 @@
+//! What the sessions of clients hear at a turn, all in one call: the octets that were read of their own connections.
+ghost use Rattle.std.specs.Prelude.{◌≡◌, All, IfOk, IfSome, OnOk, map};
+ghost use Rattle.relay_run.specs.Hearing.{HearOwn, IsOwn, session_of};
+
+use crate::client::Client;
+use crate::clocks::Now;
+use relay_disk::FileDisk;
+use relay_loop::{Group, Heard, Piece, Relay};
+use relay_node::NodeFault;
+use relay_service::Fault;
+use relay_slots::SLOT_COUNT;
+use std::alloc::{AllocError, Global};
+
+/// What came of octets of a client.
+pub(crate) type Answer = Result<Heard, NodeFault>;
+
+/// The sessions that heard something in one call, and what came of that for each, in the same order.
+#[derive(Drop)]
+pub(crate) struct Hearing {
+    pub(crate) sessions: Vec<usize>,
+    pub(crate) heard: Vec<Answer>,
+}
+
+/// Lets all sessions that have something to hear do so in one call, the first of them first, so that the mail they bring
+/// comes into the spool behind one pair of syncs. It answers nothing where no memory is left for that; nothing was heard
+/// then.
+pub(crate) fn hear_all(
+    alloc: Global,
+    clients: &[Option<Client>],
+    first: usize,
+    relay: &mut Relay<FileDisk>,
+    now: &Now,
+) -> Result<Option<Hearing>, Fault>
+    ensures own { IfOk result (λ hearing. IfSome hearing
+        (HearOwn clients.now now.now.moment relay.old relay.new)) }
+{
+    let Ok(pieces) = pieces_of(alloc, clients, first) else {
+        return Ok(None);
+    };
+    let Ok(sessions) = sessions_of(alloc, pieces.as_slice()) else {
+        return Ok(None);
+    };
+    match relay.read_all(pieces.as_slice(), now.moment) {
+        Ok(
+            Group {
+                heard,
+                notes: _notes,
+            },
+        ) => Ok(Some(Hearing { sessions, heard })),
+        Err(NodeFault::Stopped) => Err(Fault::Device),
+        Err(_) => Ok(None),
+    }
+}
+
+/// What was read of each client whose session has something to hear, the first of them first.
+fn pieces_of(
+    alloc: Global,
+    clients: &[Option<Client>],
+    first: usize,
+) -> Result<Vec<Piece<'_>>, AllocError>
+    ensures { IfOk result (λ pieces. All (IsOwn clients.now) pieces.items) }
+{
+    let mut pieces = Vec::new(alloc);
+    for step in 0..SLOT_COUNT {
+        let number = first.saturating_add(step) % SLOT_COUNT;
+        match clients.get(number) {
+            Some(Some(client)) if client.hears => pieces.push(Piece {
+                session: number,
+                octets: client.channel.piece(),
+            })?,
+            _ => {}
+        }
+    }
+    Ok(pieces)
+}
+
+/// The sessions that pieces are of.
+fn sessions_of(alloc: Global, pieces: &[Piece<'_>]) -> Result<Vec<usize>, AllocError>
+    ensures { IfOk result (λ sessions. sessions.items ≡ map session_of pieces.now) }
+{
+    let mut sessions = Vec::with_capacity(alloc, pieces.len())?;
+    for piece in pieces {
+        sessions.push(piece.session)?;
+    }
+    Ok(sessions)
+}
