@@ -191,10 +191,10 @@ class Bench:
 
     def run_passing_on(self, sessions, count, size):
         """Seconds of so many messages at each of so many connections, from the first octet to where `run` has handed all of
-        them on to a sink."""
+        them on to a sink, at as many connections at a time as Postfix makes."""
         amount = sessions * count
         sink = Sink(self.folder, amount)
-        relay = self.new_relay(sink.port, sessions_per_client=64)
+        relay = self.new_relay(sink.port, sessions_per_client=64, attempts_per_hop=20)
         process, begun = relay.begin("--quiet"), time.perf_counter()
         hand_in_side_by_side(self.folder, relay.port, sessions, count, size)
         sink.wait()
@@ -277,6 +277,15 @@ class Bench:
         """What `side_by_side` measures, of Postfix, but for the spread."""
         with contextlib.closing(HoldingPostfix(packages, 9, 9, self.postfix_spool())) as server:
             return hand_in_side_by_side(self.folder, server.port, clients, count, size)[0]
+
+    def postfix_passing_on(self, packages, clients, count, size):
+        """What `run_passing_on` measures, of Postfix."""
+        sink = Sink(self.folder, clients * count)
+        with contextlib.closing(Postfix(packages, sink.port, 9, self.postfix_spool())) as server:
+            begun = time.perf_counter()
+            hand_in_side_by_side(self.folder, server.port, clients, count, size)
+            sink.wait()
+            return time.perf_counter() - begun
 
     def postfix_pushed(self, packages, count, size):
         """Seconds from where Postfix listens to the end of its delivery of so many queued messages, at connections
@@ -373,8 +382,17 @@ def tell_run(bench, packages):
         tell_side_by_side(f"run: messages of 1 KiB at {sessions} kept sessions", sessions * count,
                           lambda: bench.run_side_by_side(sessions, count, 1024),
                           serve | measures_beside(bench, packages, sessions, count))
-        passing = statistics.median(bench.run_passing_on(sessions, count, 1024) for _ in range(RUNS))
-        tell("  and handed on meanwhile, to the last", sessions * count / passing, "messages/s")
+        tell_passing_on(bench, packages, sessions, count)
+
+
+def tell_passing_on(bench, packages, sessions, count):
+    measures = [lambda: bench.run_passing_on(sessions, count, 1024)]
+    if packages:
+        measures.append(lambda: bench.postfix_passing_on(packages, sessions, count, 1024))
+    runs = interleaved(*measures)
+    ratios = [(median_of(runs, lambda run: run[1] / run[0]), "Postfix")] if packages else []
+    tell("  and handed on meanwhile, to the last", sessions * count / median_of(runs, lambda run: run[0]), "messages/s",
+         *ratios)
 
 
 def tell_one_a_connection(bench, _packages):

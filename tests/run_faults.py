@@ -21,7 +21,8 @@ sys.dont_write_bytecode = True
 
 from mail_checks import hand_in
 from relay_program import Difference, PATIENCE, same, until
-from running_relay import SOON, TEXT, Client, clients_of, comes_to_rest, greeted, number_of, play_rows
+from running_relay import SOON, TEXT, Client, clients_of, comes_to_rest, greeted, hop_that_falls_silent, number_of
+from running_relay import play_rows
 
 HERE = pathlib.Path(__file__).resolve().parent
 DAY = 86400
@@ -222,6 +223,39 @@ def what_was_put_off_is_tried_at_its_moment(field):
         comes_to_rest(process, "behind what was put off")
 
 
+def a_next_hop_is_waited_for_by_what_it_was_told(field):
+    """Five minutes for its greeting and its reply to MAIL, two for the one to DATA, three where it takes nothing of a
+    text, and ten for the reply to that (RFC 5321, section 4.5.3.2), by clocks that go a hundred times as fast."""
+    greeted, agreed = [b"220 hop.example", b"250 hop.example"], [b"250 ok"] * 2
+    # The long text first, since nobody else is served while it is stored.
+    silent = {"text": (180, greeted + agreed + [b"354 go on"]), "greeting": (300, []), "mail": (300, greeted),
+              "data": (120, greeted + agreed), "reply": (600, greeted + agreed + [b"354 go on"])}
+    with contextlib.ExitStack() as stack:
+        ports = {name: stack.enter_context(hop_that_falls_silent(*replies)) for name, (_, replies) in silent.items()}
+        more = {f"{name}.example": (f"{name}.hop", port) for name, port in ports.items()}
+        relay = field.relay(more=more, max_content=1 << 24, spool_limit=1 << 30, client_timeout=3600)
+        shim(field, "run_clocks", relay, FASTER="100")
+        with relay.running() as process, clients_of(relay, 1) as [client]:
+            begun, waited = time.monotonic(), {}
+            for name in silent:
+                # More than the system takes on the way.
+                client.hand_in(f"b@{name}.example", b"x" * 70 * 200000 + b"\r\n.\r\n" if name == "text" else TEXT)
+            while len(waited) < len(silent):
+                for name in silent:
+                    if name not in waited and lines_of(relay, f" {name}.hop at "):
+                        waited[name] = time.monotonic() - begun
+                time.sleep(0.02)
+                if time.monotonic() > begun + 6 + PATIENCE:
+                    raise Difference(f"of the silent ones only {sorted(waited)} are lost")
+            same("losses", len(lines_of(relay, ": silent, place 0 deferred")), len(silent))
+            early = {name: seconds for name, seconds in waited.items() if seconds < silent[name][0] / 100 - 0.05}
+            same("next hops that are lost early", early, {})
+            same("the order of their losses", sorted(waited, key=waited.get)[0::4], ["data", "reply"])
+            late = {name: seconds for name, seconds in waited.items() if seconds > silent[name][0] / 100 + 5 * SOON}
+            same("next hops that are lost late", late, {})
+            same("what waits", len(relay.held()), len(silent))
+
+
 def a_thousand_connections_find_few_descriptors(field):
     """In ten seconds, with 32 descriptors for all: each is greeted or sent away, and mail goes on meanwhile."""
     relay, firsts = field.relay(sessions_per_client=64), []
@@ -275,6 +309,7 @@ ROWS = [
     a_sync_that_fails_ends_it,
     a_clock_that_is_set_holds_up_nothing_else,
     what_was_put_off_is_tried_at_its_moment,
+    a_next_hop_is_waited_for_by_what_it_was_told,
     a_thousand_connections_find_few_descriptors,
     clients_leave_four_descriptors_for_attempts,
 ]

@@ -137,6 +137,35 @@ def hop_that_hangs():
             yield listener.getsockname()[1], taken
 
 
+@contextlib.contextmanager
+def hop_that_falls_silent(*replies):
+    """A listener that gives these replies at each connection, the first at once and each further one when octets have
+    come, and then says nothing and takes nothing: its port."""
+    with contextlib.ExitStack() as stack:
+        listener = stack.enter_context(socket.socket())
+        # So the system takes little for it.
+        listener.setsockopt(socket.SOL_SOCKET, socket.SO_RCVBUF, 1 << 14)
+        listener.bind(("127.0.0.1", 0))
+        listener.listen()
+        listener.settimeout(0.05)
+
+        def answer(link):
+            for number, reply in enumerate(replies):
+                if number > 0:
+                    link.recv(1 << 16)
+                link.sendall(reply + b"\r\n")
+
+        def take(done):
+            while not done.is_set():
+                with contextlib.suppress(TimeoutError):
+                    link = stack.enter_context(listener.accept()[0])
+                    link.settimeout(PATIENCE)
+                    answer(link)
+
+        with beside(take):
+            yield listener.getsockname()[1]
+
+
 def slowest(client, count):
     """The longest that one of so many messages waits for its 250, in seconds."""
     waits = []
@@ -204,8 +233,27 @@ class Feeder(threading.Thread):
                         self.answered[token] = int(text.split()[-1])
 
 
+def token_of(message):
+    return int(re.search(rb"\r\nSubject: (\d+)\r\n", message.content)[1])
+
+
 def tokens_at(sink):
-    return {int(re.search(rb"\r\nSubject: (\d+)\r\n", message.content)[1]) for message in list(sink.messages)}
+    return {token_of(message) for message in list(sink.messages)}
+
+
+def repeats_at(sink):
+    """How many messages came again, and of which the sink had heard before that its reply had come: those that no
+    relay may hand on once more."""
+    repeats, unasked, heard, seen = 0, [], set(), set()
+    for message in list(sink.messages):
+        token = token_of(message)
+        repeats += token in seen
+        if token in heard:
+            unasked.append(token)
+        seen.add(token)
+        if message.was_heard:
+            heard.add(token)
+    return repeats, unasked
 
 
 def play_rows(name, rows):

@@ -36,6 +36,8 @@ class Taken:
     recipients: list
     content: bytes
     by_chunks: bool
+    # QUIT came behind its reply, so that was heard.
+    was_heard: bool = False
 
 
 class Reader:
@@ -85,6 +87,8 @@ class Conversation(socketserver.BaseRequestHandler):
         self.sink, self.manners = self.server.sink, self.server.sink.manners
         self.reader = Reader(self.request)
         self.mail, self.recipients, self.chunks = None, [], b""
+        # The last message that it has taken.
+        self.last = None
         try:
             self.reply("connection", "220 sink.example ready")
             while self.command(self.reader.up_to(CRLF)):
@@ -105,6 +109,8 @@ class Conversation(socketserver.BaseRequestHandler):
         if verb not in ("BDAT", "QUIT") and "PIPELINING" not in self.manners.offers and self.reader.held:
             self.sink.breach(f"{verb} came with more behind it, and PIPELINING isn't offered")
         if verb == "QUIT":
+            if self.last:
+                self.last.was_heard = True
             self.reply("QUIT", "221 closing")
             return False
         answer = getattr(self, f"on_{verb.lower()}", None)
@@ -168,7 +174,8 @@ class Conversation(socketserver.BaseRequestHandler):
 
     def taken(self, content, by_chunks):
         """The message counts as taken before its reply, which may be lost on its way."""
-        self.sink.keep(Taken(self.mail, self.recipients, content, by_chunks), self.manners.content_reply)
+        self.last = Taken(self.mail, self.recipients, content, by_chunks)
+        self.sink.keep(self.last, self.manners.content_reply)
         self.reply("content", self.manners.content_reply)
         self.mail, self.recipients, self.chunks = None, [], b""
 
