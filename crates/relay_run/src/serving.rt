@@ -52,8 +52,9 @@ pub fn run<
         return Err(Fault::Socket);
     };
     let shell = Shell::new(alloc, relay, door, spares, &limits)?;
+    let events = Events::with_capacity(alloc, EVENT_COUNT)?;
     say_ready(alloc, &shell.relay, at, writer)?;
-    serve(alloc, rt, poll, shell, quiet, errors)
+    serve(alloc, rt, poll, events, shell, quiet, errors)
 }
 
 /// Serves without an end.
@@ -61,6 +62,7 @@ fn serve<R: Clock + Net, E: Write>(
     alloc: Global,
     rt: &R,
     poll: Poll,
+    events: Events,
     shell: Shell,
     quiet: bool,
     errors: &mut E,
@@ -68,8 +70,8 @@ fn serve<R: Clock + Net, E: Write>(
     ensures { IfOk result (λ _. ⊥) }
 {
     let mut poll = poll;
+    let mut events = events;
     let mut shell = shell;
-    let mut events = Events::with_capacity(alloc, EVENT_COUNT)?;
     let mut lines = Vec::new(alloc);
     for _ in 0..u64::MAX {
         let wait = Duration::from_millis(shell.wait(&Now::of(rt)));
