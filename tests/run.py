@@ -1,6 +1,6 @@
 #!/usr/bin/env python3
-"""Runs `relayd run` over 127.0.0.1: many clients at once, some of which are slow, silent or flood, next hops that are
-away or hang, kills, and few descriptors. It ends at the first difference.
+"""Runs `relayd run` over 127.0.0.1: many clients at once, some of which are slow, silent or flood, kills, and few
+descriptors. It ends at the first difference.
 
     tests/run.py build/relayd [ROW..]
 
@@ -23,11 +23,9 @@ sys.dont_write_bytecode = True
 
 from mail_checks import CONTENT, CONTENTS, behind_mark, hand_in, one_message
 from relay_program import Difference, PATIENCE, free_port, same, until
-from running_relay import SOON, TEXT, TIMES, Client, Feeder, beside, clients_of, greeted, hop_that_hangs
-from running_relay import comes_to_rest, no_later, number_of, play_rows, repeats_at, resident, slowest, tokens_at
+from running_relay import SOON, TEXT, TIMEOUT, TIMES, TOO_MANY, Client, Feeder, beside, clients_of, comes_to_rest
+from running_relay import greeted, no_later, number_of, play_rows, repeats_at, resident, slowest, tokens_at
 
-TOO_MANY = b"421 relay.example too many connections, closing\r\n"
-TIMEOUT = b"421 relay.example timeout, closing\r\n"
 ACCEPTED = re.compile(r"relayd: message 1 accepted from 127\.0\.0\.1:\d+ for 1 recipient, \d+ octets; "
                       r"client\.example from <a@example\.org> to <b@example\.org>")
 SENT = re.compile(r"relayd: message 1 next\.example at 127\.0\.0\.1:\d+ ended \d+ s behind its acceptance, "
@@ -295,29 +293,6 @@ def the_end_of_the_input_leaves_what_was_answered(field):
         same("the replies", client.rest().count(b"\r\n"), 5000)
 
 
-def a_hop_that_is_away_holds_up_no_other(field):
-    relay = field.relay(more={"example.net": ("away.example", free_port())})
-    with relay.running(), clients_of(relay, 1) as [client]:
-        waiting = [client.hand_in("c@example.net") for _ in range(10)]
-        client.hand_in()
-        field.arrived(1, SOON)
-        until("a list of those that wait", lambda: [row[0] for row in relay.held()] == waiting)
-        same("their paths", {row[2] for row in relay.held()}, {"<c@example.net>"})
-
-
-def a_hop_that_hangs_holds_up_no_other(field):
-    with hop_that_hangs() as (port, taken):
-        relay = field.relay(more={"example.net": ("hangs.example", port)}, attempts_per_hop=3)
-        with relay.running() as process, clients_of(relay, 1) as [client]:
-            for _ in range(10):
-                client.hand_in("c@example.net")
-            client.hand_in()
-            field.arrived(1, SOON)
-            comes_to_rest(process, "beside a hop that hangs")
-            same("connections to the hop that hangs", len(taken), 1)
-            same("list", len(relay.held()), 10)
-
-
 def two_runs_send_to_each_other(field):
     first, second = field.relay("first", "first.example"), field.relay("second", "second.example")
     sink = ("next.example", field.sink.port)
@@ -470,8 +445,6 @@ ROWS = [
     a_flood_that_nobody_reads_costs_nothing,
     the_reply_to_quit_arrives_whole,
     the_end_of_the_input_leaves_what_was_answered,
-    a_hop_that_is_away_holds_up_no_other,
-    a_hop_that_hangs_holds_up_no_other,
     two_runs_send_to_each_other,
     room_is_made_without_a_restart,
     a_kill_loses_nothing,

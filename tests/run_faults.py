@@ -8,11 +8,9 @@ With the names of rows it runs these alone. What has to be prompt may take as ma
 environment (2 where it says nothing).
 """
 import contextlib
-import pathlib
 import re
 import resource
 import signal
-import subprocess
 import sys
 import threading
 import time
@@ -21,25 +19,12 @@ sys.dont_write_bytecode = True
 
 from mail_checks import hand_in
 from relay_program import Difference, PATIENCE, same, until
-from running_relay import SOON, TEXT, Client, clients_of, comes_to_rest, greeted, hop_that_falls_silent, number_of
-from running_relay import play_rows
+from running_relay import SOON, TEXT, Client, clients_of, comes_to_rest, greeted, hop_that_falls_silent, lines_of
+from running_relay import number_of, play_rows, shim
 
-HERE = pathlib.Path(__file__).resolve().parent
 DAY = 86400
 # So the spool is longer than the log, which may not grow either then.
 LONG = b"Subject: long\r\n\r\n" + b"x" * 70 * 300 + b"\r\n.\r\n"
-
-
-def shim(field, name, relay, **environment):
-    """Builds a shim of the C library's calls, under which the relay's programs run from now on."""
-    built = field.folder / f"{name}.so"
-    subprocess.run(["cc", "-shared", "-fPIC", "-O1", "-o", built, HERE / f"{name}.c"], check=True)
-    relay.environment.update(LD_PRELOAD=str(built), **environment)
-
-
-def lines_of(relay, text):
-    """The lines of the log in which a text stands."""
-    return [line for line in relay.log.read_text().splitlines() if text in line]
 
 
 def refused_or_lost(client):

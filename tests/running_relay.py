@@ -14,10 +14,13 @@ import time
 from relay_program import Difference, PATIENCE, Relay, same
 from smtp_sink import Sink
 
+HERE = pathlib.Path(__file__).resolve().parent
 # What has to be prompt may take so many times as long, since others may be at work on the machine.
 TIMES = float(os.environ.get("TIMES", "2"))
 # How much longer a reply may take beside others' work, and a message to a hop that is there, in seconds.
 PROMPT, SOON = 0.1 * TIMES, 1.0 * TIMES
+TOO_MANY = b"421 relay.example too many connections, closing\r\n"
+TIMEOUT = b"421 relay.example timeout, closing\r\n"
 TEXT = b"Subject: side by side\r\n\r\ntext\r\n.\r\n"
 
 
@@ -44,6 +47,18 @@ class Field:
     def close(self):
         self.sink.close()
         same("breaches at the sink", self.sink.breaches, [])
+
+
+def shim(field, name, relay, **environment):
+    """Builds a shim of the C library's calls, under which the relay's programs run from now on."""
+    built = field.folder / f"{name}.so"
+    subprocess.run(["cc", "-shared", "-fPIC", "-O1", "-o", built, HERE / f"{name}.c"], check=True)
+    relay.environment.update(LD_PRELOAD=str(built), **environment)
+
+
+def lines_of(relay, text):
+    """The lines of the log in which a text stands."""
+    return [line for line in relay.log.read_text().splitlines() if text in line]
 
 
 class Client:
@@ -122,8 +137,9 @@ def beside(work):
 
 
 @contextlib.contextmanager
-def hop_that_hangs():
-    """A listener that takes connections and says nothing: its port, and what it took so far."""
+def hop_that_hangs(greeting=b""):
+    """A listener that takes connections and says nothing, or nothing behind its greeting: its port, and what it took so
+    far."""
     with contextlib.ExitStack() as stack:
         listener, taken = stack.enter_context(socket.create_server(("127.0.0.1", 0), backlog=128)), []
         listener.settimeout(0.05)
@@ -132,6 +148,7 @@ def hop_that_hangs():
             while not done.is_set():
                 with contextlib.suppress(TimeoutError):
                     taken.append(stack.enter_context(listener.accept()[0]))
+                    taken[-1].sendall(greeting)
 
         with beside(take):
             yield listener.getsockname()[1], taken

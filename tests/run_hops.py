@@ -1,0 +1,259 @@
+#!/usr/bin/env python3
+"""Runs `relayd run` over 127.0.0.1 beside next hops that are away, hang, are slow, flood or cut connections, and clients
+that are cut off: what others wait for meanwhile. It ends at the first difference.
+
+    tests/run_hops.py build/relayd [ROW..]
+
+With the names of rows it runs these alone. What has to be prompt may take as many times as long as TIMES says in the
+environment (2 where it says nothing).
+"""
+import contextlib
+import re
+import socket
+import socketserver
+import struct
+import sys
+import threading
+import time
+
+sys.dont_write_bytecode = True
+
+from relay_program import Difference, free_port, same, until
+from running_relay import SOON, Client, beside, clients_of, comes_to_rest, hop_that_hangs, lines_of, no_later
+from running_relay import play_rows, shim, slowest
+from smtp_sink import Listener
+
+# How many next hops say nothing at once.
+SILENT = 63
+
+
+class Answering(socketserver.BaseRequestHandler):
+    """A connection to a next hop of these rows."""
+
+    def handle(self):
+        with contextlib.suppress(OSError):
+            self.server.answer(self.request)
+
+
+@contextlib.contextmanager
+def hop_that(answer):
+    """A next hop that gives this its connections, side by side: its port."""
+    with Listener(("127.0.0.1", 0), Answering) as listener:
+        listener.answer = answer
+        thread = threading.Thread(target=listener.serve_forever, args=(0.02,))
+        thread.start()
+        try:
+            yield listener.server_address[1]
+        finally:
+            listener.shutdown()
+            thread.join()
+
+
+def drips(link):
+    """Takes mail, and says each reply octet by octet."""
+    link.setsockopt(socket.IPPROTO_TCP, socket.TCP_NODELAY, 1)
+
+    def say(reply):
+        for octet in reply + b"\r\n":
+            link.sendall(bytes([octet]))
+            time.sleep(0.01)
+
+    with link.makefile("rb") as lines:
+        say(b"220 hop.example")
+        for line in lines:
+            if line == b"DATA\r\n":
+                say(b"354 go on")
+                while lines.readline() not in (b".\r\n", b""):
+                    pass
+            say(b"250 ok")
+
+
+def cuts(link):
+    """Is gone in the middle of its reply to EHLO."""
+    link.sendall(b"220 hop.example\r\n")
+    link.recv(1 << 10)
+    link.sendall(b"250-hop.exam")
+
+
+def floods(link):
+    """Says one reply behind the other, unasked."""
+    link.sendall(b"220 hop.example\r\n")
+    while True:
+        link.sendall(b"250 ok\r\n" * 10000)
+
+
+def never_ends(link):
+    """Says a reply whose lines have no end."""
+    while True:
+        link.sendall(b"220-hop.example\r\n" * 10000)
+
+
+def says_one_line(link):
+    """Says ten million octets without a line end, and waits."""
+    link.sendall(b"2" * 10_000_000)
+    link.recv(1 << 10)
+
+
+# How an attempt at each of these ends, as its line says.
+BAD = {
+    drips: r" ended \d+ s behind its acceptance, place 0 transferred$",
+    cuts: r" lost \d+ s behind its acceptance: cut, place 0 deferred$",
+    floods: r" ended \d+ s behind its acceptance, place 0 deferred",
+    never_ends: r" ended \d+ s behind its acceptance, place 0 deferred; no reply: ",
+    says_one_line: r" ended \d+ s behind its acceptance, place 0 deferred; no reply: ",
+}
+
+
+def reset(link):
+    """Closes a connection by a reset."""
+    link.setsockopt(socket.SOL_SOCKET, socket.SO_LINGER, struct.pack("ii", 1, 0))
+    link.close()
+
+
+@contextlib.contextmanager
+def hop_that_takes_no_connection():
+    """A listener with a full queue: the system neither takes a connection to it nor refuses one. Its port."""
+    with contextlib.ExitStack() as stack:
+        listener = stack.enter_context(socket.socket())
+        listener.bind(("127.0.0.1", 0))
+        listener.listen(0)
+        for _ in range(3):
+            link = stack.enter_context(socket.socket())
+            link.setblocking(False)
+            link.connect_ex(listener.getsockname())
+        yield listener.getsockname()[1]
+
+
+# The rows. Each says in its name what holds.
+
+
+def a_hop_that_is_away_holds_up_no_other(field):
+    relay = field.relay(more={"example.net": ("away.example", free_port())})
+    with relay.running(), clients_of(relay, 1) as [client]:
+        waiting = [client.hand_in("c@example.net") for _ in range(10)]
+        client.hand_in()
+        field.arrived(1, SOON)
+        until("a list of those that wait", lambda: [row[0] for row in relay.held()] == waiting)
+        same("their paths", {row[2] for row in relay.held()}, {"<c@example.net>"})
+
+
+def a_hop_that_hangs_holds_up_no_other(field):
+    """It has one connection up to its greeting, and behind that as many as the configuration says."""
+    for greeting, count in ((b"", 1), (b"220 hop.example\r\n", 3)):
+        with hop_that_hangs(greeting) as (port, taken):
+            relay = field.relay(f"relay-{count}", more={"example.net": ("hangs.example", port)}, attempts_per_hop=3)
+            with relay.running() as process, clients_of(relay, 1) as [client]:
+                for _ in range(10):
+                    client.hand_in("c@example.net")
+                client.hand_in()
+                field.arrived(1, SOON)
+                comes_to_rest(process, "beside a hop that hangs")
+                same("connections to the hop that hangs", len(taken), count)
+                same("list", len(relay.held()), 10)
+
+
+def sixty_three_silent_hops_hold_up_no_other(field):
+    """Of the 64 attempts that there may be each of them has one, whatever waits for it."""
+    with contextlib.ExitStack() as stack:
+        hops = [stack.enter_context(hop_that_hangs()) for _ in range(SILENT)]
+        more = {f"silent-{at}.example": (f"hop-{at}.example", port) for at, (port, _) in enumerate(hops)}
+        relay = field.relay(more=more)
+        with relay.running() as process, clients_of(relay, 1) as [client]:
+            for domain in list(more) * 3:
+                client.hand_in(f"c@{domain}")
+            until("a connection to each", lambda: all(taken for _, taken in hops))
+            for _ in range(5):
+                client.hand_in()
+                field.arrived(1, SOON)
+            comes_to_rest(process, "beside silent hops")
+            same("connections to each of them", {len(taken) for _, taken in hops}, {1})
+            same("list", len(relay.held()), 3 * SILENT)
+
+
+def a_hop_that_takes_no_connection_is_lost_behind_half_a_minute(field):
+    """Of a clock that goes twenty times as fast; then it is left alone."""
+    with hop_that_takes_no_connection() as port:
+        relay = field.relay(more={"example.net": ("hop.example", port)}, client_timeout=3600)
+        shim(field, "run_clocks", relay, FASTER="20")
+        with relay.running() as process, clients_of(relay, 1) as [client]:
+            begun = time.monotonic()
+            client.hand_in("c@example.net")
+            client.hand_in()
+            field.arrived(1, SOON)
+            until("a line", lambda: lines_of(relay, "held off for 60 s"), 30 / 20 + 5 * SOON)
+            waited = (time.monotonic() - begun) * 20
+            lost = re.compile(r".*Z relayd: message 1 hop\.example at 127\.0\.0\.1:\d+ lost \d+ s behind its acceptance: "
+                              "silent, place 0 deferred")
+            same("what it is said", [bool(lost.fullmatch(line)) for line in lines_of(relay, "hop.example")], [True])
+            comes_to_rest(process, "behind a hop that took no connection")
+        if waited < 29:
+            raise Difference(f"it is lost behind {waited:.1f} s")
+
+
+def bad_next_hops_delay_no_reply(field):
+    """A client's 250 comes as soon as alone beside mail for each of them, and other mail goes on."""
+    with contextlib.ExitStack() as stack:
+        more = {f"{bad.__name__.replace('_', '-')}.example": (f"{bad.__name__.replace('_', '-')}.hop",
+                                                              stack.enter_context(hop_that(bad))) for bad in BAD}
+        relay = field.relay(more=more)
+        with relay.running() as process, clients_of(relay, 1) as [client]:
+            alone = slowest(client, 20)
+            field.arrived(20)
+            for domain, bad in zip(more, BAD):
+
+                def feed(done, domain=domain):
+                    with clients_of(relay, 1, "127.0.0.2") as [other]:
+                        while not done.wait(0.05):
+                            other.hand_in(f"c@{domain}")
+
+                with beside(feed):
+                    no_later(client, alone, 40, f"a next hop that {bad.__name__}")
+                    client.hand_in()
+                    field.arrived(41)
+                    name, wanted = more[domain][0], re.compile(BAD[bad])
+                    until("attempts that have ended", lambda name=name: len(lines_of(relay, f" {name} at ")) >= 5)
+                wrong = [line for line in lines_of(relay, f" {name} at ") if not wanted.search(line)]
+                same(f"lines of a next hop that {bad.__name__}", wrong, [])
+            comes_to_rest(process, "behind bad next hops")
+
+
+def clients_that_are_reset_delay_no_reply(field):
+    """In the middle of a command, a text and a chunk; none of that is held or handed on."""
+    relay, times = field.relay(), []
+    group = b"MAIL FROM:<a@example.org>\r\nRCPT TO:<c@example.org>\r\n"
+
+    def begin_and_go(done):
+        while not done.wait(0.01):
+            for octets in (b"MAIL FR", group + b"DATA\r\nSubject: ", group + b"BDAT 1000 LAST\r\nSubject: "):
+                with Client(relay, "127.0.0.2") as client:
+                    client.begin()
+                    client.link.sendall(octets)
+                    if octets[-1:] == b" ":
+                        same("a reply", client.reply()[:4], "250 ")
+                    client.replies.close()
+                    reset(client.link)
+                    times.append(octets)
+
+    with relay.running() as process, clients_of(relay, 1) as [client]:
+        alone = slowest(client, 20)
+        with beside(begin_and_go):
+            no_later(client, alone, 60, "clients that are reset")
+            until("many that are reset", lambda: len(times) >= 30)
+        comes_to_rest(process, "behind clients that are reset")
+        until("an empty list", lambda: relay.held() == [])
+        same("who was handed mail", {message.recipients[0].split(b" ")[0] for message in field.arrived(80)},
+             {b"<b@example.org>"})
+
+
+ROWS = [
+    a_hop_that_is_away_holds_up_no_other,
+    a_hop_that_hangs_holds_up_no_other,
+    sixty_three_silent_hops_hold_up_no_other,
+    a_hop_that_takes_no_connection_is_lost_behind_half_a_minute,
+    bad_next_hops_delay_no_reply,
+    clients_that_are_reset_delay_no_reply,
+]
+
+
+if __name__ == "__main__":
+    play_rows("run_hops", ROWS)

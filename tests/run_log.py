@@ -1,0 +1,159 @@
+#!/usr/bin/env python3
+"""Runs `relayd run` over 127.0.0.1 and reads its log: the lines of next hops that are away, of clients that are cut off
+or sent away, of a spool that is full or written anew, and of what came of each recipient. It ends at the first
+difference.
+
+    tests/run_log.py build/relayd [ROW..]
+
+With the names of rows it runs these alone. What has to be prompt may take as many times as long as TIMES says in the
+environment (2 where it says nothing).
+"""
+import re
+import sys
+import time
+
+sys.dont_write_bytecode = True
+
+from mail_checks import hand_in, read_report
+from relay_program import Difference, PATIENCE, free_port, same, until
+from running_relay import SOON, TIMEOUT, TOO_MANY, Client, clients_of, lines_of, play_rows, shim
+from spool_files import bodies_of
+
+MOMENT = re.compile(r"\d{4}-\d\d-\d\dT\d\d:\d\d:\d\dZ ")
+FULL = "relayd: spool full: mail is refused for now"
+# How many times as fast as this machine's the relay's clock goes in some rows: so its minute is a second.
+FASTER = 60
+
+
+def told(relay, text):
+    """What the lines of the log say in which a text stands, behind their moments and without the ages of messages."""
+    lines = lines_of(relay, text)
+    same("lines without a moment", [line for line in lines if not MOMENT.match(line)], [])
+    return [re.sub(r" \d+ s behind its acceptance", "", MOMENT.sub("", line)) for line in lines]
+
+
+def text_of(size):
+    """A text of somewhat more than so many octets."""
+    return b"Subject: long\r\n\r\n" + b"x" * size + b"\r\n.\r\n"
+
+
+# The rows. Each says in its name what holds.
+
+
+def a_next_hop_that_is_away_is_left_alone_for_longer_each_time(field):
+    """A minute, two and four of its clock. One message is tried behind each, and the others stay as they are."""
+    away = free_port()
+    relay = field.relay(more={"example.net": ("away.example", away)}, client_timeout=3600)
+    shim(field, "run_clocks", relay, FASTER=str(FASTER))
+    with relay.running(), clients_of(relay, 1) as [client]:
+        begun = time.monotonic()
+        numbers = [client.hand_in("c@example.net") for _ in range(5)]
+        until("three lines", lambda: len(told(relay, "held off")) == 3)
+        minutes = (time.monotonic() - begun) * FASTER / 60
+        later = [row[0] for row in relay.held() if row[3] > time.time() + 60]
+    at = f"127.0.0.1:{away}"
+    same("how long", told(relay, "held off"), [f"relayd: next hop {at} held off for {it} s" for it in (60, 120, 240)])
+    same("what was tried", told(relay, "away.example"),
+         [f"relayd: message {number} away.example at {at} lost: refused to connect, place 0 deferred"
+          for number in numbers[:3]])
+    same("what was put off", later, numbers[:3])
+    if minutes < 2.9:
+        raise Difference(f"it was tried three times within {minutes:.2f} minutes")
+
+
+def a_client_that_is_cut_off_has_a_line(field):
+    relay = field.relay(client_timeout=1)
+    with relay.running(), clients_of(relay, 1) as [client]:
+        same("what it is told", client.rest(), TIMEOUT)
+        line = f"relayd: client 127.0.0.1:{client.link.getsockname()[1]} cut off: timeout"
+        until("its line", lambda: told(relay, "client 127") == [line])
+
+
+def a_client_that_is_sent_away_has_a_line(field):
+    relay = field.relay(sessions_per_client=1)
+    with relay.running(), clients_of(relay, 1), Client(relay) as client:
+        same("what it is told", client.rest(), TOO_MANY)
+        line = f"relayd: client 127.0.0.1:{client.link.getsockname()[1]} refused: too many connections"
+        until("its line", lambda: told(relay, "client 127") == [line])
+
+
+def what_came_of_each_recipient_has_a_line(field):
+    """With the number of the report that is queued, and the reply that put one off."""
+    relay = field.relay()
+    field.sink.manners.refusals = {"<r@example.org>": "550 no such user", "<l@example.org>": "450 mailbox busy"}
+    attempt = f"next.example at 127.0.0.1:{field.sink.port} ended"
+    first = (f"relayd: message 1 {attempt}, place 0 transferred, place 1 refused 550, place 2 deferred, "
+             "report queued as 2; deferred by 450 mailbox busy")
+    with relay.running():
+        same("refused", hand_in(relay, recipients=("b@example.org", "r@example.org", "l@example.org")), {})
+        read_report(field.arrived(2)[1], 2, 1)
+        until("their lines", lambda: told(relay, " ended")
+              == [first, f"relayd: message 2 {attempt}, place 0 transferred"])
+
+
+def a_full_spool_has_a_line_once_a_minute(field):
+    """However many messages are refused for it."""
+    away = {"example.net": ("away.example", free_port())}
+    relay, refused = field.relay(more=away, spool_limit=10000, client_timeout=3600), 0
+    shim(field, "run_clocks", relay, FASTER=str(FASTER))
+    with relay.running(), clients_of(relay, 1) as [client]:
+        client.hand_in("c@example.net", text_of(8000))
+        begun = time.monotonic()
+        while len(told(relay, FULL)) < 3 and time.monotonic() < begun + PATIENCE:
+            client.ask_for_text()
+            same("the reply", client.say(text_of(4000)), "452 spool full")
+            refused += 1
+        minutes = (time.monotonic() - begun) * FASTER / 60
+    same("its lines", told(relay, "spool"), [FULL] * 3)
+    if minutes < 1.9 or refused < 10:
+        raise Difference(f"three lines within {minutes:.2f} minutes, for {refused} messages")
+
+
+def a_full_spool_is_noted_where_quit_stands_behind_the_mail(field):
+    """The 452 is among the last replies of its session: that is told, and room is made by what has left."""
+    relay = field.relay(spool_limit=20000)
+    field.sink.manners.refusals = {"<l@example.org>": "450 later"}
+    with relay.running(), clients_of(relay, 1) as [client]:
+        # More than half of it stays, so the spool isn't written anew by itself.
+        client.hand_in("l@example.org", text_of(11000))
+        client.hand_in(text=text_of(7000))
+        field.arrived(1)
+        until("what stays alone", lambda: [row[2] for row in relay.held()] == ["<l@example.org>"])
+        with Client(relay) as other:
+            other.begin()
+            other.ask_for_text()
+            same("lines of the spool", told(relay, "spool"), [])
+            other.link.sendall(text_of(4000) + b"QUIT\r\n")
+            same("the last replies", other.rest(), b"452 spool full\r\n221 relay.example closing\r\n")
+        until("two lines of the spool", lambda: len(told(relay, "spool")) == 2, 1 + SOON)
+        same("the first", told(relay, "spool")[0], FULL)
+        client.hand_in(text=text_of(4000))
+        field.arrived(1)
+
+
+def a_spool_that_is_written_anew_has_a_line(field):
+    """With its octets before and behind that."""
+    relay = field.relay(spool_limit=10000)
+    with relay.running(), clients_of(relay, 1) as [client]:
+        client.hand_in(text=text_of(6000))
+        field.arrived(1)
+        until("a line", lambda: len(told(relay, "spool")) == 1)
+    before, now = (bodies_of(file.read_bytes())[1] for file in (relay.spool, relay.second))
+    same("it", told(relay, "spool"), [f"relayd: spool compacted, {before} octets before, {now} now"])
+    if not now < 100 < 6000 < before:
+        raise Difference(f"{before} octets, and then {now}")
+
+
+ROWS = [
+    a_next_hop_that_is_away_is_left_alone_for_longer_each_time,
+    a_client_that_is_cut_off_has_a_line,
+    a_client_that_is_sent_away_has_a_line,
+    what_came_of_each_recipient_has_a_line,
+    a_full_spool_has_a_line_once_a_minute,
+    a_full_spool_is_noted_where_quit_stands_behind_the_mail,
+    a_spool_that_is_written_anew_has_a_line,
+]
+
+
+if __name__ == "__main__":
+    play_rows("run_log", ROWS)
