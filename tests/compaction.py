@@ -1,6 +1,7 @@
 #!/usr/bin/env python3
-"""Writes spools anew by `relayd compact`, and has `relayd serve` do so: the octets of both files, which of them is read, what
-is refused, and that nothing which was acknowledged is lost where the program is killed. It ends at the first difference.
+"""Writes spools anew by `relayd compact`, and has `relayd serve` and `relayd run` do so: the octets of both files, which of
+them is read, what is refused, and that nothing which was acknowledged is lost where the program is killed. It ends at the
+first difference.
 
     tests/compaction.py build/relayd
 """
@@ -19,7 +20,8 @@ import time
 sys.dont_write_bytecode = True
 
 from mail_checks import hand_in, one_message
-from relay_program import Difference, Relay, same
+from relay_program import Difference, PATIENCE, Relay, same, until
+from running_relay import clients_of, lines_of, number_of, shim
 from smtp_sink import Manners, Sink
 from spool_files import bodies_of, file_of, head_of, snapshot_of, taken_of
 
@@ -237,6 +239,44 @@ def list_beside_a_serve_that_compacts(field):
     same("list", field.relay.run("list"), [])
 
 
+def list_beside_a_run_that_compacts(field):
+    """The same beside `run`, by a clock that goes forty times as fast: it writes a spool anew once a second at most. What
+    is listed waits, or was just handed in."""
+    field.relay = field.new_relay("running", spool_limit=20000, client_timeout=3600)
+    shim(field, "run_clocks", field.relay, FASTER="40")
+    done, answers, accepted = threading.Event(), [], []
+
+    def ask():
+        while not done.is_set():
+            answers.append(field.relay.ended(20, "list"))
+
+    def is_enough():
+        return len(accepted) >= 100 and len(answers) >= 40 and len(lines_of(field.relay, "spool compacted")) >= 10
+
+    threads = [threading.Thread(target=ask) for _ in range(2)]
+    with field.relay.running(), clients_of(field.relay, 1) as [client]:
+        for thread in threads:
+            thread.start()
+        try:
+            begun = time.monotonic()
+            while not is_enough() and time.monotonic() < begun + PATIENCE:
+                client.ask_for_text()
+                reply = client.say(b"x" * 3000 + b"\r\n.\r\n")
+                if reply != "452 spool full":
+                    accepted.append(number_of(reply))
+        finally:
+            done.set()
+            for thread in threads:
+                thread.join()
+        until("an empty list", lambda: field.relay.held() == [])
+    same("messages at the sink", len(field.sink.take_all()), len(accepted))
+    same("the faults of list", {(it.returncode, it.stderr) for it in answers}, {(0, b"")})
+    listed = {int(line.split()[0]) for it in answers for line in it.stdout.splitlines()}
+    same("numbers that were never given", listed - set(accepted), set())
+    if not is_enough():
+        raise Difference(f"{len(answers)} calls of list beside {len(accepted)} messages")
+
+
 def serve_writes_its_spool_anew(field):
     """Of mail that goes on at once a spool with a limit of 100,000 octets never keeps half."""
     field.relay = field.new_relay("bounded", spool_limit=100000)
@@ -340,8 +380,8 @@ ROWS = [init_makes_both_files, an_empty_spool_is_written_anew_and_anew, what_is_
         a_drained_spool_is_as_small_as_one_body, a_spool_of_one_file_goes_on_without,
         the_newer_file_with_an_open_head_is_read, a_snapshot_that_is_cut_is_refused, both_files_are_taken_by_serve,
         a_file_that_takes_no_more_loses_nothing, each_allocation_that_is_refused_loses_nothing,
-        list_beside_a_serve_that_compacts, serve_writes_its_spool_anew, a_full_spool_makes_room_at_once,
-        a_kill_in_compact_loses_nothing, a_kill_in_serve_loses_nothing]
+        list_beside_a_serve_that_compacts, list_beside_a_run_that_compacts, serve_writes_its_spool_anew,
+        a_full_spool_makes_room_at_once, a_kill_in_compact_loses_nothing, a_kill_in_serve_loses_nothing]
 
 
 def main():

@@ -24,7 +24,8 @@ sys.dont_write_bytecode = True
 from mail_checks import CONTENT, CONTENTS, behind_mark, hand_in, one_message
 from relay_program import Difference, PATIENCE, free_port, same, until
 from running_relay import SOON, TEXT, TIMEOUT, TIMES, TOO_MANY, Client, Feeder, beside, clients_of, comes_to_rest
-from running_relay import greeted, no_later, number_of, play_rows, repeats_at, resident, slowest, tokens_at
+from running_relay import greeted, lines_of, no_later, number_of, play_rows, repeats_at, resident, shim, slowest
+from running_relay import tokens_at
 
 ACCEPTED = re.compile(r"relayd: message 1 accepted from 127\.0\.0\.1:\d+ for 1 recipient, \d+ octets; "
                       r"client\.example from <a@example\.org> to <b@example\.org>")
@@ -325,9 +326,11 @@ def room_is_made_without_a_restart(field):
 
 
 def a_kill_loses_nothing(field):
-    """Under SESSIONS sessions, with passing on and, by the spool's limit, with compaction. No message is handed on again
-    whose reply was heard."""
-    relay, chance, answered = field.relay(spool_limit=400000, sessions_per_client=64), random.Random(43), {}
+    """Under SESSIONS sessions, with passing on and, by the spool's limit and a clock that goes twenty times as fast, with
+    compaction up to twenty times a second. No message is handed on again whose reply was heard."""
+    relay = field.relay(spool_limit=200000, sessions_per_client=64, client_timeout=3600)
+    shim(field, "run_clocks", relay, FASTER="20")
+    chance, answered = random.Random(43), {}
     for kill in range(KILLS):
         process = relay.begin()
         feeders = [Feeder(relay, (kill * SESSIONS + at) * 10000) for at in range(SESSIONS)]
@@ -343,8 +346,9 @@ def a_kill_loses_nothing(field):
         lost = [token for token, number in answered.items() if number not in held and token not in gone]
         same(f"messages lost behind kill {kill}", lost, [])
     same("numbers given twice", len(answered) - len(set(answered.values())), 0)
-    if len(answered) < 2 * KILLS:
-        raise Difference(f"only {len(answered)} messages were answered 250")
+    compactions = len(lines_of(relay, "spool compacted"))
+    if len(answered) < 2 * KILLS or compactions < KILLS // 4:
+        raise Difference(f"only {len(answered)} messages were answered 250, and {compactions} compactions")
     with relay.running():
         until("an empty list", lambda: relay.held() == [])
     same("messages that never came", set(answered) - tokens_at(field.sink), set())

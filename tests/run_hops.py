@@ -98,7 +98,7 @@ def says_one_line(link):
 BAD = {
     drips: r" ended \d+ s behind its acceptance, place 0 transferred$",
     cuts: r" lost \d+ s behind its acceptance: cut, place 0 deferred$",
-    floods: r" ended \d+ s behind its acceptance, place 0 deferred",
+    floods: r" ended \d+ s behind its acceptance, place 0 deferred$",
     never_ends: r" ended \d+ s behind its acceptance, place 0 deferred; no reply: ",
     says_one_line: r" ended \d+ s behind its acceptance, place 0 deferred; no reply: ",
 }

@@ -1,12 +1,12 @@
 #!/usr/bin/env python3
-"""Runs `relayd run` over 127.0.0.1 with much mail: for next hops that are away, and through and through. What it costs
-then stays, and where nothing is to be done it sleeps. It ends at the first difference.
+"""Runs `relayd run` over 127.0.0.1 with much mail: for next hops that are away, through and through, and large. What it
+costs then stays, and where nothing is to be done it sleeps. It ends at the first difference.
 
     tests/run_load.py build/relayd [ROW..]
 
-With the names of rows it runs these alone. DUE (6300) says how many messages are due at next hops that are away, and
-THROUGH (2000) how many go through a relay; what has to be prompt may take as many times as long as TIMES says in the
-environment (2 where it says nothing).
+With the names of rows it runs these alone. DUE (6300) says how many messages are due at next hops that are away,
+THROUGH (2000) how many go through a relay, and CONTENT (1048576) how many octets each of 64 messages at once has; what
+has to be prompt may take as many times as long as TIMES says in the environment (2 where it says nothing).
 """
 import os
 import pathlib
@@ -19,10 +19,11 @@ sys.dont_write_bytecode = True
 
 from mail_checks import hand_in
 from relay_program import Difference, PATIENCE, free_port, same, until
-from running_relay import SOON, Client, clients_of, comes_to_rest, play_rows, resident
+from running_relay import SOON, Client, clients_of, comes_to_rest, number_of, play_rows, resident
 
 DUE = int(os.environ.get("DUE", 6300))
 THROUGH = int(os.environ.get("THROUGH", 2000))
+CONTENT = int(os.environ.get("CONTENT", 1 << 20))
 AWAY = 63
 # How many messages are in one piece, and the piece's next hop's domain.
 AT_ONCE = 20
@@ -103,6 +104,30 @@ def memory_and_descriptors_stay_as_mail_goes_through(field):
             raise Difference(f"{THROUGH // 2} messages that have left cost {grown} octets")
 
 
+def sixty_four_texts_at_once_cost_what_they_have(field):
+    """And a block for each of them, and 8 MiB; then each is answered 250."""
+    away = {"example.net": ("away.example", free_port())}
+    relay = field.relay(more=away, sessions_per_client=64, client_timeout=3600, max_content=CONTENT, spool_limit=1 << 31)
+    content = b"x" * (CONTENT - 2)
+    with relay.running() as process:
+        with clients_of(relay, 1):
+            before = resident(process)
+        with clients_of(relay, 64) as clients:
+            for client in clients:
+                # All are written behind each other.
+                client.link.settimeout(PATIENCE + CONTENT / 50000)
+                client.ask_for_text("c@example.net")
+                client.link.sendall(content)
+            comes_to_rest(process, "with texts that have no end yet")
+            grown = resident(process) - before
+            for client in clients:
+                client.link.sendall(b"\r\n.\r\n")
+            numbers = {number_of(client.reply()) for client in clients}
+        same("messages that wait", {row[0] for row in relay.held()}, numbers)
+        if grown > 64 * (CONTENT + (64 << 10)) + (8 << 20):
+            raise Difference(f"64 texts of {CONTENT} octets cost {grown} octets")
+
+
 def at_rest_it_sleeps(field):
     relay = field.relay()
     with relay.running() as process, clients_of(relay, 3):
@@ -120,6 +145,7 @@ def at_rest_it_sleeps(field):
 ROWS = [
     mail_for_63_hops_that_are_away_holds_up_no_other,
     memory_and_descriptors_stay_as_mail_goes_through,
+    sixty_four_texts_at_once_cost_what_they_have,
     at_rest_it_sleeps,
 ]
 
