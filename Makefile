@@ -21,8 +21,12 @@ test:
 	tests/fault_lines.sh build/relayd
 	tests/two_relays.py build/relayd
 	TIMES=10 tests/run.py build/relayd
+	TIMES=10 tests/run_log.py build/relayd
+	TIMES=10 tests/run_hops.py build/relayd
 	TIMES=10 tests/run_faults.py build/relayd
 	TIMES=10 tests/run_load.py build/relayd
+	tests/run_without_memory.py build/relayd
+	tests/unit_file.sh build/relayd
 	tests/workers.py build/relayd
 	bench/crashes.py build/relayd 64
 	tests/compaction.py build/relayd
@@ -61,14 +65,16 @@ hostile: relayd
 bench: relayd relay_bench
 	bench/run.sh build/relayd build/relay_bench
 
-# Measures a relay over sockets beside bare syncs, kills one at thirty moments and one that stays up at a hundred while mail
-# comes in, and looks at what much mail costs it.
+# Measures a relay over sockets beside bare syncs, and one that stays up beside the least that a relay does with half a
+# millisecond more for each sync; kills one at thirty moments and one that stays up at a hundred while mail comes in;
+# and looks at what much mail, and 64 messages of 16 MiB at once, cost it.
 load: relayd
 	bench/load.py build/relayd
+	FLOOR=1 SYNC_WAIT=500 bench/load.py build/relayd run
 	bench/crashes.py build/relayd
 	bench/crashes.py build/relayd 64
 	KILLS=100 SESSIONS=64 tests/run.py build/relayd a_kill_loses_nothing
-	DUE=100000 THROUGH=200000 tests/run_load.py build/relayd
+	DUE=100000 THROUGH=200000 CONTENT=16777216 tests/run_load.py build/relayd
 
 # Counts the instructions of the same with callgrind, which valgrind brings.
 instructions: relayd relay_bench

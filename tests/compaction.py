@@ -1,7 +1,7 @@
 #!/usr/bin/env python3
-"""Writes spools anew by `relayd compact`, and has `relayd serve` and `relayd run` do so: the octets of both files, which of
-them is read, what is refused, and that nothing which was acknowledged is lost where the program is killed. It ends at the
-first difference.
+"""Writes spools anew by `relayd compact`, and has `relayd serve` and `relayd run` do so: the octets of both files,
+which of them is read, what is refused, and that nothing which was acknowledged is lost where the program is killed. It
+ends at the first difference.
 
     tests/compaction.py build/relayd
 """
@@ -240,8 +240,8 @@ def list_beside_a_serve_that_compacts(field):
 
 
 def list_beside_a_run_that_compacts(field):
-    """The same beside `run`, by a clock that goes forty times as fast: it writes a spool anew once a second at most. What
-    is listed waits, or was just handed in."""
+    """The same beside `run`, by a clock that goes forty times as fast: it writes a spool anew once a second at most.
+    What is listed was handed in."""
     field.relay = field.new_relay("running", spool_limit=20000, client_timeout=3600)
     shim(field, "run_clocks", field.relay, FASTER="40")
     done, answers, accepted = threading.Event(), [], []

@@ -72,10 +72,10 @@ def all_taken(sink, recipients, content):
 class Field:
     """A sink, and a relay that sends mail for out.example there, by `run` or by `serve`."""
 
-    def __init__(self, program, packages, folder, runs):
+    def __init__(self, program, packages, folder, runs, **limits):
         self.packages, self.runs, self.sink = packages, runs, Sink()
         routes = {"out.example": ("sink.example", self.sink.port)}
-        self.relay = Relay(program, folder, routes, max_content=2000000)
+        self.relay = Relay(program, folder, routes, max_content=2000000, **limits)
         self.relay.run("init")
 
     def close(self):
@@ -277,6 +277,24 @@ def run_balanced(program, packages, _balancer, folder, runs):
     return f"{HaProxy.name}: two relays behind it"
 
 
+def run_source(program, packages, _source, folder, runs):
+    """Postfix's smtp-source: 64 sessions at once, and 640 messages."""
+    room = packages / "postfix"
+    unpacked = room / "usr/sbin/smtp-source"
+    folders = [str(room / name) for name in ("usr/lib/postfix", "usr/lib/x86_64-linux-gnu")]
+    with contextlib.closing(Field(program, packages, folder, runs, sessions_per_client=64)) as field:
+        command = [unpacked if unpacked.exists() else "smtp-source", "-s", "64", "-m", "640"]
+        command += ["-f", "a@out.example", "-t", "b@out.example", f"127.0.0.1:{field.relay.port}"]
+        with field.serving():
+            ended = subprocess.run(command, capture_output=True, timeout=PATIENCE,
+                                   env={**os.environ, "LD_LIBRARY_PATH": ":".join(folders)})
+            same("smtp-source", (ended.returncode, ended.stdout, ended.stderr), (0, b"", b""))
+        messages = field.sink.take_all()
+        same("messages at the sink", len(messages), 640)
+        same("their recipients", {tuple(recipients_alone(message)) for message in messages}, {(b"<b@out.example>",)})
+    return "smtp-source: 64 sessions at once"
+
+
 def run_client(program, packages, client, folder, runs):
     with contextlib.closing(Field(program, packages, folder, runs)) as field:
         client(field, packages)
@@ -295,14 +313,18 @@ def main():
     runs += [(run_server, package) for package in servers]
     if "haproxy" in had and can_make_rooms():
         runs.append((run_balanced, "haproxy"))
-    for by, (run, what) in itertools.product(("serve", "run"), runs):
+    plays = list(itertools.product(("serve", "run"), runs))
+    if "postfix" in had:
+        # `serve` takes one client behind the other.
+        plays.append(("run", (run_source, "postfix")))
+    for by, (run, what) in plays:
         with tempfile.TemporaryDirectory() as folder:
             try:
                 print(f"interop: {by}: {run(program, packages, what, folder, by == 'run')}", flush=True)
             except (Difference, OSError, smtplib.SMTPException, subprocess.SubprocessError) as difference:
                 name = what if isinstance(what, str) else what.__name__
                 sys.exit(f"interop: {by}: {name}: {difference}")
-    print(f"interop: {len(runs)} programs, each as it has to be")
+    print(f"interop: {len(plays)} rows, each as it has to be")
 
 
 main()

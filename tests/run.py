@@ -326,8 +326,8 @@ def room_is_made_without_a_restart(field):
 
 
 def a_kill_loses_nothing(field):
-    """Under SESSIONS sessions, with passing on and, by the spool's limit and a clock that goes twenty times as fast, with
-    compaction up to twenty times a second. No message is handed on again whose reply was heard."""
+    """Under SESSIONS sessions, with passing on and, by the spool's limit and a clock that goes twenty times as fast,
+    with compaction up to twenty times a second. No message is handed on again whose reply was heard."""
     relay = field.relay(spool_limit=200000, sessions_per_client=64, client_timeout=3600)
     shim(field, "run_clocks", relay, FASTER="20")
     chance, answered = random.Random(43), {}

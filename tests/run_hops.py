@@ -1,6 +1,6 @@
 #!/usr/bin/env python3
-"""Runs `relayd run` over 127.0.0.1 beside next hops that are away, hang, are slow, flood or cut connections, and clients
-that are cut off: what others wait for meanwhile. It ends at the first difference.
+"""Runs `relayd run` over 127.0.0.1 beside next hops that are away, hang, are slow, flood or cut connections, and
+clients that are reset: how long others wait meanwhile. It ends at the first difference.
 
     tests/run_hops.py build/relayd [ROW..]
 
@@ -182,8 +182,8 @@ def a_hop_that_takes_no_connection_is_lost_behind_half_a_minute(field):
             field.arrived(1, SOON)
             until("a line", lambda: lines_of(relay, "held off for 60 s"), 30 / 20 + 5 * SOON)
             waited = (time.monotonic() - begun) * 20
-            lost = re.compile(r".*Z relayd: message 1 hop\.example at 127\.0\.0\.1:\d+ lost \d+ s behind its acceptance: "
-                              "silent, place 0 deferred")
+            lost = re.compile(r".*Z relayd: message 1 hop\.example at 127\.0\.0\.1:\d+ lost \d+ s behind its "
+                              "acceptance: silent, place 0 deferred")
             same("what it is said", [bool(lost.fullmatch(line)) for line in lines_of(relay, "hop.example")], [True])
             comes_to_rest(process, "behind a hop that took no connection")
         if waited < 29:

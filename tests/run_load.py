@@ -106,8 +106,8 @@ def memory_and_descriptors_stay_as_mail_goes_through(field):
 
 def sixty_four_texts_at_once_cost_what_they_have(field):
     """And a block for each of them, and 8 MiB; then each is answered 250."""
-    away = {"example.net": ("away.example", free_port())}
-    relay = field.relay(more=away, sessions_per_client=64, client_timeout=3600, max_content=CONTENT, spool_limit=1 << 31)
+    limits = {"sessions_per_client": 64, "client_timeout": 3600, "max_content": CONTENT, "spool_limit": 1 << 31}
+    relay = field.relay(more={"example.net": ("away.example", free_port())}, **limits)
     content = b"x" * (CONTENT - 2)
     with relay.running() as process:
         with clients_of(relay, 1):

@@ -138,8 +138,8 @@ def beside(work):
 
 @contextlib.contextmanager
 def hop_that_hangs(greeting=b""):
-    """A listener that takes connections and says nothing, or nothing behind its greeting: its port, and what it took so
-    far."""
+    """A listener that takes connections and says nothing, or nothing behind its greeting: its port, and what it took
+    so far."""
     with contextlib.ExitStack() as stack:
         listener, taken = stack.enter_context(socket.create_server(("127.0.0.1", 0), backlog=128)), []
         listener.settimeout(0.05)
@@ -274,8 +274,8 @@ def repeats_at(sink):
 
 
 def play_rows(name, rows):
-    """Plays the rows that the command line names behind the program, or all, each in a folder of its own. It ends at the
-    first difference."""
+    """Plays the rows that the command line names behind the program, or all, each in a folder of its own. It ends at
+    the first difference."""
     program, *names = sys.argv[1:]
     rows = [row for row in rows if not names or row.__name__ in names]
     for row in rows:
