@@ -22,8 +22,8 @@ import time
 sys.dont_write_bytecode = True
 
 from mail_checks import CONTENT, CONTENTS, behind_mark, hand_in, one_message
-from relay_program import Difference, PATIENCE, free_port, same, until
-from running_relay import SOON, TEXT, TIMEOUT, TIMES, TOO_MANY, Client, Feeder, beside, clients_of, comes_to_rest
+from relay_program import Difference, PATIENCE, same, until
+from running_relay import TEXT, TIMEOUT, TIMES, TOO_MANY, Client, Feeder, beside, clients_of, comes_to_rest
 from running_relay import greeted, lines_of, no_later, number_of, play_rows, repeats_at, resident, shim, slowest
 from running_relay import tokens_at
 
