@@ -4,6 +4,8 @@ ends one connection and goes on, and what it has answered 250 is held or handed 
 
     tests/run_without_memory.py build/relayd [ROW..]
 """
+import collections
+import itertools
 import os
 import subprocess
 import sys
@@ -11,11 +13,11 @@ import time
 
 sys.dont_write_bytecode = True
 
-from relay_program import Difference, PATIENCE, same, until
+from relay_program import PATIENCE, same, until
 from running_relay import HERE, Client, lines_of, number_of, play_rows, tokens_at
 
-# The numbers of the allocations that are refused are ever farther apart, by a part of them.
-PART = 40
+# Once it gets ready, the numbers of the allocations that are refused are ever farther apart, by a part of them.
+PART = 100
 
 
 def begun(relay, environment):
@@ -51,53 +53,58 @@ def queued(relay, token):
         return None
 
 
+def has_gone_on(relay, mark):
+    """Whether all mail has left, or an allocation was refused a moment ago: what has no outcome then waits for the next
+    minute."""
+    return relay.held() == [] or (mark.exists() and time.time() > mark.stat().st_mtime + 0.3)
+
+
+def lost_of(relay, sink, answered):
+    """What was answered 250, and neither waits nor has left."""
+    held, gone = {row[0] for row in relay.held()}, tokens_at(sink)
+    return [token for token, number in answered.items() if number not in held and token not in gone]
+
+
 # The rows. Each says in its name what holds.
 
 
 def an_allocation_that_is_refused_ends_one_connection_at_most(field):
-    relay, answered, mark = field.relay(spool_limit=100000), {}, field.folder / "refused"
-    refuse = field.folder / "refuse.so"
+    """Once it is ready, it goes on, and the next client is answered 250."""
+    relay, mark, refuse = field.relay(), field.folder / "refused", field.folder / "refuse.so"
     subprocess.run(["cc", "-shared", "-fPIC", "-O1", "-o", refuse, HERE / "refuse_memory.c"], check=True)
-    number, token, plays, unready, cut, untold = 1, 0, 0, 0, 0, 0
+    environment = {**os.environ, "REFUSED": str(mark), "LD_PRELOAD": str(refuse)}
+    answered, tokens, number, met = {}, itertools.count(), 1, collections.Counter()
+
+    def is_queued():
+        token = next(tokens)
+        as_number = queued(relay, token)
+        if as_number is not None:
+            answered[token] = as_number
+        return as_number is not None
+
     while True:
         mark.unlink(missing_ok=True)
-        refused = {"REFUSE": str(number), "REFUSED": str(mark), "LD_PRELOAD": str(refuse)}
-        process = begun(relay, {**os.environ, **refused})
-        plays += 1
-        unready += process is None
+        process = begun(relay, {**environment, "REFUSE": str(number)})
         if process:
             try:
-                ended = 0
-                for _ in range(2):
-                    token += 1
-                    as_number = queued(relay, token)
-                    while as_number is None:
-                        ended += 1
-                        same(f"clients cut off without allocation {number}", ended, 1)
-                        token += 1
-                        as_number = queued(relay, token)
-                    answered[token] = as_number
-                until("mail that goes on", lambda: mark.exists() or relay.held() == [])
-                same(f"its end without allocation {number}", process.poll(), None)
-                cut += ended
-                untold += len(lines_of(relay, "without an outcome"))
+                ends = [is_queued() for _ in range(3)].count(False)
+                until("mail that goes on", lambda: has_gone_on(relay, mark))
+                same(f"its end without allocation {number}", (process.poll(), ends > 1), (None, False))
             finally:
                 process.kill()
                 process.communicate()
-        held, gone = {row[0] for row in relay.held()}, tokens_at(field.sink)
-        lost = [token for token, as_number in answered.items() if as_number not in held and token not in gone]
-        same(f"messages lost without allocation {number}", lost, [])
+            met["cut off"] += ends
+            met["without an outcome"] += len(lines_of(relay, "without an outcome"))
+        else:
+            met["not ready"] += 1
+        same(f"messages lost without allocation {number}", lost_of(relay, field.sink, answered), [])
         if not mark.exists():
             break
-        number += 1 + number // PART
+        number += 1 if process is None else 1 + number // PART
     with relay.running():
         until("nothing that is due", lambda: all(row[3] > time.time() for row in relay.held()))
-    print(number, plays, unready, cut, untold, len(answered))
-    held, gone = {row[0] for row in relay.held()}, tokens_at(field.sink)
-    lost = [token for token, as_number in answered.items() if as_number not in held and token not in gone]
-    same("messages that are lost", lost, [])
-    if not unready or not cut or number < 100:
-        raise Difference(f"{unready} times it wasn't ready, {cut} clients cut off, up to allocation {number}")
+    same("messages that are lost", lost_of(relay, field.sink, answered), [])
+    same("what was met", sorted(met), ["cut off", "not ready", "without an outcome"])
 
 
 ROWS = [
