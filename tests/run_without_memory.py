@@ -17,7 +17,7 @@ from relay_program import PATIENCE, same, until
 from running_relay import HERE, Client, lines_of, number_of, play_rows, tokens_at
 
 # Once it gets ready, the numbers of the allocations that are refused are ever farther apart, by a part of them.
-PART = 100
+PART = 50
 
 
 def begun(relay, environment):
@@ -53,10 +53,15 @@ def queued(relay, token):
         return None
 
 
+def is_done(relay):
+    """Whether nothing is due."""
+    return all(row[3] > time.time() for row in relay.held())
+
+
 def has_gone_on(relay, mark):
-    """Whether all mail has left, or an allocation was refused a moment ago: what has no outcome then waits for the next
+    """Whether nothing is due, or an allocation was refused a moment ago: what has no outcome then waits for the next
     minute."""
-    return relay.held() == [] or (mark.exists() and time.time() > mark.stat().st_mtime + 0.3)
+    return is_done(relay) or (mark.exists() and time.time() > mark.stat().st_mtime + 0.2)
 
 
 def lost_of(relay, sink, answered):
@@ -83,6 +88,8 @@ def an_allocation_that_is_refused_ends_one_connection_at_most(field):
         return as_number is not None
 
     while True:
+        # What has left before leads to no allocations.
+        relay.run("compact")
         mark.unlink(missing_ok=True)
         process = begun(relay, {**environment, "REFUSE": str(number)})
         if process:
@@ -102,7 +109,7 @@ def an_allocation_that_is_refused_ends_one_connection_at_most(field):
             break
         number += 1 if process is None else 1 + number // PART
     with relay.running():
-        until("nothing that is due", lambda: all(row[3] > time.time() for row in relay.held()))
+        until("nothing that is due", lambda: is_done(relay))
     same("messages that are lost", lost_of(relay, field.sink, answered), [])
     same("what was met", sorted(met), ["cut off", "not ready", "without an outcome"])
 
