@@ -32,6 +32,7 @@ test:
 	tests/stops_in_plays.py build/relayd
 	tests/hostile_octets.py build/relayd
 	tests/each_allocation_refused.sh build/relayd
+	tests/records_of_a_generator.py crates/relay_book_tests/out/relay_book_tests
 	tests/book_without_memory.sh crates/relay_book_tests/out/relay_book_tests
 	tests/dialogues_of_a_node.sh crates/relay_node_tests/out/relay_node_tests
 	tests/attempts_of_a_node.py crates/relay_node_tests/out/relay_node_tests
