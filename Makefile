@@ -39,7 +39,7 @@ test:
 	tests/node_without_memory.sh crates/relay_node_tests/out/relay_node_tests
 	tests/hub_without_memory.sh crates/relay_hub_tests/out/relay_hub_tests
 	tests/groups_without_memory.sh crates/relay_loop_tests/out/relay_loop_tests
-	tests/spool_on_a_file.sh crates/relay_spool_tests/out/relay_spool_tests
+	tests/spool_on_a_file.sh crates/relay_disk_tests/out/relay_disk_tests
 	tests/reports_read_by_python.py crates/relay_book_tests/out/relay_book_tests
 	tail -n 1 build/gate.log
 

@@ -1,22 +1,19 @@
-//! Takes steps on a spool in two files: one line of standard input each, and a line of what came of
-//! it. The first file is the first word, and the second one's name is that with `.2` behind it.
-//! tests/spool_on_a_file.sh runs it, with the calls that it makes of the device written down.
+//! Takes steps on a spool in two files: a line each, and a line of what came of it. The second file's name is that of
+//! the first with `.2` behind it. tests/spool_on_a_file.sh takes steps so, with the calls that they make of the
+//! device written down.
 //!
 //! - `remove`: removes the files, where there are any;
 //! - `create`: opens the files, which are to be empty, and makes a spool there;
-//! - `open`: opens the files anew, and the spool in them;
+//! - `open`: opens the files anew, and the spool in them, and shows its bodies;
 //! - `again`: opens the spool on the disks that the last step left, without opening the files anew;
 //! - `append TEXT`: appends a body;
 //! - `append_all TEXT TEXT ..`: appends a row of bodies, a word each;
 //! - `compact TEXT`: puts this one body in place of all.
-#![tactic(auto)]
-
-ghost use Rattle.std.specs.Prelude.{IsTrue};
-
+use crate::calls::{append, append_all, compact};
 use relay_disk::{Disk, Disks, FileDisk};
 use relay_spool::{BodyRow, Opened, Refused, Spool};
 use std::test::Fail;
-use std::{env, fs};
+use std::{fs, str};
 
 /// What a step leaves to the next one.
 #[derive(Drop)]
@@ -26,15 +23,11 @@ enum Held {
     Spool(Spool<FileDisk>),
 }
 
-fn main(rt: HostRuntime) -> Result<(), Fail> {
-    let alloc = rt.alloc();
-    let words: Vec<String> = env::args(&rt)?.collect(alloc)?;
-    let Some(path) = words.get(1) else {
-        return Err(Fail::new("the first word is to be a file"));
-    };
+/// Takes the steps of these lines on the spool of which this is the first file.
+pub fn take_steps(rt: &HostRuntime, path: &str, lines: &str) -> Result<(), Fail> {
     let mut held = Held::Nothing;
-    for line in rt.lines(alloc) {
-        held = take_step(&rt, path.as_str(), held, line?.as_str())?;
+    for line in lines.lines() {
+        held = take_step(rt, path, held, line)?;
     }
     Ok(())
 }
@@ -68,22 +61,20 @@ fn take_step(rt: &HostRuntime, path: &str, held: Held, line: &str) -> Result<Hel
 /// Takes a step on a spool.
 fn change(rt: &HostRuntime, spool: Spool<FileDisk>, step: &str, text: &str) -> Result<Held, Fail> {
     let mut spool = spool;
-    if !spool.is_live() {
-        println!(rt; "spent")?;
-    } else if step == "append" {
-        append(rt, &mut spool, text.as_bytes())?;
-    } else if step == "append_all" {
-        append_all(rt, &mut spool, text)?;
-    } else if step == "compact" {
-        compact(
-            rt,
-            &mut spool,
-            Vec::from_slice(rt.alloc(), text.as_bytes())?,
-        )?;
-    } else {
-        return Err(Fail::new(
-            "the steps are: remove, create, open, again, append TEXT, append_all TEXT .., compact TEXT",
-        ));
+    let answer = match step {
+        "append" => append(&mut spool, text.as_bytes()),
+        "append_all" => append_all(&mut spool, row_of(rt, text)?),
+        "compact" => compact(&mut spool, Vec::from_slice(rt.alloc(), text.as_bytes())?),
+        _ => {
+            return Err(Fail::new(
+                "the steps are: remove, create, open, again, append TEXT, append_all TEXT .., compact TEXT",
+            ));
+        }
+    };
+    match answer {
+        Some(Ok(())) => println!(rt; "{step}: {} octets", spool.size())?,
+        Some(Err(fault)) => println!(rt; "{step} refused: {fault}")?,
+        None => println!(rt; "spent")?,
     }
     Ok(Held::Spool(spool))
 }
@@ -115,29 +106,31 @@ fn create(rt: &HostRuntime, disks: Disks<FileDisk>) -> Result<Held, Fail> {
 fn open(rt: &HostRuntime, disks: Disks<FileDisk>) -> Result<Held, Fail> {
     match Spool::open(rt.alloc(), disks) {
         Ok(Opened { spool, bodies }) => {
-            println!(rt; "opened, {} bodies, {} octets", bodies.len(), spool.size())?;
+            let mut line = format!(in rt.alloc();
+                "opened, {} bodies, {} octets",
+                bodies.len(),
+                spool.size()
+            )?;
+            for body in bodies.iter() {
+                push_body(&mut line, body.front())?;
+            }
+            println!(rt; "{line}")?;
             Ok(Held::Spool(spool))
         }
         Err(refused) => refuse(rt, refused),
     }
 }
 
-fn append(rt: &HostRuntime, spool: &mut Spool<FileDisk>, body: &[u8]) -> Result<(), Fail>
-    requires { IsTrue spool.old.live }
-{
-    if u32::try_from(body.len()).is_err() {
-        return Err(Fail::new("the body is too long"));
-    }
-    match spool.append(body) {
-        Ok(()) => println!(rt; "appended, {} octets", spool.size())?,
-        Err(fault) => println!(rt; "append refused: {fault}")?,
-    }
+/// Puts a body behind what stands in the line.
+fn push_body(line: &mut String, body: &[u8]) -> Result<(), Fail> {
+    line.push_str(" (")?;
+    line.push_str(str::from_utf8(body)?)?;
+    line.push_str(")")?;
     Ok(())
 }
 
-fn append_all(rt: &HostRuntime, spool: &mut Spool<FileDisk>, text: &str) -> Result<(), Fail>
-    requires { IsTrue spool.old.live }
-{
+/// The bodies of a row, which are the words of this text.
+fn row_of(rt: &HostRuntime, text: &str) -> Result<BodyRow, Fail> {
     let mut row = BodyRow::new(rt.alloc());
     for body in text.split(' ') {
         if u32::try_from(body.len()).is_err() {
@@ -145,22 +138,7 @@ fn append_all(rt: &HostRuntime, spool: &mut Spool<FileDisk>, text: &str) -> Resu
         }
         row.push(body.as_bytes())?;
     }
-    let room = row.room();
-    match spool.append_all(row) {
-        Ok(()) => println!(rt; "appended a row of {room} octets, {} octets", spool.size())?,
-        Err(fault) => println!(rt; "append refused: {fault}")?,
-    }
-    Ok(())
-}
-
-fn compact(rt: &HostRuntime, spool: &mut Spool<FileDisk>, body: Vec<u8>) -> Result<(), Fail>
-    requires { IsTrue spool.old.live }
-{
-    match spool.compact(body) {
-        Ok(()) => println!(rt; "compacted, {} octets", spool.size())?,
-        Err(fault) => println!(rt; "compact refused: {fault}")?,
-    }
-    Ok(())
+    Ok(row)
 }
 
 /// Says why no spool was made of disks, and how many of the calls of each have failed.
