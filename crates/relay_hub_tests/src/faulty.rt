@@ -1,4 +1,5 @@
-//! Readers that give little, and writers that take little, and fail in mid-stream.
+//! Readers that give little, and writers that take little, and fail in mid-stream; and those of which one call fails.
+use crate::mail::COMMANDS;
 use std::alloc::Global;
 use std::io::{self, ErrorKind, Read, Write};
 
@@ -57,6 +58,63 @@ impl Write for Narrow {
     }
 
     fn flush(&mut self) -> io::Result<()> {
+        Ok(())
+    }
+}
+
+/// The call of a reader or a writer that fails, counted from 1.
+#[derive(Clone, Copy, PartialEq, Eq)]
+pub(crate) enum BadCall {
+    Read(usize),
+    Write(usize),
+    Flush(usize),
+}
+
+/// Gives a line of the client at each read.
+#[derive(Clone, Copy)]
+pub(crate) struct Lines {
+    pub(crate) reads: usize,
+    pub(crate) bad: BadCall,
+}
+
+impl Read for Lines {
+    fn read(&mut self, buf: &mut [u8]) -> io::Result<usize> {
+        let line = COMMANDS.get(self.reads).copied().unwrap_or("");
+        self.reads = self.reads.saturating_add(1);
+        if self.bad == BadCall::Read(self.reads) {
+            return Err(io::Error::from(ErrorKind::ConnectionReset));
+        }
+        let octets = line.as_bytes();
+        let count = octets.len().min(buf.len());
+        buf[..count].copy_from_slice(&octets[..count]);
+        Ok(count)
+    }
+}
+
+/// Holds what is written.
+#[derive(Drop)]
+pub(crate) struct Held {
+    pub(crate) octets: Vec<u8>,
+    pub(crate) writes: usize,
+    pub(crate) flushes: usize,
+    pub(crate) bad: BadCall,
+}
+
+impl Write for Held {
+    fn write(&mut self, buf: &[u8]) -> io::Result<usize> {
+        self.writes = self.writes.saturating_add(1);
+        if self.bad == BadCall::Write(self.writes) {
+            return Err(io::Error::from(ErrorKind::BrokenPipe));
+        }
+        self.octets.extend_from_slice(buf)?;
+        Ok(buf.len())
+    }
+
+    fn flush(&mut self) -> io::Result<()> {
+        self.flushes = self.flushes.saturating_add(1);
+        if self.bad == BadCall::Flush(self.flushes) {
+            return Err(io::Error::from(ErrorKind::BrokenPipe));
+        }
         Ok(())
     }
 }

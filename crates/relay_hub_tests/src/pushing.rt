@@ -1,8 +1,8 @@
 //! An attempt over a reader and a writer of which one may fail.
 use crate::came::{Came, count_written, reader_of, writer_of};
 use crate::mail::{HOP_COMMANDS, HOP_REPLIES};
-use crate::row::Trial;
 use crate::setup::{MemoryNode, begin, count_changes, count_held, node_with_mail, push};
+use crate::trial::Trial;
 use relay_links::{LinkFault, Pushed};
 use std::alloc::Global;
 use std::test::Fail;

@@ -1,8 +1,8 @@
 //! A session over a reader and a writer of which one may fail.
 use crate::came::{Came, count_written, reader_of, writer_of};
 use crate::mail::{COMMANDS, REPLIES, text_of};
-use crate::row::Trial;
 use crate::setup::{count_changes, count_held, empty_node, serve};
+use crate::trial::Trial;
 use relay_links::LinkFault;
 use std::alloc::Global;
 use std::test::Fail;
@@ -24,7 +24,7 @@ pub(crate) fn served(alloc: Global, trial: Trial) -> Result<Came, Fail> {
 }
 
 /// How a session ended.
-fn word_of(end: Result<(), LinkFault>) -> &'static str {
+pub(crate) fn word_of(end: Result<(), LinkFault>) -> &'static str {
     match end {
         Ok(()) => "ended",
         Err(LinkFault::Input) => "input",

@@ -1,8 +1,8 @@
 //! What comes of a link whose peer ends or fails.
 use crate::faulty::{Narrow, Trickle};
 use crate::pushing::pushed;
-use crate::row::{Link, Row, Trial};
 use crate::serving::served;
+use crate::trial::{Link, Row, Trial};
 use std::alloc::Global;
 use std::test::Fail;
 
