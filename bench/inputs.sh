@@ -84,25 +84,6 @@ full_transactions() {
     printf 'QUIT\r\n'
 }
 
-dot_text() {
-    mail_lines "$1"
-    printf '.\r\n'
-}
-
-rcpt_lines() {
-    yes $'RCPT TO:<somebody@example.org>\r' | head -n "$1" || true
-}
-
-short_replies() {
-    yes $'250 sender OK\r' | head -n "$1" || true
-}
-
-# A header section of lines of 76 octets.
-header_section() {
-    yes "X-Field: $(printf '%065d' 0)"$'\r' | head -n "$1" || true
-    printf '\r\n'
-}
-
 # Lines of boundaries of report 2, with the numbers up to this one.
 boundary_lines() {
     seq -f "--=_relay_2_%.0f"$'\r' 0 "$1"
@@ -119,4 +100,16 @@ record_of() {
     length=$(printf '\\x%02x' $(($1 >> 24)) $(($1 >> 16 & 255)) $(($1 >> 8 & 255)) $(($1 & 255)))
     printf '\x01\0\0\0\0\0\0\0\0\0\x05<a@b>\0\0\0\x01\0\x05<c@d>\0\0\0%b' "$length"
     head -c "$1" /dev/zero | tr '\0' x
+}
+
+octets_of() {
+    head -c "$1" /dev/zero
+}
+
+# The commands and the content of a message of so many octets, in lines of 64, of which the first is the header section.
+transaction_of() {
+    printf 'MAIL FROM:<sender@example.org>\r\nRCPT TO:<somebody@example.org>\r\nDATA\r\n'
+    printf 'Subject: what a session hands in, of 64 octets a line, all x\r\n\r\n'
+    yes "$(printf '%062d' 0)"$'\r' | head -n $(($1 / 64 - 1)) || true
+    printf '.\r\n'
 }

@@ -46,12 +46,13 @@ of_input() {
     report "$name" "$unit" $(((many - few) * size)) "$less" "$more"
 }
 
-# of_words NAME UNIT FEW MANY SIZE COMMAND..: each {} of the command stands for the number of parts.
+# of_words NAME UNIT FEW MANY SIZE FILE COMMAND..: each {} of the command, which reads the file, stands for the number
+# of parts.
 of_words() {
-    local name=$1 unit=$2 few=$3 many=$4 size=$5 less more
-    shift 5
-    less=$(instructions /dev/null "${@//\{\}/$few}")
-    more=$(instructions /dev/null "${@//\{\}/$many}")
+    local name=$1 unit=$2 few=$3 many=$4 size=$5 file=$6 less more
+    shift 6
+    less=$(instructions "$file" "${@//\{\}/$few}")
+    more=$(instructions "$file" "${@//\{\}/$many}")
     report "$name" "$unit" $(((many - few) * size)) "$less" "$more"
 }
 
@@ -64,23 +65,14 @@ of_input "session: small messages" message 1000 3000 1 small_messages "$relayd" 
 of_input "session: small messages behind 90,000 others" message 90000 100000 1 small_messages "$relayd" session
 of_input "session: pipelined NOOPs" command 10000 30000 1 noops "$relayd" session
 of_input "session: RCPTs with all parameters" command 20 60 100 full_transactions "$relayd" session
-of_input "library: a dot text that is refused" octet 27000 54000 76 dot_text "$bench" texts
-of_input "library: the same, octet by octet" octet 27000 54000 76 dot_text "$bench" plain
-of_input "library: a dot text that is kept" octet 1000 11000 76 dot_text "$bench" texts
-of_input "library: the same, octet by octet" octet 1000 11000 76 dot_text "$bench" plain
-of_input "library: RCPT lines that are parsed" command 10000 30000 1 rcpt_lines "$bench" commands
-of_input "library: short replies that are read" reply 10000 30000 1 short_replies "$bench" replies
-# A header section of lines of 76 octets is looked through 20 times.
-of_input "library: a header section, counted and cut" octet 1000 3000 1520 header_section "$bench" header
-"$bench" append "$room/spool.500" 500 > "$room/out"
-"$bench" append "$room/spool.1500" 1500 > "$room/out"
-of_words "library: a spool that is opened" octet 500 1500 4101 "$bench" open "$room/spool.{}"
-of_words "library: appends to a spool on a file" append 500 1500 1 "$bench" append "$room/append.{}" {}
-of_words "library: look-ups in a table of 100 routes" look-up 10000 30000 1 "$bench" routes 100 {}
-of_words "library: look-ups in a table of 100,000 routes" look-up 10000 30000 1 "$bench" routes 100000 {}
-of_words "library: messages into a book" message 10000 30000 1 "$bench" fill {}
-of_words "library: messages into a book, and out" message 10000 30000 1 "$bench" drain {}
-of_words "library: what is due, 10 of 100 held messages" answer 10000 30000 1 "$bench" due 100 {}
-of_words "library: what is due, 10 of 100,000 held messages" answer 10000 30000 1 "$bench" due 100000 {}
+octets_of 4096 > "$room/body"
+"$bench" append 500 "$room/spool.500" < "$room/body" > "$room/out"
+"$bench" append 1500 "$room/spool.1500" < "$room/body" > "$room/out"
+of_words "library: a spool that is opened" octet 500 1500 4101 /dev/null \
+    "$bench" open 1 "$room/spool.{}"
+of_words "library: appends to a spool on a file" append 500 1500 1 "$room/body" \
+    "$bench" append {} "$room/append.{}"
+of_words "library: messages into a book" message 10000 30000 1 /dev/null "$bench" fill {}
+of_words "library: messages into a book, and out" message 10000 30000 1 /dev/null "$bench" drain {}
 # A record is decoded 200 times.
-of_input "library: a record that is decoded" octet 100000 300000 200 record_of "$bench" decode
+of_input "library: a record that is decoded" octet 100000 300000 200 record_of "$bench" decode 200

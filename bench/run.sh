@@ -4,8 +4,9 @@
 #
 #   bench/run.sh build/relayd build/relay_bench [GROUP ..]
 #
-# The groups of figures are sessions, lines, attempts, reports, spools, books, nodes and queues; all where none is given.
-# DISK (build) is the folder whose device the appends of a spool are measured on.
+# The groups of figures are sessions, texts, attempts, reports, spools, books, nodes and queues; all where none is
+# given. DISK (build) is the folder whose device the appends of a spool are measured on, and MEMORY (/dev/shm) one in
+# memory.
 set -euo pipefail
 export LC_ALL=C
 . "$(dirname "$0")/inputs.sh"
@@ -16,7 +17,8 @@ shift 2
 runs=${RUNS:-5}
 room=$(mktemp -d)
 disk=$(mktemp -d "${DISK:-build}/bench.XXXXXX")
-trap 'rm -rf "$room" "$disk"' EXIT
+memory=$(mktemp -d "${MEMORY:-/dev/shm}/bench.XXXXXX")
+trap 'rm -rf "$room" "$disk" "$memory"' EXIT
 
 # How many microseconds the command takes that reads the file through a pipe. Its output is kept for a look at it.
 micros() {
@@ -53,11 +55,11 @@ measure() {
             printf "%-52s %12.0f %s/s   %.2f of wc %s\n", name, count / ours * 1000000, unit, theirs / ours, option }'
 }
 
-# How many microseconds the command takes, which is one word for the shell.
+# How many microseconds the command takes, which is one word for the shell. It reads nothing that it doesn't name.
 micros_of() {
     local begun ended
     begun=${EPOCHREALTIME/./}
-    bash -c "$1" > "$room/out"
+    bash -c "$1" < /dev/null > "$room/out"
     ended=${EPOCHREALTIME/./}
     echo $((ended - begun))
 }
@@ -78,35 +80,39 @@ compare() {
             printf "%-52s %12.0f %s/s   %.2f of %s\n", name, count / ours * 1000000, unit, theirs / ours, label }'
 }
 
-# among NAME UNIT COUNT WORD MANY FEW LABEL: COUNT turns of the measurement WORD among MANY, beside as many among FEW. What
-# it takes to make these is measured without turns, and taken off.
+# among NAME UNIT COUNT WORD MANY FEW LABEL: COUNT turns of the measurement WORD on a fresh copy of the spool MANY,
+# beside as many on one of FEW, both in memory. What opening these takes is measured without turns, and taken off.
 among() {
-    local count
-    rm -f "$room"/made.*
+    local count spool
+    rm -f "$room"/turns.*
     for ((run = 0; run < runs; run++)); do
         for count in "$3" 0; do
-            micros_of "$bench $4 $5 $count" >> "$room/made.many.$count"
-            micros_of "$bench $4 $6 $count" >> "$room/made.few.$count"
+            for spool in "$5" "$6"; do
+                cp "$room/$spool" "$memory/$spool"
+                cp "$room/$spool.2" "$memory/$spool.2"
+                micros_of "$bench $4 $count $memory/$spool" >> "$room/turns.$spool.$count"
+            done
         done
     done
     awk -v name="$1" -v unit="$2" -v count="$3" -v label="$7" \
-        -v ours=$(($(median < "$room/made.many.$3") - $(median < "$room/made.many.0"))) \
-        -v theirs=$(($(median < "$room/made.few.$3") - $(median < "$room/made.few.0"))) 'BEGIN {
+        -v ours=$(($(median < "$room/turns.$5.$3") - $(median < "$room/turns.$5.0"))) \
+        -v theirs=$(($(median < "$room/turns.$6.$3") - $(median < "$room/turns.$6.0"))) 'BEGIN {
             printf "%-52s %12.0f %s/s   %.2f of %s\n", name, count / ours * 1000000, unit, theirs / ours, label }'
 }
 
-# resident WORD COUNT: how much memory a program has that holds COUNT of what the measurement WORD makes, in octets: the
-# median of RUNS runs.
-resident() {
+# peak WORD COUNT FILE: how much memory a program had at most that runs the measurement WORD so often on the text of
+# FILE, in octets: the median of RUNS runs.
+peak() {
     for ((run = 0; run < runs; run++)); do
-        "$bench" "$1" "$2" | awk '{ print $(NF - 1) * 1024 }'
+        "$bench" "$1" "$2" < "$3" | awk '{ print $(NF - 1) * 1024 }'
     done | median
 }
 
-# held NAME WORD COUNT OFF LABEL: what each of COUNT takes that the measurement WORD holds, without OFF octets, by the memory
-# of a program that holds none.
+# held NAME WORD COUNT FILE OFF LABEL: what each of COUNT takes that the measurement WORD holds, each with the text of
+# FILE, without OFF octets, by the memory of a program that holds none.
 held() {
-    awk -v name="$1" -v count="$3" -v off="$4" -v label="$5" -v ours="$(resident "$2" "$3")" -v none="$(resident "$2" 0)" 'BEGIN {
+    awk -v name="$1" -v count="$3" -v off="$5" -v label="$6" \
+        -v ours="$(peak "$2" "$3" "$4")" -v none="$(peak "$2" 0 "$4")" 'BEGIN {
         printf "%-52s %12.0f octets %s\n", name, (ours - none) / count - off, label }'
 }
 
@@ -140,25 +146,12 @@ sessions() {
     measure "session: 500,000 RCPTs with all parameters" commands 500000 "$room/recipients" -l 510006 "$relayd" session
 }
 
-# Command lines, replies, header sections, dot texts and routes.
-lines() {
-    dot_text 2631579 > "$room/text"
-    rcpt_lines 2000000 > "$room/commands"
-    # 4,369 replies are 65,535 octets.
-    short_replies 4369000 > "$room/replies"
-    # A header section of 16 MB, which is looked through 20 times.
-    header_section 210526 > "$room/header"
-    copies "$room/header"
+# Dot texts.
+texts() {
     # A content of 16 MB, of which every fourth line begins with a period.
     content_with_periods 52632 > "$room/content"
     copies "$room/content"
-    measure "library: a dot text that is refused" octets "$(file_size "$room/text")" "$room/text" -l 1 "$bench" texts
-    measure "library: the same, octet by octet" octets "$(file_size "$room/text")" "$room/text" -l 1 "$bench" plain
-    measure "library: RCPT lines that are parsed" commands 2000000 "$room/commands" -l 1 "$bench" commands
-    measure "library: short replies that are read" replies 4369000 "$room/replies" -l 1 "$bench" replies
-    against=$room/header.20 measure "library: a header section, counted and cut" octets "$(file_size "$room/header.20")" "$room/header" -l 1 "$bench" header
-    against=$room/content.20 measure "library: a dot text that is written" octets "$(file_size "$room/content.20")" "$room/content" -l 1 "$bench" dots
-    among "library: look-ups in a table of 100,000 routes" look-ups 1000000 routes 100000 100 "a table of 100"
+    against=$room/content.20 measure "library: a dot text that is written" octets "$(file_size "$room/content.20")" "$room/content" -l 1 "$bench" dots 20
 }
 
 # Attempts with the replies of a next hop in memory.
@@ -167,10 +160,12 @@ attempts() {
     copies "$room/content"
     # A text that doesn't end in CR LF.
     head -c -1 "$room/content" > "$room/chunk"
-    against=$room/content.20 measure "library: an attempt that hands a text on by DATA" octets "$(file_size "$room/content.20")" "$room/content" -l 1 "$bench" attempts
-    against=$room/content.20 measure "library: an attempt that hands a text on by BDAT" octets "$(file_size "$room/content.20")" "$room/chunk" -c 1 "$bench" attempts
-    runs=3 compare "library: 100,000 attempts of one recipient" attempts 100000 "$bench conversations 100000" "sleep 2" "two seconds"
-    held "library: 10,000 attempts that wait, of 100 places" waiting 10000 0 "an attempt"
+    against=$room/content.20 measure "library: an attempt that hands a text on by DATA" octets "$(file_size "$room/content.20")" "$room/content" -l 1 "$bench" attempts 20
+    against=$room/content.20 measure "library: an attempt that hands a text on by BDAT" octets "$(file_size "$room/content.20")" "$room/chunk" -c 1 "$bench" attempts 20
+    printf 'Subject: x\r\n\r\ny\r\n' > "$room/mail"
+    runs=3 compare "library: 100,000 attempts of one recipient" attempts 100000 \
+        "$bench attempts 100000 < $room/mail" "sleep 2" "two seconds"
+    held "library: 10,000 attempts that wait, of 100 places" waiting 10000 /dev/null 0 "an attempt"
 }
 
 # Stored texts of 1 MiB, one of them full of boundaries, of which a report is made 20 times.
@@ -178,10 +173,10 @@ reports() {
     mail_lines 13797 > "$room/stored"
     boundary_lines 55739 > "$room/boundaries"
     copies "$room/stored"
-    against=$room/stored.20 measure "library: a report that returns 1 MiB" octets "$(file_size "$room/stored.20")" "$room/stored" -l 1 "$bench" reports
-    against=$room/stored.20 measure "library: the same, full of boundaries" octets "$(file_size "$room/stored.20")" "$room/boundaries" -l 1 "$bench" reports
+    against=$room/stored.20 measure "library: a report that returns 1 MiB" octets "$(file_size "$room/stored.20")" "$room/stored" -l 1 "$bench" reports 20
+    against=$room/stored.20 measure "library: the same, full of boundaries" octets "$(file_size "$room/stored.20")" "$room/boundaries" -l 1 "$bench" reports 20
     compare "library: the same, beside one without a boundary" reports 20 \
-        "$bench reports < $room/boundaries" "$bench reports < $room/stored" "a report that returns 1 MiB"
+        "$bench reports 20 < $room/boundaries" "$bench reports 20 < $room/stored" "a report that returns 1 MiB"
 }
 
 # A spool of 62,430 bodies of 4,096 octets (its head, the links, and the last gate), and appends.
@@ -198,44 +193,54 @@ spools() {
         printf '\x00'
     } > "$room/spool"
     compare "library: a spool of 256 MB that is opened" octets "$(file_size "$room/spool")" \
-        "$bench open $room/spool" "cat $room/spool | wc -c" "cat | wc -c"
+        "$bench open 1 $room/spool" "cat $room/spool | wc -c" "cat | wc -c"
     rm "$room/spool"
+    octets_of 4096 > "$room/body"
     # A device's syncs take from one to ten times their least: many short runs.
     runs=31 compare "library: appends to a spool on a file" appends 500 \
-        "rm -f $disk/a $disk/a.2; $bench append $disk/a 500" "rm -f $disk/b; $bench syncs $disk/b 500 4101" "two bare syncs"
+        "rm -f $disk/a $disk/a.2; $bench append 500 $disk/a < $room/body" "$(bare_syncs 500 4101)" "two bare syncs"
+}
+
+# bare_syncs COUNT OCTETS: the command that does on a bare file what the device does for COUNT appends that add OCTETS
+# each.
+bare_syncs() {
+    octets_of "$2" > "$room/octets.$2"
+    echo "rm -f $disk/b; $bench syncs $1 $disk/b < $room/octets.$2"
 }
 
 books() {
     compare "library: 100,000 messages into a book, and out" messages 100000 "$bench drain 100000" "$bench fill 100000" "filling alone"
-    among "library: what is due, 10 of 100,000 held messages" answers 200000 due 100000 100 "10 of 100 held"
-    held "library: 100,000 messages held in a book" hold 100000 1024 "a message, beside 1,024 of text"
+    octets_of 1024 > "$room/text"
+    held "library: 100,000 messages held in a book" fill 100000 "$room/text" 1024 "a message, beside 1,024 of text"
     # A record of 1 MiB, which is decoded 200 times, and as many octets for `cat`.
     record_of 1048542 > "$room/record"
     for ((time = 0; time < 200; time++)); do
         cat "$room/record"
     done > "$room/records"
     compare "library: a record of 1 MiB that is decoded" octets "$(file_size "$room/records")" \
-        "$bench decode < $room/record" "cat $room/records | wc -c" "cat | wc -c"
+        "$bench decode 200 < $room/record" "cat $room/records | wc -c" "cat | wc -c"
     rm "$room/records"
 }
 
 # A node on a file: what it accepts, and opening it with 10,000 messages of 1 KiB.
 nodes() {
-    runs=11 compare "node: messages of 1 MiB on one session, on a file" octets 62914560 \
-        "rm -f $disk/a $disk/a.2; $bench accepts $disk/a 60 1048576" \
+    local accepts
+    transaction_of 1048576 > "$room/large"
+    accepts="rm -f $disk/a $disk/a.2; $bench accepts 60 $disk/a < $room/large"
+    runs=11 compare "node: messages of 1 MiB on one session, on a file" octets 62914560 "$accepts" \
         "rm -f $disk/b; dd if=/dev/zero of=$disk/b bs=1048576 count=60 oflag=dsync status=none" "dd with a sync for each"
-    runs=11 compare "node: the same, beside the syncs that they need" octets 62914560 \
-        "rm -f $disk/a $disk/a.2; $bench accepts $disk/a 60 1048576" \
-        "rm -f $disk/b; $bench syncs $disk/b 60 1048748" "two bare syncs"
+    runs=11 compare "node: the same, beside the syncs that they need" octets 62914560 "$accepts" \
+        "$(bare_syncs 60 1048748)" "two bare syncs"
     full_node
     compare "node: 10,000 messages of 1 KiB that are opened" octets "$(file_size "$room/node")" \
-        "$bench node $room/node" "$bench open $room/node" "opening the spool alone"
-    awk -v octets="$("$bench" peak "$room/node" | awk '{ print $(NF - 1) * 1024 }')" -v file="$(file_size "$room/node")" 'BEGIN {
+        "$bench node 1 $room/node" "$bench open 1 $room/node" "opening the spool alone"
+    awk -v octets="$("$bench" node 1 "$room/node" < /dev/null | awk '{ print $(NF - 1) * 1024 }')" \
+        -v file="$(file_size "$room/node")" 'BEGIN {
         printf "%-52s %12.0f octets at its peak, %.2f of the file\n", "node: the memory of that", octets, octets / file }'
     compactions
     # A message of 1,024 octets adds 1,196 to the file: the time stamp line, envelope, length and gate.
     runs=31 compare "node: messages of 1 KiB on one session, on a file" messages 500 \
-        "rm -f $disk/a $disk/a.2; $bench accepts $disk/a 500 1024" "rm -f $disk/b; $bench syncs $disk/b 500 1196" "two bare syncs"
+        "rm -f $disk/a $disk/a.2; $bench accepts 500 $disk/a < $room/small" "$(bare_syncs 500 1196)" "two bare syncs"
 }
 
 # The full file written anew, and opened again then. The program opens it first, which is taken off by the figure above.
@@ -243,28 +248,34 @@ compactions() {
     local size
     full_node
     fresh_copy
-    "$bench" compact "$disk/a" > "$room/out"
+    "$bench" compact 1 "$disk/a" < /dev/null > "$room/out"
     size=$(file_size "$disk/a.2")
-    before=fresh_copy compare "node: 10,000 messages of 1 KiB that are compacted" octets "$size" "$bench compact $disk/a" \
-        "rm -f $disk/b; dd if=$disk/a.2 of=$disk/b bs=1048576 conv=fsync status=none" "dd with one sync"
-    compare "node: a compacted spool that is opened" octets "$size" "$bench node $disk/a" "$bench node $room/node" \
+    before=fresh_copy compare "node: 10,000 messages of 1 KiB that are compacted" octets "$size" \
+        "$bench compact 1 $disk/a" "rm -f $disk/b; dd if=$disk/a.2 of=$disk/b bs=1048576 conv=fsync status=none" "dd with one sync"
+    compare "node: a compacted spool that is opened" octets "$size" "$bench node 1 $disk/a" "$bench node 1 $room/node" \
         "opening the chain of the same"
 }
 
-# A file with 10,000 messages of 1 KiB, where it isn't made yet.
+# A file with 10,000 messages of 1 KiB, of which ten are due before the others, and one with 100, where they aren't made
+# yet.
 full_node() {
-    [ -e "$room/node" ] || "$bench" accepts "$room/node" 10000 1024 > "$room/out"
+    transaction_of 1024 > "$room/small"
+    if [ ! -e "$room/node" ]; then
+        "$bench" accepts 10000 "$memory/node" < "$room/small" > "$room/out"
+        "$bench" accepts 100 "$memory/few" < "$room/small" > "$room/out"
+        mv "$memory"/* "$room"
+    fi
 }
 
 # The work of a node: what there is to do, attempts that begin and are lost, and the queue of the full file on its way to a
 # next hop in memory, from a fresh copy each time.
 queues() {
-    among "node: what is due, 10 of 10,000 queued messages" answers 200000 works 10000 100 "10 of 100 queued"
-    among "node: ten attempts that begin and are lost" turns 10000 begins 10000 100 "10 of 100 queued"
     full_node
+    among "node: what is due, 10 of 10,000 queued messages" answers 200000 works node few "10 of 100 queued"
+    among "node: ten attempts that begin and are lost" turns 10000 begins node few "10 of 100 queued"
     # An outcome of one place adds 43 octets.
     before=fresh_copy compare "node: 10,000 queued messages that are delivered" messages 10000 \
-        "$bench deliver $disk/a" "rm -f $disk/b; $bench syncs $disk/b 10000 43" "two bare syncs"
+        "$bench deliver 1 $disk/a" "$(bare_syncs 10000 43)" "two bare syncs"
 }
 
 fresh_copy() {
@@ -273,7 +284,7 @@ fresh_copy() {
     sync "$disk/a" "$disk/a.2"
 }
 
-groups=(sessions lines attempts reports spools books nodes queues)
+groups=(sessions texts attempts reports spools books nodes queues)
 [ $# -gt 0 ] || set -- "${groups[@]}"
 for group in "$@"; do
     if [[ " ${groups[*]} " != *" $group "* ]]; then

@@ -9,10 +9,10 @@ set -euo pipefail
 cd "$(dirname "$0")/.."
 
 program=$1
-folder=crates/relay_server_tests/data
+folder=crates/relay_meeting_tests/data
 plain=()
-for it in "$folder"/*.in; do
-    name=$(basename "$it" .in)
+for it in "$folder"/*.ref; do
+    name=$(basename "$it" .ref)
     case $name in
         sequences | chunks | another_reply | another_offer | small_* | postmaster_routed | standard_paths | \
             refused_line_ends) ;;

@@ -2,7 +2,7 @@
 # Takes steps on a spool in two files, with the calls that it makes of the device written down by a shim, which lets some
 # fail: what the program answers, which calls it made in which order, and what the files hold then.
 #
-#   tests/spool_on_a_file.sh build/relay_spool_tests
+#   tests/spool_on_a_file.sh crates/relay_disk_tests/out/relay_disk_tests
 set -euo pipefail
 cd "$(dirname "$0")/.."
 
@@ -41,8 +41,8 @@ image() {
 take "an append" "" create "append abc" open
 hold answers answers << END
 created, 18 octets
-appended, 26 octets
-opened, 1 bodies, 26 octets
+append: 26 octets
+opened, 1 bodies, 26 octets (abc)
 END
 hold calls calls << END
 open spool, mode 600
@@ -78,8 +78,8 @@ image 'RELAYQ01\0\0\0\0\0\0\0\0\0\0' spool.2
 take "a row" "" create "append_all ab c" open
 hold answers answers << END
 created, 18 octets
-appended a row of 13 octets, 31 octets
-opened, 2 bodies, 31 octets
+append_all: 31 octets
+opened, 2 bodies, 31 octets (ab) (c)
 END
 sed -n '/^write 13 /,/^open/p' calls > row
 hold calls row << END
@@ -95,11 +95,11 @@ image "$head"'\x01\x01\0\0\0\x02ab\x01\0\0\0\x01c\0'
 take "two compactions" "" create "append abc" "append de" "compact one" "compact next" open
 hold answers answers << END
 created, 18 octets
-appended, 26 octets
-appended, 33 octets
-compacted, 26 octets
-compacted, 27 octets
-opened, 1 bodies, 27 octets
+append: 26 octets
+append: 33 octets
+compact: 26 octets
+compact: 27 octets
+opened, 1 bodies, 27 octets (next)
 END
 hold calls <(tail -n +21 calls | head -n 8) << END
 write 17 octets at 9
@@ -128,8 +128,8 @@ append refused: device
 spent
 refused: device, 2 and 0 calls failed
 refused: device, 3 and 0 calls failed
-opened, 1 bodies, 26 octets
-appended, 32 octets
+opened, 1 bodies, 26 octets (abc)
+append: 32 octets
 END
 [ "$(grep -c '^sync: failed$' calls)" = 1 ] || fail "not one failed sync"
 image "$head"'\x01\x01\0\0\0\x03abc\x01\0\0\0\x01f\0'
@@ -149,8 +149,8 @@ image "$head"'\x01\0\0\0\0\x03abc\0'
 take "a write that takes half" HALF_WRITE=4 create "append abc" open
 hold answers answers << END
 created, 18 octets
-appended, 26 octets
-opened, 1 bodies, 26 octets
+append: 26 octets
+opened, 1 bodies, 26 octets (abc)
 END
 hold calls <(tail -n +13 calls | head -n 5) << END
 write 4 octets at 18
@@ -169,17 +169,17 @@ created, 18 octets
 append refused: device
 spent
 opened, 0 bodies, 18 octets
-appended, 24 octets
-opened, 1 bodies, 24 octets
+append: 24 octets
+opened, 1 bodies, 24 octets (f)
 END
 done
 take "no space behind half" "HALF_WRITE=6 FULL_WRITE=7" create "append abc" "append de" again "append f"
 hold answers answers << END
 created, 18 octets
-appended, 26 octets
+append: 26 octets
 append refused: device
-opened, 1 bodies, 26 octets
-appended, 32 octets
+opened, 1 bodies, 26 octets (abc)
+append: 32 octets
 END
 image "$head"'\x01\x01\0\0\0\x03abc\x01\0\0\0\x01f\0'
 

@@ -1,5 +1,4 @@
-use relay_disk::{Disks, FileDisk, MemoryDisk};
-use std::alloc::Global;
+use relay_disk::{Disks, FileDisk};
 use std::fs;
 use std::test::Fail;
 
@@ -10,14 +9,6 @@ pub fn files(rt: &HostRuntime, path: &str) -> Result<Disks<FileDisk>, Fail> {
         first: FileDisk::open(rt, path)?,
         second: FileDisk::open(rt, second.as_str())?,
     })
-}
-
-/// Two empty disks in memory.
-pub fn in_memory(alloc: Global) -> Disks<MemoryDisk> {
-    Disks {
-        first: MemoryDisk::new(alloc),
-        second: MemoryDisk::new(alloc),
-    }
 }
 
 /// Takes away the files of the spool at this path, where they are there.

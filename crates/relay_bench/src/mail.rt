@@ -1,58 +1,28 @@
-use relay_book::Accept;
-use relay_envelope::{Envelope, Path, PathBuf, Recipient, Recipients, Ret};
+use relay_book::{Accept, Change};
+use relay_envelope::{Envelope, Recipient, read_mail, read_rcpt};
 use relay_octets::Octets;
 use relay_trace::Moment;
 use std::alloc::Global;
 use std::test::Fail;
 
-/// So many seconds from 1970.
-pub fn moment_of(seconds: u64) -> Result<Moment, Fail> {
-    match Moment::new(seconds) {
-        Ok(moment) => Ok(moment),
-        Err(_) => Err(Fail::new("a moment was refused")),
+/// When a message of a book comes, and what becomes of it.
+pub const AT: u64 = 1_000;
+
+/// A message for so many recipients, of which a report returns the whole text.
+pub fn envelope_of(alloc: Global, count: u8) -> Result<Envelope, Fail> {
+    let mut envelope = Envelope::new(alloc, read_mail(b"<a@example.org> RET=FULL")?)?;
+    for _ in 0..count {
+        let recipient = Recipient::new(alloc, read_rcpt(b"<b@example.org>")?)?;
+        envelope.recipients.push(recipient)?;
     }
+    Ok(envelope)
 }
 
-/// A message from one path to another.
-pub fn accept_of(
-    alloc: Global,
-    at: Moment,
-    paths: [&[u8]; 2],
-    ret: Option<Ret>,
-    text: Octets,
-) -> Result<Accept, Fail> {
-    Ok(Accept {
-        at,
-        envelope: envelope_of(alloc, paths, ret)?,
-        stored_text: text,
-    })
-}
-
-fn envelope_of(alloc: Global, paths: [&[u8]; 2], ret: Option<Ret>) -> Result<Envelope, Fail> {
-    let reverse_path = path_of(alloc, paths[0])?;
-    Ok(Envelope {
-        reverse_path,
-        ret,
-        envid: None,
-        recipients: recipients_of(alloc, paths[1])?,
-    })
-}
-
-/// One recipient.
-fn recipients_of(alloc: Global, path: &[u8]) -> Result<Recipients, Fail> {
-    let path = path_of(alloc, path)?;
-    let mut recipients = Recipients::with_capacity(alloc, 1)?;
-    recipients.push(Recipient {
-        path,
-        notify: None,
-        orcpt: None,
-    })?;
-    Ok(recipients)
-}
-
-fn path_of(alloc: Global, text: &[u8]) -> Result<PathBuf, Fail> {
-    match Path::read(text) {
-        Some(path) => Ok(PathBuf::new(alloc, path)?),
-        None => Err(Fail::new("a path was refused")),
-    }
+/// A message for one recipient comes, with this text.
+pub fn accept_of(alloc: Global, text: &[u8]) -> Result<Change, Fail> {
+    Ok(Change::Accept(Accept {
+        at: Moment::new(AT)?,
+        envelope: envelope_of(alloc, 1)?,
+        stored_text: Octets::from_slice(alloc, text)?,
+    }))
 }

@@ -1,24 +1,14 @@
-use crate::disks::in_memory;
-use crate::mail::moment_of;
-use crate::nodes::{accept, created, greeted, opened};
-use relay_disk::Disk;
+use crate::nodes::{LATER, opened};
+use relay_disk::FileDisk;
 use relay_node::{Node, Work};
 use relay_routes::HostName;
 use relay_trace::Moment;
 use std::alloc::Global;
 use std::test::Fail;
 
-/// How many messages of a node in memory are due at `DUE`.
-const DUE_MESSAGES: u64 = 10;
-
-/// When these have come. A place that is lost at the moment 0 is due before it again.
+/// When the messages are due that came at the moment 0, and the others aren't yet. A place that is lost at the moment 0
+/// is due before it again.
 const DUE: u64 = 20_000;
-
-/// When the others come.
-const LATER: u64 = 1_000_000;
-
-/// The octets of the content of a message in memory.
-const OCTETS: u64 = 64;
 
 /// What a next hop says to each group of commands.
 const REPLIES: [&[u8]; 4] = [
@@ -28,24 +18,28 @@ const REPLIES: [&[u8]; 4] = [
     b"250 queued as 1\r\n",
 ];
 
-/// Asks a node of so many messages, of which ten are due, so many times what there is to do.
-pub fn ask_for_works(alloc: Global, count: u64, times: u64) -> Result<String, Fail> {
-    let mut node = created(alloc, in_memory(alloc))?;
-    fill(alloc, &mut node, count)?;
-    let works = count_works(alloc, &node, times)?;
-    Ok(format!(in alloc; "works: {works} in {times} times")?)
+/// Asks the node in these files so many times what there is to do, when ten messages are due at most.
+pub fn ask_for_works(rt: &HostRuntime, times: u64, path: &str) -> Result<String, Fail> {
+    let node = opened(rt, path)?;
+    let now = Moment::new(DUE)?;
+    let mut works: u64 = 0;
+    for _ in 0..times {
+        works = works.saturating_add(works_at(rt.alloc(), &node, now)?.len() as u64);
+    }
+    Ok(format!(in rt.alloc(); "works: {works} in {times} times")?)
 }
 
-/// Begins an attempt for each of the ten messages that are due among so many, and loses it, so many times.
-pub fn begin_attempts(alloc: Global, count: u64, times: u64) -> Result<String, Fail> {
-    let mut node = created(alloc, in_memory(alloc))?;
-    fill(alloc, &mut node, count)?;
-    let begun = begin_and_lose(alloc, &mut node, times)?;
-    Ok(format!(in alloc; "begins: {begun} attempts in {times} times")?)
+/// Begins so many times an attempt for each message of the node in these files that is due then, and loses it.
+pub fn begin_attempts(rt: &HostRuntime, times: u64, path: &str) -> Result<String, Fail> {
+    let mut node = opened(rt, path)?;
+    let mut begun: u64 = 0;
+    for _ in 0..times {
+        begun = begun.saturating_add(begin_and_lose(rt.alloc(), &mut node)?);
+    }
+    Ok(format!(in rt.alloc(); "begins: {begun} attempts in {times} times")?)
 }
 
-/// Opens the node in this file, and hands each message that is due at the moment 0 to a next hop that takes it, one
-/// behind another.
+/// Hands each message of the node in these files to a next hop that takes it, one behind another.
 pub fn deliver_messages(rt: &HostRuntime, path: &str) -> Result<String, Fail> {
     let mut node = opened(rt, path)?;
     let delivered = deliver(rt.alloc(), &mut node)?;
@@ -53,60 +47,29 @@ pub fn deliver_messages(rt: &HostRuntime, path: &str) -> Result<String, Fail> {
     Ok(format!(in rt.alloc(); "deliver: {delivered} messages, {size} octets")?)
 }
 
-/// Hands in so many messages, of which the first ten are due before the others.
-fn fill<D: Disk>(alloc: Global, node: &mut Node<D>, count: u64) -> Result<(), Fail> {
-    let session = greeted(node)?;
-    let early = count.min(DUE_MESSAGES);
-    accept(alloc, node, session, moment_of(DUE)?, early, OCTETS)?;
-    accept(
-        alloc,
-        node,
-        session,
-        moment_of(LATER)?,
-        count - early,
-        OCTETS,
-    )?;
-    Ok(())
-}
-
 /// What there is to do at a moment.
-fn works_at<D: Disk>(alloc: Global, node: &Node<D>, now: Moment) -> Result<Vec<Work>, Fail> {
-    match node.due(alloc, now) {
-        Ok(works) => Ok(works),
-        Err(_) => Err(Fail::new("there is no answer what is due")),
-    }
+fn works_at(alloc: Global, node: &Node<FileDisk>, now: Moment) -> Result<Vec<Work>, Fail> {
+    Ok(node.due(alloc, now)?)
 }
 
-/// How much there is to do, over so many times.
-fn count_works<D: Disk>(alloc: Global, node: &Node<D>, times: u64) -> Result<u64, Fail> {
-    let now = moment_of(DUE)?;
-    let mut count: u64 = 0;
-    for _ in 0..times {
-        count = count.saturating_add(works_at(alloc, node, now)?.len() as u64);
-    }
-    Ok(count)
-}
-
-/// Begins so many times an attempt for each message that is due, and loses it.
-fn begin_and_lose<D: Disk>(alloc: Global, node: &mut Node<D>, times: u64) -> Result<u64, Fail> {
-    let now = moment_of(DUE)?;
+/// Begins an attempt for each message that is due, and loses it at the moment 0.
+fn begin_and_lose(alloc: Global, node: &mut Node<FileDisk>) -> Result<u64, Fail> {
+    let now = Moment::new(DUE)?;
+    let works = works_at(alloc, node, now)?;
     let mut begun: u64 = 0;
-    for _ in 0..times {
-        let works = works_at(alloc, node, now)?;
-        for work in works.iter() {
-            if let Work::Try(message, hop) = work {
-                let attempt = start(node, *message, hop, now)?;
-                lose(node, attempt)?;
-                begun = begun.saturating_add(1);
-            }
+    for work in works.iter() {
+        if let Work::Try(message, hop) = work {
+            let attempt = start(node, *message, hop, now)?;
+            node.lost(attempt, Moment::new(0)?)?;
+            begun = begun.saturating_add(1);
         }
     }
     Ok(begun)
 }
 
-/// Hands each message on that is due at the moment 0.
-fn deliver<D: Disk>(alloc: Global, node: &mut Node<D>) -> Result<u64, Fail> {
-    let now = moment_of(0)?;
+/// Hands each message on, and counts those of which the attempt ended with the last reply.
+fn deliver(alloc: Global, node: &mut Node<FileDisk>) -> Result<u64, Fail> {
+    let now = Moment::new(LATER)?;
     let works = works_at(alloc, node, now)?;
     let mut delivered: u64 = 0;
     for work in works.iter() {
@@ -120,8 +83,8 @@ fn deliver<D: Disk>(alloc: Global, node: &mut Node<D>) -> Result<u64, Fail> {
 }
 
 /// Hands a message on: whether its attempt ended with the last reply.
-fn hand_on<D: Disk>(
-    node: &mut Node<D>,
+fn hand_on(
+    node: &mut Node<FileDisk>,
     message: u64,
     hop: &HostName,
     now: Moment,
@@ -129,41 +92,17 @@ fn hand_on<D: Disk>(
     let attempt = start(node, message, hop, now)?;
     let mut is_ended = false;
     for reply in REPLIES {
-        is_ended = answer(node, attempt, reply, now)?;
+        is_ended = node.reply(attempt, reply, now)?.change.is_some();
     }
     Ok(is_ended)
 }
 
 /// Begins an attempt, and gives its number.
-fn start<D: Disk>(
-    node: &mut Node<D>,
+fn start(
+    node: &mut Node<FileDisk>,
     message: u64,
     hop: &HostName,
     now: Moment,
 ) -> Result<usize, Fail> {
-    match node.start(message, hop, now) {
-        Ok(started) => Ok(started.attempt),
-        Err(_) => Err(Fail::new("an attempt was refused")),
-    }
-}
-
-/// Gives an attempt what its next hop says: whether it ended.
-fn answer<D: Disk>(
-    node: &mut Node<D>,
-    attempt: usize,
-    reply: &[u8],
-    now: Moment,
-) -> Result<bool, Fail> {
-    match node.reply(attempt, reply, now) {
-        Ok(replied) => Ok(replied.change.is_some()),
-        Err(_) => Err(Fail::new("a reply was refused")),
-    }
-}
-
-/// Loses the connection of an attempt, at the moment 0.
-fn lose<D: Disk>(node: &mut Node<D>, attempt: usize) -> Result<(), Fail> {
-    match node.lost(attempt, moment_of(0)?) {
-        Ok(_) => Ok(()),
-        Err(_) => Err(Fail::new("an attempt wasn't lost")),
-    }
+    Ok(node.start(message, hop, now)?.attempt)
 }

@@ -1,15 +1,11 @@
 use crate::disks::files;
 use relay_spool::{Opened, Spool};
-use std::alloc::Global;
 use std::fs::{File, OpenOptions};
 use std::io;
 use std::os::unix::fs::FileExt;
 use std::test::Fail;
 
-/// The octets of each body that is appended.
-const BODY: usize = 4_096;
-
-/// Opens the spool in this file, and counts its bodies and their octets.
+/// Opens the spool in these files, and counts its bodies and their octets.
 pub fn open_spool(rt: &HostRuntime, path: &str) -> Result<String, Fail> {
     let Ok(Opened { spool, bodies }) = Spool::open(rt.alloc(), files(rt, path)?) else {
         return Err(Fail::new("the spool was refused"));
@@ -19,40 +15,38 @@ pub fn open_spool(rt: &HostRuntime, path: &str) -> Result<String, Fail> {
     Ok(format!(in rt.alloc(); "open: {count} bodies in {size} octets")?)
 }
 
-/// Makes a spool in this file, which is to be empty, and appends so many bodies.
-pub fn append_bodies(rt: &HostRuntime, path: &str, count: u64) -> Result<String, Fail> {
-    let body: Vec<u8> = vec![in rt.alloc(); 7; BODY]?;
+/// Makes a spool in these files, which are to be empty, and appends a body so many times.
+pub fn append_bodies(
+    rt: &HostRuntime,
+    times: u64,
+    body: &[u8],
+    path: &str,
+) -> Result<String, Fail> {
     let Ok(mut spool) = Spool::create(rt.alloc(), files(rt, path)?) else {
         return Err(Fail::new("the spool was refused"));
     };
-    for _ in 0..count {
-        if !spool.is_live() || spool.append(body.as_slice()).is_err() {
+    if u32::try_from(body.len()).is_err() {
+        return Err(Fail::new("the body is too long"));
+    }
+    for _ in 0..times {
+        if !spool.is_live() || spool.append(body).is_err() {
             return Err(Fail::new("a body was refused"));
         }
     }
     let size = spool.size();
-    Ok(format!(in rt.alloc(); "append: {count} bodies, {size} octets")?)
+    Ok(format!(in rt.alloc(); "append: {times} bodies, {size} octets")?)
 }
 
-/// Does on a bare file what the device does for so many appends that add so many octets each, and no more: the octets,
+/// Does on a bare file what the device does for so many appends that add as many octets each, and no more: the octets,
 /// a sync, an octet before them, a sync.
-pub fn sync_twice(rt: &HostRuntime, path: &str, count: u64, link: u64) -> Result<String, Fail> {
+pub fn sync_twice(rt: &HostRuntime, times: u64, octets: &[u8], path: &str) -> Result<String, Fail> {
     let file = OpenOptions::new().write(true).create(true).open(rt, path)?;
-    sync_each(rt.alloc(), &file, count, link)?;
-    let size = file.metadata()?.len();
-    Ok(format!(in rt.alloc(); "syncs: {count} times two, {size} octets")?)
-}
-
-/// Writes so many links of so many octets one behind another.
-fn sync_each(alloc: Global, file: &File, count: u64, link: u64) -> Result<(), Fail> {
-    let Ok(width) = usize::try_from(link) else {
-        return Err(Fail::new("too many octets"));
-    };
-    let octets: Vec<u8> = vec![in alloc; 7; width]?;
-    for turn in 0..count {
-        sync_link(file, turn.saturating_mul(link), octets.as_slice())?;
+    let mut place: u64 = 0;
+    for _ in 0..times {
+        sync_link(&file, place, octets)?;
+        place = place.saturating_add(octets.len() as u64);
     }
-    Ok(())
+    Ok(format!(in rt.alloc(); "syncs: {times} times two, {place} octets")?)
 }
 
 /// Writes these octets behind a place, and then an octet there, with a sync behind each write.

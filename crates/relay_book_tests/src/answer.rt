@@ -1,6 +1,5 @@
 //! What comes of a row about a book.
 use crate::fault::RowsFault;
-use crate::generate::decode_records;
 use crate::hex::octets_of;
 use crate::number::number_in;
 use crate::octets::{fits, values_that_fit};
@@ -53,8 +52,6 @@ impl Subject {
             self.read(alloc, text)
         } else if let Some(text) = row.strip_prefix("cut ") {
             cuts_text(alloc, text)
-        } else if let Some(text) = row.strip_prefix("generate ") {
-            decode_records(alloc, number_in(text)?)
         } else {
             let places = self.book.held(alloc)?;
             Ok(places_text(alloc, places.as_slice())?)

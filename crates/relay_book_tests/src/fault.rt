@@ -2,7 +2,7 @@ use std::alloc::AllocError;
 use std::io::{Error, ErrorKind};
 
 /// Why not every row was shown.
-#[derive(Clone, Copy, Debug, Drop, PartialEq, Eq)]
+#[derive(Clone, Copy)]
 pub enum RowsFault {
     /// A file couldn't be read, or a line not written.
     Stream,

@@ -1,22 +1,17 @@
 //! Reads each row of data/, and prints what comes of it. A row applies a change to a book, asks that book,
-//! reads a record, takes a record or a snapshot in hand and changes an octet of it, writes, reads or cuts a
-//! snapshot, or decodes records of a fixed generator: its answer stands behind it. Of the rows of reports.in, one
-//! shows the report of an outcome and whether it is taken apart again, or the boundary of three parts: its answer
-//! stands alone.
+//! reads a record, takes a record or a snapshot in hand and changes an octet of it, or writes, reads or cuts a
+//! snapshot: its answer stands behind it. Of the rows of reports.in, one shows the report of an outcome and whether
+//! it is taken apart again, or the boundary of three parts: its answer stands alone.
 #![tactic(auto)]
 
 mod answer;
-mod draw;
 mod fault;
-mod generate;
 mod hex;
 mod number;
 mod octets;
 mod report;
 mod shown;
 mod snapshot;
-mod sum;
-mod tally;
 
 use answer::Subject;
 use fault::RowsFault;

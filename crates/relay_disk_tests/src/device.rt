@@ -6,11 +6,12 @@
 //! - of a spool `size`, `live`, `fuse CALLS`, `append OCTETS` and `compact OCTETS`; `body INDEX OCTETS` asks whether
 //!   that is the body with which the spool was opened.
 use crate::answer::{of_call, of_fault, of_number, of_question, of_size, word};
+use crate::calls::{append, compact};
 use crate::held::Mounted;
 use crate::octets::octets_of;
 use relay_disk::{Disk, DiskFault, Disks, MemoryDisk, Reboot};
 use relay_pieces::Pieces;
-use relay_spool::{Spool, SpoolFault};
+use relay_spool::SpoolFault;
 use std::alloc::{AllocError, Global};
 
 /// The number that a text writes, where `N` is this one.
@@ -145,39 +146,24 @@ pub fn ask_spool(
             mounted.spool.fuse(number_of(text, 0));
             word(alloc, "ok")
         }
-        "append" => append(
-            alloc,
-            &mut mounted.spool,
-            octets_of(alloc, text)?.as_slice(),
-        ),
-        "compact" => compact(alloc, &mut mounted.spool, octets_of(alloc, text)?),
+        "append" => {
+            let body = octets_of(alloc, text)?;
+            answered(alloc, append(&mut mounted.spool, body.as_slice()))
+        }
+        "compact" => {
+            let body = octets_of(alloc, text)?;
+            answered(alloc, compact(&mut mounted.spool, body))
+        }
         "body" => is_body(alloc, mounted.bodies.as_slice(), text),
         _ => word(alloc, "no step"),
     }
 }
 
-fn append(alloc: Global, spool: &mut Spool<MemoryDisk>, body: &[u8]) -> Result<String, AllocError> {
-    if !spool.is_live() || u32::try_from(body.len()).is_err() {
-        return word(alloc, "spent");
-    }
-    answered(alloc, spool.append(body))
-}
-
-fn compact(
-    alloc: Global,
-    spool: &mut Spool<MemoryDisk>,
-    body: Vec<u8>,
-) -> Result<String, AllocError> {
-    if !spool.is_live() {
-        return word(alloc, "spent");
-    }
-    answered(alloc, spool.compact(body))
-}
-
-fn answered(alloc: Global, answer: Result<(), SpoolFault>) -> Result<String, AllocError> {
+fn answered(alloc: Global, answer: Option<Result<(), SpoolFault>>) -> Result<String, AllocError> {
     match answer {
-        Ok(()) => word(alloc, "ok"),
-        Err(fault) => of_fault(alloc, fault),
+        Some(Ok(())) => word(alloc, "ok"),
+        Some(Err(fault)) => of_fault(alloc, fault),
+        None => word(alloc, "spent"),
     }
 }
 

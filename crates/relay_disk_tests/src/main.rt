@@ -1,9 +1,10 @@
-//! Plays each row of data/: steps on disks in memory and on the spool that stands on two, with what each step is to
-//! answer. Then takes steps on real files. Each row has a line, which says whether it came as it is written
-//! down.
+//! Plays each row of data/rows.in: steps on disks in memory and on the spool that stands on two, with what each step is
+//! to answer. Then tries real files, and takes the steps of data/steps.in on a spool in two. Each row has a line, which
+//! says whether it came as it is written down, and so has each step, which says what came of it.
 #![tactic(auto)]
 
 mod answer;
+mod calls;
 mod device;
 mod files;
 mod held;
@@ -11,29 +12,33 @@ mod mount;
 mod octets;
 mod once;
 mod row;
+mod steps;
 
 use files::{
     a_file_is_locked_by_one_disk_at_a_time, a_file_keeps_what_was_written,
-    a_new_file_is_its_owners_alone, a_path_in_no_folder_is_refused, a_spool_stands_on_two_files,
+    a_new_file_is_its_owners_alone, a_path_in_no_folder_is_refused,
 };
 use relay_disk::DiskFault;
 use relay_spool::SpoolFault;
 use row::difference_of;
-use std::io::{self, Print};
+use std::io::{self, Print, Read};
 use std::test::Fail;
 use std::{env, fs};
+use steps::take_steps;
 
-/// The word is the folder of the rows. Without one they lie where the program runs.
+/// The word is the first file of a spool, on which the steps of the standard input are taken, and nothing else is done.
 fn main(rt: HostRuntime) -> Result<(), Fail> {
     let words: Vec<String> = env::args(&rt)?.collect(rt.alloc())?;
-    let folder = match words.get(1) {
-        Some(word) => word.as_str(),
-        None => ".",
-    };
-    let path = format!(in rt.alloc(); "{folder}/rows.in")?;
-    let rows = fs::read_to_string(&rt, path.as_str())?;
+    if let Some(path) = words.get(1) {
+        let mut lines = String::new(rt.alloc());
+        rt.stdin().read_to_string(&mut lines)?;
+        return take_steps(&rt, path.as_str(), lines.as_str());
+    }
+    let rows = fs::read_to_string(&rt, "rows.in")?;
     play_rows(&rt, rows.as_str())?;
     show_files(&rt)?;
+    let lines = fs::read_to_string(&rt, "steps.in")?;
+    take_steps(&rt, "relay_disk_tests_spool", lines.as_str())?;
     show_faults(&rt)
 }
 
@@ -68,8 +73,6 @@ fn show_files(rt: &HostRuntime) -> Result<(), Fail> {
     say(rt, "a file is locked by one disk at a time", holds)?;
     let holds = a_path_in_no_folder_is_refused(rt);
     say(rt, "a path in no folder is refused", holds)?;
-    let holds = a_spool_stands_on_two_files(rt)?;
-    say(rt, "a spool stands on two files", holds)?;
     Ok(())
 }
 

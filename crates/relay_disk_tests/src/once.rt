@@ -1,7 +1,9 @@
-//! The step `once CALLS CALL` of two disks: a call of a spool on them, of which the device fails one call behind so many and
-//! goes on. `create` and `open` are the calls, and `append OCTETS` and `compact OCTETS`, which `open` goes before. It answers
-//! what the call answers, and how many bodies the same disks open to behind that, or the fault of that opening.
+//! The step `once CALLS CALL` of two disks: a call of a spool on them, of which the device fails one call behind so
+//! many and goes on. `create` and `open` are the calls, and `append OCTETS` and `compact OCTETS`, which `open` goes
+//! before. It answers what the call answers, and how many bodies the same disks open to behind that, or the fault of
+//! that opening.
 use crate::answer::of_fault;
+use crate::calls::{append, compact};
 use crate::octets::octets_of;
 use relay_disk::{Disks, MemoryDisk, OnceDisk};
 use relay_spool::{Opened, Spool, SpoolFault};
@@ -65,11 +67,14 @@ fn take(
     let octets = octets_of(alloc, octets)?;
     match mounted {
         Err((disks, fault)) => Ok((disks, Err(fault))),
-        Ok(spool) => Ok(match name {
-            "append" => append(spool, octets),
-            "compact" => compact(spool, octets),
-            _ => (spool.into_disk(), Ok(())),
-        }),
+        Ok(mut spool) => {
+            let answer = match name {
+                "append" => append(&mut spool, octets.as_slice()),
+                "compact" => compact(&mut spool, octets),
+                _ => Some(Ok(())),
+            };
+            Ok((spool.into_disk(), answer.unwrap_or(Err(SpoolFault::Full))))
+        }
     }
 }
 
@@ -91,28 +96,4 @@ fn open(
         Ok(Opened { spool, bodies: _ }) => Ok(spool),
         Err(refused) => Err((refused.disk, refused.fault)),
     }
-}
-
-fn append(
-    mut spool: Spool<OnceDisk<MemoryDisk>>,
-    octets: Vec<u8>,
-) -> (FailingDisks, Result<(), SpoolFault>) {
-    let answer = if spool.is_live() && u32::try_from(octets.len()).is_ok() {
-        spool.append(octets.as_slice())
-    } else {
-        Err(SpoolFault::Full)
-    };
-    (spool.into_disk(), answer)
-}
-
-fn compact(
-    mut spool: Spool<OnceDisk<MemoryDisk>>,
-    octets: Vec<u8>,
-) -> (FailingDisks, Result<(), SpoolFault>) {
-    let answer = if spool.is_live() {
-        spool.compact(octets)
-    } else {
-        Err(SpoolFault::Full)
-    };
-    (spool.into_disk(), answer)
 }

@@ -1,7 +1,7 @@
 //! Two links, each of which goes on only once the other has come as far. They are both answered only where each has a
 //! thread of its own, and where no lock is held through a session.
 use crate::mail::{BACK, FRONT, count_lines};
-use crate::setup::{CLIENT, config_with, node_with, run};
+use crate::setup::{CLIENT, config_with, empty_node, run};
 use relay_hub::Link;
 use std::alloc::Global;
 use std::io::{self, Read, Write};
@@ -125,7 +125,7 @@ pub(crate) fn two_links_wait_for_each_other<T: Threads + Wait + Sync>(
     alloc: Global,
 ) -> Result<bool, Fail> {
     let config = config_with(alloc, None)?;
-    let node = node_with(alloc, config_with(alloc, None)?, None)?;
+    let node = empty_node(alloc)?;
     let gate = Gate {
         begun: AtomicU64::new(0),
         told: AtomicU64::new(0),

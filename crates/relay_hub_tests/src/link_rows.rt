@@ -4,84 +4,18 @@ ghost use Rattle.relay_disk.specs.Memory.{memory_words};
 ghost use Rattle.relay_book.specs.declared.change.Change.{Change};
 ghost use Rattle.relay_hub.specs.Hub.{Answers};
 
-use crate::setup::{CLIENT, MemoryNode, config_with, count_held, first_moment, node_with};
+use crate::faulty::{BadCall, Held, Lines};
+use crate::serving::word_of;
+use crate::setup::{CLIENT, MemoryNode, config_with, count_held, empty_node, first_moment};
 use relay_disk::MemoryDisk;
 use relay_hub::{Hub, Opening, hub_link};
 use relay_links::LinkFault;
 use relay_routes::Config;
 use std::alloc::Global;
-use std::io::{self, ErrorKind, Read, Write};
 use std::marker::Brand;
 use std::sync::Wait;
 use std::sync::ledger::Blank;
 use std::test::Fail;
-
-/// What the client says, a line at a read: a message without content for a recipient at `example.org`.
-const LINES: [&str; 6] = [
-    "HELO x\r\n",
-    "MAIL FROM:<a@example.org>\r\n",
-    "RCPT TO:<b@example.org>\r\n",
-    "DATA\r\n",
-    ".\r\n",
-    "QUIT\r\n",
-];
-
-/// The call of a reader or a writer that fails, counted from 1.
-#[derive(Clone, Copy, PartialEq, Eq)]
-enum BadCall {
-    Read(usize),
-    Write(usize),
-    Flush(usize),
-}
-
-/// Gives a line of the client at each read.
-#[derive(Clone, Copy)]
-struct Lines {
-    reads: usize,
-    bad: BadCall,
-}
-
-impl Read for Lines {
-    fn read(&mut self, buf: &mut [u8]) -> io::Result<usize> {
-        let line = LINES.get(self.reads).copied().unwrap_or("");
-        self.reads = self.reads.saturating_add(1);
-        if self.bad == BadCall::Read(self.reads) {
-            return Err(io::Error::from(ErrorKind::ConnectionReset));
-        }
-        let octets = line.as_bytes();
-        let count = octets.len().min(buf.len());
-        buf[..count].copy_from_slice(&octets[..count]);
-        Ok(count)
-    }
-}
-
-/// Holds what is written.
-#[derive(Drop)]
-struct Held {
-    octets: Vec<u8>,
-    writes: usize,
-    flushes: usize,
-    bad: BadCall,
-}
-
-impl Write for Held {
-    fn write(&mut self, buf: &[u8]) -> io::Result<usize> {
-        self.writes = self.writes.saturating_add(1);
-        if self.bad == BadCall::Write(self.writes) {
-            return Err(io::Error::from(ErrorKind::BrokenPipe));
-        }
-        self.octets.extend_from_slice(buf)?;
-        Ok(buf.len())
-    }
-
-    fn flush(&mut self) -> io::Result<()> {
-        self.flushes = self.flushes.saturating_add(1);
-        if self.bad == BadCall::Flush(self.flushes) {
-            return Err(io::Error::from(ErrorKind::BrokenPipe));
-        }
-        Ok(())
-    }
-}
 
 /// What came of a link.
 #[derive(Clone, Copy)]
@@ -95,9 +29,9 @@ struct Came {
     held: usize,
 }
 
-/// A line for each call that fails: how the link ended, how many octets it wrote, how many receipts its thread has, and
-/// how many places the node then holds. There is a read for each line, and a write and a flush for the greeting and each
-/// reply; the last call of each kind is one that the link doesn't come to.
+/// A line for each call that fails: how the link ended, how many octets it wrote, how many receipts its thread has,
+/// and how many places the node then holds. There is a read for each line, and a write and a flush for the greeting
+/// and each reply; the last call of each kind is one that the link doesn't come to.
 pub(crate) fn link_rows<T: Wait>(rt: &T, alloc: Global) -> Result<String, Fail> {
     let mut text = String::new(alloc);
     for number in 1..=7 {
@@ -139,7 +73,7 @@ fn say(
 /// Serves the client, by a link of which a call fails.
 fn came_of<T: Wait>(rt: &T, alloc: Global, bad: BadCall) -> Result<Came, Fail> {
     let config = config_with(alloc, None)?;
-    let node = node_with(alloc, config_with(alloc, None)?, None)?;
+    let node = empty_node(alloc)?;
     let mut reader = Lines { reads: 0, bad };
     let mut writer = Held {
         octets: Vec::new(alloc),
@@ -202,15 +136,5 @@ fn serve_by<J: Opening, T: Wait>(
     match hub.close(passes) {
         Ok((node, passes)) => Ok((end, node, passes[0].receipts().len())),
         Err(_) => Err(Fail::new("a mismatch")),
-    }
-}
-
-/// How a link ended.
-fn word_of(end: Result<(), LinkFault>) -> &'static str {
-    match end {
-        Ok(()) => "ended",
-        Err(LinkFault::Input) => "input",
-        Err(LinkFault::Output) => "output",
-        Err(_) => "fault",
     }
 }

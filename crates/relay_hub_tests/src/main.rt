@@ -1,40 +1,59 @@
-//! Rounds of links over memory, each on a thread of its own. By the rows of data/ the threads give messages to one
-//! node, which has room for all of them or for few, or whose device fails; then two links wait for each other; and then
-//! each read, write and flush of one link fails in turn. Each row has a line, which is the same whatever the threads'
-//! order was.
+//! Links of a node over memory. By the rows of data/rounds.in rounds of links, each on a thread of its own, give
+//! messages to one node, which has room for all of them or for few, or whose device fails; then two links wait for
+//! each other; and then each read, write and flush of one link fails in turn. What these come to is the same whatever
+//! the threads' order was.
+//!
+//! By the rows of data/links.in a node takes one message by a link without a thread, and hands it on by another: from
+//! a client and to a next hop that give their octets in pieces of any length, and over connections that end or fail
+//! behind each octet that is read or written. Then it serves and pushes over sockets of 127.0.0.1, both ends in one
+//! process and one thread, and over a writer that fails where it is flushed. Each row has a line.
 #![tactic(auto)]
 
+mod came;
+mod faulty;
+mod flushes;
 mod gate;
 mod link_rows;
 mod mail;
+mod pushing;
 mod rounds;
 mod row;
+mod serving;
 mod setup;
 mod small;
+mod sockets;
+mod trial;
 
+use came::difference_of;
+use flushes::a_flush_that_fails_ends_the_session;
 use gate::two_links_wait_for_each_other;
 use link_rows::link_rows;
 use rounds::outcome_of;
 use row::Row;
 use small::{Small, small_round};
+use sockets::{a_client_is_answered_over_a_socket, a_hop_is_handed_mail_over_a_socket};
 use std::alloc::Global;
+use std::io::{self, Print};
 use std::sync::Wait;
 use std::test::Fail;
 use std::thread::Threads;
 use std::{env, fs};
 
-/// The word is the folder of the rows, or `small` for a small round alone, whose line says what it came to. Without a
-/// word the rows lie where the program runs.
+/// The word `small` plays a small round alone, whose line says what it came to.
 fn main(rt: HostRuntime) -> Result<(), Fail> {
     let words: Vec<String> = env::args(&rt)?.collect(rt.alloc())?;
-    let folder = match words.get(1) {
-        Some(word) if word.as_str() == "small" => return play_small(&rt, rt.alloc()),
-        Some(word) => word.as_str(),
-        None => ".",
-    };
-    let path = format!(in rt.alloc(); "{folder}/rows.in")?;
-    let rows = fs::read_to_string(&rt, path.as_str())?;
-    play_rows(&rt, rt.alloc(), rows.as_str())
+    if let Some(word) = words.get(1)
+        && word.as_str() == "small"
+    {
+        return play_small(&rt, rt.alloc());
+    }
+    let rounds = fs::read_to_string(&rt, "rounds.in")?;
+    play_rounds(&rt, rt.alloc(), rounds.as_str())?;
+    let links = fs::read_to_string(&rt, "links.in")?;
+    for line in links.as_str().lines() {
+        play_link(&rt, line)?;
+    }
+    show_streams(&rt)
 }
 
 /// Plays the small round.
@@ -49,47 +68,67 @@ fn play_small<T: Print + Threads + Wait + Sync>(rt: &T, alloc: Global) -> Result
 }
 
 /// Plays these rows, then the two links that wait for each other, and then the one whose calls fail.
-fn play_rows<T: Print + Threads + Wait + Sync>(
+fn play_rounds<T: Print + Threads + Wait + Sync>(
     rt: &T,
     alloc: Global,
     rows: &str,
 ) -> Result<(), Fail> {
-    let mut are_right = true;
     for line in rows.lines() {
-        are_right = play_row(rt, alloc, line)? && are_right;
+        play_round(rt, alloc, line)?;
     }
     let do_wait = two_links_wait_for_each_other(rt, alloc)?;
-    let end = if do_wait {
-        "so it is"
-    } else {
-        "it is otherwise"
-    };
-    println!(rt; "two links that wait for each other are answered: {end}")?;
+    say(
+        rt,
+        "two links that wait for each other are answered",
+        do_wait,
+    )?;
     print!(rt; "{}", link_rows(rt, alloc)?.as_str())?;
-    if are_right && do_wait {
-        Ok(())
-    } else {
-        Err(Fail::new("a row came otherwise"))
-    }
+    Ok(())
 }
 
-/// Plays a row, prints a line for it, and says whether it came as it is to.
-fn play_row<T: Print + Threads + Wait + Sync>(
+/// Plays a row of rounds, and prints a line for it.
+fn play_round<T: Print + Threads + Wait + Sync>(
     rt: &T,
     alloc: Global,
     line: &str,
-) -> Result<bool, Fail> {
+) -> Result<(), Fail> {
     let Some(row) = Row::read(line) else {
-        println!(rt; "{line}: no row")?;
-        return Ok(false);
+        return Err(Fail::new("no row"));
     };
-    let came = outcome_of(rt, alloc, row.trial)?;
-    let is_right = came == row.came;
-    let end = if is_right {
+    let end = if outcome_of(rt, alloc, row.trial)? == row.came {
         "as written down"
     } else {
         "it came otherwise"
     };
     println!(rt; "{line}: {end}")?;
-    Ok(is_right)
+    Ok(())
+}
+
+/// Plays a row of a link without a thread, and prints a line for it.
+fn play_link(rt: &HostRuntime, line: &str) -> Result<(), Fail> {
+    let Some(row) = trial::Row::read(line) else {
+        return Err(Fail::new("no row"));
+    };
+    match difference_of(rt.alloc(), row)? {
+        Some(number) => println!(rt; "{line}: differs at {number}")?,
+        None => println!(rt; "{line}: as written down")?,
+    }
+    Ok(())
+}
+
+/// Prints a line for each row of sockets and flushes.
+fn show_streams(rt: &HostRuntime) -> Result<(), Fail> {
+    let holds = a_client_is_answered_over_a_socket(rt.alloc(), rt)?;
+    say(rt, "a client is answered over a socket", holds)?;
+    let holds = a_hop_is_handed_mail_over_a_socket(rt.alloc(), rt)?;
+    say(rt, "a hop is handed mail over a socket", holds)?;
+    let holds = a_flush_that_fails_ends_the_session(rt.alloc())?;
+    say(rt, "a flush that fails ends the session", holds)?;
+    Ok(())
+}
+
+/// Prints the line of a row.
+fn say(rt: &impl Print, row: &str, holds: bool) -> io::Result<()> {
+    let end = if holds { "so it is" } else { "it is otherwise" };
+    println!(rt; "{row}: {end}")
 }

@@ -24,7 +24,7 @@ pub struct Came {
     pub held: Option<usize>,
 }
 
-/// A row of the data.
+/// A row of rounds.in.
 #[derive(Clone, Copy)]
 pub struct Row {
     pub trial: Trial,

@@ -1,9 +1,12 @@
-//! A node over memory at the first moment, and a round of it. Each call of a node or a round stands here alone, in a
-//! function without clauses: what calls these sees none of their contracts.
+//! A node over memory at the first moment, the message that it takes, an attempt for that, and a round. Each call of a
+//! node, a link or a round stands here alone, in a function without clauses: what calls these sees none of their
+//! contracts.
+use crate::mail::{COMMANDS, text_of};
 use relay_disk::{Disks, MemoryDisk};
 use relay_hub::{Ended, Link, NotBegun, round};
-use relay_node::{Node, NodeFault};
-use relay_routes::Config;
+use relay_links::{LinkFault, Pushed, push_link, serve_link};
+use relay_node::{Node, NodeFault, Work};
+use relay_routes::{Config, HostName};
 use relay_trace::Moment;
 use std::alloc::Global;
 use std::io::{Read, Write};
@@ -62,6 +65,62 @@ pub fn node_with(alloc: Global, config: Config, calls: Option<u64>) -> Result<Me
     Ok(node)
 }
 
+/// A node without changes, of the usual configuration.
+pub fn empty_node(alloc: Global) -> Result<MemoryNode, Fail> {
+    node_with(alloc, config_with(alloc, None)?, None)
+}
+
+/// A node that has taken the message.
+pub fn node_with_mail(alloc: Global) -> Result<MemoryNode, Fail> {
+    let mut node = empty_node(alloc)?;
+    let input = text_of(alloc, &COMMANDS)?;
+    let mut output: Vec<u8> = Vec::new(alloc);
+    serve(alloc, &mut node, &mut input.as_slice(), &mut output)?;
+    Ok(node)
+}
+
+/// Serves a client.
+pub fn serve<R: Read, W: Write>(
+    alloc: Global,
+    node: &mut MemoryNode,
+    reader: &mut R,
+    writer: &mut W,
+) -> Result<(), LinkFault> {
+    match node.connect(CLIENT) {
+        Ok(connected) => serve_link(alloc, node, connected, reader, writer, first_moment()),
+        Err(_) => Err(LinkFault::NoMemory),
+    }
+}
+
+/// The number of the attempt that begins for the one work that is due.
+pub fn begin(alloc: Global, node: &mut MemoryNode) -> Result<usize, Fail> {
+    for work in due(alloc, node)?.as_slice() {
+        if let Work::Try(message, hop) = work {
+            return Ok(start(node, *message, hop)?);
+        }
+    }
+    Err(Fail::new("nothing is due"))
+}
+
+fn due(alloc: Global, node: &MemoryNode) -> Result<Vec<Work>, NodeFault> {
+    node.due(alloc, first_moment())
+}
+
+fn start(node: &mut MemoryNode, message: u64, hop: &HostName) -> Result<usize, NodeFault> {
+    Ok(node.start(message, hop, first_moment())?.attempt)
+}
+
+/// Runs an attempt to its end.
+pub fn push<R: Read, W: Write>(
+    alloc: Global,
+    node: &mut MemoryNode,
+    attempt: usize,
+    reader: &mut R,
+    writer: &mut W,
+) -> Result<Pushed, LinkFault> {
+    push_link(alloc, node, attempt, reader, writer, first_moment())
+}
+
 /// Runs links to their end.
 pub fn run<T: Threads + Wait + Sync, R: Read + Send + Drop, W: Write + Send + Drop>(
     rt: &T,
@@ -89,6 +148,11 @@ pub fn count_reopened(
         Ok(node) => Ok(count_held(alloc, &node).ok()),
         Err(_) => Ok(None),
     }
+}
+
+/// How many changes there are.
+pub fn count_changes(node: &MemoryNode) -> u64 {
+    node.next_number().saturating_sub(1)
 }
 
 /// How many places a node holds.

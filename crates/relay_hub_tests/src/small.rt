@@ -1,7 +1,7 @@
 //! A small round, of which an allocation or a thread may be refused.
 use crate::mail::{count_lines, messages};
 use crate::rounds::{are_the_first_numbers, links_of, rise};
-use crate::setup::{config_with, count_held, node_with, run};
+use crate::setup::{config_with, count_held, empty_node, run};
 use relay_disk::MemoryDisk;
 use relay_hub::{Ended, Served};
 use relay_node::NodeFault;
@@ -26,7 +26,7 @@ pub(crate) enum Small {
 /// Runs the round. It fails where memory runs out before or behind it, and where something comes otherwise than it may.
 pub(crate) fn small_round<T: Threads + Wait + Sync>(rt: &T, alloc: Global) -> Result<Small, Fail> {
     let config = config_with(alloc, None)?;
-    let node = node_with(alloc, config_with(alloc, None)?, None)?;
+    let node = empty_node(alloc)?;
     let text = messages(alloc, MESSAGES)?;
     let links = links_of(alloc, LINKS, text.as_slice())?;
     let ended = match run(rt, alloc, node, &config, links) {

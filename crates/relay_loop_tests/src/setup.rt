@@ -20,8 +20,8 @@ const ROUTES: &str = "[routes]
 \"example.org\" = { name = \"next.example\", at = \"127.0.0.1:2526\" }
 ";
 
-/// A limit of the spool that no scene comes to.
-const WIDE: u64 = 1_048_576;
+/// A limit of the spool that no message comes to.
+pub(crate) const WIDE: u64 = 1_048_576;
 
 /// The address of each client.
 const CLIENT: [u8; 4] = [127, 0, 0, 1];
@@ -31,6 +31,23 @@ fn first_moment() -> Moment {
     match Moment::new(0) {
         Ok(moment) => moment,
         Err(_) => unreachable!(),
+    }
+}
+
+/// A relay without changes, with this limit of its spool in octets, whose device takes so many calls and no more, if
+/// that is said.
+pub(crate) fn relay_with(
+    alloc: Global,
+    limit: u64,
+    calls: Option<u64>,
+) -> Result<MemoryRelay, Fail> {
+    let mut node = empty_node(alloc, limit)?;
+    if let Some(calls) = calls {
+        node.fuse(calls);
+    }
+    match Relay::new(alloc, node) {
+        Ok(relay) => Ok(relay),
+        Err(_) => Err(Fail::new("no memory")),
     }
 }
 
@@ -48,31 +65,6 @@ fn empty_node(alloc: Global, limit: u64) -> Result<Node<MemoryDisk>, Fail> {
         Ok(node) => Ok(node),
         Err(_) => Err(Fail::new("not created")),
     }
-}
-
-fn relay_of(alloc: Global, node: Node<MemoryDisk>) -> Result<MemoryRelay, Fail> {
-    match Relay::new(alloc, node) {
-        Ok(relay) => Ok(relay),
-        Err(_) => Err(Fail::new("no memory")),
-    }
-}
-
-/// A relay without changes.
-pub(crate) fn empty_relay(alloc: Global) -> Result<MemoryRelay, Fail> {
-    narrow_relay(alloc, WIDE)
-}
-
-/// A relay without changes, with this limit of its spool in octets.
-pub(crate) fn narrow_relay(alloc: Global, limit: u64) -> Result<MemoryRelay, Fail> {
-    let node = empty_node(alloc, limit)?;
-    relay_of(alloc, node)
-}
-
-/// A relay without changes whose device takes so many calls, and no more.
-pub(crate) fn failing_relay(alloc: Global, calls: u64) -> Result<MemoryRelay, Fail> {
-    let mut node = empty_node(alloc, WIDE)?;
-    node.fuse(calls);
-    relay_of(alloc, node)
 }
 
 /// The number of a new client's session.

@@ -2,6 +2,21 @@
 use crate::setup::{MemoryRelay, read, reply, write_to_client, write_to_hop};
 use std::test::Fail;
 
+/// A client, and what it is told or says.
+pub(crate) struct Client {
+    pub(crate) session: usize,
+    pub(crate) octets: Vec<u8>,
+}
+
+impl Drop for Client {
+    fn drop(self) {
+        let Client {
+            session: _,
+            octets: _octets,
+        } = self;
+    }
+}
+
 /// A client says a piece. What was written to it comes at the end of the octets. It tells whether its session has
 /// closed.
 pub(crate) fn client_says(

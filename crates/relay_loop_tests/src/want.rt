@@ -1,10 +1,16 @@
 //! Three messages at once, where memory may run out.
-use crate::groups::{Client, client_of, period_of};
-use crate::setup::{MemoryRelay, count_changes, empty_relay, end_client, read_all};
-use relay_loop::Heard;
+use crate::setup::{MemoryRelay, WIDE, accept, count_changes, end_client, read_all, relay_with};
+use crate::talk::{Client, client_says};
+use relay_loop::{Heard, Piece};
 use relay_node::NodeFault;
 use std::alloc::Global;
 use std::test::Fail;
+
+/// What a client says that gives a message without content, up to its last line.
+const LINES: &[u8] = b"HELO x\r\nMAIL FROM:<a@example.org>\r\nRCPT TO:<b@example.org>\r\nDATA\r\n";
+
+/// The line that ends the content.
+const PERIOD: &[u8] = b".\r\n";
 
 /// What became of three messages that came at once.
 pub(crate) enum Came {
@@ -19,7 +25,7 @@ pub(crate) enum Came {
 /// Gives three messages at once. It fails where memory runs out before or behind that, and where a client is told
 /// otherwise than its change and its note say.
 pub(crate) fn three_at_once(alloc: Global) -> Result<Came, Fail> {
-    let mut relay = empty_relay(alloc)?;
+    let mut relay = relay_with(alloc, WIDE, None)?;
     let clients = [
         client_of(alloc, &mut relay)?,
         client_of(alloc, &mut relay)?,
@@ -46,6 +52,22 @@ pub(crate) fn three_at_once(alloc: Global) -> Result<Came, Fail> {
         return Err(Fail::new("the changes are otherwise"));
     }
     Ok(Came::Queued(queued))
+}
+
+/// A client that has said all of its message but the last line.
+fn client_of(alloc: Global, relay: &mut MemoryRelay) -> Result<Client, Fail> {
+    let session = accept(relay)?;
+    let mut octets = Vec::new(alloc);
+    client_says(relay, session, LINES, &mut octets)?;
+    Ok(Client { session, octets })
+}
+
+/// The line that ends a client's content.
+fn period_of(client: &Client) -> Piece<'static> {
+    Piece {
+        session: client.session,
+        octets: PERIOD,
+    }
 }
 
 /// Whether a client's message was queued under this number. It is told so then, and else its connection is gone.

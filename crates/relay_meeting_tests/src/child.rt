@@ -76,26 +76,17 @@ pub fn are_rcpts(alloc: Global, row: Row, octets: &[u8]) -> Result<bool, AllocEr
 
 /// The codes of the whole replies that the octets begin with.
 fn codes_in(alloc: Global, octets: &[u8]) -> Result<Vec<u16>, AllocError> {
+    let mut reader = ReplyReader::new(alloc);
     let mut codes = Vec::new(alloc);
-    push_codes(&mut ReplyReader::new(alloc), octets, &mut codes)?;
-    Ok(codes)
-}
-
-/// Adds the codes of the whole replies that the octets begin with.
-fn push_codes(
-    reader: &mut ReplyReader,
-    octets: &[u8],
-    codes: &mut Vec<u16>,
-) -> Result<(), AllocError> {
     let mut used = 0usize;
     for _ in 0..octets.len() {
-        let Some((count, code)) = next_code(reader, octets.get(used..).unwrap_or(&[])) else {
+        let Some((count, code)) = next_code(&mut reader, octets.get(used..).unwrap_or(&[])) else {
             break;
         };
         codes.push(code)?;
         used = used.saturating_add(count);
     }
-    Ok(())
+    Ok(codes)
 }
 
 /// The code of the whole reply that the octets begin with, and how many it has.

@@ -1,36 +1,16 @@
 use crate::row::{Row, Text};
 use relay_envelope::{Envelope, Recipient, read_mail, read_rcpt};
-use relay_routes::Config;
 use std::alloc::{AllocError, Global};
 use std::test::Fail;
 
 /// The most octets of a content that the server takes.
 const CONTENT_LIMIT: usize = 2000;
 
-/// The server: it has a hop for one domain.
-const CONFIGURATION: &str = r#"
-host = "relay.example"
-listen = "127.0.0.1:2525"
-spool = "relay.spool"
-max_content = 2000
-
-[routes]
-"example.org" = { name = "next.example", at = "127.0.0.1:2526" }
-"#;
-
 /// A text that goes by DATA. Two of its lines begin with a period.
 const LINES: &[u8] = b"Received: from a by b; c\r\n\r\n.\r\n..two\r\n\r\nend\r\n";
 
 /// A text that goes as a chunk.
 const OCTETS: &[u8] = b"Received: from a by b; c\r\n\r\n.\r\nQUIT\r\n\0\xffend";
-
-/// The configuration of the server.
-pub fn configuration(alloc: Global) -> Result<Config, Fail> {
-    match Config::read(alloc, CONFIGURATION) {
-        Ok(config) => Ok(config),
-        Err(_) => Err(Fail::new("the configuration was refused")),
-    }
-}
 
 /// The name of the client's host.
 pub const HOST: &[u8] = b"client.example";
@@ -98,19 +78,15 @@ fn recipient_of(alloc: Global, place: u8, goes: bool) -> Result<Recipient, Fail>
 /// The text of this kind.
 fn text_of_row(alloc: Global, kind: Text) -> Result<Vec<u8>, AllocError> {
     let mut text = Vec::new(alloc);
-    push_text(&mut text, kind)?;
-    Ok(text)
-}
-
-fn push_text(text: &mut Vec<u8>, kind: Text) -> Result<(), AllocError> {
     match kind {
-        Text::Lines => text.extend_from_slice(LINES),
-        Text::Octets => text.extend_from_slice(OCTETS),
-        Text::TooManyLines => push_count(text, b"line\r\n", CONTENT_LIMIT / 5),
-        Text::TooManyOctets => push_count(text, b"octet", CONTENT_LIMIT / 4),
-        Text::Circling => push_circling(text, b"\r\n"),
-        Text::CirclingOctets => push_circling(text, b"\r\nend"),
+        Text::Lines => text.extend_from_slice(LINES)?,
+        Text::Octets => text.extend_from_slice(OCTETS)?,
+        Text::TooManyLines => push_count(&mut text, b"line\r\n", CONTENT_LIMIT / 5)?,
+        Text::TooManyOctets => push_count(&mut text, b"octet", CONTENT_LIMIT / 4)?,
+        Text::Circling => push_circling(&mut text, b"\r\n")?,
+        Text::CirclingOctets => push_circling(&mut text, b"\r\nend")?,
     }
+    Ok(text)
 }
 
 /// Adds 100 `Received:` fields, and what stands behind them.

@@ -1,22 +1,39 @@
-//! Reads each row of data/ and prints what comes of it behind the row. The rows of envelopes are texts of MAIL
+//! Plays each row of data/lines.in over the calls on lines, commands and replies, and compares what it comes to with
+//! what is written down: once whole, and, where octets come in pieces, in pieces of every length. Then it plays each
+//! row of data/bodies.in over the readers and writers of bodies, cut into two pieces at every octet and into pieces of
+//! one octet.
+//!
+//! Of the other rows it prints what comes of each behind the row. The rows of envelopes are texts of MAIL
 //! and RCPT, xtext, paths and hosts' names; those of routes configurations, and paths whose hop is looked up;
 //! those of trace moments, time stamp lines and header sections; and those of scripts lines and texts. Where
 //! something else is written down than comes of a row, that too is printed.
 #![tactic(auto)]
 
+mod body_row;
+mod command_play;
+mod comparison;
+mod cutting;
 mod envelope;
-mod file;
+mod escape;
 mod line;
+mod line_play;
+mod lines;
+mod pieces;
+mod play;
+mod player;
+mod reply_play;
 mod routes;
+mod row;
 mod script;
 mod trace;
+mod verdict;
 
-use file::file;
 use line::line_of;
+use lines::show_lines;
 use routes::outcome_of_routes;
-use script::{outcome_of_script, say_nodes, say_octets};
+use script::{outcome_of_script, say_nodes};
 use std::test::Fail;
-use std::{env, str};
+use std::{fs, str};
 use trace::outcome_of_trace;
 
 /// What the rows of a file are about.
@@ -27,25 +44,19 @@ enum Subject {
     Script,
 }
 
-/// The word is the folder of the rows. Without one they lie where the program runs.
 fn main(rt: HostRuntime) -> Result<(), Fail> {
-    let words: Vec<String> = env::args(&rt)?.collect(rt.alloc())?;
-    let folder = match words.get(1) {
-        Some(word) => word.as_str(),
-        None => ".",
-    };
-    show_envelopes(&rt, folder)?;
-    show_rows(&rt, folder, "routes.in", Subject::Routes)?;
-    show_rows(&rt, folder, "trace.in", Subject::Trace)?;
-    show_rows(&rt, folder, "script.in", Subject::Script)?;
-    say_octets(&rt, rt.alloc())?;
+    show_lines(&rt)?;
+    show_envelopes(&rt)?;
+    show_rows(&rt, "routes.in", Subject::Routes)?;
+    show_rows(&rt, "trace.in", Subject::Trace)?;
+    show_rows(&rt, "script.in", Subject::Script)?;
     say_nodes(&rt)
 }
 
 /// Prints the line of each row of envelopes, for which as many outcomes are written down.
-fn show_envelopes(rt: &HostRuntime, folder: &str) -> Result<(), Fail> {
-    let rows = file(rt, folder, "envelope.in")?;
-    let outcomes = file(rt, folder, "envelope.ref")?;
+fn show_envelopes(rt: &HostRuntime) -> Result<(), Fail> {
+    let rows = fs::read_to_string(rt, "envelope.in")?;
+    let outcomes = fs::read_to_string(rt, "envelope.ref")?;
     let mut rest = outcomes.as_str().lines();
     for row in rows.as_str().lines() {
         match rest.next() {
@@ -67,21 +78,21 @@ fn show_envelope(rt: &HostRuntime, row: &str, wanted: &str) -> Result<(), Fail> 
 }
 
 /// Prints each row of a file and what comes of it.
-fn show_rows(rt: &HostRuntime, folder: &str, name: &str, subject: Subject) -> Result<(), Fail> {
-    let rows = file(rt, folder, name)?;
+fn show_rows(rt: &HostRuntime, name: &str, subject: Subject) -> Result<(), Fail> {
+    let rows = fs::read_to_string(rt, name)?;
     for row in rows.as_str().lines() {
-        show_row(rt, folder, subject, row)?;
+        show_row(rt, subject, row)?;
     }
     Ok(())
 }
 
 /// Prints a row and what comes of it; a line that is no row stands as it is.
-fn show_row(rt: &HostRuntime, folder: &str, subject: Subject, row: &str) -> Result<(), Fail> {
+fn show_row(rt: &HostRuntime, subject: Subject, row: &str) -> Result<(), Fail> {
     let Some((given, wanted)) = row.split_once(" => ") else {
         println!(rt; "{row}")?;
         return Ok(());
     };
-    let outcome = outcome_of_row(rt, folder, subject, given)?;
+    let outcome = outcome_of_row(rt, subject, given)?;
     if outcome.as_str() == wanted {
         println!(rt; "{given} => {outcome}")?;
     } else {
@@ -91,14 +102,9 @@ fn show_row(rt: &HostRuntime, folder: &str, subject: Subject, row: &str) -> Resu
 }
 
 /// What comes of what a row gives.
-fn outcome_of_row(
-    rt: &HostRuntime,
-    folder: &str,
-    subject: Subject,
-    given: &str,
-) -> Result<String, Fail> {
+fn outcome_of_row(rt: &HostRuntime, subject: Subject, given: &str) -> Result<String, Fail> {
     match subject {
-        Subject::Routes => outcome_of_routes(rt, rt.alloc(), folder, given),
+        Subject::Routes => outcome_of_routes(rt, rt.alloc(), given),
         Subject::Trace => outcome_of_trace(rt.alloc(), given),
         Subject::Script => outcome_of_script(rt.alloc(), given),
     }

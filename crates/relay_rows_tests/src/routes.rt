@@ -1,27 +1,25 @@
 //! What comes of a row of routes: a configuration, of which `;` between spaces ends a line; a file with one; or
 //! a file and a path, whose hop is looked up.
-use crate::file::file;
 use relay_envelope::{Path, PathBuf};
 use relay_routes::{BareNewlines, Config, Hop, HostName, Table};
 use std::alloc::{AllocError, Global};
-use std::str;
 use std::test::Fail;
+use std::{fs, str};
 
 /// What comes of the lines, of the file, or of the file and the path that a row gives.
-pub fn outcome_of_routes(
-    rt: &HostRuntime,
-    alloc: Global,
-    folder: &str,
-    given: &str,
-) -> Result<String, Fail> {
+pub fn outcome_of_routes(rt: &HostRuntime, alloc: Global, given: &str) -> Result<String, Fail> {
     if let Some(lines) = given.strip_prefix("TEXT ") {
         return outcome_of(alloc, document_of(alloc, lines)?.as_str());
     }
     if let Some(name) = given.strip_prefix("FILE ") {
-        return outcome_of(alloc, file(rt, folder, name)?.as_str());
+        return outcome_of(alloc, fs::read_to_string(rt, name)?.as_str());
     }
     match given.split_once(" ") {
-        Some((name, path)) => hop_of(alloc, file(rt, folder, name)?.as_str(), path.as_bytes()),
+        Some((name, path)) => hop_of(
+            alloc,
+            fs::read_to_string(rt, name)?.as_str(),
+            path.as_bytes(),
+        ),
         None => Ok(String::from_str(alloc, "no row")?),
     }
 }

@@ -4,17 +4,6 @@ use relay_script::{Event, MOST_NODES, NodeIndex, ScriptLine, push_text, script_l
 use std::alloc::{AllocError, Global};
 use std::test::Fail;
 
-/// Names each octet that isn't read as it was written.
-pub fn say_octets(rt: &HostRuntime, alloc: Global) -> Result<(), Fail> {
-    for octet in 0..=u8::MAX {
-        if !is_read_again(alloc, octet)? {
-            println!(rt; "octet {octet} is not read as it was written")?;
-        }
-    }
-    println!(rt; "each octet was written and read")?;
-    Ok(())
-}
-
 /// Names each node.
 pub fn say_nodes(rt: &HostRuntime) -> Result<(), Fail> {
     for index in 0..MOST_NODES {
@@ -104,24 +93,4 @@ fn text_of(alloc: Global, octets: &str) -> Result<String, Fail> {
         push_text(&mut text, &[word.parse::<u8>()?])?;
     }
     Ok(String::from_utf8(text)?)
-}
-
-/// Whether a line that was written with an octet says that octet.
-fn is_read_again(alloc: Global, octet: u8) -> Result<bool, AllocError> {
-    let mut line = b"send 1 ".to_vec(alloc)?;
-    push_text(&mut line, &[octet])?;
-    match script_line(alloc, line.as_slice())? {
-        Some(said) => Ok(is_sent(&said, octet)),
-        None => Ok(false),
-    }
-}
-
-/// Whether what was said is that octet alone, on link 1.
-fn is_sent(said: &ScriptLine, octet: u8) -> bool {
-    match said {
-        ScriptLine::Event(Event::Send { link, text }) => {
-            *link == 1 && text.as_slice() == [octet].as_slice()
-        }
-        _ => false,
-    }
 }

@@ -1,4 +1,0 @@
-pub mod Cutting
-pub mod Row
-pub mod Comparison
-pub mod Player

@@ -1,0 +1,66 @@
+//! The host `relay.example` in several configurations.
+use relay_routes::Config;
+use std::alloc::Global;
+use std::test::Fail;
+
+/// One domain, and contents of up to 1,048,576 octets, as where nothing is said of them.
+pub const USUAL: &str = r#"
+host = "relay.example"
+listen = "127.0.0.1:2525"
+spool = "relay.spool"
+
+[routes]
+"example.org" = { name = "next.example", at = "127.0.0.1:2526" }
+"#;
+
+/// One domain, and contents of up to 4 octets.
+pub const SMALL: &str = r#"
+host = "relay.example"
+listen = "127.0.0.1:2525"
+spool = "relay.spool"
+max_content = 4
+
+[routes]
+"example.org" = { name = "next.example", at = "127.0.0.1:2526" }
+"#;
+
+/// One domain, and no content in which a CR or an LF stands alone.
+pub const STRICT: &str = r#"
+host = "relay.example"
+listen = "127.0.0.1:2525"
+spool = "relay.spool"
+bare_newlines = "refuse"
+
+[routes]
+"example.org" = { name = "next.example", at = "127.0.0.1:2526" }
+"#;
+
+/// Each domain.
+pub const OPEN: &str = r#"
+host = "relay.example"
+listen = "127.0.0.1:2525"
+spool = "relay.spool"
+
+[routes]
+"example.org" = { name = "next.example", at = "127.0.0.1:2526" }
+"*" = { name = "next.example", at = "127.0.0.1:2526" }
+"#;
+
+/// The server that an attempt meets: one domain, and contents of up to 2,000 octets.
+pub const MET: &str = r#"
+host = "relay.example"
+listen = "127.0.0.1:2525"
+spool = "relay.spool"
+max_content = 2000
+
+[routes]
+"example.org" = { name = "next.example", at = "127.0.0.1:2526" }
+"#;
+
+/// The configuration that a text says.
+pub fn configuration(alloc: Global, text: &str) -> Result<Config, Fail> {
+    match Config::read(alloc, text) {
+        Ok(config) => Ok(config),
+        Err(_) => Err(Fail::new("the configuration was refused")),
+    }
+}

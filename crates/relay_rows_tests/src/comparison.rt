@@ -1,0 +1,51 @@
+ghost use Rattle.std.specs.Prelude.{◌≡◌, All, MatchOption};
+ghost use Rattle.relay_rows_tests.specs.Comparison.{IsFirstDifference, IsVerdict};
+
+use crate::verdict::is_text;
+use relay_octets::Octets;
+use std::fmt::{self, Display, Formatter};
+
+/// What a row came to.
+#[derive(Clone, Copy)]
+pub enum Verdict {
+    /// Each cutting gave what is written down.
+    Equal,
+    /// Cut into two pieces behind this many octets, something else was found.
+    DiffersAt(usize),
+    /// In pieces of one octet, something else was found.
+    DiffersOctetByOctet,
+}
+
+impl Display for Verdict {
+    fn fmt<W: fmt::Write>(&self, f: &mut Formatter<W>) -> fmt::Result {
+        match self {
+            Verdict::Equal => write!(f, "as written down, cut at every octet"),
+            Verdict::DiffersAt(place) => write!(f, "differs, cut behind {place} octets"),
+            Verdict::DiffersOctetByOctet => write!(f, "differs, octet by octet"),
+        }
+    }
+}
+
+/// Compares what was found for each cutting with what is wanted. What was found octet by octet stands last.
+pub fn compare(found: &[Octets], wanted: &[u8]) -> Verdict
+    ensures { IsVerdict found.now wanted.now result }
+{
+    match first_difference(found, wanted) {
+        None => Verdict::Equal,
+        Some(place) if place < found.len() - 1 => Verdict::DiffersAt(place),
+        Some(_) => Verdict::DiffersOctetByOctet,
+    }
+}
+
+/// The place of the first text that is another than what is wanted.
+fn first_difference(found: &[Octets], wanted: &[u8]) -> Option<usize>
+    ensures { MatchOption result (All (λ text. text ≡ wanted.now) found.now)
+        (λ place. IsFirstDifference found.now wanted.now place) }
+{
+    for (place, text) in found.iter().enumerate() {
+        if !is_text(text, wanted) {
+            return Some(place);
+        }
+    }
+    None
+}

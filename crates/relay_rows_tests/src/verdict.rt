@@ -1,0 +1,51 @@
+ghost use Rattle.std.specs.Prelude.{◌≡◌, ◌↔◌, IfOk, IsTrue};
+ghost use Rattle.relay_rows_tests.specs.PlayOutcome.{IsVerdict};
+
+use crate::play::{Play, outcome_of};
+use relay_octets::Octets;
+use std::alloc::{AllocError, Global};
+use std::fmt::{self, Display, Formatter};
+
+/// What a row came to.
+#[derive(Drop)]
+pub enum Verdict {
+    /// What is written down, in pieces of every length.
+    Equal,
+    /// Something else, in pieces of this length.
+    Differs(usize, Octets),
+}
+
+impl Display for Verdict {
+    fn fmt<W: fmt::Write>(&self, f: &mut Formatter<W>) -> fmt::Result {
+        match self {
+            Verdict::Equal => write!(f, "as written down"),
+            Verdict::Differs(size, _) => write!(f, "differs, in pieces of {size}"),
+        }
+    }
+}
+
+/// Plays a row in pieces of every length, and compares what it comes to with what is wanted.
+pub fn verdict_of(alloc: Global, play: &Play, wanted: &[u8]) -> Result<Verdict, AllocError>
+    ensures { IfOk result (IsVerdict play.now wanted.now) }
+{
+    let sizes = play.sizes();
+    for size in 1..sizes {
+        let outcome = outcome_of(alloc, play, size)?;
+        if !is_text(&outcome, wanted) {
+            return Ok(Verdict::Differs(size, outcome));
+        }
+    }
+    let whole = sizes.max(1);
+    let outcome = outcome_of(alloc, play, whole)?;
+    if !is_text(&outcome, wanted) {
+        return Ok(Verdict::Differs(whole, outcome));
+    }
+    Ok(Verdict::Equal)
+}
+
+/// Whether the octets are this text.
+pub fn is_text(octets: &Octets, text: &[u8]) -> bool
+    ensures { IsTrue result ↔ (octets.now ≡ text.now) }
+{
+    octets.as_slice() == text
+}
