@@ -1,17 +1,17 @@
-use Rattle.std.proofs.Common.{rules, ◌≡◌, All, map, ℕ, List, refl, sym, subst, ap, ◌∙◌}
+use Rattle.std.proofs.Common.{map, refl, subst, ap, ◌∙◌}
 use Rattle.relay_disk.specs.File.{file_words}
 use Rattle.relay_loop.specs.Groups.{ReadsAll}
-use Rattle.relay_run.specs.Hearing.{HearOwn, IsOwn, session_of}
+use Rattle.relay_run.specs.Hearing.{session_of}
 use Rattle.relay_run.proofs.hearing.hear_all.Goals as goal
 
 pub returns-in-Ok-read_all : goal.returns-in-Ok-read_all
 returns-in-Ok-read_all c = record {
-    own = record {
-      pieces = c.in-Ok.pieces.items;
-      own = c.in-Ok.ensures;
-      sessions = c.in-Ok-sessions_of.ensures ∙ ap (map session_of) c.as_slice.ensures.value;
-      group = c.in-Ok-read_all.field-0;
-      heard = refl;
-      reads = λ changes keeps. subst (λ pieces. ReadsAll ⊥ file_words changes c.args.now.now.moment pieces c.args.relay.now c.read_all.new.self c.in-Ok-read_all.field-0) c.as_slice-2.ensures.value (c.in-Ok-read_all.ensures.reads changes keeps)
-    }
-  }
+  own = record {
+    pieces = c.in-Ok.pieces.items;
+    own = c.in-Ok.ensures;
+    sessions = c.in-Ok-sessions_of.ensures ∙ ap (map session_of) c.as_slice.ensures.value;
+    group = c.in-Ok-read_all.field-0;
+    heard = refl;
+    reads = λ changes keeps. subst (λ pieces. ReadsAll ⊥ file_words changes c.args.now.now.moment pieces c.args.relay.now c.read_all.new.self c.in-Ok-read_all.field-0) c.as_slice-2.ensures.value (c.in-Ok-read_all.ensures.reads changes keeps);
+  };
+}

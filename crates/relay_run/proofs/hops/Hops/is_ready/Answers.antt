@@ -1,4 +1,4 @@
-use Rattle.std.proofs.Common.{rules, ◌≡◌, ℕ, true, ◌+◌, ◌<◌, ◌≤◌, length, false, None, Some, refl, sym, ap, ◌∙◌, subst, arith}
+use Rattle.std.proofs.Common.{◌≡◌, Some, sym, ap, ◌∙◌, subst, arith}
 use Rattle.relay_run.specs.Readiness.{HasUnread, IsLeftHop}
 use Rattle.relay_slots.specs.Slots.{slot_at}
 use Rattle.std.proofs.lemmas.Bool.{false≢true}

@@ -1,5 +1,5 @@
 -- none of those that were passed over was left in mid-read
-use Rattle.std.proofs.Common.{◌≡◌, ℕ, ◌<◌}
+use Rattle.std.proofs.Common.{ℕ, ◌<◌}
 use Rattle.relay_run.specs.Readiness.{IsLeftHop}
 use Rattle.relay_run.proofs.hops.Hops.is_ready.Given as goal
 
