@@ -117,7 +117,7 @@ def what_was_answered_stays_behind_a_full_device(field):
                 client.begin()
                 while not done.is_set():
                     client.ask_for_text()
-                    answered.append(number_of(client.say(TEXT)))
+                    answered.append(number_of(client.say(LONG)))
                     # No more than the sink takes meanwhile.
                     time.sleep(0.01)
 

@@ -2,6 +2,7 @@
 it offers, what it refuses and where it hangs up; what a client may not do it writes down as a breach.
 """
 import dataclasses
+import socket
 import socketserver
 import threading
 
@@ -43,8 +44,8 @@ class Taken:
 class Reader:
     """Lines and octets of a socket."""
 
-    def __init__(self, socket):
-        self.socket, self.held = socket, bytearray()
+    def __init__(self, link):
+        self.socket, self.held = link, bytearray()
 
     def more(self):
         octets = self.socket.recv(1 << 18)
@@ -85,6 +86,8 @@ class Conversation(socketserver.BaseRequestHandler):
 
     def handle(self):
         self.sink, self.manners = self.server.sink, self.server.sink.manners
+        # Two replies behind each other wait for no acknowledgement.
+        self.request.setsockopt(socket.IPPROTO_TCP, socket.TCP_NODELAY, 1)
         self.reader = Reader(self.request)
         self.mail, self.recipients, self.chunks = None, [], b""
         # The last message that it has taken.
