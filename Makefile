@@ -25,7 +25,7 @@ test:
 	TIMES=10 tests/run_hops.py build/relayd
 	TIMES=10 tests/run_faults.py build/relayd
 	TIMES=10 tests/run_load.py build/relayd
-	tests/run_without_memory.py build/relayd
+	TIMES=10 tests/run_without_memory.py build/relayd
 	tests/unit_file.sh build/relayd
 	tests/workers.py build/relayd
 	bench/crashes.py build/relayd 64
