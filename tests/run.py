@@ -144,8 +144,10 @@ def commands_and_chunks_come_in_one_piece(field):
         codes = [client.reply()[:4] for _ in range(7)]
         same("the replies", codes, ["250 "] * 6 + ["354 "])
         client.link.sendall(TEXT + group + b"DATA\r\n")
-        same("the reply to the text", number_of(client.reply()) > 1, True)
-        same("the replies", [client.reply()[:4] for _ in range(3)], ["250 ", "250 ", "354 "])
+        # All of them are one write, so that they wake the client once.
+        queued, *others = client.link.recv(4096).decode().splitlines(keepends=True)
+        same("the reply to the text", number_of(queued) > 1, True)
+        same("the replies", [line[:4] for line in others], ["250 ", "250 ", "354 "])
         # Octet by octet.
         client.link.setsockopt(socket.IPPROTO_TCP, socket.TCP_NODELAY, 1)
         for octet in TEXT + b"QUIT\r\n":

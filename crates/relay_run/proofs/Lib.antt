@@ -1,1 +1,3 @@
+mod BlockLemmas
+mod HearingLemmas
 mod LeftLemmas

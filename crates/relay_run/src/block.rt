@@ -1,10 +1,9 @@
-ghost use Rattle.std.specs.Prelude.{◌≡◌, ◌≢◌, [], false};
-ghost use Rattle.relay_run.specs.Hearing.{IsLeftOf};
-ghost use Rattle.relay_run.specs.Readiness.{HasUnread};
+ghost use Rattle.std.specs.Prelude.{◌≡◌, ◌↔◌, [], IsTrue, drop};
 
 use mio::net::TcpStream;
 use std::alloc::Global;
 use std::io::{self, Read};
+use std::marker::Model;
 
 /// How many octets are read of a connection at a time.
 pub(crate) const BLOCK_SIZE: usize = 65_536;
@@ -28,9 +27,21 @@ impl Drop for Block {
     }
 }
 
+impl Model for Block {
+    ghost use Rattle.std.specs.Prelude.{◌≤◌, ◌-◌, ℕ, List, drop, length, take};
+
+    ghost Value = { List ℕ };
+
+    ghost view = { λ block. take (block.end - block.start) (drop block.start block.octets.items) };
+
+    ghost invariant = { λ block. (block.start ≤ block.end) × (block.end ≤ length block.octets.items) };
+}
+
 impl Block {
     /// Nothing was read.
-    pub(crate) fn new(alloc: Global) -> Self {
+    pub(crate) fn new(alloc: Global) -> Self
+        ensures { result ≡ [] }
+    {
         Block {
             octets: Vec::new(alloc),
             start: 0,
@@ -40,25 +51,27 @@ impl Block {
 
     /// What was read and isn't used yet.
     pub(crate) fn piece(&self) -> &[u8]
-        ensures some { HasUnread self.now → result.now ≢ [] }
-        ensures own { IsLeftOf self.now result.now }
+        ensures { result.now ≡ self.now }
     {
-        match self.octets.as_slice().get(self.start..self.end) {
-            Some(piece) => piece,
-            None => &[],
-        }
+        &self.octets[self.start..self.end]
     }
 
     /// Whether all that was read is used.
     pub(crate) fn is_empty(&self) -> bool
-        ensures { HasUnread self.now → result ≡ false }
+        ensures { IsTrue result ↔ (self.now ≡ []) }
     {
         self.piece().is_empty()
     }
 
-    /// So many octets more are used.
-    pub(crate) fn used(&mut self, count: usize) {
-        self.start = self.start.saturating_add(count);
+    /// So many octets more are used; where there are fewer, all.
+    pub(crate) fn used(&mut self, count: usize)
+        ensures { self.new ≡ drop count self.old }
+    {
+        if count < self.end - self.start {
+            self.start += count;
+        } else {
+            self.start = self.end;
+        }
     }
 
     /// Reads the next octets of a stream, in the place of those that were read before, and tells how many; none are
@@ -70,7 +83,7 @@ impl Block {
             self.octets = vec![in alloc; 0; BLOCK_SIZE]?;
         }
         let count = read(stream, self.octets.as_mut_slice())?;
-        self.end = count;
+        self.end = count.min(self.octets.len());
         Ok(count)
     }
 }

@@ -1,8 +1,7 @@
-ghost use Rattle.std.specs.Prelude.{◌≡◌, false, true};
-ghost use Rattle.relay_run.specs.Hearing.{IsLeftOf};
-ghost use Rattle.relay_run.specs.Readiness.{HasUnread};
+ghost use Rattle.std.specs.Prelude.{◌≡◌, ◌≢◌, ◌↔◌, [], ◌++◌, IsTrue, drop, false, true};
 
 use crate::block::{BLOCK_SIZE, Block};
+use crate::held::Held;
 use mio::event::Event;
 use mio::net::TcpStream;
 use mio::{Interest, Registry, Token};
@@ -37,6 +36,8 @@ impl Readiness {
 pub(crate) struct Channel {
     alloc: Global,
     stream: TcpStream,
+    /// What is written before all else.
+    held: Held,
     /// The system tells of it.
     is_registered: bool,
     ready: Readiness,
@@ -60,6 +61,7 @@ impl Drop for Channel {
         let Channel {
             alloc: _,
             stream: _stream,
+            held: _held,
             is_registered: _,
             ready: _,
             end: _,
@@ -74,6 +76,7 @@ impl Channel {
         Channel {
             alloc,
             stream,
+            held: Held::new(alloc),
             is_registered: false,
             ready: Readiness {
                 reads: false,
@@ -127,19 +130,21 @@ impl Channel {
 
     /// What was read and isn't used yet.
     pub(crate) fn piece(&self) -> &[u8]
-        ensures { IsLeftOf self.now.block result.now }
+        ensures { result.now ≡ self.now.block }
     {
         self.block.piece()
     }
 
     /// So many octets of that are used.
-    pub(crate) fn used(&mut self, count: usize) {
+    pub(crate) fn used(&mut self, count: usize)
+        ensures { self.new.block ≡ drop count self.old.block }
+    {
         self.block.used(count);
     }
 
     /// Whether something can be done with it at once, where octets wait to be written to it or don't.
     pub(crate) fn is_ready(&self, waits: bool) -> bool
-        ensures { HasUnread self.now.block → waits ≡ false → result ≡ true }
+        ensures { self.now.block ≢ [] → waits ≡ false → result ≡ true }
     {
         if self.end == Some(End::Broken) {
             true
@@ -188,12 +193,65 @@ impl Channel {
         }
     }
 
-    /// Writes of these octets what goes at once, and tells how many.
+    /// Whether octets are held that are to be written.
+    pub(crate) fn is_holding(&self) -> bool
+        ensures { IsTrue result ↔ (self.now.held ≢ []) }
+    {
+        !self.held.is_empty()
+    }
+
+    /// Holds octets back, to be written with those that come next, and tells whether: not where they are too many, or
+    /// memory runs out.
+    pub(crate) fn hold(&mut self, octets: &[u8]) -> bool
+        ensures held { result ≡ true → self.new.held ≡ self.old.held ++ octets.now }
+        ensures same { result ≡ false → self.new ≡ self.old }
+    {
+        self.held.push(octets)
+    }
+
+    /// Writes what is held, and of these octets behind it what goes at once; it tells how many of these are done with:
+    /// they are written, or held.
     pub(crate) fn write(&mut self, octets: &[u8]) -> usize {
-        if octets.is_empty() || !self.ready.writes || self.end == Some(End::Broken) {
+        if self.held.is_empty() {
+            return self.write_now(octets);
+        }
+        let joins = self.held.push(octets);
+        self.write_held();
+        if joins {
+            octets.len()
+        } else if self.held.is_empty() {
+            self.write_now(octets)
+        } else {
+            0
+        }
+    }
+
+    /// Writes of what is held what goes at once.
+    fn write_held(&mut self) {
+        if !self.can_write() {
+            return;
+        }
+        let answer = write(&self.stream, self.held.as_slice());
+        let count = self.written(answer);
+        self.held.wrote(count);
+    }
+
+    /// Writes of these octets what goes at once, and tells how many.
+    fn write_now(&mut self, octets: &[u8]) -> usize {
+        if octets.is_empty() || !self.can_write() {
             return 0;
         }
-        match write(&self.stream, octets) {
+        let answer = write(&self.stream, octets);
+        self.written(answer)
+    }
+
+    fn can_write(&self) -> bool {
+        self.ready.writes && self.end != Some(End::Broken)
+    }
+
+    /// How many octets a write has taken, and whether another may follow.
+    fn written(&mut self, answer: io::Result<usize>) -> usize {
+        match answer {
             Ok(0) => {
                 self.end = Some(End::Broken);
                 0

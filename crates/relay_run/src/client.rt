@@ -1,5 +1,6 @@
 //! The connection of a client, and what is done with it at a turn.
-ghost use Rattle.std.specs.Prelude.{◌≡◌, IfErr, IfOk};
+ghost use Rattle.std.specs.Prelude.{◌≡◌, ◌≢◌, [], IfErr, IfOk, false, true};
+ghost use Rattle.relay_loop.specs.Outboxes.{unwritten_at};
 ghost use Rattle.relay_run.specs.Sessions.{EndsAlone, HasStopped, IsCutOff, IsTold, LeavesWithAll};
 
 use crate::channel::{Channel, End};
@@ -123,6 +124,38 @@ impl Client {
         }
     }
 
+    /// Whether octets wait to be written to it.
+    fn waits(&self, relay: &Relay<FileDisk>, session: usize) -> bool
+        ensures { self.now.channel.held ≡ [] → unwritten_at relay.now.clients session ≡ [] → result ≡ false }
+    {
+        self.channel.is_holding() || !relay.to_client(session).is_empty()
+    }
+
+    /// Whether something can be done with it at once.
+    pub(crate) fn is_ready(&self, relay: &Relay<FileDisk>, session: usize) -> bool
+        ensures { self.now.channel.block ≢ [] → self.now.channel.held ≡ []
+            → unwritten_at relay.now.clients session ≡ [] → result ≡ true }
+    {
+        self.channel.is_ready(self.waits(relay, session))
+    }
+
+    /// Holds what waits for it back, where more of what was read is heard at this turn: what that leads to goes in the
+    /// same write. Where it is too much to be held, it is written at once as far as that goes.
+    fn hold(&mut self, relay: &mut Relay<FileDisk>, session: usize, timeout: u64, now: &Now) {
+        if self.channel.piece().is_empty() || !self.channel.hold(relay.to_client(session)) {
+            self.flush(relay, session, timeout, now);
+        } else {
+            let count = relay.to_client(session).len();
+            relay.wrote_to_client(session, count);
+            self.idle_deadline = now.behind(timeout);
+        }
+    }
+
+    /// Writes the replies that were held back, since what they tell of stands, though nothing comes behind them.
+    pub(crate) fn give_held(&mut self) {
+        let _none = self.channel.write(&[]);
+    }
+
     /// Writes what waits, and reads a block where nothing waits any more and all of the last one is used. It tells what
     /// becomes of the connection, unless there are octets for its session to hear.
     pub(crate) fn read(
@@ -136,7 +169,7 @@ impl Client {
         if self.channel.end() == Some(End::Broken) {
             return Ok(Some(drop_session(relay, session)?));
         }
-        if !relay.to_client(session).is_empty() {
+        if self.waits(relay, session) {
             return Ok(Some(Next::Stays));
         }
         if self.channel.fill() {
@@ -168,12 +201,14 @@ impl Client {
         }
     }
 
-    /// Takes what its session has said to the octets that were read, and writes that at once as far as that goes.
+    /// Takes what its session has said to the octets that were read, and writes that at once as far as that goes, or
+    /// `holds` it back where more of them is heard at this turn.
     pub(crate) fn answer(
         &mut self,
         relay: &mut Relay<FileDisk>,
         session: usize,
         heard: Result<Heard, NodeFault>,
+        holds: bool,
         timeout: u64,
         now: &Now,
         intake: &mut Intake,
@@ -183,7 +218,10 @@ impl Client {
             Ok(heard) => heard,
             Err(NodeFault::Stopped) => return Err(Fault::Device),
             // The session is gone: there is no memory, or no number, for its mail.
-            Err(_) => return Ok(Next::Gone),
+            Err(_) => {
+                self.give_held();
+                return Ok(Next::Gone);
+            }
         };
         self.channel.used(used);
         if !relay.to_client(session).is_empty() {
@@ -199,12 +237,11 @@ impl Client {
         };
         intake.was_full = intake.was_full || tells_full(replies);
         match last {
-            Some(outbox) => Ok(Next::Leaves(outbox)),
-            None => {
-                self.flush(relay, session, timeout, now);
-                Ok(Next::Stays)
-            }
+            Some(outbox) => return Ok(Next::Leaves(outbox)),
+            None if holds => self.hold(relay, session, timeout, now),
+            None => self.flush(relay, session, timeout, now),
         }
+        Ok(Next::Stays)
     }
 }
 

@@ -1,4 +1,4 @@
-ghost use Rattle.std.specs.Prelude.{◌≡◌, ℕ, true};
+ghost use Rattle.std.specs.Prelude.{◌≡◌, ◌<◌, ℕ, true};
 ghost use Rattle.relay_run.specs.Readiness.{IsLeftClient};
 
 use crate::channel::{Channel, Readiness};
@@ -22,7 +22,8 @@ use std::net::{Ipv4Addr, SocketAddrV4};
 /// The connections of clients, up to 64, each under its session's number.
 pub(crate) struct Clients {
     alloc: Global,
-    clients: Slots<Client>,
+    // In boxes, so that a walk over the slots touches little memory, and a client isn't copied where it is taken out.
+    clients: Slots<Box<Client>>,
     /// The most of one address.
     most: usize,
     /// How many seconds one may be idle.
@@ -91,7 +92,11 @@ impl Clients {
             let _ = relay.end_client(session);
             return Ok(());
         }
-        let mut client = Client::new(channel, peer, self.timeout, now);
+        let client = Client::new(channel, peer, self.timeout, now);
+        let Ok(mut client) = Box::new(self.alloc, client) else {
+            let _ = relay.end_client(session);
+            return Ok(());
+        };
         client.flush(relay, session, self.timeout, now);
         put_back(&mut self.clients, session, client);
         Ok(())
@@ -109,13 +114,17 @@ impl Clients {
     /// Closes all connections.
     pub(crate) fn clear(&mut self) {
         for number in 0..SLOT_COUNT {
-            let _client = self.clients.take(number);
+            if let Some(taken) = self.clients.take(number) {
+                let mut client = taken;
+                client.give_held();
+            }
         }
     }
 
     /// Serves each of them once, each time beginning with another: first a block is read of each that has nothing to be
     /// written, and then their sessions hear what was read, all in one call. What stands behind a message in the same
-    /// block is heard in a second one, since clients send the commands of the next message with it (RFC 2920).
+    /// block is heard in a second one, since clients send the commands of the next message with it (RFC 2920), and what
+    /// both lead to goes out in one write.
     pub(crate) fn serve(
         &mut self,
         registry: &Registry,
@@ -128,60 +137,61 @@ impl Clients {
             was_full: false,
             closed: false,
         };
+        let mut hears = false;
         for step in 0..SLOT_COUNT {
             let number = self.nth(step);
-            self.read_one(number, registry, relay, leaving, now, &mut intake, log)?;
+            if holds(self.clients.as_slice(), number) {
+                hears |= self.read_one(number, registry, relay, leaving, now, &mut intake, log)?;
+            }
         }
-        self.hear(registry, relay, leaving, now, &mut intake, log)?;
-        self.hear(registry, relay, leaving, now, &mut intake, log)?;
+        if hears && self.hear(true, registry, relay, leaving, now, &mut intake, log)? {
+            self.hear(false, registry, relay, leaving, now, &mut intake, log)?;
+        }
         self.first = self.nth(1);
         Ok(intake)
     }
 
-    /// Lets all sessions that have something to hear do so, and writes what they say.
+    /// Lets all sessions that have something to hear do so, and writes what they say, or `holds` it back where they
+    /// have more to hear. It tells whether one has.
     fn hear(
         &mut self,
+        holds: bool,
         registry: &Registry,
         relay: &mut Relay<FileDisk>,
         leaving: &mut Leaving,
         now: &Now,
         intake: &mut Intake,
         log: &mut Log<'_, Vec<u8>>,
-    ) -> Result<(), Fault> {
-        if !self.is_any_to_hear() {
-            return Ok(());
-        }
+    ) -> Result<bool, Fault> {
         let clients = self.clients.as_slice();
         let Some(Hearing { sessions, heard }) = hear_all(
-            self.alloc, clients, self.first, relay, now,
+            self.alloc,
+            clients,
+            self.nth(0),
+            relay,
+            now,
         )?
         else {
-            return self.give_one_up(relay, intake);
+            self.give_one_up(relay, intake)?;
+            return Ok(false);
         };
+        let mut hears = false;
         for (session, heard) in sessions.into_iter().zip(heard) {
-            self.answer_one(session, heard, registry, relay, leaving, now, intake, log)?;
+            hears |= self.answer_one(
+                session, heard, holds, registry, relay, leaving, now, intake, log,
+            )?;
         }
-        Ok(())
-    }
-
-    /// Whether one has octets that its session may hear.
-    fn is_any_to_hear(&self) -> bool {
-        for slot in self.clients.as_slice() {
-            if let Some(client) = slot {
-                if client.hears {
-                    return true;
-                }
-            }
-        }
-        false
+        Ok(hears)
     }
 
     /// The number that is served so many places behind the first.
-    fn nth(&self, step: usize) -> usize {
+    fn nth(&self, step: usize) -> usize
+        ensures { result < 64 }
+    {
         self.first.saturating_add(step) % SLOT_COUNT
     }
 
-    /// Reads of the client of a number, where there is one, and notes whether its session has something to hear.
+    /// Reads of the client of a number. It tells whether its session has something to hear.
     fn read_one(
         &mut self,
         number: usize,
@@ -191,48 +201,47 @@ impl Clients {
         now: &Now,
         intake: &mut Intake,
         log: &mut Log<'_, Vec<u8>>,
-    ) -> Result<(), Fault> {
-        if !holds(self.clients.as_slice(), number) {
-            return Ok(());
-        }
+    ) -> Result<bool, Fault> {
         let Some(taken) = self.clients.take(number) else {
-            return Ok(());
+            return Ok(false);
         };
         let mut client = taken;
         let next = client.read(relay, number, self.timeout, now)?;
         client.hears = next.is_none();
-        match next {
-            Some(next) => self.settle(
-                number, client, next, registry, relay, leaving, now, intake, log,
-            ),
-            None => {
-                put_back(&mut self.clients, number, client);
-                Ok(())
-            }
-        }
+        let Some(next) = next else {
+            put_back(&mut self.clients, number, client);
+            return Ok(true);
+        };
+        self.settle(
+            number, client, next, registry, relay, leaving, now, intake, log,
+        )?;
+        Ok(false)
     }
 
-    /// Takes what came of the octets of the client of a number.
+    /// Takes what came of the octets of the client of a number. It tells whether its session has more to hear.
     fn answer_one(
         &mut self,
         number: usize,
         heard: Answer,
+        holds: bool,
         registry: &Registry,
         relay: &mut Relay<FileDisk>,
         leaving: &mut Leaving,
         now: &Now,
         intake: &mut Intake,
         log: &mut Log<'_, Vec<u8>>,
-    ) -> Result<(), Fault> {
+    ) -> Result<bool, Fault> {
         let Some(taken) = self.clients.take(number) else {
-            return Ok(());
+            return Ok(false);
         };
         let mut client = taken;
-        let next = client.answer(relay, number, heard, self.timeout, now, intake, log)?;
-        client.hears = client.has_more(relay, number);
+        let next = client.answer(relay, number, heard, holds, self.timeout, now, intake, log)?;
+        let hears = client.has_more(relay, number);
+        client.hears = hears;
         self.settle(
             number, client, next, registry, relay, leaving, now, intake, log,
-        )
+        )?;
+        Ok(hears)
     }
 
     /// Closes the first of those whose sessions have something to hear, since no memory is left.
@@ -260,7 +269,7 @@ impl Clients {
     fn settle(
         &mut self,
         number: usize,
-        client: Client,
+        client: Box<Client>,
         next: Next,
         registry: &Registry,
         relay: &mut Relay<FileDisk>,
@@ -272,13 +281,21 @@ impl Clients {
         let next = match next {
             Next::Stays if client.deadline() <= now.tick => {
                 log.cut_off(client.peer);
-                cut_off(self.alloc, relay, number)?
+                if client.channel.is_holding() {
+                    // It takes nothing.
+                    drop_session(relay, number)?
+                } else {
+                    cut_off(self.alloc, relay, number)?
+                }
             }
             next => next,
         };
         match next {
             Next::Stays => put_back(&mut self.clients, number, client),
-            Next::Leaves(outbox) => leaving.take(registry, client.into_channel(), outbox, now),
+            Next::Leaves(outbox) => {
+                let channel = Box::into_inner(client).into_channel();
+                leaving.take(registry, channel, outbox, now);
+            },
             Next::Gone => intake.closed = true,
         }
         Ok(())
@@ -290,7 +307,7 @@ impl Clients {
     {
         for (number, slot) in self.clients.as_slice().iter().enumerate() {
             if let Some(client) = slot {
-                if client.channel.is_ready(!relay.to_client(number).is_empty()) {
+                if client.is_ready(relay, number) {
                     return true;
                 }
             }

@@ -1,6 +1,7 @@
 //! What the sessions of clients hear at a turn, all in one call: the octets that were read of their own connections.
-ghost use Rattle.std.specs.Prelude.{◌≡◌, All, IfOk, IfSome, OnOk, map};
-ghost use Rattle.relay_run.specs.Hearing.{HearOwn, IsOwn, session_of};
+ghost use Rattle.std.specs.Prelude.{◌≡◌, ◌<◌, All, IfOk, IfSome, MatchOption, None, Some, map};
+ghost use Rattle.relay_slots.specs.Slots.{slot_at};
+ghost use Rattle.relay_run.specs.Hearing.{HearOwn, IsOwn, hearing_from, session_of};
 
 use crate::client::Client;
 use crate::clocks::Now;
@@ -26,13 +27,14 @@ pub(crate) struct Hearing {
 /// then.
 pub(crate) fn hear_all(
     alloc: Global,
-    clients: &[Option<Client>],
+    clients: &[Option<Box<Client>>],
     first: usize,
     relay: &mut Relay<FileDisk>,
     now: &Now,
 ) -> Result<Option<Hearing>, Fault>
+    requires { first < 64 }
     ensures own { IfOk result (λ hearing. IfSome hearing
-        (HearOwn clients.now now.now.moment relay.old relay.new)) }
+        (HearOwn clients.now first now.now.moment relay.old relay.new)) }
 {
     let Ok(pieces) = pieces_of(alloc, clients, first) else {
         return Ok(None);
@@ -55,23 +57,38 @@ pub(crate) fn hear_all(
 /// What was read of each client whose session has something to hear, the first of them first.
 fn pieces_of(
     alloc: Global,
-    clients: &[Option<Client>],
+    clients: &[Option<Box<Client>>],
     first: usize,
 ) -> Result<Vec<Piece<'_>>, AllocError>
-    ensures { IfOk result (λ pieces. All (IsOwn clients.now) pieces.items) }
+    requires { first < 64 }
+    ensures own { IfOk result (λ pieces. All (IsOwn clients.now) pieces.items) }
+    ensures each { IfOk result (λ pieces. map session_of pieces.items ≡ hearing_from clients.now first) }
 {
     let mut pieces = Vec::new(alloc);
-    for step in 0..SLOT_COUNT {
-        let number = first.saturating_add(step) % SLOT_COUNT;
-        match clients.get(number) {
-            Some(Some(client)) if client.hears => pieces.push(Piece {
-                session: number,
-                octets: client.channel.piece(),
-            })?,
-            _ => {}
+    for step in 0..clients.len() {
+        let number = (first + step) % SLOT_COUNT;
+        if let Some(client) = client_at(clients, number) {
+            if client.hears {
+                pieces.push(Piece {
+                    session: number,
+                    octets: client.channel.piece(),
+                })?;
+            }
         }
     }
     Ok(pieces)
+}
+
+/// The client of a number, where there is one.
+fn client_at(clients: &[Option<Box<Client>>], number: usize) -> Option<&Box<Client>>
+    ensures { MatchOption result (slot_at clients.now number ≡ None)
+        (λ client. slot_at clients.now number ≡ Some client.now) }
+{
+    match clients.get(number) {
+        Some(Some(client)) => Some(client),
+        Some(None) => None,
+        None => None,
+    }
 }
 
 /// The sessions that pieces are of.

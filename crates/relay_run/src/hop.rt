@@ -1,7 +1,6 @@
 //! The connection to a next hop, and what is done with it at a turn.
-ghost use Rattle.std.specs.Prelude.{◌≡◌, ℕ, [], Some, true};
+ghost use Rattle.std.specs.Prelude.{◌≡◌, ◌≢◌, ℕ, [], Some, true};
 ghost use Rattle.relay_loop.specs.Outboxes.{unwritten_at};
-ghost use Rattle.relay_run.specs.Readiness.{HasUnread};
 
 use crate::channel::{Channel, End};
 use crate::clocks::Now;
@@ -216,7 +215,7 @@ impl Hop {
 
     /// Whether something can be done with it at once.
     pub(crate) fn is_ready(&self, relay: &Relay<FileDisk>) -> bool
-        ensures { (attempt : ℕ) → self.now.attempt ≡ Some attempt → HasUnread self.now.channel.block
+        ensures { (attempt : ℕ) → self.now.attempt ≡ Some attempt → self.now.channel.block ≢ []
             → unwritten_at relay.now.hops attempt ≡ [] → result ≡ true }
     {
         match self.attempt {

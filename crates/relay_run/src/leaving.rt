@@ -39,7 +39,8 @@ impl Drop for Leaver {
 
 /// The connections that are leaving, up to 64.
 pub(crate) struct Leaving {
-    leavers: Slots<Leaver>,
+    alloc: Global,
+    leavers: Slots<Box<Leaver>>,
     /// How many seconds their last octets wait to be written.
     seconds: u64,
 }
@@ -48,6 +49,7 @@ pub(crate) struct Leaving {
 impl Drop for Leaving {
     fn drop(self) {
         let Leaving {
+            alloc: _,
             leavers: _leavers,
             seconds: _,
         } = self;
@@ -61,13 +63,14 @@ impl Leaving {
     /// None, whose last octets will wait for so many seconds at most. It fails where memory runs out.
     pub(crate) fn new(alloc: Global, seconds: u64) -> Result<Self, AllocError> {
         Ok(Leaving {
+            alloc,
             leavers: Slots::new(alloc)?,
             seconds,
         })
     }
 
     /// Takes a connection with its last octets. They are written at once as far as they go. Where 64 are leaving
-    /// already it is closed behind that.
+    /// already, or no memory is left, it is closed behind that.
     pub(crate) fn take(
         &mut self,
         registry: &Registry,
@@ -86,7 +89,10 @@ impl Leaving {
             return;
         };
         let token = Leaving::FIRST_TOKEN.saturating_add(number);
-        if leaver.channel.register(registry, token).is_ok() {
+        if leaver.channel.register(registry, token).is_err() {
+            return;
+        }
+        if let Ok(leaver) = Box::new(self.alloc, leaver) {
             self.leavers.put(number, leaver);
         }
     }
@@ -170,7 +176,7 @@ impl Leaver {
         if count <= self.outbox.as_slice().len() {
             self.outbox.wrote(count);
         }
-        if self.outbox.is_empty() {
+        if self.outbox.is_empty() && !self.channel.is_holding() {
             self.channel.shut_down();
             self.is_shut = true;
             self.deadline = now.behind(DRAIN_SECONDS);

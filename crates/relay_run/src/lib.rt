@@ -10,6 +10,7 @@ mod clocks;
 mod door;
 mod ending;
 mod hearing;
+mod held;
 mod hop;
 mod hops;
 mod lane;

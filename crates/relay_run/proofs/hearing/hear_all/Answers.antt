@@ -8,8 +8,9 @@ pub returns-in-Ok-read_all : goal.returns-in-Ok-read_all
 returns-in-Ok-read_all c = record {
   own = record {
     pieces = c.in-Ok.pieces.items;
-    own = c.in-Ok.ensures;
+    own = c.in-Ok.ensures.own;
     sessions = c.in-Ok-sessions_of.ensures ∙ ap (map session_of) c.as_slice.ensures.value;
+    each = c.in-Ok-sessions_of.ensures ∙ ap (map session_of) c.as_slice.ensures.value ∙ c.in-Ok.ensures.each;
     group = c.in-Ok-read_all.field-0;
     heard = refl;
     reads = λ changes keeps. subst (λ pieces. ReadsAll ⊥ file_words changes c.args.now.now.moment pieces c.args.relay.now c.read_all.new.self c.in-Ok-read_all.field-0) c.as_slice-2.ensures.value (c.in-Ok-read_all.ensures.reads changes keeps);

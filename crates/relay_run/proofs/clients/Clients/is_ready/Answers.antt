@@ -1,6 +1,5 @@
-use Rattle.std.proofs.Common.{◌≡◌, length, false, Some, sym, ap, ◌∙◌, subst, arith}
-use Rattle.std.specs.Prelude.{not, ◌==◌}
-use Rattle.relay_run.specs.Readiness.{HasUnread, IsLeftClient}
+use Rattle.std.proofs.Common.{◌≡◌, ◌≢◌, [], Some, sym, ap, ◌∙◌, subst, arith}
+use Rattle.relay_run.specs.Readiness.{IsLeftClient}
 use Rattle.relay_slots.specs.Slots.{slot_at}
 use Rattle.std.proofs.lemmas.Bool.{false≢true}
 use Rattle.relay_run.proofs.LeftLemmas.{none_at_all, none_more, same_value, some_there, stands_there}
@@ -18,9 +17,10 @@ loop-number-preserved c =
     elim c.match-slot.branch [
       | in-Some+else-is_ready w ↦
           let same = same_value w.in-Some.client left.client (sym w.in-Some.is ∙ found) in
-          let unread = subst (λ client. HasUnread client.channel.block) (sym same) left.unread in
-          let idle : not w.is_empty.result ≡ false = ap not (w.is_empty.ensures ∙ ap (λ octets. length octets == 0) (w.to_client.ensures ∙ left.written)) in
-          absurd (false≢true (sym w.if-is_ready.false ∙ w.is_ready.ensures unread idle))
+          let here = w.deref.ensures ∙ ap (λ client. client.value) same in
+          let unread = subst (λ client. client.channel.block ≢ []) (sym here) left.unread in
+          let held = subst (λ client. client.channel.held ≡ []) (sym here) left.held in
+          absurd (false≢true (sym w.if-is_ready.false ∙ w.is_ready.ensures unread held left.written))
       | in_default w ↦ absurd (w.in_default.not-Some left.client found)
     ])
 

@@ -1,5 +1,5 @@
-use Rattle.std.proofs.Common.{◌≡◌, Some, sym, ap, ◌∙◌, subst, arith}
-use Rattle.relay_run.specs.Readiness.{HasUnread, IsLeftHop}
+use Rattle.std.proofs.Common.{◌≡◌, ◌≢◌, [], Some, sym, ap, ◌∙◌, subst, arith}
+use Rattle.relay_run.specs.Readiness.{IsLeftHop}
 use Rattle.relay_slots.specs.Slots.{slot_at}
 use Rattle.std.proofs.lemmas.Bool.{false≢true}
 use Rattle.relay_run.proofs.LeftLemmas.{none_at_all, none_more, same_value, some_there, stands_there}
@@ -18,7 +18,7 @@ loop-slot-preserved c =
       | in-Some+else-is_ready w ↦
           let same = same_value w.in-Some.hop left.hop (sym w.in-Some.is ∙ found) in
           let runs = ap (λ hop. hop.attempt) same ∙ left.runs in
-          let unread = subst (λ hop. HasUnread hop.channel.block) (sym same) left.unread in
+          let unread = subst (λ hop. hop.channel.block ≢ []) (sym same) left.unread in
           absurd (false≢true (sym w.if-is_ready.false ∙ w.is_ready.ensures left.attempt runs unread left.written))
       | in_default w ↦ absurd (w.in_default.not-Some left.hop found)
     ])

@@ -1,0 +1,81 @@
+ghost use Rattle.std.specs.Prelude.{◌≡◌, ◌↔◌, [], ◌++◌, IsTrue, drop, false, true};
+
+use std::alloc::Global;
+use std::marker::Model;
+
+/// The most octets that are held.
+const HELD_SIZE: usize = 4_096;
+
+/// Octets that wait to be written to a connection before all others, so that they go in one write with what comes next.
+/// It takes no memory before some are held.
+pub(crate) struct Held {
+    octets: Vec<u8>,
+    /// How many of them are written.
+    written: usize,
+}
+
+// Written out, so that what drops them calls this, and doesn't look into them.
+impl Drop for Held {
+    fn drop(self) {
+        let Held {
+            octets: _octets,
+            written: _,
+        } = self;
+    }
+}
+
+impl Model for Held {
+    ghost use Rattle.std.specs.Prelude.{◌≤◌, ℕ, List, drop, length};
+
+    ghost Value = { List ℕ };
+
+    ghost view = { λ held. drop held.written held.octets.items };
+
+    ghost invariant = { λ held. held.written ≤ length held.octets.items };
+}
+
+impl Held {
+    /// None.
+    pub(crate) fn new(alloc: Global) -> Self
+        ensures { result ≡ [] }
+    {
+        Held {
+            octets: Vec::new(alloc),
+            written: 0,
+        }
+    }
+
+    /// Those that wait.
+    pub(crate) fn as_slice(&self) -> &[u8]
+        ensures { result.now ≡ self.now }
+    {
+        &self.octets[self.written..]
+    }
+
+    /// Whether none waits.
+    pub(crate) fn is_empty(&self) -> bool
+        ensures { IsTrue result ↔ (self.now ≡ []) }
+    {
+        self.as_slice().is_empty()
+    }
+
+    /// Puts octets behind the others, and tells whether: not where they are too many, or memory runs out.
+    pub(crate) fn push(&mut self, octets: &[u8]) -> bool
+        ensures held { result ≡ true → self.new ≡ self.old ++ octets.now }
+        ensures same { result ≡ false → self.new ≡ self.old }
+    {
+        if self.is_empty() {
+            self.octets.clear();
+            self.written = 0;
+        }
+        self.octets.len().saturating_add(octets.len()) <= HELD_SIZE
+            && self.octets.extend_from_slice(octets).is_ok()
+    }
+
+    /// So many of them were written; where there are fewer, all.
+    pub(crate) fn wrote(&mut self, count: usize)
+        ensures { self.new ≡ drop count self.old }
+    {
+        self.written = self.written.saturating_add(count).min(self.octets.len());
+    }
+}
