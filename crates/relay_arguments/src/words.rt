@@ -17,7 +17,7 @@ use std::convert::AsStr;
 pub enum Subcommand<'a> {
     /// One session from standard input to standard output.
     Session,
-    /// A play of two relays, by a script from standard input.
+    /// A play of 2 to 16 relays, by a script from standard input.
     Play,
     /// A spool is made, by the configuration in this file.
     Init(&'a str),
@@ -257,7 +257,7 @@ fn play<'a>(alloc: Global) -> Command<'a>
     ensures { app_of result ≡ new_app (codes "play") }
 {
     Command::new(alloc, "play").about(
-        "Plays a script of two relays from standard input, and tells what is seen of each line",
+        "Plays a script of 2 to 16 relays from standard input, and tells what is seen of each line",
     )
 }
 
