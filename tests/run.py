@@ -251,6 +251,33 @@ def a_client_that_reads_nothing_is_cut_off(field):
         field.arrived(1)
 
 
+def replies_that_wait_stay_whole_and_in_order(field):
+    """A client that reads late, once the relay reads no more of it, gets each reply: those to messages too, which are
+    held back for what stands behind them in a block."""
+    relay, units = field.relay(), 100
+    group, taken = b"MAIL FROM:<a@example.org>\r\nRCPT TO:<b@example.org>\r\n", b"250 sender OK\r\n250 recipient OK\r\n"
+    offers = b"250-relay.example\r\n250-PIPELINING\r\n250-CHUNKING\r\n250 DSN\r\n"
+    unit = b"EHLO x\r\n" * 5000 + group + b"BDAT 6 LAST\r\nmail\r\n" + group + b"RSET\r\n"
+    told = offers * 5000 + taken + b"250 queued as #\r\n" + taken + b"250 OK\r\n"
+    with relay.running("--quiet"), Client(relay) as client:
+        same("the greeting", client.reply()[:4], "220 ")
+        for option in (socket.SO_RCVBUF, socket.SO_SNDBUF):
+            client.link.setsockopt(socket.SOL_SOCKET, option, 1 << 16)
+        sender = threading.Thread(target=client.link.sendall, args=(unit * units + b"QUIT\r\n",))
+        sender.start()
+        # It is held up, since more waits for the client than the system takes.
+        sender.join(0.5)
+        same("the sender waits", sender.is_alive(), True)
+        replies = client.rest()
+        sender.join()
+        numbers = [int(number) for number in re.findall(rb"queued as (\d+)\r\n", replies)]
+        same("the numbers", numbers, sorted(set(numbers)))
+        # Not by `same`, which would print all of them.
+        if re.sub(rb"queued as \d+", b"queued as #", replies) != told * units + b"221 relay.example closing\r\n":
+            raise Difference("the replies aren't those to what was sent, in order")
+        field.arrived(units)
+
+
 def a_flood_that_nobody_reads_costs_nothing(field):
     """The flood's client reads none of its replies, so the relay reads none of its octets in the end."""
     relay = field.relay()
@@ -448,6 +475,7 @@ ROWS = [
     a_silent_client_is_told_and_left,
     a_client_that_drips_is_told_and_left,
     a_client_that_reads_nothing_is_cut_off,
+    replies_that_wait_stay_whole_and_in_order,
     a_flood_that_nobody_reads_costs_nothing,
     the_reply_to_quit_arrives_whole,
     the_end_of_the_input_leaves_what_was_answered,
