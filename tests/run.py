@@ -230,6 +230,25 @@ def a_client_that_drips_is_told_and_left(field):
         same("what they are told", [client.rest() for client in clients], [TIMEOUT] * 2)
 
 
+def a_line_without_an_end_is_cut_off(field):
+    """However fast its octets come; a text that comes as fast is taken, though it takes longer than that time."""
+    relay = field.relay(client_timeout=1)
+    with relay.running(), clients_of(relay, 2) as [line, text]:
+        text.ask_for_text()
+        rounds = 0
+        for _ in range(10):
+            if not select.select([line.link], [], [], 0)[0]:
+                line.link.sendall(b"N" * 70_000)
+                rounds += 1
+            text.link.sendall((b"x" * 68 + b"\r\n") * 1000)
+            time.sleep(0.3)
+        if rounds == 10:
+            raise Difference("it isn't cut off")
+        same("what it is told", line.rest(), TIMEOUT)
+        number_of(text.say(b".\r\n"))
+        field.arrived(1)
+
+
 def a_client_that_reads_nothing_is_cut_off(field):
     relay = field.relay(client_timeout=1)
     with relay.running(), Client(relay) as client:
@@ -474,6 +493,7 @@ ROWS = [
     slow_clients_hold_up_nobody,
     a_silent_client_is_told_and_left,
     a_client_that_drips_is_told_and_left,
+    a_line_without_an_end_is_cut_off,
     a_client_that_reads_nothing_is_cut_off,
     replies_that_wait_stay_whole_and_in_order,
     a_flood_that_nobody_reads_costs_nothing,

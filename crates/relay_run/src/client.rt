@@ -31,11 +31,13 @@ pub(crate) struct Client {
     pub(crate) peer: SocketAddrV4,
     /// Octets were read that its session hasn't heard yet, and may hear.
     pub(crate) hears: bool,
-    /// How many octets were read since the last answer.
+    /// How many octets were read since the last answer, or since the deadline was set anew.
     unanswered: usize,
-    /// The tick at which it is cut off. It is set anew by the first octet behind an answer, by each 65,536 octets that
-    /// lead to none, since they are of a text or a chunk, or of a line without an end, and by each write of which it
-    /// takes something: so a command line has to stand whole within the timeout of its first octet.
+    /// A line end was among them.
+    has_line_end: bool,
+    /// The tick at which it is cut off. It is set anew by the first octet behind an answer, by 65,536 octets that lead
+    /// to none and have a line end, since they are of a text or a chunk, and by each write of which it takes something:
+    /// so a command line has to stand whole within the timeout of its first octet.
     idle_deadline: u64,
     /// The tick at which it is cut off, unless mail of it is accepted before.
     session_deadline: u64,
@@ -49,6 +51,7 @@ impl Drop for Client {
             peer: _,
             hears: _,
             unanswered: _,
+            has_line_end: _,
             idle_deadline: _,
             session_deadline: _,
         } = self;
@@ -83,6 +86,7 @@ impl Client {
             peer,
             hears: false,
             unanswered: 0,
+            has_line_end: false,
             idle_deadline: now.behind(timeout),
             session_deadline: now.behind(SESSION_SECONDS),
         }
@@ -95,6 +99,7 @@ impl Client {
             peer: _,
             hears: _,
             unanswered: _,
+            has_line_end: _,
             idle_deadline: _,
             session_deadline: _,
         } = self;
@@ -191,12 +196,16 @@ impl Client {
 
     /// A block was read.
     fn note_read(&mut self, timeout: u64, now: &Now) {
+        let piece = self.channel.piece();
         let is_first = self.unanswered == 0;
-        self.unanswered = self.unanswered.saturating_add(self.channel.piece().len());
+        let has_line_end = piece.contains(&b'\n');
+        self.unanswered = self.unanswered.saturating_add(piece.len());
+        self.has_line_end = has_line_end || (self.has_line_end && !is_first);
         if is_first {
             self.idle_deadline = now.behind(timeout);
-        } else if self.unanswered >= PART_SIZE {
+        } else if self.unanswered >= PART_SIZE && self.has_line_end {
             self.unanswered = 1;
+            self.has_line_end = false;
             self.idle_deadline = now.behind(timeout);
         }
     }
@@ -226,6 +235,7 @@ impl Client {
         self.channel.used(used);
         if !relay.to_client(session).is_empty() {
             self.unanswered = self.channel.piece().len();
+            self.has_line_end = false;
         }
         if let Some(number) = change {
             self.session_deadline = now.behind(SESSION_SECONDS);
