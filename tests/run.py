@@ -63,6 +63,9 @@ def its_log_says_when_and_quiet_says_nothing(field):
             hand_in(relay)
             field.arrived(1)
             until("an empty list", lambda: relay.held() == [])
+            # A line is written at the end of the turn in which its change was made.
+            if not words:
+                until("two lines of its log", lambda: relay.log.read_bytes().count(b"\n") == 2)
         lines = relay.log.read_bytes().splitlines()
         same("lines without a moment", [line for line in lines if not MOMENT.fullmatch(line)], [])
         same(f"run {words} has a log", len(lines), 0 if words else 2)
