@@ -41,9 +41,9 @@ test:
 	tests/dialogues_of_a_node.sh crates/relay_node_tests/out/relay_node_tests
 	tests/attempts_of_a_node.py crates/relay_node_tests/out/relay_node_tests
 	tests/node_without_memory.sh crates/relay_node_tests/out/relay_node_tests
-	tests/hub_without_memory.sh crates/relay_hub_tests/out/relay_hub_tests
-	tests/groups_without_memory.sh crates/relay_loop_tests/out/relay_loop_tests
-	tests/spool_on_a_file.sh crates/relay_disk_tests/out/relay_disk_tests
+	tests/hub_without_memory.sh crates/relay_node_tests/out/relay_node_tests
+	tests/groups_without_memory.sh crates/relay_node_tests/out/relay_node_tests
+	tests/spool_on_a_file.sh crates/relay_book_tests/out/relay_book_tests
 	tests/reports_read_by_python.py crates/relay_book_tests/out/relay_book_tests
 	tail -n 1 build/gate.log
 

@@ -13,7 +13,7 @@ import subprocess
 import sys
 import tempfile
 
-ROWS = pathlib.Path(__file__).resolve().parent.parent / "crates/relay_meeting_tests/data/transcripts.in"
+ROWS = pathlib.Path(__file__).resolve().parent.parent / "crates/relay_rows_tests/data/transcripts.in"
 LINE_LIMIT = 2_048
 LETTERS = {b"r": b"\r", b"n": b"\n", b"t": b"\t", b"0": b"\0", b"d": b"\x7f", b"h": b"\x80", b"f": b"\xff"}
 

@@ -9,7 +9,7 @@ set -euo pipefail
 cd "$(dirname "$0")/.."
 
 program=$1
-folder=crates/relay_meeting_tests/data
+folder=crates/relay_rows_tests/data
 plain=()
 for it in "$folder"/*.ref; do
     name=$(basename "$it" .ref)

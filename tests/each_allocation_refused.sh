@@ -48,5 +48,5 @@ hold() {
 
 hold crates/relayd/stdin crates/relayd/stdout
 for dialogue in parameters gathering; do
-    hold "crates/relay_meeting_tests/data/$dialogue.in" "crates/relay_meeting_tests/data/$dialogue.ref"
+    hold "crates/relay_rows_tests/data/$dialogue.in" "crates/relay_rows_tests/data/$dialogue.ref"
 done

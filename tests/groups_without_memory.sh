@@ -4,7 +4,7 @@
 # memory couldn't grow, and the node is stopped; or each message was queued, and its client told so, or its connection is
 # gone, and as many changes were made as were queued, each with its note: the program has looked at that.
 #
-#   tests/groups_without_memory.sh crates/relay_loop_tests/out/relay_loop_tests
+#   tests/groups_without_memory.sh crates/relay_node_tests/out/relay_node_tests
 set -euo pipefail
 cd "$(dirname "$0")/.."
 

@@ -5,7 +5,7 @@
 # that the receipts agree with the node, that each link has a receipt for each message that it answered as queued, and for
 # one more at most where it ended by a fault, and that a link without a thread has written nothing.
 #
-#   tests/hub_without_memory.sh crates/relay_hub_tests/out/relay_hub_tests
+#   tests/hub_without_memory.sh crates/relay_node_tests/out/relay_node_tests
 set -euo pipefail
 cd "$(dirname "$0")/.."
 

@@ -2,7 +2,7 @@
 # Takes steps on a spool in two files, with the calls that it makes of the device written down by a shim, which lets some
 # fail: what the program answers, which calls it made in which order, and what the files hold then.
 #
-#   tests/spool_on_a_file.sh crates/relay_disk_tests/out/relay_disk_tests
+#   tests/spool_on_a_file.sh crates/relay_book_tests/out/relay_book_tests
 set -euo pipefail
 cd "$(dirname "$0")/.."
 
@@ -28,7 +28,7 @@ hold() {
 take() {
     name=$1
     rm -f spool spool.2 calls
-    printf '%s\n' "${@:3}" | env $2 CALLS=calls LD_PRELOAD=./calls.so "$steps" spool > answers
+    printf '%s\n' "${@:3}" | env $2 CALLS=calls LD_PRELOAD=./calls.so "$steps" steps spool > answers
 }
 
 # image OCTETS FILE: the file is these, in the form of printf; the first one, where none is named.
@@ -116,7 +116,7 @@ image "$head"'\x02\x01\0\0\0\x03one\0' spool.2
 
 # The folder is the file's own.
 mkdir inner
-printf 'create\n' | CALLS=calls LD_PRELOAD=./calls.so "$steps" inner/../inner/spool > answers
+printf 'create\n' | CALLS=calls LD_PRELOAD=./calls.so "$steps" steps inner/../inner/spool > answers
 [ "$(grep folder calls | tail -n 2)" = "open folder inner/../inner
 sync folder" ] || fail "another folder is synced"
 

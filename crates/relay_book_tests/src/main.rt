@@ -5,6 +5,7 @@
 #![tactic(auto)]
 
 mod answer;
+mod disks;
 mod fault;
 mod hex;
 mod number;
@@ -14,14 +15,29 @@ mod shown;
 mod snapshot;
 
 use answer::Subject;
+use disks::{show_disks, take_given_steps};
 use fault::RowsFault;
 use report::answer_of_report;
 use std::test::Fail;
 use std::{env, fs};
 
-/// The word is the folder of the rows. Without one they lie where the program runs.
+/// The word is the folder of the rows of books. Without one all rows lie where the program runs. By the word `steps` and
+/// the first file of a spool the steps of the standard input are taken on it, and nothing else is done.
 fn main(rt: HostRuntime) -> Result<(), Fail> {
-    match show_rows(&rt) {
+    let words: Vec<String> = env::args(&rt)?.collect(rt.alloc())?;
+    match (words.get(1), words.get(2)) {
+        (Some(_), Some(path)) => take_given_steps(&rt, path.as_str()),
+        (Some(folder), None) => show_books(&rt, folder.as_str()),
+        (None, _) => {
+            show_books(&rt, ".")?;
+            show_disks(&rt)
+        }
+    }
+}
+
+/// Shows the rows of books, and says why not all are shown.
+fn show_books(rt: &HostRuntime, folder: &str) -> Result<(), Fail> {
+    match show_rows(rt, folder) {
         Ok(()) => Ok(()),
         Err(fault) => Err(Fail::new(fault.text())),
     }
@@ -29,12 +45,7 @@ fn main(rt: HostRuntime) -> Result<(), Fail> {
 
 /// Prints what comes of each row. The rows of a file are about one book, and each row of reports about one of its
 /// own.
-fn show_rows(rt: &HostRuntime) -> Result<(), RowsFault> {
-    let words: Vec<String> = env::args(rt)?.collect(rt.alloc())?;
-    let folder = match words.get(1) {
-        Some(word) => word.as_str(),
-        None => ".",
-    };
+fn show_rows(rt: &HostRuntime, folder: &str) -> Result<(), RowsFault> {
     show_lines(rt, file(rt, folder, "rows.in")?.as_str())?;
     show_lines(rt, file(rt, folder, "octets.in")?.as_str())?;
     show_lines(rt, file(rt, folder, "snapshots.in")?.as_str())?;

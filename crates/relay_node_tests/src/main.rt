@@ -1,9 +1,12 @@
 //! Plays each scenario of data/ on a node over memory: in one piece, with what the other sides say cut in
 //! two at each octet, octet by octet, and in one piece among so many other clients that 64 are there; or, where
-//! a device fails, for each call and each stop. What comes of each event is compared with what is written down. By
-//! the word `sessions`, `chunks`, `report` or `compactions` it plays what tests/node_without_memory.sh refuses each
-//! allocation of in turn, by `file` and a path the scenarios of that file alone, and by `dialogues`, a folder and
-//! names the dialogues of that folder.
+//! a device fails, for each call and each stop. What comes of each event is compared with what is written down. Then
+//! it shows the scenes of a relay without a socket, and rounds and links over the node.
+//!
+//! By the word `sessions`, `chunks`, `report` or `compactions` it plays what tests/node_without_memory.sh refuses each
+//! allocation of in turn, by `three` what tests/groups_without_memory.sh does, and by `small` a round of links, as
+//! tests/hub_without_memory.sh does; by `file` and a path the scenarios of that file alone, and by `dialogues`, a
+//! folder and names the dialogues of that folder.
 #![tactic(auto)]
 
 mod answers;
@@ -12,10 +15,12 @@ mod course;
 mod crowd;
 mod dialogues;
 mod escape;
+mod hub;
 mod pushed;
 mod refused;
 mod scenario;
 mod scene;
+mod scenes;
 mod stage;
 mod step;
 mod talk;
@@ -23,8 +28,10 @@ mod trial;
 mod words;
 
 use dialogues::dialogues;
+use hub::{play_small, show_links};
 use refused::{chunks, compactions, report, sessions};
 use scenario::Scenario;
+use scenes::{show_scenes, show_three};
 use std::test::Fail;
 use std::{env, fs};
 use trial::difference_of;
@@ -44,16 +51,18 @@ const FILES: [&str; 11] = [
     "wrong",
 ];
 
-/// A word that is none of these is the folder of the scenarios. Without one they lie where the program
-/// runs.
+/// Without a word all is played that lies where the program runs. A word that is none of these is the folder of the
+/// scenarios of a node.
 fn main(rt: HostRuntime) -> Result<(), Fail> {
     let words: Vec<String> = env::args(&rt)?.collect(rt.alloc())?;
-    let word = word_of(words.as_slice(), 1);
-    match word {
+    match word_of(words.as_slice(), 1) {
+        "" => play_all(&rt),
         "sessions" => sessions(&rt),
         "chunks" => chunks(&rt),
         "report" => report(&rt),
         "compactions" => compactions(&rt),
+        "three" => show_three(&rt),
+        "small" => play_small(&rt, rt.alloc()),
         "file" => play_named(&rt, word_of(words.as_slice(), 2)),
         "dialogues" => dialogues(
             &rt,
@@ -64,11 +73,18 @@ fn main(rt: HostRuntime) -> Result<(), Fail> {
     }
 }
 
-/// The word at this place, and where there is none the folder in which the program runs.
+/// Plays the scenarios, the scenes, and the rounds and links. It fails where a scenario differs.
+fn play_all(rt: &HostRuntime) -> Result<(), Fail> {
+    play_files(rt, ".")?;
+    show_scenes(rt)?;
+    show_links(rt)
+}
+
+/// The word at this place; an empty one where there is none.
 fn word_of(words: &[String], place: usize) -> &str {
     match words.get(place) {
         Some(word) => word.as_str(),
-        None => ".",
+        None => "",
     }
 }
 

@@ -5,3 +5,6 @@ pub mod Steps
 pub mod Cutting
 pub mod Comparison
 pub mod Player
+pub mod OfferText
+pub mod Transcript
+pub mod Played

@@ -7,6 +7,8 @@
 //! and RCPT, xtext, paths and hosts' names; those of routes configurations, and paths whose hop is looked up;
 //! those of trace moments, time stamp lines and header sections; and those of scripts lines and texts. Where
 //! something else is written down than comes of a row, that too is printed.
+//!
+//! Last it holds dialogues over a session, plays transcripts over an attempt, and lets the two meet.
 #![tactic(auto)]
 
 mod body_row;
@@ -18,6 +20,7 @@ mod escape;
 mod line;
 mod line_play;
 mod lines;
+mod meeting;
 mod pieces;
 mod play;
 mod player;
@@ -30,6 +33,7 @@ mod verdict;
 
 use line::line_of;
 use lines::show_lines;
+use meeting::show_meetings;
 use routes::outcome_of_routes;
 use script::{outcome_of_script, say_nodes};
 use std::test::Fail;
@@ -50,7 +54,8 @@ fn main(rt: HostRuntime) -> Result<(), Fail> {
     show_rows(&rt, "routes.in", Subject::Routes)?;
     show_rows(&rt, "trace.in", Subject::Trace)?;
     show_rows(&rt, "script.in", Subject::Script)?;
-    say_nodes(&rt)
+    say_nodes(&rt)?;
+    show_meetings(&rt)
 }
 
 /// Prints the line of each row of envelopes, for which as many outcomes are written down.

@@ -1,3 +1,0 @@
-pub mod OfferText
-pub mod Transcript
-pub mod Played

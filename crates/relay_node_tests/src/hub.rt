@@ -1,0 +1,127 @@
+//! Links of a node over memory. By the rows of data/rounds.in rounds of links, each on a thread of its own, give
+//! messages to one node, which has room for all of them or for few, or whose device fails; then two links wait for
+//! each other; and then each read, write and flush of one link fails in turn. What these come to is the same whatever
+//! the threads' order was.
+//!
+//! By the rows of data/links.in a node takes one message by a link without a thread, and hands it on by another: from
+//! a client and to a next hop that give their octets in pieces of any length, and over connections that end or fail
+//! behind each octet that is read or written. Then it serves and pushes over sockets of 127.0.0.1, both ends in one
+//! process and one thread, and over a writer that fails where it is flushed. Each row has a line.
+
+mod came;
+mod faulty;
+mod flushes;
+mod gate;
+mod link_rows;
+mod mail;
+mod pushing;
+mod rounds;
+mod row;
+mod serving;
+mod setup;
+mod small;
+mod sockets;
+mod trial;
+
+use came::difference_of;
+use flushes::a_flush_that_fails_ends_the_session;
+use gate::two_links_wait_for_each_other;
+use link_rows::link_rows;
+use rounds::outcome_of;
+use row::Row;
+use small::{Small, small_round};
+use sockets::{a_client_is_answered_over_a_socket, a_hop_is_handed_mail_over_a_socket};
+use std::alloc::Global;
+use std::fs;
+use std::io::{self, Print};
+use std::sync::Wait;
+use std::test::Fail;
+use std::thread::Threads;
+
+/// Shows the rounds, the links and the streams.
+pub fn show_links(rt: &HostRuntime) -> Result<(), Fail> {
+    let rounds = fs::read_to_string(rt, "rounds.in")?;
+    play_rounds(rt, rt.alloc(), rounds.as_str())?;
+    let links = fs::read_to_string(rt, "links.in")?;
+    for line in links.as_str().lines() {
+        play_link(rt, line)?;
+    }
+    show_streams(rt)
+}
+
+/// Plays the small round.
+pub fn play_small<T: Print + Threads + Wait + Sync>(rt: &T, alloc: Global) -> Result<(), Fail> {
+    match small_round(rt, alloc)? {
+        Small::NotBegun => println!(rt; "not begun")?,
+        Small::Ended { well, idle } => {
+            println!(rt; "{well} links ended well, {idle} had no thread")?
+        }
+    }
+    Ok(())
+}
+
+/// Plays these rows, then the two links that wait for each other, and then the one whose calls fail.
+fn play_rounds<T: Print + Threads + Wait + Sync>(
+    rt: &T,
+    alloc: Global,
+    rows: &str,
+) -> Result<(), Fail> {
+    for line in rows.lines() {
+        play_round(rt, alloc, line)?;
+    }
+    let do_wait = two_links_wait_for_each_other(rt, alloc)?;
+    say(
+        rt,
+        "two links that wait for each other are answered",
+        do_wait,
+    )?;
+    print!(rt; "{}", link_rows(rt, alloc)?.as_str())?;
+    Ok(())
+}
+
+/// Plays a row of rounds, and prints a line for it.
+fn play_round<T: Print + Threads + Wait + Sync>(
+    rt: &T,
+    alloc: Global,
+    line: &str,
+) -> Result<(), Fail> {
+    let Some(row) = Row::read(line) else {
+        return Err(Fail::new("no row"));
+    };
+    let end = if outcome_of(rt, alloc, row.trial)? == row.came {
+        "as written down"
+    } else {
+        "it came otherwise"
+    };
+    println!(rt; "{line}: {end}")?;
+    Ok(())
+}
+
+/// Plays a row of a link without a thread, and prints a line for it.
+fn play_link(rt: &HostRuntime, line: &str) -> Result<(), Fail> {
+    let Some(row) = trial::Row::read(line) else {
+        return Err(Fail::new("no row"));
+    };
+    match difference_of(rt.alloc(), row)? {
+        Some(number) => println!(rt; "{line}: differs at {number}")?,
+        None => println!(rt; "{line}: as written down")?,
+    }
+    Ok(())
+}
+
+/// Prints a line for each row of sockets and flushes.
+fn show_streams(rt: &HostRuntime) -> Result<(), Fail> {
+    let holds = a_client_is_answered_over_a_socket(rt.alloc(), rt)?;
+    say(rt, "a client is answered over a socket", holds)?;
+    let holds = a_hop_is_handed_mail_over_a_socket(rt.alloc(), rt)?;
+    say(rt, "a hop is handed mail over a socket", holds)?;
+    let holds = a_flush_that_fails_ends_the_session(rt.alloc())?;
+    say(rt, "a flush that fails ends the session", holds)?;
+    Ok(())
+}
+
+/// Prints the line of a row.
+fn say(rt: &impl Print, row: &str, holds: bool) -> io::Result<()> {
+    let end = if holds { "so it is" } else { "it is otherwise" };
+    println!(rt; "{row}: {end}")
+}

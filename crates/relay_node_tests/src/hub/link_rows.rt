@@ -1,0 +1,140 @@
+//! A link of a thread, of which each read, each write and each flush fails in turn.
+ghost use Rattle.std.specs.Prelude.{◌≡◌, List};
+ghost use Rattle.relay_disk.specs.Memory.{memory_words};
+ghost use Rattle.relay_book.specs.declared.change.Change.{Change};
+ghost use Rattle.relay_hub.specs.Hub.{Answers};
+
+use crate::hub::faulty::{BadCall, Held, Lines};
+use crate::hub::serving::word_of;
+use crate::hub::setup::{CLIENT, MemoryNode, config_with, count_held, empty_node, first_moment};
+use relay_disk::MemoryDisk;
+use relay_hub::{Hub, Opening, hub_link};
+use relay_links::LinkFault;
+use relay_routes::Config;
+use std::alloc::Global;
+use std::marker::Brand;
+use std::sync::Wait;
+use std::sync::ledger::Blank;
+use std::test::Fail;
+
+/// What came of a link.
+#[derive(Clone, Copy)]
+struct Came {
+    end: &'static str,
+    /// How many octets were written.
+    written: usize,
+    /// How many receipts its thread has.
+    receipts: usize,
+    /// How many places the node holds behind it.
+    held: usize,
+}
+
+/// A line for each call that fails: how the link ended, how many octets it wrote, how many receipts its thread has,
+/// and how many places the node then holds. There is a read for each line, and a write and a flush for the greeting
+/// and each reply; the last call of each kind is one that the link doesn't come to.
+pub(crate) fn link_rows<T: Wait>(rt: &T, alloc: Global) -> Result<String, Fail> {
+    let mut text = String::new(alloc);
+    for number in 1..=7 {
+        let came = came_of(rt, alloc, BadCall::Read(number))?;
+        say(alloc, &mut text, "read", number, came)?;
+    }
+    for number in 1..=8 {
+        let came = came_of(rt, alloc, BadCall::Write(number))?;
+        say(alloc, &mut text, "write", number, came)?;
+    }
+    for number in 1..=8 {
+        let came = came_of(rt, alloc, BadCall::Flush(number))?;
+        say(alloc, &mut text, "flush", number, came)?;
+    }
+    Ok(text)
+}
+
+/// Puts a line behind the others.
+fn say(
+    alloc: Global,
+    text: &mut String,
+    call: &str,
+    number: usize,
+    came: Came,
+) -> Result<(), Fail> {
+    let Came {
+        end,
+        written,
+        receipts,
+        held,
+    } = came;
+    let line = format!(in alloc;
+        "{call} {number} fails: {end}, octets {written}, receipts {receipts}, held {held}\n"
+    )?;
+    text.push_str(line.as_str())?;
+    Ok(())
+}
+
+/// Serves the client, by a link of which a call fails.
+fn came_of<T: Wait>(rt: &T, alloc: Global, bad: BadCall) -> Result<Came, Fail> {
+    let config = config_with(alloc, None)?;
+    let node = empty_node(alloc)?;
+    let mut reader = Lines { reads: 0, bad };
+    let mut writer = Held {
+        octets: Vec::new(alloc),
+        writes: 0,
+        flushes: 0,
+        bad,
+    };
+    let (end, node, receipts) = serve(rt, alloc, node, &config, &mut reader, &mut writer)?;
+    Ok(Came {
+        end: word_of(end),
+        written: writer.octets.len(),
+        receipts,
+        held: count_held(alloc, &node)?,
+    })
+}
+
+/// Serves a client over a hub of one thread, and gives the node back and how many receipts there are.
+fn serve<T: Wait>(
+    rt: &T,
+    alloc: Global,
+    node: MemoryNode,
+    config: &Config,
+    reader: &mut Lines,
+    writer: &mut Held,
+) -> Result<(Result<(), LinkFault>, MemoryNode, usize), Fail> {
+    serve_by::<Brand, T>(rt, alloc, node, Blank::new(1), config, reader, writer)
+}
+
+/// The same, of any ledger.
+fn serve_by<J: Opening, T: Wait>(
+    rt: &T,
+    alloc: Global,
+    node: MemoryNode,
+    blank: Blank,
+    config: &Config,
+    reader: &mut Lines,
+    writer: &mut Held,
+) -> Result<(Result<(), LinkFault>, MemoryNode, usize), Fail>
+    requires name { blank.name ≡ J.name }
+    requires parts { (blank.parts ≡ J.parts) × (blank.parts ≡ 1) }
+    requires starts { (changes : List Change) → J.starts changes → ⊥ }
+    requires answers { Answers (Unit {0}) memory_words J.starts node.config J.has_answered }
+{
+    let Ok((hub, passes)) = Hub::<MemoryDisk, J>::new(alloc, node, blank, 1) else {
+        return Err(Fail::new("no hub"));
+    };
+    let mut passes = passes;
+    let moment = first_moment();
+    let end = hub_link(
+        rt,
+        alloc,
+        &hub,
+        &mut passes[0],
+        config,
+        CLIENT,
+        reader,
+        writer,
+        moment,
+    );
+    match hub.close(passes) {
+        Ok((node, passes)) => Ok((end, node, passes[0].receipts().len())),
+        Err(_) => Err(Fail::new("a mismatch")),
+    }
+}

@@ -1,0 +1,50 @@
+//! A relay over memory, without a socket. By the steps of data/scenes.in clients stand side by side, read nothing, say
+//! their octets one by one or end, several are heard at once, next hops take the mail or are lost, and a device fails.
+//! Each step has a line, which says what came of it.
+
+mod octets;
+mod setup;
+mod step;
+mod talk;
+mod want;
+
+use setup::{WIDE, relay_with};
+use std::fs;
+use std::test::Fail;
+use step::take_step;
+use want::{Came, three_at_once};
+
+/// Takes each step of the scenes.
+pub fn show_scenes(rt: &HostRuntime) -> Result<(), Fail> {
+    let scenes = fs::read_to_string(rt, "scenes.in")?;
+    play_scenes(rt, scenes.as_str())
+}
+
+/// Prints what came of three messages at once.
+pub fn show_three(rt: &HostRuntime) -> Result<(), Fail> {
+    match three_at_once(rt.alloc())? {
+        Came::NotBegun => println!(rt; "not begun")?,
+        Came::Stopped => println!(rt; "stopped")?,
+        Came::Queued(count) => println!(rt; "{count} of 3 queued")?,
+    }
+    Ok(())
+}
+
+/// Takes each step. A line that begins with `#` says what the next ones show, and stands as it is; `relay LIMIT`, and
+/// `relay LIMIT CALLS`, begin with a relay without mail, of a spool of so many octets, on a device that takes so many
+/// calls and no more.
+fn play_scenes(rt: &HostRuntime, scenes: &str) -> Result<(), Fail> {
+    let mut relay = relay_with(rt.alloc(), WIDE, None)?;
+    for line in scenes.lines() {
+        if let Some(words) = line.strip_prefix("relay ") {
+            let (limit, calls) = words.split_once(' ').unwrap_or((words, "-"));
+            relay = relay_with(rt.alloc(), limit.parse::<u64>()?, calls.parse::<u64>().ok())?;
+        } else if line.starts_with("#") {
+            println!(rt; "{line}")?;
+        } else {
+            let answer = take_step(rt.alloc(), &mut relay, line)?;
+            println!(rt; "{line}: {answer}")?;
+        }
+    }
+    Ok(())
+}

@@ -1,0 +1,182 @@
+use crate::meeting::dialogue::Verdict;
+use crate::meeting::mark::written_behind;
+use crate::meeting::transcript::{End, Transcript};
+use crate::meeting::verdict_text::verdict_lines;
+use relay_client::{Attempt, Driven, MailObject};
+use relay_envelope::Envelope;
+use std::alloc::{AllocError, Global};
+
+/// An attempt of a transcript, and what has come of it.
+struct AttemptPlay<'a> {
+    alloc: Global,
+    transcript: &'a Transcript,
+    envelope: &'a Envelope,
+    attempt: Attempt,
+    written: Vec<u8>,
+    /// A line for each verdict, where it has ended.
+    verdicts: Option<Vec<u8>>,
+    /// Nothing but what is written down has come so far.
+    is_right: bool,
+}
+
+impl Drop for AttemptPlay<'_> {
+    fn drop(self) {
+        let AttemptPlay {
+            alloc: _,
+            transcript: _,
+            envelope: _,
+            attempt: _attempt,
+            written: _written,
+            verdicts: _verdicts,
+            is_right: _,
+        } = self;
+    }
+}
+
+impl<'a> AttemptPlay<'a> {
+    /// A play that has begun.
+    fn new(
+        alloc: Global,
+        transcript: &'a Transcript,
+        envelope: &'a Envelope,
+    ) -> Result<Self, AllocError> {
+        let places = Vec::from_slice(alloc, transcript.places.as_slice())?;
+        Ok(AttemptPlay {
+            alloc,
+            transcript,
+            envelope,
+            attempt: Attempt::begin(alloc, transcript.host.as_slice(), places)?,
+            written: Vec::new(alloc),
+            verdicts: None,
+            is_right: true,
+        })
+    }
+
+    /// Gives the next octets of the server, which begin behind so many.
+    fn give(&mut self, start: usize, piece: &[u8]) -> Result<(), AllocError> {
+        let had_ended = self.verdicts.is_some();
+        let driven = self.feed(piece)?;
+        let has_ended = driven.verdicts.is_some();
+        let is_used = if had_ended {
+            driven.used == 0 && !has_ended
+        } else if has_ended && self.transcript.end == End::Reply {
+            start.saturating_add(driven.used) == self.transcript.said.len()
+        } else {
+            driven.used == piece.len()
+        };
+        self.take(driven)?;
+        let is_written = self.is_written_behind(start.saturating_add(piece.len()));
+        self.is_right = self.is_right && is_written && is_used;
+        Ok(())
+    }
+
+    /// The attempt reads octets of the server.
+    fn feed(&mut self, piece: &[u8]) -> Result<Driven, AllocError> {
+        let mail = MailObject {
+            envelope: self.envelope,
+            stored_text: self.transcript.text.as_slice(),
+        };
+        self.attempt.feed(&mail, piece)
+    }
+
+    /// Takes what came of a feed.
+    fn take(&mut self, driven: Driven) -> Result<(), AllocError> {
+        let Driven {
+            used: _,
+            out,
+            verdicts,
+        } = driven;
+        if let Some(verdicts) = verdicts {
+            self.verdicts = Some(verdict_lines(self.alloc, verdicts)?);
+        }
+        self.written.extend_from_slice(out.as_slice())
+    }
+
+    /// Whether behind so many octets of the server that is written which is to be.
+    fn is_written_behind(&self, said: usize) -> bool {
+        self.written.len() == written_behind(self.transcript.marks.as_slice(), said)
+            && self
+                .transcript
+                .written
+                .as_slice()
+                .starts_with(self.written.as_slice())
+    }
+
+    /// Ends the play, and says whether all came as it is written down.
+    fn is_as_written(&mut self) -> Result<bool, AllocError> {
+        if self.transcript.end == End::Loss {
+            let verdicts = self.attempt.broken()?;
+            self.verdicts = Some(verdict_lines(self.alloc, verdicts)?);
+        }
+        let is_told = match &self.verdicts {
+            Some(verdicts) => {
+                self.transcript.end != End::None
+                    && are_equal(verdicts.as_slice(), self.transcript.verdicts.as_slice())
+            }
+            None => self.transcript.end == End::None,
+        };
+        let is_all = are_equal(self.written.as_slice(), self.transcript.written.as_slice());
+        Ok(self.is_right && is_told && is_all)
+    }
+}
+
+/// Whether these are the same octets.
+fn are_equal(one: &[u8], other: &[u8]) -> bool {
+    one == other
+}
+
+/// Plays a transcript once for each cutting. One without a MAIL comes to nothing.
+pub fn verdict_of(alloc: Global, transcript: &Transcript) -> Result<Option<Verdict>, AllocError> {
+    let Some(envelope) = &transcript.envelope else {
+        return Ok(None);
+    };
+    let said = all_said(alloc, transcript)?;
+    let verdict = verdict_of_cuts(alloc, transcript, envelope, said.as_slice())?;
+    Ok(Some(verdict))
+}
+
+/// What the server says up to the end and behind it.
+fn all_said(alloc: Global, transcript: &Transcript) -> Result<Vec<u8>, AllocError> {
+    let mut said = Vec::from_slice(alloc, transcript.said.as_slice())?;
+    said.extend_from_slice(transcript.behind.as_slice())?;
+    Ok(said)
+}
+
+/// Plays it cut into two pieces at each place, and octet by octet.
+fn verdict_of_cuts(
+    alloc: Global,
+    transcript: &Transcript,
+    envelope: &Envelope,
+    said: &[u8],
+) -> Result<Verdict, AllocError> {
+    for place in 0..=said.len() {
+        let (front, rest) = said.split_at(place);
+        if !is_right_in_two(AttemptPlay::new(alloc, transcript, envelope)?, front, rest)? {
+            return Ok(Verdict::DiffersAt(place));
+        }
+    }
+    if is_right_by_octets(AttemptPlay::new(alloc, transcript, envelope)?, said)? {
+        Ok(Verdict::Equal)
+    } else {
+        Ok(Verdict::DiffersOctetByOctet)
+    }
+}
+
+/// Whether all comes as it is written down in two pieces.
+fn is_right_in_two(
+    mut play: AttemptPlay<'_>,
+    front: &[u8],
+    rest: &[u8],
+) -> Result<bool, AllocError> {
+    play.give(0, front)?;
+    play.give(front.len(), rest)?;
+    play.is_as_written()
+}
+
+/// Whether all comes as it is written down octet by octet.
+fn is_right_by_octets(mut play: AttemptPlay<'_>, said: &[u8]) -> Result<bool, AllocError> {
+    for (place, octet) in said.iter().enumerate() {
+        play.give(place, &[*octet])?;
+    }
+    play.is_as_written()
+}

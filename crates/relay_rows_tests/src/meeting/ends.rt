@@ -1,0 +1,298 @@
+use crate::meeting::child::{are_rcpts, is_child};
+use crate::meeting::errand::{Errand, HOST};
+use crate::meeting::row::Row;
+use crate::meeting::table::{are_all_later, are_by_table};
+use crate::meeting::wire::{Cutting, Wire};
+use relay_client::{Attempt, Driven, MailObject, Verdicts};
+use relay_routes::Config;
+use relay_server::{Answer, Next, Session};
+use std::alloc::{AllocError, Global};
+
+/// How often the ends read at most.
+const TURNS: usize = 100_000;
+
+/// One of two ends.
+#[derive(Clone, Copy)]
+pub enum End {
+    Server,
+    Client,
+}
+
+/// What two ends say where nothing is cut off.
+#[derive(Clone, Copy)]
+pub struct Said<'a> {
+    pub up: &'a [u8],
+    pub down: &'a [u8],
+}
+
+/// Where two ends meet, and what for.
+#[derive(Clone, Copy)]
+pub struct Meeting<'a> {
+    pub alloc: Global,
+    pub config: &'a Config,
+    pub errand: &'a Errand,
+    pub row: Row,
+}
+
+/// A session and an attempt, and what each has written and read.
+pub struct Ends<'a> {
+    meeting: Meeting<'a>,
+    session: Session,
+    attempt: Attempt,
+    /// From the client to the server.
+    up: Wire<'a>,
+    down: Wire<'a>,
+    /// How many offers there were.
+    offers: usize,
+    /// Each offer was the errand's one child, and the client had read the replies to all RCPTs by then.
+    are_children: bool,
+    is_closed: bool,
+    /// The verdicts that replies led to.
+    verdicts: Option<Verdicts>,
+}
+
+// Written out, so that each exit that drops the ends calls this, and doesn't look into their parts.
+impl Drop for Ends<'_> {
+    fn drop(self) {
+        let Ends {
+            meeting: _,
+            session: _session,
+            attempt: _attempt,
+            up: _up,
+            down: _down,
+            offers: _,
+            are_children: _,
+            is_closed: _,
+            verdicts: _verdicts,
+        } = self;
+    }
+}
+
+impl<'a> Ends<'a> {
+    /// Two ends of which none has read anything. What they are to say is compared with what they say, where it is
+    /// known.
+    pub fn new(meeting: Meeting<'a>, said: Option<Said<'a>>) -> Result<Self, AllocError> {
+        let alloc = meeting.alloc;
+        let attempt = attempt_of(alloc, meeting.errand)?;
+        let (session, greeting) = Session::new(alloc, meeting.config)?;
+        let mut ends = Ends {
+            meeting,
+            session,
+            attempt,
+            up: Wire::new(alloc, said.map(|said| said.up)),
+            down: Wire::new(alloc, said.map(|said| said.down)),
+            offers: 0,
+            are_children: true,
+            is_closed: false,
+            verdicts: None,
+        };
+        ends.down.write(greeting.as_slice())?;
+        Ok(ends)
+    }
+
+    /// What the client has written.
+    pub fn up(&self) -> &[u8] {
+        self.up.octets()
+    }
+
+    /// What the server has written.
+    pub fn down(&self) -> &[u8] {
+        self.down.octets()
+    }
+
+    /// How many octets this end has read.
+    pub fn count_read(&self, end: End) -> usize {
+        match end {
+            End::Server => self.up.octets_read().len(),
+            End::Client => self.down.octets_read().len(),
+        }
+    }
+
+    /// Lets the ends read in turn until there is nothing more.
+    pub fn take_turns(&mut self, cutting: Cutting) -> Result<(), AllocError> {
+        for _ in 0..TURNS {
+            let has_heard = self.read(End::Server, cutting)?;
+            let has_read = self.read(End::Client, cutting)?;
+            if !has_heard && !has_read {
+                break;
+            }
+        }
+        Ok(())
+    }
+
+    /// Cuts this end off at each place where its pieces end: before it reads the next one, the other end reads all that
+    /// came, and then all must be as it is for ends of which this one reads nothing more. It answers how often this was
+    /// so, or that something else came.
+    pub fn count_cuts(&mut self, end: End, cutting: Cutting) -> Result<Option<usize>, AllocError> {
+        let mut count = 0usize;
+        for _ in 0..TURNS {
+            self.let_other_read(end, cutting)?;
+            if !self.are_lawful()? {
+                return Ok(None);
+            }
+            if self.is_cut(end, cutting) {
+                count = count.saturating_add(1);
+            }
+            if !self.read(end, cutting)? {
+                break;
+            }
+        }
+        Ok(Some(count))
+    }
+
+    /// Whether what this end has read ends where pieces end.
+    fn is_cut(&self, end: End, cutting: Cutting) -> bool {
+        match end {
+            End::Server => self.up.is_cut(cutting),
+            End::Client => self.down.is_cut(cutting),
+        }
+    }
+
+    /// Lets the other end read all that there is.
+    fn let_other_read(&mut self, end: End, cutting: Cutting) -> Result<(), AllocError> {
+        let other = match end {
+            End::Server => End::Client,
+            End::Client => End::Server,
+        };
+        for _ in 0..TURNS {
+            if !self.read(other, cutting)? {
+                break;
+            }
+        }
+        Ok(())
+    }
+
+    /// Lets an end read the next piece, and says whether there was one.
+    fn read(&mut self, end: End, cutting: Cutting) -> Result<bool, AllocError> {
+        match end {
+            End::Server => self.hear(cutting),
+            End::Client => self.listen(cutting),
+        }
+    }
+
+    /// The client reads a piece.
+    fn listen(&mut self, cutting: Cutting) -> Result<bool, AllocError> {
+        if self.verdicts.is_some() {
+            return Ok(false);
+        }
+        let piece = self.down.piece(cutting);
+        let has_read = !piece.is_empty();
+        let mail = MailObject {
+            envelope: &self.meeting.errand.envelope,
+            stored_text: self.meeting.errand.text.as_slice(),
+        };
+        let driven = self.attempt.feed(&mail, piece)?;
+        self.take(driven)?;
+        Ok(has_read)
+    }
+
+    /// Takes what came of a feed of the client.
+    fn take(&mut self, driven: Driven) -> Result<(), AllocError> {
+        let Driven {
+            used,
+            out,
+            verdicts,
+        } = driven;
+        self.down.pass(used);
+        self.verdicts = verdicts;
+        self.up.write(out.as_slice())
+    }
+
+    /// The server reads a piece.
+    fn hear(&mut self, cutting: Cutting) -> Result<bool, AllocError> {
+        if self.is_closed {
+            return Ok(false);
+        }
+        let piece = Vec::from_slice(self.meeting.alloc, self.up.piece(cutting))?;
+        self.up.pass(piece.len());
+        self.give(piece.as_slice())?;
+        Ok(!piece.is_empty())
+    }
+
+    /// Gives the server octets, and answers the offers on the way.
+    fn give(&mut self, piece: &[u8]) -> Result<(), AllocError> {
+        let mut used = 0usize;
+        for _ in 0..piece.len() {
+            let (count, next) = self.feed(piece.get(used..).unwrap_or(&[]))?;
+            used = used.saturating_add(count);
+            match next {
+                Next::More => return Ok(()),
+                Next::Close => {
+                    self.is_closed = true;
+                    return Ok(());
+                }
+                Next::Offer => self.meet_offer()?,
+            }
+        }
+        Ok(())
+    }
+
+    /// The server reads octets. It answers how many it has used, and what comes next.
+    fn feed(&mut self, octets: &[u8]) -> Result<(usize, Next), AllocError> {
+        let fed = self.session.feed(&self.meeting.config.routes, octets)?;
+        self.down.write(fed.out.as_slice())?;
+        Ok((fed.used, fed.next))
+    }
+
+    /// Counts the offer that is open, and answers it.
+    fn meet_offer(&mut self) -> Result<(), AllocError> {
+        self.count_offer()?;
+        self.answer()
+    }
+
+    /// Counts the offer that is open, and looks whether it is the errand's one child.
+    fn count_offer(&mut self) -> Result<(), AllocError> {
+        let Meeting {
+            alloc,
+            config: _,
+            errand,
+            row,
+        } = self.meeting;
+        let Some(offer) = self.session.offer() else {
+            return Ok(());
+        };
+        let is_child = is_child(alloc, errand, row, &offer)?
+            && are_rcpts(alloc, row, self.down.octets_read())?;
+        self.are_children = self.are_children && is_child;
+        self.offers = self.offers.saturating_add(1);
+        Ok(())
+    }
+
+    /// Answers the offer that is open, as the row says.
+    fn answer(&mut self) -> Result<(), AllocError> {
+        let answer = match self.meeting.row.answer {
+            Some(number) => Answer::Queued(number),
+            None => Answer::Full,
+        };
+        let Some(_) = self.session.offer() else {
+            return Ok(());
+        };
+        let out = self.session.answer(answer)?;
+        self.down.write(out.as_slice())
+    }
+
+    /// Whether all is as it must be, of ends of which one may be cut off: what was said begins what ends that are not
+    /// cut off say, there is at most the one offer that may come, and the verdicts are the table's. Where no reply has
+    /// ended the attempt, all places may be tried again.
+    pub fn are_lawful(&self) -> Result<bool, AllocError> {
+        let row = self.meeting.row;
+        let are_said = self.up.is_wanted() && self.down.is_wanted();
+        let are_offers = self.are_children && self.offers <= row.offers;
+        let are_told = match &self.verdicts {
+            Some(verdicts) => self.offers == row.offers && are_by_table(row, verdicts.as_slice()),
+            None => are_all_later(row, self.attempt.broken()?.as_slice()),
+        };
+        Ok(are_said && are_offers && are_told)
+    }
+
+    /// Whether the two have said all, and as many offers were made as there are to be.
+    pub fn are_done(&self) -> bool {
+        self.is_closed && self.verdicts.is_some() && self.offers == self.meeting.row.offers
+    }
+}
+
+/// An attempt of the errand that waits for the greeting.
+fn attempt_of(alloc: Global, errand: &Errand) -> Result<Attempt, AllocError> {
+    let places = Vec::from_slice(alloc, errand.places.as_slice())?;
+    Attempt::begin(alloc, HOST, places)
+}

@@ -1,0 +1,106 @@
+use crate::meeting::ends::{End, Ends, Meeting, Said};
+use crate::meeting::wire::Cutting;
+use std::alloc::AllocError;
+use std::fmt::{self, Display, Formatter};
+
+/// The lengths of pieces.
+const SIZES: [usize; 3] = [1, 7, 64];
+
+/// What a row came to.
+#[derive(Clone, Copy)]
+pub enum Outcome {
+    /// All was as it must be: whole, and with the server cut off behind each of so many octets that it reads, and the
+    /// client behind each of so many.
+    Lawful { up: usize, down: usize },
+    /// Where nothing is cut off, in pieces of so many octets, something else came.
+    DiffersWhole(usize),
+    /// Where the server is cut off, in pieces of so many octets, something else came, or not each octet was tried.
+    DiffersUp(usize),
+    /// The same of the client.
+    DiffersDown(usize),
+}
+
+impl Display for Outcome {
+    fn fmt<W: fmt::Write>(&self, f: &mut Formatter<W>) -> fmt::Result {
+        match self {
+            Outcome::Lawful { up, down } => write!(
+                f,
+                "as it must be, cut off at each of {up} octets up and {down} down"
+            ),
+            Outcome::DiffersWhole(size) => write!(f, "differs, whole and in pieces of {size}"),
+            Outcome::DiffersUp(size) => write!(
+                f,
+                "differs, cut off on the way up and in pieces of {size}"
+            ),
+            Outcome::DiffersDown(size) => write!(
+                f,
+                "differs, cut off on the way down and in pieces of {size}"
+            ),
+        }
+    }
+}
+
+/// Lets the ends of a row meet, whole and in each cutting.
+pub fn outcome_of(meeting: Meeting<'_>) -> Result<Outcome, AllocError> {
+    let mut ends = Ends::new(meeting, None)?;
+    ends.take_turns(Cutting { size: 1, rest: 0 })?;
+    if !ends.are_done() || !ends.are_lawful()? {
+        return Ok(Outcome::DiffersWhole(1));
+    }
+    let said = Said {
+        up: ends.up(),
+        down: ends.down(),
+    };
+    outcome_beside(
+        meeting,
+        said,
+        ends.count_read(End::Server),
+        ends.count_read(End::Client),
+    )
+}
+
+/// Lets them meet again, beside what they said, of which the server has read so much and the client so much.
+fn outcome_beside<'a>(
+    meeting: Meeting<'a>,
+    said: Said<'a>,
+    up: usize,
+    down: usize,
+) -> Result<Outcome, AllocError> {
+    for size in SIZES {
+        if !is_whole(meeting, said, size)? {
+            return Ok(Outcome::DiffersWhole(size));
+        }
+        if count_cuts(meeting, said, End::Server, size)? != up.saturating_add(1) {
+            return Ok(Outcome::DiffersUp(size));
+        }
+        if count_cuts(meeting, said, End::Client, size)? != down.saturating_add(1) {
+            return Ok(Outcome::DiffersDown(size));
+        }
+    }
+    Ok(Outcome::Lawful { up, down })
+}
+
+/// Whether all is as it must be where nothing is cut off.
+fn is_whole<'a>(meeting: Meeting<'a>, said: Said<'a>, size: usize) -> Result<bool, AllocError> {
+    let mut ends = Ends::new(meeting, Some(said))?;
+    ends.take_turns(Cutting { size, rest: 0 })?;
+    Ok(ends.are_done() && ends.are_lawful()?)
+}
+
+/// At how many places this end was cut off, and all was as it must be: none, where something else came.
+fn count_cuts<'a>(
+    meeting: Meeting<'a>,
+    said: Said<'a>,
+    end: End,
+    size: usize,
+) -> Result<usize, AllocError> {
+    let mut count = 0usize;
+    for rest in 0..size {
+        let mut ends = Ends::new(meeting, Some(said))?;
+        match ends.count_cuts(end, Cutting { size, rest })? {
+            Some(cuts) => count = count.saturating_add(cuts),
+            None => return Ok(0),
+        }
+    }
+    Ok(count)
+}
