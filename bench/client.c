@@ -1,5 +1,6 @@
-// A client for measurements: hands in messages at one connection, or at one each. It writes the seconds that they took as a
-// line, and stays until its input ends.
+// A client for measurements: hands in messages at one connection, or at one each. When it is there, and connected where it
+// keeps its connection, it writes a line, and waits for one; then it hands in, writes the moments of the monotonic clock at
+// which that began and ended as a line, and stays until its input ends.
 //
 //   client PORT COUNT OCTETS kept|each
 #define _GNU_SOURCE
@@ -119,6 +120,17 @@ static double now(void)
 	return (double)at.tv_sec + (double)at.tv_nsec / 1e9;
 }
 
+// Says that it is ready, and waits for a line.
+static void await_word(void)
+{
+	int octet;
+	puts("ready");
+	fflush(stdout);
+	while ((octet = getchar()) != '\n')
+		if (octet == EOF)
+			exit(0);
+}
+
 int main(int count, char **words)
 {
 	static struct link link;
@@ -130,6 +142,7 @@ int main(int count, char **words)
 	char *text = text_of((size_t)atol(words[3]), &length);
 	if (is_kept)
 		begin(&link, port);
+	await_word();
 	double begun = now();
 	if (is_kept)
 		hand_in(&link, text, length, messages);
@@ -138,7 +151,7 @@ int main(int count, char **words)
 		hand_in(&link, text, length, 1);
 		end(&link);
 	}
-	printf("%.6f\n", now() - begun);
+	printf("%.6f %.6f\n", begun, now());
 	fflush(stdout);
 	while (getchar() != EOF)
 		;

@@ -53,12 +53,25 @@ class Client:
         words = [built("client", folder), str(port), str(count), str(size), way]
         self.process = subprocess.Popen(words, stdin=subprocess.PIPE, stdout=subprocess.PIPE, text=True)
 
-    def seconds(self):
-        """How long the messages took, which have been answered 250 then. The connection stays open."""
+    def line(self):
         line = self.process.stdout.readline()
         if not line:
             raise Difference("the client gave up")
-        return float(line)
+        return line
+
+    def begin(self):
+        self.process.stdin.write("\n")
+        self.process.stdin.flush()
+
+    def moments(self):
+        """When its messages began, and when the last was answered 250. The connection stays open."""
+        begun, ended = map(float, self.line().split())
+        return begun, ended
+
+    def seconds(self):
+        """How long the messages take."""
+        [(begun, ended)] = hand_in([self])
+        return ended - begun
 
     def close(self):
         self.process.communicate()
@@ -125,16 +138,24 @@ class ReleasingPostfix(Postfix):
         return files
 
 
+def hand_in(clients):
+    """Lets clients begin, once each is ready, and tells the moments of each."""
+    for client in clients:
+        client.line()
+    for client in clients:
+        client.begin()
+    return [client.moments() for client in clients]
+
+
 def hand_in_side_by_side(folder, port, clients, count, size):
-    """Seconds of so many messages at each of so many connections side by side, to the last reply of them all; and how much
-    longer the slowest of them took than the median."""
-    begun = time.perf_counter()
+    """When the first of so many messages at each of so many connections side by side began, the seconds from there to the
+    last reply of them all, and how much longer the slowest connection took than the median."""
     handing = [Client(folder, port, count, size, "kept") for _ in range(clients)]
-    seconds = [client.seconds() for client in handing]
-    ended = time.perf_counter()
+    moments = hand_in(handing)
     for client in handing:
         client.close()
-    return ended - begun, max(seconds) / statistics.median(seconds)
+    begun, seconds = min(begun for begun, _ in moments), [ended - begun for begun, ended in moments]
+    return begun, max(ended for _, ended in moments) - begun, max(seconds) / statistics.median(seconds)
 
 
 class Bench:
@@ -173,7 +194,7 @@ class Bench:
         them all; and how much longer the slowest of them took than the median. The relay is killed then."""
         relay = self.new_relay(9)
         process = relay.start("--workers", str(workers))
-        seconds, spread = hand_in_side_by_side(self.folder, relay.port, workers, count, size)
+        _, seconds, spread = hand_in_side_by_side(self.folder, relay.port, workers, count, size)
         process.kill()
         process.communicate()
         same("messages in the spool", len(relay.held()), workers * count)
@@ -183,7 +204,7 @@ class Bench:
         """What `side_by_side` measures, of `run`, which holds what it takes: nobody listens at its next hop."""
         relay = self.new_relay(9, sessions_per_client=64)
         process = relay.begin("--quiet")
-        seconds, spread = hand_in_side_by_side(self.folder, relay.port, sessions, count, size)
+        _, seconds, spread = hand_in_side_by_side(self.folder, relay.port, sessions, count, size)
         process.kill()
         process.communicate()
         same("messages in the spool", len(relay.held()), sessions * count)
@@ -195,10 +216,10 @@ class Bench:
         amount = sessions * count
         sink = Sink(self.folder, amount)
         relay = self.new_relay(sink.port, sessions_per_client=64, attempts_per_hop=20)
-        process, begun = relay.begin("--quiet"), time.perf_counter()
-        hand_in_side_by_side(self.folder, relay.port, sessions, count, size)
+        process = relay.begin("--quiet")
+        begun, _, _ = hand_in_side_by_side(self.folder, relay.port, sessions, count, size)
         sink.wait()
-        ended = time.perf_counter()
+        ended = time.monotonic()
         process.kill()
         process.communicate()
         return ended - begun
@@ -276,16 +297,15 @@ class Bench:
     def postfix_side_by_side(self, packages, clients, count, size):
         """What `side_by_side` measures, of Postfix, but for the spread."""
         with contextlib.closing(HoldingPostfix(packages, 9, 9, self.postfix_spool())) as server:
-            return hand_in_side_by_side(self.folder, server.port, clients, count, size)[0]
+            return hand_in_side_by_side(self.folder, server.port, clients, count, size)[1]
 
     def postfix_passing_on(self, packages, clients, count, size):
         """What `run_passing_on` measures, of Postfix."""
         sink = Sink(self.folder, clients * count)
         with contextlib.closing(Postfix(packages, sink.port, 9, self.postfix_spool())) as server:
-            begun = time.perf_counter()
-            hand_in_side_by_side(self.folder, server.port, clients, count, size)
+            begun, _, _ = hand_in_side_by_side(self.folder, server.port, clients, count, size)
             sink.wait()
-            return time.perf_counter() - begun
+            return time.monotonic() - begun
 
     def postfix_pushed(self, packages, count, size):
         """Seconds from where Postfix listens to the end of its delivery of so many queued messages, at connections
