@@ -1,6 +1,6 @@
-//! Plays each row of data/disks.in: steps on disks in memory and on the spool that stands on two, with what each step is
-//! to answer. Then tries real files, and takes the steps of data/steps.in on a spool in two. Each row has a line, which
-//! says whether it came as it is written down, and so has each step, which says what came of it.
+//! Plays each row of data/disks.in: steps on disks in memory and on the spool that stands on two, with what each step
+//! is to answer. Then tries real files, and takes the steps of data/steps.in on a spool in two. Each row has a line,
+//! which says whether it came as it is written down, and so has each step, which says what came of it.
 
 mod answer;
 mod calls;

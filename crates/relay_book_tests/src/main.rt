@@ -1,7 +1,7 @@
 //! Reads each row of data/, and prints what comes of it. A row applies a change to a book, asks that book,
 //! reads a record, takes a record or a snapshot in hand and changes an octet of it, or writes, reads or cuts a
 //! snapshot: its answer stands behind it. Of the rows of reports.in, one shows the report of an outcome and whether
-//! it is taken apart again, or the boundary of three parts: its answer stands alone.
+//! it is taken apart again, or the boundary of three parts: its answer stands alone. Then it shows disks and spools.
 #![tactic(auto)]
 
 mod answer;
@@ -21,10 +21,13 @@ use report::answer_of_report;
 use std::test::Fail;
 use std::{env, fs};
 
-/// The word is the folder of the rows of books. Without one all rows lie where the program runs. By the word `steps` and
-/// the first file of a spool the steps of the standard input are taken on it, and nothing else is done.
+/// The word is the folder of the rows of books. Without one all rows lie where the program runs. By the word `steps`
+/// and the first file of a spool the steps of the standard input are taken on it, and nothing else is done.
 fn main(rt: HostRuntime) -> Result<(), Fail> {
-    let words: Vec<String> = env::args(&rt)?.collect(rt.alloc())?;
+    let words = match words_of(&rt) {
+        Ok(words) => words,
+        Err(fault) => return Err(Fail::new(fault.text())),
+    };
     match (words.get(1), words.get(2)) {
         (Some(_), Some(path)) => take_given_steps(&rt, path.as_str()),
         (Some(folder), None) => show_books(&rt, folder.as_str()),
@@ -33,6 +36,11 @@ fn main(rt: HostRuntime) -> Result<(), Fail> {
             show_disks(&rt)
         }
     }
+}
+
+/// The words that the program is started with, its own name first.
+fn words_of(rt: &HostRuntime) -> Result<Vec<String>, RowsFault> {
+    Ok(env::args(rt)?.collect(rt.alloc())?)
 }
 
 /// Shows the rows of books, and says why not all are shown.
