@@ -1,4 +1,5 @@
--- What the sessions of clients hear at a turn: each all octets that were read of its own connection, and none of them twice.
+-- What the sessions of clients hear at a turn: each all octets that were read of its own connection, and none of them
+-- twice.
 use Rattle.std.specs.Prelude.{◌≡◌, ℕ, zero, suc, ◌+◌, ◌%◌, Bool, false, List, [], ◌∷◌, Option, None, Some, All, Box, length, map}
 use Rattle.std.specs.Global.{Global}
 use Rattle.std.specs.List.{filter}
@@ -43,8 +44,8 @@ session_of piece = piece.session
 
 -- Each session that has something to hear has heard octets of its own client, all of them in one call, and what came of
 -- that stands at its place.
-pub record HearOwn (clients : List (Option (Box Client Global))) (first at : ℕ) (old new : RelayState FileDisk) (hearing : Hearing)
-    : Type 0 where
+pub record HearOwn (clients : List (Option (Box Client Global))) (first at : ℕ) (old new : RelayState FileDisk)
+    (hearing : Hearing) : Type 0 where
   pub pieces : List Piece
   pub own : All (IsOwn clients) pieces
   pub sessions : hearing.sessions.items ≡ map session_of pieces

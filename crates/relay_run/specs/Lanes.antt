@@ -8,8 +8,8 @@ abbrev pub IsHeld : Option Hold → ℕ → Type 0
 IsHeld None tick = ⊥
 IsHeld (Some hold) tick = tick < hold.until
 
--- No connection stands, or fewer than the most, and the place isn't left alone; before the next hop has said something there is
--- none.
+-- No connection stands, or fewer than the most, and the place isn't left alone; before the next hop has said something
+-- there is none.
 pub record MayBegin (most : ℕ) (tick : ℕ) (lane : Lane) : Type 0 where
   pub fewer : (lane.running ≡ 0) ⊎ (lane.running < most)
   pub answered : lane.has_answered ≡ false → lane.running ≡ 0

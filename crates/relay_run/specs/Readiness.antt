@@ -1,5 +1,5 @@
--- Connections that were left in mid-read: nobody tells of their octets any more, so nothing may be waited for before these
--- are used.
+-- Connections that were left in mid-read: nobody tells of their octets any more, so nothing may be waited for before
+-- these are used.
 use Rattle.std.specs.Prelude.{◌≡◌, ◌≢◌, ℕ, List, [], Option, Some, Box}
 use Rattle.std.specs.Global.{Global}
 use Rattle.relay_slots.specs.Slots.{slot_at}
@@ -9,7 +9,8 @@ use Rattle.relay_run.specs.declared.client.Client.{Client}
 use Rattle.relay_run.specs.declared.hop.Hop.{Hop}
 
 -- the client of this number was left in mid-read, and nothing waits to be written to it
-pub record IsLeftClient {D : Type 0} (clients : List (Option (Box Client Global))) (relay : RelayState D) (number : ℕ) : Type 0 where
+pub record IsLeftClient {D : Type 0} (clients : List (Option (Box Client Global))) (relay : RelayState D) (number : ℕ)
+    : Type 0 where
   pub client : Box Client Global
   pub there : slot_at clients number ≡ Some client
   pub unread : client.value.channel.block ≢ []

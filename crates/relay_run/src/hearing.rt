@@ -22,9 +22,9 @@ pub(crate) struct Hearing {
     pub(crate) heard: Vec<Answer>,
 }
 
-/// Lets all sessions that have something to hear do so in one call, the first of them first, so that the mail they bring
-/// comes into the spool behind one pair of syncs. It answers nothing where no memory is left for that; nothing was heard
-/// then.
+/// Lets all sessions that have something to hear do so in one call, the first of them first, so that the mail they
+/// bring comes into the spool behind one pair of syncs. It answers nothing where no memory is left for that; nothing
+/// was heard then.
 pub(crate) fn hear_all(
     alloc: Global,
     clients: &[Option<Box<Client>>],

@@ -38,8 +38,8 @@ impl Pauses {
         }
     }
 
-    /// The device has failed, and the spool has this size. Where that is another than when it was opened, there was room
-    /// meanwhile, and the pauses begin anew.
+    /// The device has failed, and the spool has this size. Where that is another than when it was opened, there was
+    /// room meanwhile, and the pauses begin anew.
     fn note_failure(&mut self, size: usize) {
         if self.opened_size != size {
             self.seconds = FIRST_PAUSE;

@@ -78,9 +78,7 @@ fn serve<R: Clock + Net, E: Write>(
         // A wait that fails tells of nothing, and the clocks go on.
         let _ = poll.poll(&mut events, Some(wait));
         shell.note_events(&events);
-        let end = take_turn(alloc, rt, &poll, &mut shell, quiet, &mut lines);
-        hand_out(&mut lines, errors);
-        match end {
+        match take_turn(alloc, rt, &poll, &mut shell, quiet, &mut lines, errors) {
             Ok(()) => {}
             Err(Fault::Device) => shell = shell.reopened(alloc, rt, quiet, errors)?,
             Err(fault) => return Err(fault),
@@ -90,18 +88,50 @@ fn serve<R: Clock + Net, E: Write>(
     Err(Fault::Socket)
 }
 
-/// A turn, whose lines of the log are gathered.
-fn take_turn<R: Clock + Net>(
+/// A turn, whose lines of the log are written then; and what keeps the spool small behind it, which may take a while,
+/// and so comes when those lines are out.
+fn take_turn<R: Clock + Net, E: Write>(
     alloc: Global,
     rt: &R,
     poll: &Poll,
     shell: &mut Shell,
     quiet: bool,
     lines: &mut Vec<u8>,
+    errors: &mut E,
 ) -> Result<(), Fault> {
     let now = Now::of(rt);
+    let end = serve_all(alloc, rt, poll, shell, &now, quiet, lines);
+    hand_out(lines, errors);
+    end?;
+    let end = tidy(alloc, shell, &now, quiet, lines);
+    hand_out(lines, errors);
+    end
+}
+
+/// Serves all connections once, and gathers the lines of the log.
+fn serve_all<R: Clock + Net>(
+    alloc: Global,
+    rt: &R,
+    poll: &Poll,
+    shell: &mut Shell,
+    now: &Now,
+    quiet: bool,
+    lines: &mut Vec<u8>,
+) -> Result<(), Fault> {
     let mut log = Log::stamped(alloc, lines, !quiet, now.moment);
-    shell.turn(rt, poll.registry(), &now, &mut log)
+    shell.turn(rt, poll.registry(), now, &mut log)
+}
+
+/// Writes the spool anew where that is due, and gathers the lines of the log.
+fn tidy(
+    alloc: Global,
+    shell: &mut Shell,
+    now: &Now,
+    quiet: bool,
+    lines: &mut Vec<u8>,
+) -> Result<(), Fault> {
+    let mut log = Log::stamped(alloc, lines, !quiet, now.moment);
+    shell.tidy(now, &mut log)
 }
 
 /// Writes the lines of a turn in one write, if there are any.

@@ -175,7 +175,14 @@ impl Shell {
         if self.leaving.serve(now) > 0 {
             self.door.resume();
         }
-        self.begin(rt, registry, now, log)?;
+        self.begin(rt, registry, now, log)
+    }
+
+    /// Writes the spool anew where that is due behind a turn.
+    pub(crate) fn tidy(&mut self, now: &Now, log: &mut Log<'_, Vec<u8>>) -> Result<(), Fault> {
+        if !self.tidying.may_be_due(now) {
+            return Ok(());
+        }
         let is_quiet = !self.is_ready(now);
         self.tidying.tidy(&mut self.relay, is_quiet, now, log)
     }

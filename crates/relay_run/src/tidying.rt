@@ -1,5 +1,5 @@
-//! The spool is written anew where much of it has gone: in a quiet moment, or at once where it is more than half full, or
-//! was full.
+//! The spool is written anew where much of it has gone: in a quiet moment, or at once where it is more than half full,
+//! or was full.
 use crate::clocks::Now;
 use relay_disk::FileDisk;
 use relay_log::Log;
@@ -64,15 +64,17 @@ impl Tidying {
         }
     }
 
-    /// Whether the spool is to be looked at now: it was full, or something has left it, and nothing else is to be done or
-    /// it is more than half full.
+    /// Whether the spool may have to be looked at: it was full, or something has left it, and it wasn't just looked at.
+    pub(crate) fn may_be_due(&self, now: &Now) -> bool {
+        self.next <= now.tick && (self.was_full || self.has_shrunk)
+    }
+
+    /// Whether the spool is to be looked at now: it was full, or something has left it, and nothing else is to be done
+    /// or it is more than half full.
     fn is_due(&self, relay: &Relay<FileDisk>, is_quiet: bool, now: &Now) -> bool {
-        if now.tick < self.next {
-            return false;
-        }
         let node = relay.node();
-        self.was_full
-            || (self.has_shrunk && (is_quiet || node.config().spool_limit / 2 < node.size() as u64))
+        self.may_be_due(now)
+            && (self.was_full || is_quiet || node.config().spool_limit / 2 < node.size() as u64)
     }
 
     /// The tick at which the spool is to be looked at, or the given one where that is earlier.
