@@ -38,10 +38,8 @@ use std::sync::Wait;
 use std::test::Fail;
 use std::thread::Threads;
 
-/// Shows the rounds, the links and the streams.
+/// Shows the links without a thread, and the streams.
 pub fn show_links(rt: &HostRuntime) -> Result<(), Fail> {
-    let rounds = fs::read_to_string(rt, "rounds.in")?;
-    play_rounds(rt, rt.alloc(), rounds.as_str())?;
     let links = fs::read_to_string(rt, "links.in")?;
     for line in links.as_str().lines() {
         play_link(rt, line)?;
@@ -61,7 +59,7 @@ pub fn play_small<T: Print + Threads + Wait + Sync>(rt: &T, alloc: Global) -> Re
 }
 
 /// Plays these rows, then the two links that wait for each other, and then the one whose calls fail.
-fn play_rounds<T: Print + Threads + Wait + Sync>(
+pub fn play_rounds<T: Print + Threads + Wait + Sync>(
     rt: &T,
     alloc: Global,
     rows: &str,

@@ -28,7 +28,7 @@ mod trial;
 mod words;
 
 use dialogues::dialogues;
-use hub::{play_small, show_links};
+use hub::{play_rounds, play_small, show_links};
 use refused::{chunks, compactions, report, sessions};
 use scenario::Scenario;
 use scenes::{show_scenes, show_three};
@@ -56,7 +56,14 @@ const FILES: [&str; 11] = [
 fn main(rt: HostRuntime) -> Result<(), Fail> {
     let words: Vec<String> = env::args(&rt)?.collect(rt.alloc())?;
     match word_of(words.as_slice(), 1) {
-        "" => play_all(&rt),
+        "" => {
+            play_files(&rt, ".")?;
+            show_scenes(&rt)?;
+            // The runtime has its threads in this function alone.
+            let rounds = fs::read_to_string(&rt, "rounds.in")?;
+            play_rounds(&rt, rt.alloc(), rounds.as_str())?;
+            show_links(&rt)
+        }
         "sessions" => sessions(&rt),
         "chunks" => chunks(&rt),
         "report" => report(&rt),
@@ -71,13 +78,6 @@ fn main(rt: HostRuntime) -> Result<(), Fail> {
         ),
         folder => play_files(&rt, folder),
     }
-}
-
-/// Plays the scenarios, the scenes, and the rounds and links. It fails where a scenario differs.
-fn play_all(rt: &HostRuntime) -> Result<(), Fail> {
-    play_files(rt, ".")?;
-    show_scenes(rt)?;
-    show_links(rt)
 }
 
 /// The word at this place; an empty one where there is none.
