@@ -11,8 +11,8 @@ cd "$(dirname "$0")/.."
 program=$1
 folder=crates/relay_rows_tests/data
 plain=()
-for it in "$folder"/*.ref; do
-    name=$(basename "$it" .ref)
+for it in "$folder"/*.offers; do
+    name=$(basename "$it" .offers)
     case $name in
         sequences | chunks | another_reply | another_offer | small_* | postmaster_routed | standard_paths | \
             refused_line_ends) ;;

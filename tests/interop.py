@@ -187,11 +187,16 @@ def parameters_through_a_hop(field, server):
 
 
 def chunks_of_exim(field, server):
-    """Exim handed all its contents to relayd in chunks, which its log says by a K."""
-    lines = [line for line in server.said().splitlines() if "out.example R=out" in line]
-    sent = [line for line in lines if "=>" in line or "->" in line]
-    if not sent or not all(" K " in line for line in sent):
-        raise Difference(f"Exim's log: {sent}")
+    """Exim handed all its contents to relayd in chunks, which its log says by a K, behind the reply to each."""
+    end = time.monotonic() + PATIENCE
+    while True:
+        lines = [line for line in server.said().splitlines() if "out.example R=out" in line]
+        sent = [line for line in lines if "=>" in line or "->" in line]
+        if sent and all(" K " in line for line in sent):
+            return
+        if end < time.monotonic():
+            raise Difference(f"Exim's log: {sent}")
+        time.sleep(0.1)
 
 
 def a_chunk_through_exim(field, server):
