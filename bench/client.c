@@ -1,6 +1,6 @@
-// A client for measurements: hands in messages at one connection, or at one each. When it is there, and connected where it
-// keeps its connection, it writes a line, and waits for one; then it hands in, writes the moments of the monotonic clock at
-// which that began and ended as a line, and stays until its input ends.
+// A client for measurements: hands in messages at one connection, or at one each. When it is there, and connected where
+// it keeps its connection, it writes a line, and waits for one; then it hands in, writes the moments of the monotonic
+// clock at which that began and ended as a line, and stays until its input ends.
 //
 //   client PORT COUNT OCTETS kept|each
 #define _GNU_SOURCE

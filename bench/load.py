@@ -148,8 +148,8 @@ def hand_in(clients):
 
 
 def hand_in_side_by_side(folder, port, clients, count, size):
-    """When the first of so many messages at each of so many connections side by side began, the seconds from there to the
-    last reply of them all, and how much longer the slowest connection took than the median."""
+    """When the first of so many messages at each of so many connections side by side began, the seconds from there to
+    the last reply of them all, and how much longer the slowest connection took than the median."""
     handing = [Client(folder, port, count, size, "kept") for _ in range(clients)]
     moments = hand_in(handing)
     for client in handing:
