@@ -181,4 +181,5 @@ pub record IsOfKind (kind : ℕ) (Begins : List ℕ → Type 0) (text : List ℕ
 -- the octets that are read before any memory is wanted are spelled as those of a record: its kind,
 -- and all fields up to how many recipients or verdicts it has
 pub record MayBeRecord (text : List ℕ) : Type 0 where
-  pub begins : IsOfKind 1 BeginsWithMail text ⊎ ((version : Version) × IsOfKind (outcome_kind version) BeginsWithHop text)
+  pub begins : IsOfKind 1 BeginsWithMail text
+      ⊎ ((version : Version) × IsOfKind (outcome_kind version) BeginsWithHop text)

@@ -81,8 +81,8 @@ pub fn steps_leave()
     ensures { StepsLeave }
 {}
 
-/// A held place was reported as delayed exactly where one of the changes has put it off when it was late, and its sender
-/// had asked to be told.
+/// A held place was reported as delayed exactly where one of the changes has put it off when it was late, and its
+/// sender had asked to be told.
 pub fn fold_delays()
     ensures { FoldDelays }
 {}

@@ -88,7 +88,8 @@ module _ {D : Type 0} (words : DiskWords D) where
     pub fault : OnErr result (Fails old new)
 
 -- the disk of this side was brought to the front, or back from there; the fuse has stayed in front
-pub record IsTurned {D : Type 0} (honest : Type 0) (words : DiskWords D) (side : Side) (old new : Disks D) : Type 0 where
+pub record IsTurned {D : Type 0} (honest : Type 0) (words : DiskWords D) (side : Side) (old new : Disks D)
+    : Type 0 where
   pub fuse : calls_left_of words new ≡ calls_left_of words old
   pub mine_there : OnlyFuseChanges honest words (mine side old) new.first
   pub other_there : OnlyFuseChanges honest words (other side old) new.second

@@ -12,8 +12,8 @@ left_behind (Some (suc calls)) = Some calls
 
 -- The words below take those of the disk beneath.
 module _ {D : Type 0} (words : DiskWords D) where
-  -- What contracts say of it: what they say of the disk beneath, and which of its own calls have failed. The one failure
-  -- isn't a fuse, behind which each call would fail.
+  -- What contracts say of it: what they say of the disk beneath, and which of its own calls have failed. The one
+  -- failure isn't a fuse, behind which each call would fail.
   abbrev pub once_words : DiskWords (OnceDisk D)
   once_words = record {
     seen = λ once. words.seen once.disk;

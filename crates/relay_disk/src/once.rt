@@ -111,8 +111,8 @@ impl<D: Disk> Disk for OnceDisk<D> {
         ensures once { FailsOnce D.words self.old self.new result }
         ensures ok { D.honest → OnOk result
             ((once_words D.words).seen self.new ≡ written ((once_words D.words).seen self.old) place octets.now) }
-        ensures fault { D.honest → OnErr result
-            (Writes place (length octets.now) ((once_words D.words).seen self.old) ((once_words D.words).seen self.new)) }
+        ensures fault { D.honest → OnErr result (Writes place (length octets.now)
+            ((once_words D.words).seen self.old) ((once_words D.words).seen self.new)) }
         ensures stop { D.honest → Steps (once_words D.words) (Writes place (length octets.now)) self.old self.new }
         ensures failures { CountsFailure (once_words D.words) self.old self.new result }
     {
@@ -123,8 +123,10 @@ impl<D: Disk> Disk for OnceDisk<D> {
     fn cut(&mut self, size: usize) -> Result<(), DiskFault>
         requires { D.honest → size ≤ length ((once_words D.words).seen self.old) }
         ensures once { FailsOnce D.words self.old self.new result }
-        ensures ok { D.honest → OnOk result ((once_words D.words).seen self.new ≡ take size ((once_words D.words).seen self.old)) }
-        ensures fault { D.honest → OnErr result (Cuts size ((once_words D.words).seen self.old) ((once_words D.words).seen self.new)) }
+        ensures ok { D.honest → OnOk result
+            ((once_words D.words).seen self.new ≡ take size ((once_words D.words).seen self.old)) }
+        ensures fault { D.honest → OnErr result
+            (Cuts size ((once_words D.words).seen self.old) ((once_words D.words).seen self.new)) }
         ensures stop { D.honest → Steps (once_words D.words) (Cuts size) self.old self.new }
         ensures failures { CountsFailure (once_words D.words) self.old self.new result }
     {

@@ -47,8 +47,8 @@ module _ {D : Type 0} (honest : Type 0) (words : DiskWords D) where
   abbrev pub HasGrown : (List Change → Type 0) → ℕ → Kept D → Type 0
   HasGrown starts added records = (changes : List Change) → starts changes → GrowsBy changes added records
 
-  -- The node of a hub, which had this configuration and these lists at the start, gives this answer to an offer: there is
-  -- a state, live and grown by accepts alone, in which it does so, whatever list it keeps there.
+  -- The node of a hub, which had this configuration and these lists at the start, gives this answer to an offer: there
+  -- is a state, live and grown by accepts alone, in which it does so, whatever list it keeps there.
   pub record Gives (starts : List Change → Type 0) (config : Config) (peer : List ℕ) (at : ℕ) (offer : Offered)
       (answer : Answer) : Type 0 where
     pub old : Kept D
@@ -65,8 +65,9 @@ module _ {D : Type 0} (honest : Type 0) (words : DiskWords D) where
       (peer : List ℕ) (at : ℕ) (offer : Offered) (answer : Answer) → Gives starts config peer at offer answer
       → has_answered peer at offer answer
 
-  -- From the number behind these changes on, the list has one accept for each receipt of the passes, at its number and as
-  -- the receipt tells it, and no other; the numbers of each pass rise. What is held below is what these changes hold.
+  -- From the number behind these changes on, the list has one accept for each receipt of the passes, at its number and
+  -- as the receipt tells it, and no other; the numbers of each pass rise. What is held below is what these changes
+  -- hold.
   pub record HasTaken (changes : List Change) (passes : List (List Receipt)) (records : Kept D) : Type 0 where
     pub accepts : List Accept
     pub list : HasList records (with_accepts changes accepts)

@@ -60,8 +60,8 @@ IsRefusal Device = Unit {0}
 -- from its start on, at a moment.
 module _ (has_answered : List ℕ → ℕ → Offered → Answer → Type 0) (config : Config) (peer : List ℕ) (at : ℕ)
     (start : LinkStart) where
-  -- These answers are the hub's, and behind the receipts of before stand those of the offers that were queued by them, in
-  -- order.
+  -- These answers are the hub's, and behind the receipts of before stand those of the offers that were queued by them,
+  -- in order.
   pub record HasNoted (offers : List Offered) (answers : List Answer) (receipts : List Receipt) : Type 0 where
     pub of_hub : AreOfHub (has_answered peer at) answers offers
     pub added : List Receipt

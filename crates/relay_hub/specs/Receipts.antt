@@ -39,8 +39,8 @@ abbrev pub count_of : List (List Receipt) → ℕ
 count_of [] = 0
 count_of (receipts ∷ passes) = length receipts + count_of passes
 
--- The receipts of the passes, by number, are the messages of the queue from this number on, each once; and those of each
--- pass rise.
+-- The receipts of the passes, by number, are the messages of the queue from this number on, each once; and those of
+-- each pass rise.
 pub record AreReceipts (first : ℕ) (queue : Queue) (passes : List (List Receipt)) : Type 0 where
   pub rise : AllByRecursion (λ receipts. Rise first queue.next receipts) passes
   pub true_of : AllByRecursion (λ receipts. AreTrueOf queue receipts) passes

@@ -103,9 +103,9 @@ impl<D: Disk, J: Opening> Hub<D, J> {
         self.desk.lock(rt).admit(pass, offer, peer, now)
     }
 
-    /// Takes the node back, with all passes. Behind each list of changes that it kept at the start it has one accept for
-    /// each receipt, at its number and as that tells it, and no other change; live or stopped. Where that isn't so by
-    /// their numbers and texts, node and passes come back as a mismatch. It takes no memory.
+    /// Takes the node back, with all passes. Behind each list of changes that it kept at the start it has one accept
+    /// for each receipt, at its number and as that tells it, and no other change; live or stopped. Where that isn't so
+    /// by their numbers and texts, node and passes come back as a mismatch. It takes no memory.
     pub fn close(self, passes: Vec<Pass<J>>) -> Result<(Node<D>, Vec<Pass<J>>), Mismatch<D, J>>
         requires { vec_len passes ≡ J.parts }
         ensures closed { (changes : List Change) → J.starts changes

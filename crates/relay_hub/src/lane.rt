@@ -140,8 +140,8 @@ pub(crate) fn serve_lane<D: Disk, J: Opening, T: Wait, R: Read, W: Write>(
     lane
 }
 
-/// Gives a lane to a thread of its own. Where none is given, the lane comes back as it was: `has_thread` says so to what
-/// the thread would have run, which is then called here.
+/// Gives a lane to a thread of its own. Where none is given, the lane comes back as it was: `has_thread` says so to
+/// what the thread would have run, which is then called here.
 pub(crate) fn start_lane<
     's,
     E,

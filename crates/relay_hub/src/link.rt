@@ -34,10 +34,11 @@ struct Terms<'a> {
 }
 
 /// Serves a client: writes the greeting, reads commands and mail from `reader`, and writes the replies to `writer`, all
-/// of them before the next read and behind each message. Each message is given to the hub, and only those that it queued
-/// add their receipts to the pass, in order; the client is told what the hub answered. It ends at a close, and at the end
-/// of the input; and where the hub refuses to take a message, without another octet. Where memory runs out behind the hub's answer, the client isn't told of it,
-/// and the message stays queued. All mail counts as accepted at `now`.
+/// of them before the next read and behind each message. Each message is given to the hub, and only those that it
+/// queued add their receipts to the pass, in order; the client is told what the hub answered. It ends at a close, and
+/// at the end of the input; and where the hub refuses to take a message, without another octet. Where memory runs out
+/// behind the hub's answer, the client isn't told of it, and the message stays queued. All mail counts as accepted at
+/// `now`.
 pub fn hub_link<D: Disk, J: Opening, T: Wait, R: Read, W: Write>(
     rt: &T,
     alloc: Global,
@@ -242,8 +243,8 @@ fn take_offer<D: Disk, J: Opening, T: Wait>(
         → HasSaid J.has_answered terms.now.config.now terms.now.peer terms.now.at start session.old left held waiting
         out.old.items pass.old
         → MatchResult result
-        (λ _. HasSaid J.has_answered terms.now.config.now terms.now.peer terms.now.at start session.new left held waiting
-        out.new.items pass.new)
+        (λ _. HasSaid J.has_answered terms.now.config.now terms.now.peer terms.now.at start session.new left held
+        waiting out.new.items pass.new)
         (HasBegun J.has_answered terms.now.config.now terms.now.peer terms.now.at start left held pass.new) }
     ensures history { OnOk result (HasHistory terms.now.config.now session.new) }
 {

@@ -8,7 +8,8 @@ use std::alloc::{AllocError, Global};
 use std::marker::Model;
 use std::sync::ledger::{Book, Share};
 
-/// A thread's right to give mail, and its receipts, which contracts see. Its share of the ledger says how many these are.
+/// A thread's right to give mail, and its receipts, which contracts see. Its share of the ledger says how many these
+/// are.
 pub struct Pass<J: Opening> {
     pub(crate) receipts: Vec<Receipt>,
     pub(crate) share: Share<J>,

@@ -223,7 +223,8 @@ impl<J: Opening + Send + Sync, R: Read + Send + Drop, W: Write + Send + Drop> Ro
         requires room { HasRoom (vec_len links) self }
         requires passes { AreNew (vec_len links) passes.items }
         requires parts { vec_len links ≡ J.parts }
-        ensures links { HaveComeOut J.has_answered R.remaining W.contents config.now now links.items result.links.items }
+        ensures links { HaveComeOut J.has_answered R.remaining W.contents config.now now links.items
+            result.links.items }
         ensures run { (changes : List Change) → J.starts changes
             → HasRun D.honest D.words changes (receipts_of result.links.items) result.node.records result.agrees }
     {

@@ -55,8 +55,8 @@ module _ {D : Type 0} (honest : Type 0) (words : DiskWords D) (changes : List Ch
         new.node.records left more heard.change
     pub goes_on : GoesOn (changes ++ (pending ++ more)) new session peer later written heard.last
 
-  -- The piece was heard: it is left unread where octets wait for its client, or the row is laden. Otherwise it is used up,
-  -- unless a change or a close stopped that.
+  -- The piece was heard: it is left unread where octets wait for its client, or the row is laden. Otherwise it is used
+  -- up, unless a change or a close stopped that.
   pub record ReadsOne (pending : List Change) (piece : Piece) (old : RelayState D) (row : Row) (new : RelayState D)
       (left : Row) (more : List Change) (heard : Heard)
       : Type 0 where

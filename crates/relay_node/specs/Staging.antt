@@ -1,4 +1,5 @@
--- What a node does with offers of sessions that stand outside of it, where their changes come into the records together.
+-- What a node does with offers of sessions that stand outside of it, where their changes come into the records
+-- together.
 use Rattle.std.specs.Prelude.{◌≡◌, ◌≢◌, ◌↔◌, ◌⊎◌, ℕ, ◌+◌, ◌≤◌, ◌<◌, ◌^◌, true, false, List, [], ◌∷◌, ◌++◌, length, take, Option, None, Some, Result, Err, IfErr}
 use Rattle.std.specs.List.{AllByRecursion}
 use Rattle.relay_disk.specs.Device.{DiskWords}

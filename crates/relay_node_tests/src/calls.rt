@@ -65,8 +65,8 @@ pub fn open(alloc: Global, config: Config, disks: MemoryDisks) -> Result<MemoryN
     Node::open(alloc, config, disks)
 }
 
-/// A node that is opened again by its own configuration, behind a stop at which nothing stays that wasn't synced. What is
-/// refused for want of memory is done once more. There is none where it can't be opened.
+/// A node that is opened again by its own configuration, behind a stop at which nothing stays that wasn't synced. What
+/// is refused for want of memory is done once more. There is none where it can't be opened.
 pub fn stop_and_open(alloc: Global, node: MemoryNode) -> Option<MemoryNode> {
     let (config, disks) = node.into_parts();
     match Node::open_again(alloc, config, stop(disks)) {

@@ -51,9 +51,9 @@ fn two_sessions(rt: &HostRuntime, mail: &[u8]) -> Result<(), Fail> {
     open_again(rt, node)
 }
 
-/// One message whose three places go three ways at one attempt, with a report of one of them; then the node stops, and is
-/// opened again. What was refused for want of memory is tried once more. It prints what came of each call, and what is held
-/// in the end.
+/// One message whose three places go three ways at one attempt, with a report of one of them; then the node stops, and
+/// is opened again. What was refused for want of memory is tried once more. It prints what came of each call, and what
+/// is held in the end.
 pub fn report(rt: &HostRuntime) -> Result<(), Fail> {
     let mut node = node(rt.alloc())?;
     let session = session(&mut node)?;
@@ -66,8 +66,8 @@ pub fn report(rt: &HostRuntime) -> Result<(), Fail> {
     }
 }
 
-/// A spool that is written anew twice behind a message, and a session that gives another behind that; then the node stops,
-/// and is opened again. It prints what came of each call but the first message's, and what is held in the end.
+/// A spool that is written anew twice behind a message, and a session that gives another behind that; then the node
+/// stops, and is opened again. It prints what came of each call but the first message's, and what is held in the end.
 pub fn compactions(rt: &HostRuntime) -> Result<(), Fail> {
     let mut node = node(rt.alloc())?;
     let session = session(&mut node)?;

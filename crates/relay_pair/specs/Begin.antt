@@ -132,7 +132,8 @@ pub record HasBegunAsTwo {D : Type 0} (honest : Type 0) (words : DiskWords D) (w
   pub begun : HasBegun honest words (one ∷ other ∷ []) world
 
 -- They are so many relays of a play.
-pub record HasBegunAsMany {D : Type 0} (honest : Type 0) (words : DiskWords D) (count : ℕ) (world : World D) : Type 0 where
+pub record HasBegunAsMany {D : Type 0} (honest : Type 0) (words : DiskWords D) (count : ℕ) (world : World D)
+    : Type 0 where
   pub configs : List Config
   pub profiles : AreProfiles count configs
   pub begun : HasBegun honest words configs world

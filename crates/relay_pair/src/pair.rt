@@ -96,8 +96,8 @@ impl Pair<MemoryDisk> {
 }
 
 impl<D: Disk + Drop> Pair<D> {
-    /// The same two relays, each on two disks, which are empty. It fails where memory runs out, and where a disk fails or
-    /// isn't empty.
+    /// The same two relays, each on two disks, which are empty. It fails where memory runs out, and where a disk fails
+    /// or isn't empty.
     pub fn begin(alloc: Global, first: Disks<D>, second: Disks<D>) -> Result<Self, AllocError>
         ensures { IfOk result (HasBegunAsTwo D.Disk.honest D.Disk.words) }
     {
@@ -115,7 +115,8 @@ impl<D: Disk + Drop> Pair<D> {
 
     /// The relays of hosts that have just begun, no two of which have one name. It takes no memory.
     fn of_hosts(alloc: Global, hosts: Vec<Host<D>>) -> Self
-        requires { (configs : List Configuration) × AreNew D.Disk.honest D.Disk.words 0 configs hosts.items × ¬ HaveOneHost configs }
+        requires { (configs : List Configuration) × AreNew D.Disk.honest D.Disk.words 0 configs hosts.items
+            × ¬ HaveOneHost configs }
         ensures { result ≡ begun_with hosts.items }
     {
         once_at_first::<D>();
@@ -173,8 +174,8 @@ impl<D: Disk> Pair<D> {
     }
 
     /// How many replies to attempts at a place of a node's message were lost: the attempts for it that have ended by no
-    /// reply, since their link was lost, or their node had to drop them. So many copies of it may there be besides one. It
-    /// takes no memory.
+    /// reply, since their link was lost, or their node had to drop them. So many copies of it may there be besides one.
+    /// It takes no memory.
     pub fn lost_replies(&self, node: usize, message: u64, place: u64) -> usize
         ensures { result ≡ lost_replies_of node message place self.now.attempts }
     {

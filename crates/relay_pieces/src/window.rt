@@ -7,7 +7,8 @@ use std::alloc::AllocError;
 /// size is whole then, and little is copied twice.
 const SEAM: usize = 1 << 12;
 
-/// The octets that can be read: those of a piece, or the last ones of a piece and a copy of the next piece's first ones.
+/// The octets that can be read: those of a piece, or the last ones of a piece and a copy of the next piece's first
+/// ones.
 #[derive(Drop)]
 pub(crate) struct Window {
     pub(crate) held: Vec<u8>,

@@ -22,8 +22,8 @@ const READS: u64 = 1_099_511_627_776;
 /// How many relays a play has whose script doesn't say so.
 const NODES: usize = 2;
 
-/// A play that goes on: its relays and how many they are, whether a line was read that says something, how many lines of
-/// its script were read, and the octets of a line whose end hasn't come.
+/// A play that goes on: its relays and how many they are, whether a line was read that says something, how many lines
+/// of its script were read, and the octets of a line whose end hasn't come.
 #[derive(Drop)]
 struct Player {
     alloc: Global,
@@ -34,10 +34,10 @@ struct Player {
     begun: Vec<u8>,
 }
 
-/// Plays a script of relays from `reader`, over disks in memory, and writes what is seen of each line to `writer`, before
-/// it reads on. The relays are two, or as many as the first line that says something tells (`nodes`). A line ends at LF,
-/// and the last one where the input does. It ends well only with the whole script read; else it ends at the first line
-/// that isn't one, or names a node that doesn't play, or at its 2^40th read as by a fault of the reader.
+/// Plays a script of relays from `reader`, over disks in memory, and writes what is seen of each line to `writer`,
+/// before it reads on. The relays are two, or as many as the first line that says something tells (`nodes`). A line
+/// ends at LF, and the last one where the input does. It ends well only with the whole script read; else it ends at the
+/// first line that isn't one, or names a node that doesn't play, or at its 2^40th read as by a fault of the reader.
 pub fn play<R: Read, W: Write>(
     alloc: Global,
     reader: &mut R,

@@ -1,4 +1,5 @@
-//! The lines that a script asks for: the ledger, what is held, how many copies there are, and how many replies were lost.
+//! The lines that a script asks for: the ledger, what is held, how many copies there are, and how many replies were
+//! lost.
 use crate::print::letter;
 use relay_book::{PlaceStep, Way};
 use relay_disk::Disk;

@@ -6,8 +6,8 @@ use Rattle.relay_records.specs.Records.{Compacts}
 use Rattle.relay_service.specs.declared.fault.Fault.{Fault}
 use Rattle.relay_node.specs.Node.{NodeState}
 
--- A spool of this size, which would take so many octets if it were written anew, passes the lesser of 16 MiB and half of
--- its limit, and is more than twice as large.
+-- A spool of this size, which would take so many octets if it were written anew, passes the lesser of 16 MiB and half
+-- of its limit, and is more than twice as large.
 abbrev pub HasHalved : ℕ → ℕ → ℕ → Type 0
 HasHalved size compacted limit = (min (2 ^ 24) (limit / 2) < size) × (2 * compacted < size)
 
@@ -22,8 +22,8 @@ MayShrink node was_full =
     IsWorthIt node.records.spool.size (min (23 + length (snapshot node.records.queue)) (2 ^ 64 - 1))
     node.config.spool_limit was_full
 
--- The spool of a node was written anew, or nothing was done; and nothing was where it isn't worth it. The queue, the note,
--- the configuration, the sessions and the attempts are the same.
+-- The spool of a node was written anew, or nothing was done; and nothing was where it isn't worth it. The queue, the
+-- note, the configuration, the sessions and the attempts are the same.
 pub record Shrinks {D : Type 0} (words : DiskWords D) (old new : NodeState D) (was_full : Bool)
     (result : Result (Unit {0}) Fault) : Type 0 where
   pub stays : (MayShrink old was_full → ⊥) → new ≡ old

@@ -71,8 +71,8 @@ pub(crate) fn compact_behind<E: Write>(
     }
 }
 
-/// Whether a spool of this size is written anew, which then takes so many octets: where much of it goes, or where mail was
-/// refused because it was full, and a sixteenth goes.
+/// Whether a spool of this size is written anew, which then takes so many octets: where much of it goes, or where mail
+/// was refused because it was full, and a sixteenth goes.
 pub fn is_worth_it(size: usize, compacted: usize, limit: u64, was_full: bool) -> bool
     ensures { IsTrue result ↔ IsWorthIt size compacted limit was_full }
 {

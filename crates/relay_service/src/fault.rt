@@ -27,8 +27,8 @@ pub enum Fault {
     /// A spool is to be made where octets stand.
     #[error("spool NotEmpty")]
     NotEmpty,
-    /// The spool would pass 2^40 octets, or changes have no numbers any more; or what it holds is too much to be written
-    /// anew.
+    /// The spool would pass 2^40 octets, or changes have no numbers any more; or what it holds is too much to be
+    /// written anew.
     #[error("spool Full")]
     Full,
     /// The spool's second file is none to write it anew on: it was made before spools had two.

@@ -31,8 +31,8 @@ use std::rt::{Clock, Files};
 /// where the connection couldn't be made or was lost, or `NUMBER noroute`. A work that no memory or no room
 /// was left for has no line, and stays due. A next hop that couldn't be connected to, or was silent for too long, is
 /// not tried again: what else is due for it is lost at once. Where no descriptor is left for a connection, the
-/// push ends, and what is due stays due. The files of the spool are taken for this process alone. Where it `logs`, a line
-/// for each work, with what was said of its places, goes to `errors`.
+/// push ends, and what is due stays due. The files of the spool are taken for this process alone. Where it `logs`, a
+/// line for each work, with what was said of its places, goes to `errors`.
 pub fn push<R: Files<File = File> + Clock + Net<Stream = TcpStream>, W: Write, E: Write>(
     alloc: Global,
     rt: &R,

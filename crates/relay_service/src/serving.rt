@@ -29,19 +29,19 @@ use std::thread::Threads;
 pub struct ServeOptions {
     /// How many rounds, 1 to 1,000,000; behind each the work that is due is done.
     pub rounds: u32,
-    /// How many clients a round takes, 1 to 64; more count as 64. Where it is more than one, each is served by a thread of
-    /// its own, and none before all have connected.
+    /// How many clients a round takes, 1 to 64; more count as 64. Where it is more than one, each is served by a thread
+    /// of its own, and none before all have connected.
     pub workers: u8,
     /// Whether a line is written for each thing that was done.
     pub log: bool,
 }
 
-/// Serves clients in rounds: in each round so many clients as the options say, each to its end; behind it the work that is
-/// due is done, once, and the spool is written anew where much of it has gone. What that work leads to waits for the next
-/// round. The files of the spool are taken for this process alone, and a line for each work goes to `writer`; with
+/// Serves clients in rounds: in each round so many clients as the options say, each to its end; behind it the work that
+/// is due is done, once, and the spool is written anew where much of it has gone. What that work leads to waits for the
+/// next round. The files of the spool are taken for this process alone, and a line for each work goes to `writer`; with
 /// `options.log` a line for each thing that was done goes to `errors`. Faults are looked for in this order: the
-/// configuration file, its content, the spool, the listener. A connection that breaks ends alone. A client that can't be
-/// had counts as none; where 64 in a row can't, that is the fault of a socket.
+/// configuration file, its content, the spool, the listener. A connection that breaks ends alone. A client that can't
+/// be had counts as none; where 64 in a row can't, that is the fault of a socket.
 pub fn serve<
     R: Files<File = File>
         + Clock
@@ -116,8 +116,8 @@ fn push_behind<R: Clock + Net<Stream = TcpStream>, W: Write, E: Write>(
     }
 }
 
-/// Serves a client on its stream, which is closed then: whether mail was refused because the spool is full. Only a fault
-/// of the device ends more than that.
+/// Serves a client on its stream, which is closed then: whether mail was refused because the spool is full. Only a
+/// fault of the device ends more than that.
 fn serve_stream<C: Clock, E: Write>(
     alloc: Global,
     clock: &C,

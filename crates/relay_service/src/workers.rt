@@ -50,8 +50,8 @@ impl<R> Drop for Service<'_, R> {
 }
 
 impl<R: Clock + Threads + Wait + Sync> Service<'_, R> {
-    /// Serves the next clients of a listener, so many, side by side. It gives the node back, and whether mail was refused
-    /// because the spool is full. Connections are closed when the last of them has ended.
+    /// Serves the next clients of a listener, so many, side by side. It gives the node back, and whether mail was
+    /// refused because the spool is full. Connections are closed when the last of them has ended.
     pub(crate) fn serve_next<E: Write>(
         &self,
         node: Node<FileDisk>,

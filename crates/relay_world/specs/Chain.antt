@@ -1,6 +1,6 @@
--- Chains of mail among nodes: from a message to one that was accepted from an attempt for it, and so on. Each accept puts
--- one `Received:` field before what it stores, and a content with 100 of them is refused (RFC 5321, section 6.3): so
--- mail that goes in a circle comes to an end.
+-- Chains of mail among nodes: from a message to one that was accepted from an attempt for it, and so on. Each accept
+-- puts one `Received:` field before what it stores, and a content with 100 of them is refused (RFC 5321, section 6.3):
+-- so mail that goes in a circle comes to an end.
 use Rattle.std.specs.Prelude.{◌≡◌, ℕ, ◌+◌, ◌≤◌, List, [], ◌∷◌, length, Some, slice_get}
 use Rattle.std.specs.List.{Contains}
 use Rattle.relay_disk.specs.Device.{DiskWords}

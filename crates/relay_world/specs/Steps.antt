@@ -200,8 +200,8 @@ pub record EndsWith {D : Type 0} (old new : World D) (number : ℕ) (closing : O
 abbrev pub EndsSession : {D : Type 0} → World D → World D → ℕ → Type 0
 EndsSession old new number = EndsWith old new number None
 
--- A node has cut a client off, as one that was waited for too long: its session is gone, and behind whole replies stands
--- one more, of code 421 (RFC 5321, section 3.8).
+-- A node has cut a client off, as one that was waited for too long: its session is gone, and behind whole replies
+-- stands one more, of code 421 (RFC 5321, section 3.8).
 pub record CutsOff {D : Type 0} (old new : World D) (number : ℕ) (reply : Reply) : Type 0 where
   pub formed : IsReply reply
   pub code : reply.code ≡ 421

@@ -1,8 +1,8 @@
 //! The ledger of a run.
 use relay_book::PlaceStep;
 
-/// A step in the custody of mail: each accept, each place that left, and each that was reported as delayed, in the order
-/// in which they came.
+/// A step in the custody of mail: each accept, each place that left, and each that was reported as delayed, in the
+/// order in which they came.
 #[derive(Clone, Copy, Debug)]
 pub enum Line {
     /// A node accepted a message of so many places.

@@ -142,7 +142,8 @@ fn read_row(
     text: &[u8],
 ) -> Result<(Recipients, Vec<Place>, &[u8]), BookFault>
     ensures row { IfOk result (λ parts. ReadsRow version count text.now parts.0 parts.1.items parts.2.now) }
-    ensures bad { IsErrOf result BookFault.BadRecord → HasNoRow (IsPlacedBy version) (placed_octets version) count text.now }
+    ensures bad { IsErrOf result BookFault.BadRecord
+        → HasNoRow (IsPlacedBy version) (placed_octets version) count text.now }
 {
     let mut recipients = Recipients::with_capacity(alloc, count as usize)?;
     let mut places = Vec::with_capacity(alloc, count as usize)?;
@@ -168,7 +169,8 @@ pub(super) fn read_placed(
     text: &[u8],
 ) -> Result<(Recipients, Places, &[u8]), BookFault>
     ensures placed { IfOk result (λ parts. ReadsPlaced version text.now parts.0 parts.1 parts.2.now) }
-    ensures bad { IsErrOf result BookFault.BadRecord → HasNoCounted (IsPlacedBy version) (placed_octets version) text.now }
+    ensures bad { IsErrOf result BookFault.BadRecord
+        → HasNoCounted (IsPlacedBy version) (placed_octets version) text.now }
 {
     let Some((count, behind)) = text.split_first() else {
         return Err(BookFault::BadRecord);
