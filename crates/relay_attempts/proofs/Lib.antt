@@ -16,5 +16,7 @@ mod OpenLemmas
 mod RulingLemmas
 mod ReplyLemmas
 mod RefusalLemmas
+mod HearLemmas
+mod StagedLemmas
 mod AmongLemmas
 mod ToldLemmas

@@ -7,3 +7,5 @@ pub mod AddedOutcome
 pub mod Outcomes
 pub mod Attempts
 pub mod Reply
+pub mod Hearing
+pub mod Staging

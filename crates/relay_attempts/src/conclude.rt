@@ -3,13 +3,15 @@ ghost use Rattle.std.specs.Prelude.{◌≡◌, List, Err, IfErr, IfOk, IsTrue};
 ghost use Rattle.relay_attempts.specs.Attempts.{KnowsStranded};
 ghost use Rattle.relay_book.specs.declared.change.Change.{Change};
 ghost use Rattle.relay_attempts.specs.AddedOutcome.{AddsOutcome, CutsOutcome, GrowsBy, MayCome, RefusesOutcome};
+ghost use Rattle.relay_attempts.specs.Staging.{GrowsRowBy, RefusesToStageOutcome, StagesOutcome};
 ghost use Rattle.relay_records.specs.Records.{Keeps};
+ghost use Rattle.relay_records.specs.Staged.{Awaits};
 
 use crate::attempts::Attempts;
-use crate::outcome::add_outcome;
+use crate::outcome::{add_outcome, stage_outcome};
 use relay_book::Outcome;
 use relay_disk::Disk;
-use relay_records::{NodeFault, Records};
+use relay_records::{NodeFault, Records, Staged};
 use relay_routes::Config;
 use std::alloc::Global;
 
@@ -44,6 +46,45 @@ impl Attempts {
         records.numbers_rise();
         let message = outcome.message;
         match add_outcome(alloc, config.host.as_slice(), records, outcome, used) {
+            Ok(number) => {
+                self.forget(&config.routes, records, message);
+                self.note(&config.routes, records, number);
+                Ok(number)
+            }
+            Err(fault) => Err(fault),
+        }
+    }
+    /// Stages an outcome of a queued message behind the changes of a row, with the report that is due of it, in one
+    /// change; then it is known which messages are stranded by it, or by the report, and which are no more. No device
+    /// is called.
+    pub(crate) fn conclude_into<D: Disk>(
+        &mut self,
+        alloc: Global,
+        config: &Config,
+        records: &mut Records<D>,
+        row: &mut Staged,
+        outcome: Outcome,
+        used: usize,
+    ) -> Result<u64, NodeFault>
+        requires comes { MayCome records.old.queue outcome }
+        ensures stages { (changes pending : List Change)
+            → Awaits D.honest D.words records.old changes pending row.old
+            → IfOk result (StagesOutcome D.honest D.words config.now.host changes pending row.old outcome used
+            records.new row.new) }
+        ensures grows { IfOk result (GrowsRowBy config.now.host outcome used records.old records.new row.old
+            row.new) }
+        ensures refused { IfErr result (RefusesToStageOutcome config.now.host outcome records.old records.new
+            row.old row.new) }
+        ensures runs { self.new.runs ≡ self.old.runs }
+        ensures known { KnowsStranded self.old config.now.routes records.old.queue
+            → KnowsStranded self.new config.now.routes records.new.queue }
+    {
+        let Ok(()) = self.reserve() else {
+            return Err(NodeFault::NoMemory);
+        };
+        records.numbers_rise();
+        let message = outcome.message;
+        match stage_outcome(alloc, config.host.as_slice(), records, row, outcome, used) {
             Ok(number) => {
                 self.forget(&config.routes, records, message);
                 self.note(&config.routes, records, number);

@@ -6,6 +6,7 @@ mod attempts;
 mod conclude;
 mod gathering;
 mod give_up;
+mod hear;
 mod hops;
 mod next;
 mod outcome;

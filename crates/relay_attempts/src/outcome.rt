@@ -2,13 +2,16 @@
 ghost use Rattle.std.specs.Prelude.{◌≡◌, ◌≤◌, ◌<◌, ◌^◌, List, Err, IfErr, IfOk, IsTrue};
 ghost use Rattle.relay_book.specs.declared.change.Change.{Change};
 ghost use Rattle.relay_envelope.specs.HostName.{IsHostName};
+ghost use Rattle.relay_attempts.specs.Staging.{GrowsRowBy, RefusesToStageOutcome, StagesOutcome};
 ghost use Rattle.relay_records.specs.Records.{Keeps};
+ghost use Rattle.relay_records.specs.Staged.{Awaits};
 ghost use Rattle.relay_attempts.specs.AddedOutcome.{AddsOutcome, CutsOutcome, GrowsBy, IsReported, MayCome, RefusesOutcome, reported_as};
 
 use relay_book::{Change, Outcome, encode_change};
 use relay_disk::Disk;
 use relay_octets::Octets;
-use relay_records::{NodeFault, Records};
+use relay_records::list_laws::awaited_are_numbered;
+use relay_records::{NodeFault, Records, Staged};
 use relay_report::{Report, report_if_due};
 use relay_trace::LAST_SECOND;
 use std::alloc::{AllocError, Global};
@@ -45,6 +48,37 @@ pub(crate) fn add_outcome<D: Disk>(
     let change = reported(alloc, host, records, outcome)?;
     let octets = Octets::new(encode_change(alloc, &change)?);
     records.add(alloc, change, octets, used)
+}
+
+/// Stages an outcome of a queued message behind the changes of a row, with the report that is due of it by this host, in
+/// one change; what its report says doesn't count. The answer is its number, and `used` is how many octets of its piece
+/// the call had used. No device is called.
+///
+/// `NoMemory` leaves records and row as they were, and so does `Full`, where changes have no numbers any more or the
+/// spool would pass 2^40 octets with the row.
+pub(crate) fn stage_outcome<D: Disk>(
+    alloc: Global,
+    host: &[u8],
+    records: &mut Records<D>,
+    row: &mut Staged,
+    outcome: Outcome,
+    used: usize,
+) -> Result<u64, NodeFault>
+    requires host { IsHostName host.now }
+    requires comes { MayCome records.old.queue outcome }
+    ensures stages { (changes pending : List Change) → Awaits D.honest D.words records.old changes pending row.old
+        → IfOk result (StagesOutcome D.honest D.words host.now changes pending row.old outcome used records.new
+        row.new) }
+    ensures grows { IfOk result (GrowsRowBy host.now outcome used records.old records.new row.old row.new) }
+    ensures refused { IfErr result (RefusesToStageOutcome host.now outcome records.old records.new row.old row.new) }
+{
+    awaited_are_numbered::<D>();
+    if !records.has_number() {
+        return Err(NodeFault::Full);
+    }
+    let change = reported(alloc, host, records, outcome)?;
+    let octets = Octets::new(encode_change(alloc, &change)?);
+    records.stage(alloc, row, change, octets, used)
 }
 
 /// The outcome as a change, with the report that is due. It fails where memory runs out.

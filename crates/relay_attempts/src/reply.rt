@@ -3,14 +3,16 @@ ghost use Rattle.std.specs.Prelude.{◌≡◌, List, Err, IfErr, IfOk, length};
 ghost use Rattle.relay_attempts.specs.Attempts.{Serves};
 ghost use Rattle.relay_attempts.specs.Reply.{CutsReply, HasHeard, HasNoRoomAtEnd, RefusesToHear, Replies, TellsAt, Told};
 ghost use Rattle.relay_attempts.specs.Reply.{CutsLoss, EndsBy, HasNoRoomAtLoss, IsLost};
+ghost use Rattle.relay_attempts.specs.Staging.{HasHeardBehind, HasNoRoomAtEndBehind, RefusesToHearBehind, RepliesBehind};
 ghost use Rattle.relay_book.specs.declared.change.Change.{Change};
 ghost use Rattle.relay_records.specs.Records.{Keeps};
+ghost use Rattle.relay_records.specs.Staged.{Awaits};
 ghost use Rattle.relay_slots.specs.Slots.{OthersStay};
 
 use crate::attempts::Attempts;
-use relay_client::Driven;
+use crate::hear::Hearing;
 use relay_disk::Disk;
-use relay_records::{NodeFault, Records};
+use relay_records::{NodeFault, Records, Staged};
 use relay_routes::Config;
 use relay_trace::Moment;
 use std::alloc::Global;
@@ -64,31 +66,65 @@ impl Attempts {
         if !records.is_live() {
             return Err(NodeFault::Stopped);
         }
-        let Some(run) = self.runs.take(attempt) else {
-            return Err(NodeFault::Unknown);
-        };
-        let mut run = run;
-        let Ok(driven) = run.hear(records, piece) else {
-            return Err(NodeFault::NoMemory);
-        };
-        let Driven {
-            used,
-            out,
-            verdicts,
-        } = driven;
-        let Some(verdicts) = verdicts else {
-            self.runs.put(attempt, run);
+        let Hearing { used, out, outcome } = self.hear(alloc, records, attempt, piece, now)?;
+        let Some(outcome) = outcome else {
             return Ok(Replied {
                 used,
                 out,
                 change: None,
             });
         };
-        run.has_few_places(records);
-        let Ok(outcome) = run.outcome(alloc, verdicts, now) else {
-            return Err(NodeFault::NoMemory);
-        };
         match self.conclude(alloc, config, records, outcome, used) {
+            Ok(number) => Ok(Replied {
+                used,
+                out,
+                change: Some(number),
+            }),
+            Err(fault) => Err(fault),
+        }
+    }
+
+    /// Uses octets that the server of an attempt wrote, as [`Attempts::reply`] does, but puts the outcome at the
+    /// attempt's end behind the changes of a row, in one change with the report that is due of it. No device is
+    /// called: until the row has come into the spool, a stop leaves nothing of the outcome.
+    ///
+    /// `Unknown` is answered where there is no such attempt, and nothing is changed then. At `NoMemory` and `Full`
+    /// the attempt is gone, and records and row are as they were.
+    pub fn reply_into<D: Disk>(
+        &mut self,
+        alloc: Global,
+        config: &Config,
+        records: &mut Records<D>,
+        row: &mut Staged,
+        attempt: usize,
+        piece: &[u8],
+        now: Moment,
+    ) -> Result<Replied, NodeFault>
+        requires serves { Serves config.now.host config.now.routes self.old records.old.queue }
+        ensures replies { (changes pending : List Change) (told : Told)
+            → Awaits D.honest D.words records.old changes pending row.old
+            → TellsAt config.now.host records.old.queue self.old.runs attempt told
+            → IfOk result (λ replied. RepliesBehind D.honest D.words config.now.host changes pending row.old now
+            attempt told piece.now records.old records.new row.new self.new.runs replied replied.change) }
+        ensures full { (told : Told) → TellsAt config.now.host records.old.queue self.old.runs attempt told
+            → result ≡ Err NodeFault.Full
+            → HasNoRoomAtEndBehind config.now.host now told piece.now records.old row.old }
+        ensures heard { IfOk result (HasHeardBehind config.now.host now attempt (length piece.now)
+            self.old.runs self.new.runs records.old records.new row.old row.new) }
+        ensures refused { IfErr result (RefusesToHearBehind attempt self.old self.new records.old records.new
+            row.old row.new) }
+        ensures others { OthersStay self.old.runs self.new.runs attempt }
+        ensures serves { Serves config.now.host config.now.routes self.new records.new.queue }
+    {
+        let Hearing { used, out, outcome } = self.hear(alloc, records, attempt, piece, now)?;
+        let Some(outcome) = outcome else {
+            return Ok(Replied {
+                used,
+                out,
+                change: None,
+            });
+        };
+        match self.conclude_into(alloc, config, records, row, outcome, used) {
             Ok(number) => Ok(Replied {
                 used,
                 out,

@@ -9,5 +9,6 @@ mod StageLemmas
 mod AttemptLemmas
 mod CompactionLemmas
 mod ReplyLemmas
+mod ReplyIntoLemmas
 mod AdmitLemmas
 pub mod Theorems

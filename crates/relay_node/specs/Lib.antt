@@ -7,4 +7,5 @@ pub mod Speaking
 pub mod Admission
 pub mod Staging
 pub mod Attempts
+pub mod StagedReplies
 pub mod Compaction

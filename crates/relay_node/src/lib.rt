@@ -14,6 +14,7 @@ mod node;
 mod receive;
 mod receive_into;
 mod reply;
+mod reply_into;
 mod seat;
 mod speak;
 mod stage;

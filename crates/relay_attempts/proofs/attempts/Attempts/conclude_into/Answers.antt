@@ -1,0 +1,18 @@
+use Rattle.std.proofs.Common.{List, ℕ, subst, rules}
+use Rattle.relay_attempts.specs.Staging.{RefusesToStageOutcome}
+use Rattle.relay_attempts.proofs.StrandedLemmas.{known_behind, ruled_message}
+use Rattle.relay_attempts.proofs.attempts.Attempts.conclude_into.Goals as goal
+
+pub returns-in-Ok-stage_outcome-clause-known : goal.returns-in-Ok-stage_outcome-clause-known
+returns-in-Ok-stage_outcome-clause-known g c = λ known.
+    let grows = c.in-Ok-stage_outcome.ensures.grows in
+    let queue = c.args.records.now.queue in
+    let there = ruled_message queue c.args.outcome c.requires.comes.message in
+    known_behind c.args.config.now.routes (record c.args.outcome { report = grows.report }) queue c.numbers_rise.ensures there.0 there.1 there.2
+    c.stage_outcome.new.records.queue c.in-Ok-stage_outcome.number c.args.self.now.stranded c.forget.new.self.stranded c.note.new.self.stranded
+    grows.stages.queue grows.stages.number_is known (search rules) (search rules)
+
+pub returns-in-Err-clause-refused : goal.returns-in-Err-clause-refused
+returns-in-Err-clause-refused g c =
+    subst (λ (host : List ℕ). RefusesToStageOutcome host c.args.outcome c.args.records.now c.stage_outcome.new.records c.args.row.now c.stage_outcome.new.row c.in-Err.fault) c.as_slice.ensures.value
+    c.in-Err.ensures.refused
