@@ -10,8 +10,8 @@ use Rattle.relay_routes.specs.declared.config.Config.{Config}
 use Rattle.relay_world.specs.declared.attempt.Fate.{Fate}
 use Rattle.relay_world.specs.declared.attempt.Fate.TheVariants.{Lost, Replied}
 use Rattle.relay_world.specs.Once.{BreaksOff, Closes, Drops, Ends, GivesUp, GoesOn, Happen, Happens, Hears, IsNotOpened, LetsGo, Loses, Opens, Reads, Reopens, Starts, Stops, StopsInGivingUp, StopsInHearing, StopsInLosing, StopsInReading, Ticks, Writes, HearsAll, ReopensBehindGroup}
-use Rattle.relay_world.specs.Steps.{AttemptOf, IsPut, RecordsHeard, RecordsOutcome, RecordsRead, without_note, EndsWith}
-use Rattle.relay_world.specs.Groups.{AcceptsInto, HasHeardAll, HasHeardEach, HasHeardInto, HasReopenedBehindGroup, IsOpenedAgain, IsUp, Piece}
+use Rattle.relay_world.specs.Steps.{AttemptOf, DropsAttempt, IsPut, RecordsHeard, RecordsOutcome, RecordsRead, without_note, EndsWith}
+use Rattle.relay_world.specs.Groups.{AcceptsInto, AttemptDropped, HasHeardAll, HasHeardEach, HasHeardInto, HasReadInto, HasReopenedBehindGroup, HasTurnedTo, Heard, IsOpenedAgain, IsUp, OutcomeInto, Piece, Read, SessionEnded}
 use Rattle.relay_world.specs.Stops.{Decides, DropsAtStop}
 use Rattle.relay_records.specs.Records.{Kept}
 use Rattle.relay_records.specs.Staged.{Row, no_row}
@@ -58,7 +58,12 @@ module _ {D : Type 0} where
       names_put old.hosts new.hosts ends.of.end.node ends.of.host (record ends.of.host { state = Up ends.after })
       ends.of.host_at ends.hosts refl
 
-  -- links that a node hears one behind another
+  dropped : (old new : World D) (number : ℕ) → DropsAttempt old new number → SameNames old.hosts new.hosts
+  dropped old new number drops =
+      names_put old.hosts new.hosts drops.of.attempt.node drops.of.host (record drops.of.host { state = Up drops.after })
+      drops.of.host_at drops.hosts refl
+
+  -- links that a node hears and reads one behind another
   module _ (honest : Type 0) (words : DiskWords D) where
     heard_into : (at : ℕ) (old new : World D) (node : ℕ) (piece : Piece) (row left : Row)
         → HasHeardInto honest words at old new node piece row left → SameNames old.hosts new.hosts
@@ -74,16 +79,34 @@ module _ {D : Type 0} where
             (record hears.of.host { state = Up hears.after; records = hears.of.host.records ++ accepts.0.octets ∷ [] })
             hears.of.host_at accepts.2 refl
 
+    read_into : (at : ℕ) (old new : World D) (node : ℕ) (piece : Piece) (row left : Row)
+        → HasReadInto honest words at old new node piece row left → SameNames old.hosts new.hosts
+    read_into at old new node piece row left reads = by reads.replied.change reads.outcome
+      where
+        by : (change : Option ℕ) → OutcomeInto honest words old new piece.number reads.of reads.after row left change
+            → SameNames old.hosts new.hosts
+        by None puts =
+            names_put old.hosts new.hosts reads.of.attempt.node reads.of.host
+            (record reads.of.host { state = Up reads.after }) reads.of.host_at puts.0 refl
+        by (Some change) ends =
+            names_put old.hosts new.hosts reads.of.attempt.node reads.of.host
+            (record reads.of.host { state = Up reads.after; records = reads.of.host.records ++ ends.noted.octets ∷ [] })
+            reads.of.host_at ends.hosts refl
+
+    turned_to : (at : ℕ) (old new : World D) (node : ℕ) (piece : Piece) (row left : Row)
+        → HasTurnedTo honest words at old new node piece row left → SameNames old.hosts new.hosts
+    turned_to at old new node piece row left (Heard hears) = heard_into at old new node piece row left hears
+    turned_to at old new node piece row left (SessionEnded ends here same) = ended old new piece.number None ends
+    turned_to at old new node piece row left (Read reads) = read_into at old new node piece row left reads
+    turned_to at old new node piece row left (AttemptDropped drops here same) = dropped old new piece.number drops
+
     heard_each : (at : ℕ) (old new : World D) (node : ℕ) (pieces : List Piece) (row left : Row)
         → HasHeardEach honest words at old new node pieces row left → SameNames old.hosts new.hosts
     heard_each at old new node [] row left each =
         names_same old.hosts new.hosts (ap (λ (w : World D). w.hosts) each.0)
     heard_each at old new node (piece ∷ pieces) row left (next, more, first, others) =
-        names_both old.hosts next.hosts new.hosts
-        (elim first [
-          | inl hears ↦ heard_into at old next node piece row more hears
-          | inr ends ↦ ended old next piece.number None ends.0
-        ]) (heard_each at next new node pieces more left others)
+        names_both old.hosts next.hosts new.hosts (turned_to at old next node piece row more first)
+        (heard_each at next new node pieces more left others)
 
     heard_all : (old new : World D) (node : ℕ) (pieces : List Piece) → HasHeardAll honest words old new node pieces
         → SameNames old.hosts new.hosts
@@ -160,9 +183,7 @@ module _ {D : Type 0} where
     event_names (Closes number reply cuts) = ended old new number (Some reply) cuts.ends
     event_names (Reads number count reads) = read number reads.of reads.after reads.replied.change reads.records
     event_names (Loses number change loses) = recorded number change loses.of loses.after (Lost change) loses.records
-    event_names (Drops number drops) =
-        names_put old.hosts new.hosts drops.of.attempt.node drops.of.host (record drops.of.host { state = Up drops.after })
-        drops.of.host_at drops.hosts refl
+    event_names (Drops number drops) = dropped old new number drops
     event_names (BreaksOff number breaks) = names_same old.hosts new.hosts (ap (λ (w : World D). w.hosts) breaks.new_is)
     event_names (Starts number message hop starts) =
         names_put old.hosts new.hosts starts.attempt.node starts.host (record starts.host { state = Up starts.after })

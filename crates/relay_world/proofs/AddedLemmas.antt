@@ -1,5 +1,5 @@
 -- What change an event has added to a node's list, and whose outcome it is.
-use Rattle.std.proofs.Common.{◌≡◌, inl, inr, true, not, ℕ, Bool, List, [], ◌∷◌, ◌++◌, length, map, take, Option, None, Some, refl, sym, subst, ap, ◌∙◌, cond}
+use Rattle.std.proofs.Common.{◌≡◌, ◌⊎◌, inl, inr, true, not, ℕ, Bool, List, [], ◌∷◌, ◌++◌, length, map, take, Option, None, Some, refl, sym, subst, ap, ◌∙◌, cond}
 use Rattle.std.specs.Prelude.{slice_get}
 use Rattle.std.specs.List.{Contains}
 use Rattle.std.proofs.Math.Numerals.{add-one}
@@ -23,19 +23,20 @@ use Rattle.relay_records.specs.declared.noted.Noted.{Noted}
 use Rattle.relay_records.specs.Note.{IsNoted}
 use Rattle.relay_routes.specs.declared.config.Config.{Config}
 use Rattle.relay_course.specs.VerdictTable.{all_later}
-use Rattle.relay_attempts.specs.AddedOutcome.{AddsOutcome, reported_as}
+use Rattle.relay_attempts.specs.AddedOutcome.{reported_as}
 use Rattle.relay_routes.specs.Routes.{RouteTable}
 use Rattle.relay_attempts.specs.Hops.{hop_of_place, is_stranded, stranded_places}
 use Rattle.relay_attempts.specs.Outcomes.{AddsUnroutable, rulings_of, unroutable, unrouted}
 use Rattle.relay_attempts.specs.Reply.{IsLost, Told, outcome_at}
 use Rattle.relay_node.specs.Attempts.{RepliesBy, Tells}
 use Rattle.relay_node.specs.Node.{NodeState}
+use Rattle.relay_world.specs.declared.attempt.Fate.{Fate}
 use Rattle.relay_world.specs.declared.attempt.Fate.TheVariants.{Lost, Replied}
 use Rattle.relay_world.specs.declared.line.Line.TheVariants.{Accepted}
 use Rattle.relay_world.specs.Bound.{HostKeeps, IsBound, IsListOf, NodeKeeps, told_by}
 use Rattle.relay_world.specs.Ledger.{Accepts, Becomes, Step, steps_by, steps_in, steps_of}
 use Rattle.relay_world.specs.Once.{HasNoHops, IsTriedOnce}
-use Rattle.relay_world.specs.Steps.{HasGivenUp, HasLost, HasRead, IsPut, RecordsHeard, RecordsRead, SessionOf, waiting_down, without_note}
+use Rattle.relay_world.specs.Steps.{AttemptOf, HasGivenUp, HasLost, HasRead, IsPut, RecordsHeard, RecordsRead, SessionOf, waiting_down, without_note}
 use Rattle.relay_world.specs.World.{Host, Up, World}
 use Rattle.relay_world.proofs.AmongLemmas.{found_in, in_found, of_map, ruled_by}
 use Rattle.relay_world.proofs.AttemptLemmas.{KnowsAttempt, known}
@@ -45,6 +46,7 @@ use Rattle.relay_world.proofs.OpenLemmas.{list_there, node_kept}
 use Rattle.relay_world.proofs.PassingLemmas.{none_taken}
 use Rattle.relay_world.proofs.PlaceLemmas.{passing_there}
 use Rattle.relay_world.proofs.PieceLemmas.{same_number}
+use Rattle.relay_world.proofs.RecordLemmas.{HasTakenOutcome, TakesOutcome, outcome_added, outcome_taken}
 use Rattle.relay_world.proofs.TakerLemmas.{AddsTo, HasTakers, ListsAdd, lists_put, lists_stay}
 
 -- what leaves is no accept
@@ -132,26 +134,41 @@ module _ {D : Type 0} (honest : Type 0) (words : DiskWords D) (old new : World D
   Takers node before one = HasTakers honest words old new lists later bound once now node before one
 
   -- a node's list has an outcome more, which was noted
-  outcome_added : (node : ℕ) (host : Host D) (after : NodeState D) (noted : Noted) (name : List ℕ) (outcome : Outcome)
-      (used number : ℕ) (changes : List Change) → slice_get lists node ≡ Some changes → slice_get old.hosts node ≡ Some host
-      → after.records.noted ≡ Some noted
+  outcome_adds : (node : ℕ) (host : Host D) (after : NodeState D) (noted : Noted) (name : List ℕ) (outcome : Outcome)
+      (number : ℕ) (changes : List Change) → slice_get lists node ≡ Some changes → slice_get old.hosts node ≡ Some host
       → IsPut old.hosts new.hosts node
-      (record host { state = Up (without_note after); records = host.records ++ noted.octets ∷ [] })
-      → (adds : AddsOutcome honest words name changes outcome used after.records number)
-      → Takers node changes (reported_as outcome adds.report) → Adds
-  outcome_added node host after noted name outcome used number changes list at note_is put adds takers =
-      let one : Change = reported_as outcome adds.report in
+      (record host { state = Up after; records = host.records ++ noted.octets ∷ [] })
+      → (takes : TakesOutcome honest words name changes outcome after.records number noted)
+      → Takers node changes (reported_as outcome takes.report) → Adds
+  outcome_adds node host after noted name outcome number changes list at put takes takers =
+      let one : Change = reported_as outcome takes.report in
       lists_put honest words old new lists later bound once now node host
-      (record host { state = Up (without_note after); records = host.records ++ noted.octets ∷ [] }) at put
+      (record host { state = Up after; records = host.records ++ noted.octets ∷ [] }) at put
       (λ before more first second is more_is.
       let same : changes ≡ before = same_Some changes before (sym list ∙ first) in
       subst (λ l. AddsTo honest words old new lists later bound once now node l more) same
       (inr (
         one,
         one_more host.records noted.octets changes more one (subst (λ l. IsListOf host.records l) (sym same) is)
-            adds.adds.keeps.fitting (noted_octets after.records.noted noted changes one used note_is adds.adds.noted) more_is,
+            takes.keeps.fitting takes.octets more_is,
         takers,
       )))
+
+  -- an attempt that has ended adds its outcome
+  pub ended_adds : (number change_now : ℕ) (of : AttemptOf old number) (after : NodeState D) (fate : Fate)
+      (noted : Noted) (name : List ℕ) (outcome : Outcome) (changes : List Change)
+      → slice_get lists of.attempt.node ≡ Some changes → (fate ≡ Replied change_now) ⊎ (fate ≡ Lost change_now)
+      → TakesOutcome honest words name changes outcome after.records change_now noted
+      → HasTakenOutcome old new number of after fate change_now noted → Adds
+  ended_adds number change_now of after fate noted name outcome changes list ends takes taken =
+      outcome_adds of.attempt.node of.host after noted name outcome change_now changes list of.host_at taken.hosts takes
+      (λ outcome same host at. inl (record {
+        at = of.place;
+        attempt = record of.attempt { fate = fate };
+        is_there = taken.attempts.at;
+        its_node = refl;
+        ended = subst (λ n. (fate ≡ Replied n) ⊎ (fate ≡ Lost n)) (takes.number_is ∙ add-one (length changes)) ends;
+      }))
 
   -- what a node has heard adds an accept, or nothing
   pub heard_adds : (number : ℕ) (of : SessionOf old number) (after : NodeState D) (change_now : Option ℕ)
@@ -204,28 +221,22 @@ module _ {D : Type 0} (honest : Type 0) (words : DiskWords D) (old new : World D
           lists_stay honest words old new lists later bound once now reads.of.attempt.node reads.of.host
           (record reads.of.host { state = Up reads.after }) reads.of.host_at records.0 refl
       by (Some change_now) ended records =
-          outcome_added reads.of.attempt.node reads.of.host reads.after records.noted reads.of.before.config.host
-          (outcome_at old.clock told ended.verdicts) reads.replied.used change_now knows.changes knows.list_at reads.of.host_at
-          records.note_is records.hosts ended.adds (λ outcome same host at. inl (record {
-            at = reads.of.place;
-            attempt = record reads.of.attempt { fate = Replied change_now };
-            is_there = records.attempts.at;
-            its_node = refl;
-            ended = inl (ap (λ n. Replied n) (ended.adds.number_is ∙ add-one (length knows.changes)));
-          }))
+          ended_adds number change_now reads.of (without_note reads.after) (Replied change_now) records.noted
+          reads.of.before.config.host (outcome_at old.clock told ended.verdicts) knows.changes knows.list_at (inl refl)
+          (outcome_added honest words reads.of.before.config.host knows.changes (outcome_at old.clock told ended.verdicts)
+          reads.replied.used change_now reads.after records.noted records.note_is ended.adds)
+          (outcome_taken old new number reads.of reads.after (Replied change_now) change_now records)
 
   -- the loss of an attempt adds an outcome by which each place may be tried again
   pub lost_adds : (number change_now : ℕ) (loses : HasLost honest words old new number change_now) → Adds
   lost_adds number change_now loses =
-      outcome_added loses.of.attempt.node loses.of.host loses.after loses.records.noted loses.of.before.config.host
-      (outcome_at old.clock told (all_later told.places)) 0 change_now knows.changes knows.list_at loses.of.host_at
-      loses.records.note_is loses.records.hosts ended.adds (λ outcome same host at. inl (record {
-        at = loses.of.place;
-        attempt = record loses.of.attempt { fate = Lost change_now };
-        is_there = loses.records.attempts.at;
-        its_node = refl;
-        ended = inr (ap (λ n. Lost n) (ended.adds.number_is ∙ add-one (length knows.changes)));
-      }))
+      ended_adds number change_now loses.of (without_note loses.after) (Lost change_now) loses.records.noted
+      loses.of.before.config.host (outcome_at old.clock told (all_later told.places)) knows.changes knows.list_at
+      (inr refl)
+      (outcome_added honest words loses.of.before.config.host knows.changes
+      (outcome_at old.clock told (all_later told.places)) 0 change_now loses.after loses.records.noted
+      loses.records.note_is ended.adds)
+      (outcome_taken old new number loses.of loses.after (Lost change_now) change_now loses.records)
     where
       knows : KnowsAttempt honest words old lists number loses.of
       knows = known honest words old lists number bound loses.of
@@ -242,12 +253,12 @@ module _ {D : Type 0} (honest : Type 0) (words : DiskWords D) (old new : World D
   -- and places that are given up one by which they have no hop
   pub given_adds : (node message change_now : ℕ) (gives : HasGivenUp honest words old new node message change_now) → Adds
   given_adds node message change_now gives =
-      outcome_added node gives.host gives.after gives.noted gives.before.config.host
-      (unroutable gives.before.config.routes message old.clock given_up.message) 0 change_now listed.0 listed.1 gives.host_at
-      gives.note_is gives.hosts given_up.adds (λ outcome same was at. inr
+      outcome_adds node gives.host (without_note gives.after) gives.noted gives.before.config.host
+      (unroutable gives.before.config.routes message old.clock given_up.message) change_now listed.0 listed.1
+      gives.host_at gives.hosts takes (λ outcome same was at. inr
       (subst (λ (c : Config). HasNoHops c.routes listed.0 outcome)
       (its_node.config_is ∙ ap (λ (h : Host D). h.config) (same_Some gives.host was (sym gives.host_at ∙ at)))
-      (stranded_no_hops gives.before.config.routes listed.0 message old.clock given_up.message given_up.adds.report outcome
+      (stranded_no_hops gives.before.config.routes listed.0 message old.clock given_up.message takes.report outcome
       (fold_knows listed.0 its_node.keeps.fitting message given_up.message
       (ap (λ (q : Queue). message_of q.messages message) (sym its_node.keeps.queue) ∙ given_up.found)).accept_is same)))
     where
@@ -263,3 +274,10 @@ module _ {D : Type 0} (honest : Type 0) (words : DiskWords D) (old new : World D
       given_up : AddsUnroutable honest words gives.before.config.host gives.before.config.routes message old.clock listed.0
           gives.before.records gives.after.records change_now
       given_up = gives.gives_up listed.0 its_node.keeps
+
+      takes : TakesOutcome honest words gives.before.config.host listed.0
+          (unroutable gives.before.config.routes message old.clock given_up.message) (without_note gives.after).records
+          change_now gives.noted
+      takes = outcome_added honest words gives.before.config.host listed.0
+          (unroutable gives.before.config.routes message old.clock given_up.message) 0 change_now gives.after gives.noted
+          gives.note_is given_up.adds

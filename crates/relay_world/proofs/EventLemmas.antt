@@ -9,6 +9,7 @@ use Rattle.relay_disk.specs.Device.{DiskWords}
 use Rattle.relay_book.specs.declared.change.Change.{Change}
 use Rattle.relay_book.specs.declared.fate.PlaceStep.{PlaceStep}
 use Rattle.relay_node.specs.Node.{NodeState}
+use Rattle.relay_records.specs.declared.noted.Noted.{Noted}
 use Rattle.relay_world.specs.declared.attempt.Attempt.{Attempt}
 use Rattle.relay_world.specs.declared.attempt.Fate.{Fate}
 use Rattle.relay_world.specs.declared.attempt.Fate.TheVariants.{Lost, Dropped, Replied}
@@ -19,14 +20,14 @@ use Rattle.relay_world.specs.declared.link.ServerEnd.{ServerEnd}
 use Rattle.relay_world.specs.Bound.{IsBound}
 use Rattle.relay_world.specs.Ledger.{accepts_on, left_lines, report_told}
 use Rattle.relay_world.specs.Once.{IsTriedOnce}
-use Rattle.relay_world.specs.Steps.{AttemptOf, Breaks, DropsAttempt, EndsWith, HasGivenUp, HasHeard, HasLost, HasOpened, HasRead, HasWritten, IsPut, IsPutAt, RecordsOutcome, RecordsRead, WritesAs, heard_link, opened_link, read_link, without_note, ended_link, SessionOf}
+use Rattle.relay_world.specs.Steps.{AttemptOf, Breaks, DropsAttempt, EndsWith, HasGivenUp, HasHeard, HasLost, HasOpened, HasRead, HasWritten, IsPut, IsPutAt, RecordsRead, WritesAs, heard_link, opened_link, read_link, without_note, ended_link, SessionOf}
 use Rattle.relay_world.specs.World.{Host, Up, World, link_at}
 use Rattle.relay_world.proofs.AddedLemmas.{HasTakenDown, given_adds, heard_adds, left_by, lost_adds, taken_down}
 use Rattle.relay_world.proofs.TakerLemmas.{EndedStay, ListsAdd, ended_same, ended_still, lists_same, lists_stay, takers_kept}
 use Rattle.relay_world.proofs.ClaimLemmas.{GivenUpKept, HostsGrow, NoneOutside, WasThere, all_same, given_same, given_up_at, hosts_put, hosts_same, once_kept, one_ended, outside_put, outside_same}
 use Rattle.relay_world.proofs.FrameLemmas.{accepts_on_more}
 use Rattle.relay_world.proofs.OpenLemmas.{off_by}
-use Rattle.relay_world.proofs.RecordLemmas.{none_left_accepted}
+use Rattle.relay_world.proofs.RecordLemmas.{HasTakenOutcome, none_left_accepted, outcome_taken}
 
 -- what left adds no accept, and an accept on another link none here
 pub left_same : (ledger grown : List Line) (node message link report : ℕ) (left : List (ℕ × PlaceStep))
@@ -205,31 +206,41 @@ module _ {D : Type 0} (honest : Type 0) (words : DiskWords D) (old new : World D
       (λ other off. same_accepts ends.rest.1 other))
 
   -- an outcome of an attempt was recorded
-  recorded : (number change : ℕ) (of : AttemptOf old number) (after : NodeState D) (fate : Fate) (link : Link)
-      → link.server ≡ of.link.server → IsPutAt old.links new.links number link
-      → RecordsOutcome old new number of after fate change → Adds → IsTriedOnce new later
-  recorded number change of after fate link server links records adds =
-      kept (recorded_more of.attempt.node of.host (without_note after) records.noted.octets of.host_at records.hosts)
+  pub recorded : (number change : ℕ) (of : AttemptOf old number) (after : NodeState D) (fate : Fate) (noted : Noted)
+      (link : Link) → link.server ≡ of.link.server → IsPutAt old.links new.links number link
+      → HasTakenOutcome old new number of after fate change noted → Adds → IsTriedOnce new later
+  recorded number change of after fate noted link server links taken adds =
+      kept (recorded_more of.attempt.node of.host after noted.octets of.host_at taken.hosts)
       (one_ended honest words old new lists later bound once now of.place of.slot of.attempt fate of.attempt_at of.runs
-      records.attempts)
+      taken.attempts)
       adds
-      (ended_still honest words old new lists later bound once now of.place of.slot of.attempt (record of.attempt { fate = fate })
-      of.attempt_at of.runs records.attempts)
-      (given_at of.attempt.node of.host (without_note after) (of.host.records ++ records.noted.octets ∷ []) records.hosts)
+      (ended_still honest words old new lists later bound once now of.place of.slot of.attempt
+      (record of.attempt { fate = fate }) of.attempt_at of.runs taken.attempts)
+      (given_at of.attempt.node of.host after (of.host.records ++ noted.octets ∷ []) taken.hosts)
       (relinked number of.link link of.link_is server links
-      (left_same old.ledger new.ledger of.attempt.node of.attempt.message number (report_told change records.noted.report)
-      records.noted.left.items records.ledger))
+      (left_same old.ledger new.ledger of.attempt.node of.attempt.message number (report_told change noted.report)
+      noted.left.items taken.ledger))
+
+  -- an attempt has read replies, and goes on
+  pub read_on : (number : ℕ) (of : AttemptOf old number) (after : NodeState D) (link : Link)
+      → link.server ≡ of.link.server → IsPutAt old.links new.links number link
+      → IsPut old.hosts new.hosts of.attempt.node (record of.host { state = Up after })
+      × (new.ledger ≡ old.ledger) × (new.attempts ≡ old.attempts)
+      → IsTriedOnce new later
+  read_on number of after link server links puts =
+      kept (stayed of.attempt.node of.host after of.host_at puts.0) (there_same puts.2)
+      (list_stayed of.attempt.node of.host after of.host_at puts.0) (same_ends puts.2)
+      (given_at of.attempt.node of.host after of.host.records puts.0)
+      (relinked number of.link link of.link_is server links (same_accepts puts.1))
 
   pub read_by : (number count : ℕ) (reads : HasRead honest words old new number count) (change : Option ℕ)
       → RecordsRead old new number reads.of reads.after change → Adds → IsTriedOnce new later
   read_by number count reads None records adds =
-      kept (stayed reads.of.attempt.node reads.of.host reads.after reads.of.host_at records.0) (there_same records.2) adds
-      (same_ends records.2) (given_at reads.of.attempt.node reads.of.host reads.after reads.of.host.records records.0)
-      (relinked number reads.of.link (read_link reads.of.link reads.replied) reads.of.link_is refl reads.links
-      (same_accepts records.1))
+      read_on number reads.of reads.after (read_link reads.of.link reads.replied) refl reads.links records
   read_by number count reads (Some change) records adds =
-      recorded number change reads.of reads.after (Replied change) (read_link reads.of.link reads.replied) refl reads.links
-      records adds
+      recorded number change reads.of (without_note reads.after) (Replied change) records.noted
+      (read_link reads.of.link reads.replied) refl reads.links
+      (outcome_taken old new number reads.of reads.after (Replied change) change records) adds
 
   -- the link of an attempt that was lost is the same
   link_put : (number : ℕ) (link : Link) → link_at old.links number ≡ Some link → new.links ≡ old.links
@@ -242,8 +253,9 @@ module _ {D : Type 0} (honest : Type 0) (words : DiskWords D) (old new : World D
 
   pub lost : (number change : ℕ) → HasLost honest words old new number change → IsTriedOnce new later
   lost number change loses =
-      recorded number change loses.of loses.after (Lost change) loses.of.link refl
-      (link_put number loses.of.link loses.of.link_is loses.links) loses.records
+      recorded number change loses.of (without_note loses.after) (Lost change) loses.records.noted loses.of.link refl
+      (link_put number loses.of.link loses.of.link_is loses.links)
+      (outcome_taken old new number loses.of loses.after (Lost change) change loses.records)
       (lost_adds honest words old new lists later bound once now number change loses)
 
   pub dropped : (number : ℕ) → DropsAttempt old new number → IsTriedOnce new later

@@ -10,7 +10,7 @@ use Rattle.relay_book.specs.declared.change.Outcome.{Outcome}
 use Rattle.relay_book.proofs.Theorems.{message_stays}
 use Rattle.relay_routes.specs.declared.config.Config.{Config}
 use Rattle.relay_attempts.specs.Outcomes.{AddsUnroutable, unroutable}
-use Rattle.relay_attempts.specs.AddedOutcome.{AddsOutcome, reported_as}
+use Rattle.relay_attempts.specs.AddedOutcome.{reported_as}
 use Rattle.relay_node.specs.Attempts.{Tells}
 use Rattle.relay_node.specs.Node.{SeatHasSaid, NodeState}
 use Rattle.relay_node.proofs.Theorems.{told_stays}
@@ -21,7 +21,7 @@ use Rattle.relay_world.specs.World.{Host, Up, link_at}
 use Rattle.relay_world.proofs.FrameLemmas.{TellsOn, changes_stay}
 use Rattle.relay_world.proofs.PieceLemmas.{with_at, with_at-length, with_at-put}
 use Rattle.relay_world.proofs.MoveLemmas.{Joins, Moves, moved_keeps, same_attempts, same_slots}
-use Rattle.relay_world.proofs.RecordLemmas.{Recording, accepts_same, keeps_now, lines_now, other_steps, steps_now}
+use Rattle.relay_world.proofs.RecordLemmas.{Recording, TakesOutcome, accepts_same, keeps_now, lines_now, other_steps, outcome_added, outcome_of_host, steps_now}
 use Rattle.relay_world.proofs.UndecidedLemmas.{up_not_down}
 use Rattle.relay_world.proofs.OpenLemmas.{list_there, node_kept, same_Up}
 
@@ -33,7 +33,8 @@ pub giving_up_keeps : {D : Type 0} (honest : Type 0) (words : DiskWords D) → G
 unfolding nowhere
 giving_up_keeps {D} honest words old new lists node message change_now bound gives = (
   with_at lists node grown,
-  moved_keeps honest words old new lists (with_at lists node grown) node 0 host moved changes grown nowhere bound moves joins,
+  moved_keeps honest words old new lists (with_at lists node grown) node 0 host moved changes grown nowhere bound moves
+      joins,
 )
   where
     host : Host D
@@ -61,32 +62,36 @@ giving_up_keeps {D} honest words old new lists node message change_now bound giv
     outcome : Outcome
     outcome = unroutable gives.before.config.routes message old.clock given_up.message
 
-    adds : AddsOutcome honest words host.config.host changes outcome 0 gives.after.records change_now
-    adds = subst (λ (c : Config). AddsOutcome honest words c.host changes outcome 0 gives.after.records change_now)
-        its_node.config_is given_up.adds
+    takes : TakesOutcome honest words host.config.host changes outcome (without_note gives.after).records change_now
+        gives.noted
+    takes = outcome_of_host honest words gives.before.config.host host.config.host changes outcome
+        (without_note gives.after).records change_now gives.noted (ap (λ (c : Config). c.host) its_node.config_is)
+        (outcome_added honest words gives.before.config.host changes outcome 0 change_now gives.after gives.noted
+        gives.note_is given_up.adds)
 
     added : Change
-    added = reported_as outcome adds.report
+    added = reported_as outcome takes.report
 
     grown : List Change
     grown = changes ++ added ∷ []
 
-    recording : Recording honest words old new lists node 0 host changes gives.before gives.after outcome 0 change_now
+    recording : Recording honest words old new lists node 0 host changes gives.before (without_note gives.after) outcome
+        change_now
     recording = record {
       bound = bound;
       list_at = listed.1;
       kept = kept;
       its_node = its_node;
       config = gives.config;
-      adds = adds;
       noted = gives.noted;
-      note_is = gives.note_is;
+      takes = takes;
       ledger = gives.ledger;
       grows = subst (λ l. length old.links ≤ length l) (sym gives.rest.0) (omega arith);
       few = omega arith;
     }
 
-    says : (session : Option ℕ) (peer : List ℕ) (said : Said) → SaysThere host session peer said → SaysThere moved session peer said
+    says : (session : Option ℕ) (peer : List ℕ) (said : Said) → SaysThere host session peer said
+        → SaysThere moved session peer said
     says None peer said there = there
     says (Some session) peer said there = (
       without_note gives.after,
@@ -101,7 +106,7 @@ giving_up_keeps {D} honest words old new lists node message change_now bound giv
       without_note gives.after,
       refl,
       told_stays host.config.host changes added gives.before.attempts gives.after.attempts slot told
-          adds.adds.keeps.fitting (ap (λ l. slot_at l slot) gives.attempts)
+          takes.keeps.fitting (ap (λ l. slot_at l slot) gives.attempts)
           (subst (λ (n : NodeState D). Tells host.config.host changes n.attempts slot told)
           (same_Up is.0 gives.before (sym is.1 ∙ gives.up)) is.2),
     )
@@ -121,16 +126,21 @@ giving_up_keeps {D} honest words old new lists node message change_now bound giv
       attempts = λ place attempt at off. same_attempts old.attempts new.attempts gives.rest.1 place attempt at;
       config = refl;
       stay = changes_stay changes added;
-      messages = λ k a is. message_stays changes added adds.adds.keeps.fitting k a is;
+      messages = λ k a is. message_stays changes added takes.keeps.fitting k a is;
       accepts = λ other off.
-          accepts_same honest words old new lists node 0 host changes gives.before gives.after outcome 0 change_now recording other;
-      steps = steps_now honest words old new lists node 0 host changes gives.before gives.after outcome 0 change_now recording;
+          accepts_same honest words old new lists node 0 host changes gives.before (without_note gives.after) outcome
+          change_now recording other;
+      steps = steps_now honest words old new lists node 0 host changes gives.before (without_note gives.after) outcome
+          change_now recording;
       other_steps =
-          other_steps honest words old new lists node 0 host changes gives.before gives.after outcome 0 change_now recording;
-      lines = lines_now honest words old new lists node 0 host changes gives.before gives.after outcome 0 change_now recording;
+          other_steps honest words old new lists node 0 host changes gives.before (without_note gives.after) outcome
+          change_now recording;
+      lines = lines_now honest words old new lists node 0 host changes gives.before (without_note gives.after) outcome
+          change_now recording;
       says = λ other its session off is has peer said there. says (Some session) peer said there;
       tells = λ place attempt slot at off has. tells slot;
-      keeps = keeps_now honest words old new lists node 0 host changes gives.before gives.after outcome 0 change_now recording;
+      keeps = keeps_now honest words old new lists node 0 host changes gives.before (without_note gives.after) outcome
+          change_now recording;
     }
 
     joins : Joins honest words old new lists (with_at lists node grown) node 0 host moved changes grown nowhere

@@ -1,25 +1,28 @@
--- Links that a node hears one behind another, and its opening behind a stop in that, keep a place from being tried
--- twice.
-use Rattle.std.proofs.Common.{inl, inr, ℕ, List, [], ◌∷◌, Option, None, Some, refl, sym, subst}
+-- Links that a node hears and reads one behind another, and its opening behind a stop in that, keep a place from being
+-- tried twice.
+use Rattle.std.proofs.Common.{inl, inr, ℕ, List, [], ◌∷◌, ◌++◌, Option, None, Some, refl, sym, subst}
 use Rattle.relay_disk.specs.Device.{DiskWords}
 use Rattle.relay_book.specs.declared.change.Change.{Change}
 use Rattle.relay_node.specs.Node.{NodeState}
 use Rattle.relay_records.specs.Staged.{Row, no_row}
+use Rattle.relay_world.specs.declared.attempt.Fate.TheVariants.{Replied}
 use Rattle.relay_world.specs.Bound.{IsBound}
 use Rattle.relay_world.specs.Crashes.{let_go as lets_go}
-use Rattle.relay_world.specs.Groups.{AcceptsInto, HasHeardAll, HasHeardEach, HasHeardInto, HasReopenedBehindGroup, IsOpenedAgain, IsUp, Piece}
+use Rattle.relay_world.specs.Groups.{AcceptsInto, AttemptDropped, HasHeardAll, HasHeardEach, HasHeardInto, HasReadInto, HasReopenedBehindGroup, HasTurnedTo, Heard, IsOpenedAgain, IsUp, OutcomeInto, Piece, Read, SessionEnded}
 use Rattle.relay_world.specs.Once.{IsTriedOnce}
-use Rattle.relay_world.specs.Steps.{heard_link}
+use Rattle.relay_world.specs.Steps.{heard_link, read_link}
 use Rattle.relay_world.specs.World.{Up, World}
-use Rattle.relay_world.proofs.AddedLemmas.{HasTakenDown}
+use Rattle.relay_world.proofs.AddedLemmas.{HasTakenDown, ended_adds}
 use Rattle.relay_world.proofs.ClaimLemmas.{given_up_at}
 use Rattle.relay_world.proofs.CrashRestLemmas.{hangs}
-use Rattle.relay_world.proofs.EventLemmas.{ended, heard_of}
-use Rattle.relay_world.proofs.GroupLemmas.{Unsettled, bound_unsaid, first, first_kept, stays, unsettled_ended, unsettled_first, unsettled_heard}
+use Rattle.relay_world.proofs.EventLemmas.{dropped, ended, heard_of, read_on, recorded}
+use Rattle.relay_world.proofs.GroupLemmas.{first, first_kept, stays, unsettled_turned}
+use Rattle.relay_world.proofs.GroupReadLemmas.{Replies, knows, outcome, replies, taken, takes}
 use Rattle.relay_world.proofs.HangUpLemmas.{hanging_up_keeps}
 use Rattle.relay_world.proofs.OnceMoreLemmas.{let_go}
 use Rattle.relay_world.proofs.StayUpLemmas.{stayed_up}
 use Rattle.relay_world.proofs.StopOnceLemmas.{state_alone}
+use Rattle.relay_world.proofs.UnsettledLemmas.{Unsettled, bound_unsaid, unsettled_first}
 
 module _ {D : Type 0} (honest : Type 0) (words : DiskWords D) where
   -- what was heard into a row was taken down
@@ -36,38 +39,71 @@ module _ {D : Type 0} (honest : Type 0) (words : DiskWords D) where
       pub unsettled : Unsettled honest words old lists node changes world row
       pub once : IsTriedOnce world unsettled.later
 
+    -- where the node turns to a link, the world behind that is such a one too
+    module _ (world next : World D) (row left : Row) (was : OnceUnsettled world row)
+        (now : Unsettled honest words old lists node changes next left) where
+      heard_once : (at : ℕ) (piece : Piece) → HasHeardInto honest words at world next node piece row left
+          → IsTriedOnce next now.later
+      heard_once at piece hears =
+          heard_of ⊥ words world next was.unsettled.later now.later was.unsettled.bound was.once now.bound piece.number
+          hears.of (heard_link hears.of.link hears.of.end hears.of.session hears.received) _ refl hears.links
+          hears.rest.0 hears.after hears.received.change
+          (taken_into at world next node piece row left hears hears.received.change hears.accepts)
+
+      read_once : (at : ℕ) (piece : Piece) (reads : HasReadInto honest words at world next node piece row left)
+          → IsTriedOnce next now.later
+      read_once at piece reads =
+          by reads.replied.change
+          (replies honest words old lists node changes world next row left was.unsettled at piece reads) reads.outcome
+        where
+          by : (made : Option ℕ)
+              → Replies honest words old lists node changes world next row left was.unsettled at piece reads made
+              → OutcomeInto honest words world next piece.number reads.of reads.after row left made
+              → IsTriedOnce next now.later
+          by None on puts =
+              read_on ⊥ words world next was.unsettled.later now.later was.unsettled.bound was.once now.bound
+              piece.number reads.of reads.after (read_link reads.of.link reads.replied) refl reads.links puts
+          by (Some change_now) ends puts =
+              recorded ⊥ words world next was.unsettled.later now.later was.unsettled.bound was.once now.bound
+              piece.number change_now reads.of reads.after (Replied change_now) puts.noted
+              (read_link reads.of.link reads.replied) refl reads.links
+              (taken honest words old lists node changes world next row left was.unsettled at piece reads change_now
+              ends puts)
+              (ended_adds ⊥ words world next was.unsettled.later now.later was.unsettled.bound was.once now.bound
+              piece.number change_now reads.of reads.after (Replied change_now) puts.noted reads.of.before.config.host
+              (outcome honest words old lists node changes world next row left was.unsettled at piece reads change_now
+              ends puts)
+              (changes ++ was.unsettled.pending)
+              (knows honest words old lists node changes world next row left was.unsettled at piece reads).list_at
+              (inl refl)
+              (takes honest words old lists node changes world next row left was.unsettled at piece reads change_now
+              ends puts)
+              (taken honest words old lists node changes world next row left was.unsettled at piece reads change_now
+              ends puts))
+
+      turned_once : (at : ℕ) (piece : Piece) → HasTurnedTo honest words at world next node piece row left
+          → IsTriedOnce next now.later
+      turned_once at piece (Heard hears) = heard_once at piece hears
+      turned_once at piece (SessionEnded ends here same) =
+          ended ⊥ words world next was.unsettled.later now.later was.unsettled.bound was.once now.bound piece.number
+          None ends
+      turned_once at piece (Read reads) = read_once at piece reads
+      turned_once at piece (AttemptDropped drops here same) =
+          dropped ⊥ words world next was.unsettled.later now.later was.unsettled.bound was.once now.bound piece.number
+          drops
+
     once_each : (pieces : List Piece) (at : ℕ) (world heard : World D) (row left : Row) → OnceUnsettled world row
         → HasHeardEach honest words at world heard node pieces row left → OnceUnsettled heard left
     once_each [] at world heard row left was each =
         subst (λ (r : Row). OnceUnsettled heard r) (sym each.1)
         (subst (λ (w : World D). OnceUnsettled w row) (sym each.0) was)
     once_each (piece ∷ pieces) at world heard row left was (next, more, one, others) =
+        let now : Unsettled honest words old lists node changes next more =
+        unsettled_turned honest words old lists node changes at world next piece row more was.unsettled one in
         once_each pieces at next heard more left
-        (elim one [
-          | inl hears ↦
-              let unsettled : Unsettled honest words old lists node changes next more =
-              unsettled_heard honest words old lists node changes world next row more was.unsettled at piece hears in
-              record {
-                unsettled = unsettled;
-                once = heard_of ⊥ words world next was.unsettled.later unsettled.later was.unsettled.bound was.once
-                    unsettled.bound piece.number hears.of
-                    (heard_link hears.of.link hears.of.end hears.of.session hears.received) _ refl hears.links
-                    hears.rest.0
-                    hears.after hears.received.change
-                    (taken_into at world next node piece row more hears hears.received.change hears.accepts);
-              }
-          | inr ends ↦
-              let unsettled : Unsettled honest words old lists node changes next more =
-              unsettled_ended honest words old lists node changes world next row more was.unsettled piece.number ends.0
-              ends.1 ends.2 in
-              record {
-                unsettled = unsettled;
-                once = ended ⊥ words world next was.unsettled.later unsettled.later was.unsettled.bound was.once
-                    unsettled.bound piece.number None ends.0;
-              }
-        ]) others
+        (record { unsettled = now; once = turned_once world next row more was now at piece one }) others
 
-  -- a node that was up has heard links one behind another
+  -- a node that was up has heard and read links one behind another
   once_heard : (old : World D) (lists : List (List Change)) (node : ℕ) (bound : IsBound honest words old lists)
       → IsTriedOnce old lists → (before : IsUp old node) (at : ℕ) (pieces : List Piece) (heard : World D) (row : Row)
       (each : HasHeardEach honest words at old heard node pieces no_row row) (staged : IsUp heard node)

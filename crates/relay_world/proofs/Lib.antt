@@ -19,6 +19,7 @@ mod AttemptLemmas
 mod AttemptMoveLemmas
 mod RecordLemmas
 mod OutcomeLemmas
+mod ReplyLemmas
 mod ReadLemmas
 mod LoseLemmas
 mod StartLemmas
@@ -48,6 +49,8 @@ mod ReopenOnceLemmas
 mod TickLemmas
 mod StayUpLemmas
 mod OnceMoreLemmas
+mod HopWayLemmas
+mod HopGroupLemmas
 mod HopLinkLemmas
 mod RunLemmas
 mod LeavingLemmas
@@ -57,12 +60,17 @@ mod TransferLemmas
 mod CopiesLemmas
 mod ReceivedLemmas
 mod ChainLemmas
+mod GrowthStepLemmas
+mod GrowthGroupLemmas
 mod GrowthLemmas
 mod PromiseLemmas
 mod CrashLemmas
 mod CrashEndLemmas
 mod CrashRunLemmas
 mod CrashRestLemmas
+mod UnsettledLemmas
+mod GroupHearLemmas
+mod GroupReadLemmas
 mod GroupLemmas
 mod ReopenGroupLemmas
 mod GroupOnceLemmas

@@ -11,18 +11,18 @@ use Rattle.relay_course.specs.VerdictTable.{all_later}
 use Rattle.relay_course.specs.Course.{IsCourse}
 use Rattle.relay_client.proofs.Theorems.{followed_is_course}
 use Rattle.relay_attempts.specs.Reply.{Told, outcome_at}
-use Rattle.relay_attempts.specs.AddedOutcome.{AddsOutcome}
 use Rattle.relay_node.specs.Attempts.{Tells}
 use Rattle.relay_world.specs.declared.attempt.Fate.TheVariants.{Lost, Dropped}
 use Rattle.relay_world.specs.declared.link.Link.{Link}
 use Rattle.relay_world.specs.Bound.{ReadsWithin, link_of, told_by}
 use Rattle.relay_world.specs.Ledger.{accepts_on, steps_in}
-use Rattle.relay_world.specs.Steps.{AttemptOf, DroppingKeeps, LosingKeeps, IsPutAt}
+use Rattle.relay_world.specs.Steps.{AttemptOf, DroppingKeeps, LosingKeeps, IsPutAt, without_note}
 use Rattle.relay_world.specs.World.{link_at}
 use Rattle.relay_world.proofs.AttemptLemmas.{KnowsAttempt, known, still_tells}
 use Rattle.relay_world.proofs.AttemptMoveLemmas.{attempt_moved}
 use Rattle.relay_world.proofs.FateLemmas.{dropped_ends, lost_ends}
-use Rattle.relay_world.proofs.OutcomeLemmas.{GoesOnAs, found_here, message_now, recorded}
+use Rattle.relay_world.proofs.OutcomeLemmas.{Ending, GoesOnAs, found_here, message_now, recorded}
+use Rattle.relay_world.proofs.RecordLemmas.{TakesOutcome, outcome_added, outcome_of_host, outcome_taken}
 use Rattle.relay_world.proofs.OpenLemmas.{lines_within}
 
 -- a link that is the same
@@ -50,12 +50,11 @@ same_link link reads = record {
 pub losing_keeps : {D : Type 0} (honest : Type 0) (words : DiskWords D) → LosingKeeps honest words
 losing_keeps {D} honest words old new lists number change_now bound lost = (
   _,
-  recorded honest words old new lists number bound of knows of.link [] lost.after outcome 0 change_now (Lost change_now) goes_on links
-      lost.others lost.config lost.seats lost.rest.1 refl (lost_ends change_now) adds lost.records (record {
+  recorded honest words old new lists number bound of knows of.link [] (without_note lost.after) outcome change_now
+      (Lost change_now) lost.records.noted ending (record {
         accept = knows.was.accept;
-        accepted = message_now honest words old new lists number bound of knows of.link [] lost.after outcome 0 change_now
-            (Lost change_now) goes_on links lost.others lost.config lost.seats lost.rest.1 refl (lost_ends change_now) adds
-            lost.records knows.was.accept knows.was.accepted;
+        accepted = message_now honest words old new lists number bound of knows of.link [] (without_note lost.after)
+            outcome change_now (Lost change_now) lost.records.noted ending knows.was.accept knows.was.accepted;
         valid = knows.was.valid;
         some = knows.was.some;
         few = knows.was.few;
@@ -64,8 +63,8 @@ losing_keeps {D} honest words old new lists number change_now bound lost = (
         output = knows.was.output;
         verdicts = Some (all_later of.attempt.places.items);
         course = subst (λ h. IsCourse h knows.was.accept.envelope knows.was.accept.stored_text of.attempt.places.items
-            (take of.link.down_read of.link.down) true knows.was.output (Some (all_later of.attempt.places.items))) its_host
-            ended.course;
+            (take of.link.down_read of.link.down) true knows.was.output (Some (all_later of.attempt.places.items)))
+            its_host ended.course;
         wrote = knows.was.wrote;
         whole = knows.was.whole;
         fate = (
@@ -75,10 +74,9 @@ losing_keeps {D} honest words old new lists number change_now bound lost = (
             refl,
             record {
               at = old.clock;
-              report = adds.report;
-              found = found_here honest words old new lists number bound of knows of.link [] lost.after outcome 0 change_now
-                  (Lost change_now) goes_on links lost.others lost.config lost.seats lost.rest.1 refl (lost_ends change_now) adds
-                  lost.records;
+              report = ending.takes.report;
+              found = found_here honest words old new lists number bound of knows of.link [] (without_note lost.after)
+                  outcome change_now (Lost change_now) lost.records.noted ending;
             },
           ),
         );
@@ -105,18 +103,32 @@ losing_keeps {D} honest words old new lists number change_now bound lost = (
     ended = lost.loses knows.changes told_was knows.its_node.keeps
         (subst (λ h. Tells h knows.changes of.before.attempts of.slot told_was) (sym its_host) knows.tells)
 
-    adds : AddsOutcome honest words of.host.config.host knows.changes outcome 0 lost.after.records change_now
-    adds = subst (λ h. AddsOutcome honest words h knows.changes outcome 0 lost.after.records change_now) its_host ended.adds
+    takes : TakesOutcome honest words of.host.config.host knows.changes outcome (without_note lost.after).records
+        change_now lost.records.noted
+    takes = outcome_of_host honest words of.before.config.host of.host.config.host knows.changes outcome
+        (without_note lost.after).records change_now lost.records.noted its_host
+        (outcome_added honest words of.before.config.host knows.changes outcome 0 change_now lost.after
+        lost.records.noted lost.records.note_is ended.adds)
 
-    links : IsPutAt old.links new.links number of.link
-    links = same_put old.links new.links number of.link lost.links of.link_is
-
-    goes_on : GoesOnAs of.link of.link []
-    goes_on = same_link of.link (bound.reads number of.link of.link_is)
+    ending : Ending honest words old new lists number bound of knows of.link [] (without_note lost.after) outcome
+        change_now (Lost change_now) lost.records.noted
+    ending = record {
+      goes_on = same_link of.link (bound.reads number of.link of.link_is);
+      links = same_put old.links new.links number of.link lost.links of.link_is;
+      others = lost.others;
+      config = lost.config;
+      seats = lost.seats;
+      count = lost.rest.1;
+      message = refl;
+      ends = lost_ends change_now;
+      takes = takes;
+      taken = outcome_taken old new number of lost.after (Lost change_now) change_now lost.records;
+    }
 
 pub dropping_keeps : {D : Type 0} (honest : Type 0) (words : DiskWords D) → DroppingKeeps honest words
 dropping_keeps {D} honest words old new lists number bound drops =
-    attempt_moved honest words old new lists lists number bound of knows of.link [] drops.after of.host.records knows.changes Dropped
+    attempt_moved honest words old new lists lists number bound of knows of.link [] drops.after of.host.records
+    knows.changes Dropped
     (record {
       client = refl;
       server = refl;
@@ -144,9 +156,11 @@ dropping_keeps {D} honest words old new lists number bound drops =
       };
       seats = drops.seats;
       tells = λ slot told off is.
-          still_tells of.host.config.host knows.changes of.before.attempts drops.after.attempts slot told (drops.others slot off) is;
+          still_tells of.host.config.host knows.changes of.before.attempts drops.after.attempts slot told
+          (drops.others slot off) is;
       accepts = λ other. ap (λ l. accepts_on other l) drops.ledger;
-      steps = ap (λ l. steps_in of.attempt.node l) drops.ledger ∙ bound.ledger of.attempt.node knows.changes knows.list_at;
+      steps = ap (λ l. steps_in of.attempt.node l) drops.ledger
+          ∙ bound.ledger of.attempt.node knows.changes knows.list_at;
       other_steps = λ other off. ap (λ l. steps_in other l) drops.ledger;
       lines = subst (λ l. AllByRecursion (λ line. link_of line ≤ length new.links) l) (sym drops.ledger)
           (lines_within (length old.links) (length new.links) old.ledger links.grows bound.lines);

@@ -1,6 +1,6 @@
--- What a group of accepts doesn't let through: a record that isn't in the row, and a row that doesn't come into the
--- spool.
-use Rattle.std.proofs.Common.{◌≡◌, ◌+◌, ℕ, List, [], ◌++◌, length, map, Option, None, Some, refl, sym, ap, ◌∙◌, arith}
+-- What a group of accepts and outcomes doesn't let through: a record that isn't in the row, and a row that doesn't come
+-- into the spool.
+use Rattle.std.proofs.Common.{◌≡◌, ◌+◌, ℕ, List, [], ◌∷◌, ◌++◌, length, map, Option, None, Some, refl, sym, ap, ◌∙◌, arith}
 use Rattle.std.specs.Prelude.{slice_get}
 use Rattle.std.proofs.lemmas.List.{append-nil, length-append, length-map}
 use Rattle.std.proofs.lemmas.Option.{same_Some}
@@ -10,28 +10,36 @@ use Rattle.relay_book.specs.Queue.{Queue, queue_of}
 use Rattle.relay_book.specs.Record.{encode}
 use Rattle.relay_book.specs.StandsFor.{StandsFor}
 use Rattle.relay_book.proofs.Theorems.{bodies_leave_one}
+use Rattle.relay_attempts.specs.AddedOutcome.{reported_as}
+use Rattle.relay_attempts.specs.Reply.{outcome_at}
 use Rattle.relay_node.specs.Staging.{IsStaged, ReceivesBehind}
 use Rattle.relay_records.proofs.Theorems.{next_is_one_more}
 use Rattle.relay_world.specs.Bound.{IsBound, StandsAt}
-use Rattle.relay_world.specs.Forbidden.{LosingRecordBreaks, LosingRowBreaks}
+use Rattle.relay_world.specs.Forbidden.{LosingOutcomeBreaks, LosingRecordBreaks, LosingRowBreaks}
 use Rattle.relay_world.specs.Groups.{HasHeardAll, Piece}
 use Rattle.relay_world.specs.Ledger.{steps_in, steps_of}
-use Rattle.relay_world.specs.Steps.{waiting_up}
+use Rattle.relay_node.specs.StagedReplies.{RepliesInto}
+use Rattle.relay_world.specs.Steps.{waiting_down, waiting_up}
 use Rattle.relay_world.specs.World.{World}
 use Rattle.relay_world.proofs.GroupLemmas.{first, hearing_all, settled, unsettled, awaits as last_awaits}
 use Rattle.relay_world.proofs.ReopenGroupLemmas.{none_of}
 
 -- as many bodies as there were are of as many changes
+none_more : (pending more : List Change) → map encode (pending ++ more) ≡ map encode pending → length more ≡ 0
+none_more pending more same =
+    let many = length-map (pending ++ more) encode in
+    let few = length-map pending encode in
+    let all = length-append pending more in
+    let even = ap length same in
+    omega (arith, many, few, all, even)
+
 none_staged : (next : ℕ) (made : Option ℕ) (pending more : List Change) → IsStaged next made more
     → map encode (pending ++ more) ≡ map encode pending → made ≡ None
 none_staged next None pending more staged same = refl
 none_staged next (Some number) pending more staged same =
-    let many = length-map (pending ++ more) encode in
-    let few = length-map pending encode in
-    let all = length-append pending more in
+    let none = none_more pending more same in
     let one = ap length staged.2 in
-    let even = ap length same in
-    absurd (omega (arith, many, few, all, one, even))
+    absurd (omega (arith, none, one))
 
 pub losing_record_breaks : {D : Type 0} (honest : Type 0) (words : DiskWords D) → LosingRecordBreaks honest words
 losing_record_breaks honest words at old new node piece row left changes pending hears awaits same =
@@ -40,6 +48,21 @@ losing_record_breaks honest words at old new node piece row left changes pending
     hears.receives changes pending awaits in
     none_staged (length changes + length pending + 1) hears.received.change pending behind.more behind.staged
     (sym behind.awaits.row_is ∙ same ∙ awaits.row_is)
+
+pub losing_outcome_breaks : {D : Type 0} (honest : Type 0) (words : DiskWords D) → LosingOutcomeBreaks honest words
+losing_outcome_breaks {D} honest words at old new node piece row left changes pending told reads awaits tells same =
+    by reads.replied.change (reads.replies changes pending told awaits tells)
+  where
+    by : (made : Option ℕ)
+        → RepliesInto honest words reads.of.before.config.host at changes pending reads.of.slot told row
+        (waiting_down piece.count reads.of.link) reads.of.before reads.after left reads.replied made
+        → made ≡ None
+    by None on = refl
+    by (Some change) ended =
+        let one : Change = reported_as (outcome_at at told ended.verdicts) ended.stages.report in
+        let none : 1 ≡ 0 =
+        none_more pending (one ∷ []) (sym ended.stages.awaits.row_is ∙ same ∙ awaits.row_is) in
+        absurd (omega (arith, none))
 
 module _ {D : Type 0} (honest : Type 0) (words : DiskWords D) (h : honest) (old new : World D)
     (lists : List (List Change))

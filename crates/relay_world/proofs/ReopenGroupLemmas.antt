@@ -1,4 +1,5 @@
--- A node that stopped while a group of accepts was brought into its spool, and is opened again, keeps a world bound.
+-- A node that stopped while a group of accepts and outcomes was brought into its spool, and is opened again, keeps a
+-- world bound.
 use Rattle.std.proofs.Common.{inl, inr, ◌≡◌, ◌⊎◌, ◌+◌, ℕ, List, [], ◌∷◌, ◌++◌, length, Some, refl, sym, subst, ap, ◌∙◌, arith}
 use Rattle.std.specs.Prelude.{slice_get}
 use Rattle.std.proofs.lemmas.List.{append-nil, length-append}
@@ -14,10 +15,11 @@ use Rattle.relay_world.specs.Crashes.{let_go}
 use Rattle.relay_world.specs.Groups.{HasReopenedBehindGroup, IsOpenedAgain, IsUp, Piece, ReopeningBehindGroupKeeps}
 use Rattle.relay_world.specs.World.{Up, World}
 use Rattle.relay_world.proofs.CrashRestLemmas.{hangs, none_heard, none_runs}
-use Rattle.relay_world.proofs.GroupLemmas.{Unsettled, first, first_kept, keeps_unsaid, last, last_awaits, settled_keeps}
+use Rattle.relay_world.proofs.GroupLemmas.{first, first_kept, last, last_awaits}
 use Rattle.relay_world.proofs.HangUpLemmas.{hanging_up_keeps}
 use Rattle.relay_world.proofs.StopLemmas.{state_moved}
 use Rattle.relay_world.proofs.UndecidedLemmas.{up_not_down}
+use Rattle.relay_world.proofs.UnsettledLemmas.{Unsettled, keeps_unsaid, settled_keeps}
 
 pub none_of : (pending : List Change) → length pending ≡ 0 → pending ≡ []
 none_of [] same = refl

@@ -1,7 +1,7 @@
 -- What the invariant doesn't let through besides: mail that is dropped, a line that the ledger forgets, and an attempt
 -- whose link leads elsewhere than to its hop. Each is said of the worlds alone, whatever call has made the one of the
--- other. And what the event of a group of accepts doesn't let through: a record that isn't in the row, and a row that
--- doesn't come into the spool.
+-- other. And what the event of a group of accepts and outcomes doesn't let through: a record that isn't in the row, and
+-- a row that doesn't come into the spool.
 use Rattle.std.specs.Prelude.{◌≡◌, ◌≢◌, ℕ, List, [], ◌∷◌, ◌++◌, None, Some, slice_get}
 use Rattle.std.specs.List.{Contains}
 use Rattle.relay_disk.specs.Device.{DiskWords}
@@ -9,6 +9,8 @@ use Rattle.relay_book.specs.declared.change.Change.{Change}
 use Rattle.relay_book.specs.Marks.{Held}
 use Rattle.relay_book.specs.Queue.{held_of}
 use Rattle.relay_book.specs.StandsFor.{StandsFor}
+use Rattle.relay_attempts.specs.Reply.{Told}
+use Rattle.relay_node.specs.Attempts.{Tells}
 use Rattle.relay_node.specs.Node.{NodeState}
 use Rattle.relay_records.specs.Staged.{Awaits, Row}
 use Rattle.relay_world.specs.declared.attempt.Attempt.{Attempt}
@@ -16,7 +18,7 @@ use Rattle.relay_world.specs.declared.line.Line.{Line}
 use Rattle.relay_world.specs.declared.link.Link.{Link}
 use Rattle.relay_world.specs.declared.link.ServerEnd.{ServerEnd}
 use Rattle.relay_world.specs.Bound.{HostKeeps, IsBound, StandsAt}
-use Rattle.relay_world.specs.Groups.{HasHeardAll, HasHeardInto, Piece}
+use Rattle.relay_world.specs.Groups.{HasHeardAll, HasHeardInto, HasReadInto, Piece}
 use Rattle.relay_world.specs.HopLinks.{AreLinkedToHops}
 use Rattle.relay_world.specs.Ledger.{if_of_node, steps_in}
 use Rattle.relay_world.specs.Steps.{IsPut}
@@ -80,8 +82,17 @@ LosingRecordBreaks {D} honest words =
     → Awaits honest words hears.of.before.records changes pending row → left.bodies ≡ row.bodies
     → hears.received.change ≡ None
 
--- A node that heard links one behind another, and in whose spool there is still no more than the list from before, has
--- accepted nothing on them.
+-- And an attempt that has read replies, of a node that awaits changes and whose row has the bodies that it had, goes on.
+abbrev pub LosingOutcomeBreaks : {D : Type 0} → Type 0 → DiskWords D → Type 0
+LosingOutcomeBreaks {D} honest words =
+    (at : ℕ) (old new : World D) (node : ℕ) (piece : Piece) (row left : Row) (changes pending : List Change)
+    (told : Told) (reads : HasReadInto honest words at old new node piece row left)
+    → Awaits honest words reads.of.before.records changes pending row
+    → Tells reads.of.before.config.host (changes ++ pending) reads.of.before.attempts reads.of.slot told
+    → left.bodies ≡ row.bodies → reads.replied.change ≡ None
+
+-- A node that heard and read links one behind another, and in whose spool there is still no more than the list from
+-- before, has accepted nothing on them, and no attempt has ended by them.
 abbrev pub LosingRowBreaks : {D : Type 0} → Type 0 → DiskWords D → Type 0
 LosingRowBreaks {D} honest words =
     honest → (old new : World D) (lists : List (List Change)) (node : ℕ) (pieces : List Piece) (changes : List Change)

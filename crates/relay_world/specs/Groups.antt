@@ -1,11 +1,14 @@
--- What a node does that hears several links one behind another, where what it accepts comes into its records together:
--- all of it, or behind a stop none.
+-- What a node does that hears several links, and reads replies on several, one behind another, where what it accepts
+-- and the outcomes of attempts that end by that come into its records together: all of it, or behind a stop none.
 use Rattle.std.specs.Prelude.{◌≡◌, ◌⊎◌, ◌≤◌, ℕ, true, List, [], ◌∷◌, ◌++◌, length, Option, Some, None, slice_get}
 use Rattle.std.specs.List.{AllByRecursion}
 use Rattle.relay_disk.specs.Device.{DiskWords}
 use Rattle.relay_disk.specs.declared.disks.Disks.{Disks}
 use Rattle.relay_book.specs.declared.change.Change.{Change}
+use Rattle.relay_attempts.specs.declared.reply.Replied.{Replied}
+use Rattle.relay_attempts.specs.Reply.{Told}
 use Rattle.relay_node.specs.declared.receive.Received.{Received}
+use Rattle.relay_node.specs.Attempts.{Tells}
 use Rattle.relay_node.specs.Node.{IsIdle, NodeState}
 use Rattle.relay_node.specs.Staging.{ReceivesBehind}
 use Rattle.relay_records.specs.declared.noted.Noted.{Noted}
@@ -13,11 +16,14 @@ use Rattle.relay_records.specs.Open.{Opens}
 use Rattle.relay_records.specs.Records.{Kept}
 use Rattle.relay_records.specs.Staged.{Awaits, CutsAll, Row, Settles, no_row}
 use Rattle.relay_slots.specs.Slots.{OthersStay}
+use Rattle.relay_world.specs.declared.attempt.Fate.TheVariants.{Replied as RepliedBy}
 use Rattle.relay_world.specs.declared.line.Line.TheVariants.{Accepted}
 use Rattle.relay_world.specs.declared.link.Link.{Link}
 use Rattle.relay_world.specs.Bound.{IsBound}
 use Rattle.relay_world.specs.Crashes.{let_go}
-use Rattle.relay_world.specs.Steps.{EndsSession, IsPut, IsPutAt, SessionOf, heard_link, waiting_up}
+use Rattle.relay_world.specs.Ledger.{left_lines, report_told}
+use Rattle.relay_node.specs.StagedReplies.{RepliesInto}
+use Rattle.relay_world.specs.Steps.{AttemptOf, DropsAttempt, EndsSession, IsPut, IsPutAt, SessionOf, heard_link, read_link, waiting_down, waiting_up}
 use Rattle.relay_world.specs.Stops.{IsLeftBy, OnlyHostsChange}
 use Rattle.relay_world.specs.World.{Host, Up, World, link_at}
 
@@ -84,21 +90,66 @@ module _ {D : Type 0} (honest : Type 0) (words : DiskWords D) where
     pub accepts : AcceptsInto old new piece.number of after row left received.change
     pub rest : (new.attempts ≡ old.attempts) × (new.clock ≡ old.clock) × (length new.hosts ≡ length old.hosts)
 
-  -- So it has; or the session is gone, since there was no memory or no number for it, and the row is the same.
-  abbrev pub HasHeardOrEnded : ℕ → World D → World D → ℕ → Piece → Row → Row → Type 0
-  HasHeardOrEnded at old new node piece row left =
-      HasHeardInto at old new node piece row left
-      ⊎ ((ends : EndsSession old new piece.number) × (ends.of.end.node ≡ node) × (left ≡ row))
+  -- What a node that read replies to an attempt has put behind the row: the outcome of this number, with which they
+  -- have ended it, and which is in its spool not yet.
+  pub record EndsInto (old new : World D) (number : ℕ) (of : AttemptOf old number) (after : NodeState D)
+      (row left : Row) (change : ℕ) : Type 0 where
+    pub noted : Noted
+    pub is_noted : IsNotedBehind of.before.records row left noted
+    pub hosts : IsPut old.hosts new.hosts of.attempt.node
+        (record of.host { state = Up after; records = of.host.records ++ noted.octets ∷ [] })
+    pub ledger : new.ledger
+        ≡ old.ledger
+        ++ left_lines of.attempt.node of.attempt.message number (report_told change noted.report) noted.left.items
+    pub attempts : IsPut old.attempts new.attempts of.place (record of.attempt { fate = RepliedBy change })
+
+  -- so it has; or the attempt goes on, and nothing was recorded
+  abbrev pub OutcomeInto
+      : (old new : World D) → (number : ℕ) → AttemptOf old number → NodeState D → Row → Row → Option ℕ → Type 0
+  OutcomeInto old new number of after row left None =
+      IsPut old.hosts new.hosts of.attempt.node (record of.host { state = Up after }) × (new.ledger ≡ old.ledger)
+      × (new.attempts ≡ old.attempts)
+  OutcomeInto old new number of after row left (Some change) = EndsInto old new number of after row left change
+
+  -- An attempt of a node has read replies on a link at a moment, by one call, without a fault, and the record of its
+  -- outcome, if they have ended it, was put behind a row. Outside sees nothing of it yet.
+  pub record HasReadInto (at : ℕ) (old new : World D) (node : ℕ) (piece : Piece) (row left : Row) : Type 0 where
+    pub of : AttemptOf old piece.number
+    pub its_node : of.attempt.node ≡ node
+    pub after : NodeState D
+    pub replied : Replied
+    pub replies : (changes pending : List Change) (told : Told)
+        → Awaits honest words of.before.records changes pending row
+        → Tells of.before.config.host (changes ++ pending) of.before.attempts of.slot told
+        → RepliesInto honest words of.before.config.host at changes pending of.slot told row
+        (waiting_down piece.count of.link) of.before after left replied replied.change
+    pub used : replied.used ≤ length (waiting_down piece.count of.link)
+    pub others : OthersStay of.before.attempts after.attempts of.slot
+    pub config : after.config ≡ of.before.config
+    pub seats : after.seats ≡ of.before.seats
+    pub links : IsPutAt old.links new.links piece.number (read_link of.link replied)
+    pub outcome : OutcomeInto old new piece.number of after row left replied.change
+    pub rest : (new.clock ≡ old.clock) × (length new.hosts ≡ length old.hosts)
+
+  -- A node has turned to a link: it has heard it, or an attempt of it has read it. Or there was no memory, number or
+  -- room for that: the session is gone, or the attempt dropped, and the row is the same.
+  pub data HasTurnedTo (at : ℕ) (old new : World D) (node : ℕ) (piece : Piece) (row left : Row) : Type 0 where
+    Heard : HasHeardInto at old new node piece row left → HasTurnedTo at old new node piece row left
+    SessionEnded : (ends : EndsSession old new piece.number) → ends.of.end.node ≡ node → left ≡ row
+        → HasTurnedTo at old new node piece row left
+    Read : HasReadInto at old new node piece row left → HasTurnedTo at old new node piece row left
+    AttemptDropped : (drops : DropsAttempt old new piece.number) → drops.of.attempt.node ≡ node → left ≡ row
+        → HasTurnedTo at old new node piece row left
 
   -- the same of each of these, one behind another
   abbrev pub HasHeardEach : ℕ → World D → World D → ℕ → List Piece → Row → Row → Type 0
   HasHeardEach at old new node [] row left = (new ≡ old) × (left ≡ row)
   HasHeardEach at old new node (piece ∷ pieces) row left =
-      (next : World D) × (more : Row) × HasHeardOrEnded at old next node piece row more
+      (next : World D) × (more : Row) × HasTurnedTo at old next node piece row more
       × HasHeardEach at next new node pieces more left
 
-  -- A node has heard these links, one behind another, and then has brought the records of all that it accepted into its
-  -- spool. What it writes is on the links, unless they broke in the call.
+  -- A node has heard or read these links, one behind another, and then has brought the records of all that it accepted,
+  -- and of all outcomes, into its spool. What it writes is on the links, unless they broke in the call.
   pub record HasHeardAll (old new : World D) (node : ℕ) (pieces : List Piece) : Type 0 where
     pub before : IsUp old node
     pub heard : World D
@@ -115,10 +166,11 @@ module _ {D : Type 0} (honest : Type 0) (words : DiskWords D) where
     pub hosts : IsPut heard.hosts new.hosts node (record staged.host { state = Up after })
     pub rest : OnlyHostsChange heard new
 
-  -- A node has stopped while the records of all that it had accepted were brought into its spool, and now is opened
-  -- again. In between it did nothing, so this is one event at its opening. Its links broke in the call, so nobody was
-  -- handed what it would have written. Where its next number is as before it heard them, none of the records is there,
-  -- and it is as if it had heard nothing; and where it comes behind all of them, all are there.
+  -- A node has stopped while the records of all that it had accepted, and of all outcomes, were brought into its spool,
+  -- and now is opened again. In between it did nothing, so this is one event at its opening. Its links broke in the
+  -- call, so nobody was handed what it would have written. Where its next number is as before it turned to them, none
+  -- of the records is there, and it is as if it had heard and read nothing; and where it comes behind all of them, all
+  -- are there.
   pub record HasReopenedBehindGroup (old new : World D) (node : ℕ) (pieces : List Piece) : Type 0 where
     pub before : IsUp old node
     pub broken : AllByRecursion (IsOnBroken old.links) pieces

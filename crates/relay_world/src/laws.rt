@@ -36,8 +36,9 @@ pub fn hearing_keeps<D: Disk>()
     ensures { HearingKeeps D.honest D.words }
 {}
 
-/// Octets that a node hears on several links, one behind another, keep a world bound, where the records of all mail
-/// that it accepted then come into its spool together: with a change more for each.
+/// Octets that a node hears on several links, and replies that its attempts read, one behind another, keep a world
+/// bound, where the records of all mail that it accepted, and of all attempts that ended, then come into its spool
+/// together: with a change more for each.
 pub fn hearing_all_keeps<D: Disk>()
     ensures { HearingAllKeeps D.honest D.words }
 {}
@@ -129,8 +130,8 @@ pub fn reopening_keeps<D: Disk>()
     ensures { D.honest → ReopeningKeeps D.honest D.words }
 {}
 
-/// A node that stopped while the records of several accepts were brought into its spool together, and is opened
-/// again on honest disks, keeps a world bound: without all of them, or with all.
+/// A node that stopped while the records of several accepts and outcomes were brought into its spool together, and is
+/// opened again on honest disks, keeps a world bound: without all of them, or with all.
 pub fn reopening_behind_group_keeps<D: Disk>()
     ensures { D.honest → ReopeningBehindGroupKeeps D.honest D.words }
 {}

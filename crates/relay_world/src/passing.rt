@@ -4,7 +4,7 @@ ghost use Rattle.relay_world.specs.Chain.{ChainsAreShort};
 ghost use Rattle.relay_world.specs.Copies.{CopiesAreFew};
 ghost use Rattle.relay_world.specs.CrashRuns.{CompactingHappens, CrashingHappens, CrashingKeepsOnce, RestingCrashHappens};
 ghost use Rattle.relay_world.specs.Growth.{GrownListsBegin, RunsGrow};
-ghost use Rattle.relay_world.specs.Forbidden.{DroppingBreaks, ForgettingBreaks, LeadingElsewhereBreaks, LosingRecordBreaks, LosingRowBreaks};
+ghost use Rattle.relay_world.specs.Forbidden.{DroppingBreaks, ForgettingBreaks, LeadingElsewhereBreaks, LosingOutcomeBreaks, LosingRecordBreaks, LosingRowBreaks};
 ghost use Rattle.relay_world.specs.Invented.{InventingBreaks};
 ghost use Rattle.relay_world.specs.HopLinks.{HopLinksAtFirst};
 ghost use Rattle.relay_world.specs.Once.{HopLinksAreKept, OnceAtFirst, OnceIsKept, RunsKeepAll};
@@ -89,7 +89,13 @@ pub fn losing_record_breaks<D: Disk>()
     ensures { LosingRecordBreaks D.honest D.words }
 {}
 
-/// Nor does a node whose row never comes into an honest spool: it has accepted nothing.
+/// A node whose attempt is ended by replies, while the record of its outcome isn't in that row, does none of it either.
+pub fn losing_outcome_breaks<D: Disk>()
+    ensures { LosingOutcomeBreaks D.honest D.words }
+{}
+
+/// Nor does a node whose row never comes into an honest spool: it has accepted nothing, and none of its attempts has
+/// ended.
 pub fn losing_row_breaks<D: Disk>()
     ensures { LosingRowBreaks D.honest D.words }
 {}
