@@ -1,4 +1,4 @@
--- What a call on several pieces leaves of a client that was talked to.
+-- What a call on several pieces and replies leaves of a client that was talked to.
 use Rattle.std.proofs.Common.{◌≡◌, ◌≢◌, ◌⊎◌, ◌≤◌, ◌<◌, ◌^◌, inl, inr, ℕ, ◌==◌, Bool, true, false, List, [], ◌∷◌, ◌++◌, length, take, Option, None, Some, Result, Ok, Err, refl, sym, ap, ◌∙◌, subst, append_assoc, append-nil, arith}
 use Rattle.std.specs.Prelude.{if◌then◌else◌}
 use Rattle.std.proofs.lemmas.Bool.{cases_eq, cases_lt}
@@ -20,18 +20,19 @@ use Rattle.relay_loop.specs.declared.group.Piece.{Piece}
 use Rattle.relay_loop.specs.Accepted.{AreAccepted}
 use Rattle.relay_loop.specs.Clients.{GoesOn, HasLeft, TalksTo}
 use Rattle.relay_loop.specs.GroupLaws.{Becomes, GroupsTalk, HandsOut, used_by, used_of}
-use Rattle.relay_loop.specs.Groups.{AnswersBy, AnswersEach, AnswersOne, IsLaden, RefusesOne, unread}
+use Rattle.relay_loop.specs.GroupPieces.{AnswersBy, AnswersEach, AnswersOne, IsLaden, RefusesOne, unread}
 use Rattle.relay_loop.specs.Outboxes.{unwritten_at}
 use Rattle.relay_loop.specs.Relay.{RelayState}
 use Rattle.relay_loop.proofs.AcceptedLemmas.{accepted_stays}
 use Rattle.relay_loop.proofs.LawLemmas.{talks_stay}
+use Rattle.relay_loop.proofs.LeaveLemmas.{replies_leave}
 
 -- what a test chooses
-chooses_none : (test : Bool) (octets : List ℕ) → test ≡ false → (if test then octets else []) ≡ []
+pub chooses_none : (test : Bool) (octets : List ℕ) → test ≡ false → (if test then octets else []) ≡ []
 chooses_none true octets is = absurd cc
 chooses_none false octets is = refl
 
-chooses_all : (test : Bool) (octets : List ℕ) → test ≡ true → (if test then octets else []) ≡ octets
+pub chooses_all : (test : Bool) (octets : List ℕ) → test ≡ true → (if test then octets else []) ≡ octets
 chooses_all true octets is = refl
 chooses_all false octets is = absurd cc
 
@@ -50,7 +51,7 @@ module _ (session : ℕ) (piece : Piece) (pieces : List Piece) (answer : Result 
       ap (λ l. l ++ used_of session pieces rest) (chooses_all (piece.session == session) (used_by piece answer) test)
 
 -- a row is laden, or isn't
-laden_or_not : (row : Row) → IsLaden row ⊎ (IsLaden row → ⊥)
+pub laden_or_not : (row : Row) → IsLaden row ⊎ (IsLaden row → ⊥)
 laden_or_not row = by_length (cases_lt (length row.notes) 64)
   where
     by_room : length row.notes < 64 → (room_of row.bodies < 2 ^ 22) ⊎ (2 ^ 22 ≤ room_of row.bodies) → IsLaden row ⊎ (IsLaden row → ⊥)
@@ -66,7 +67,7 @@ laden_or_not row = by_length (cases_lt (length row.notes) 64)
     by_length (inl few) = by_room few (cases_lt (room_of row.bodies) (2 ^ 22))
 
 -- octets wait, or none do
-none_or_some : (octets : List ℕ) → (octets ≡ []) ⊎ (octets ≢ [])
+pub none_or_some : (octets : List ℕ) → (octets ≡ []) ⊎ (octets ≢ [])
 none_or_some [] = inl refl
 none_or_some (octet ∷ octets) = inr (λ e. cons_nil e)
   where
@@ -254,29 +255,49 @@ module _ {D : Type 0} (honest : Type 0) (words : DiskWords D) (changes : List Ch
           becomes_more (changes ++ all) new session peer said said written piece pieces answer rest [] (used_alike session piece pieces answer rest differs) (sym (append-nil said.input))
           (next said (behind pending more mid session peer said written talks))
 
--- so it is behind the whole call
-pub groups_talk : {D : Type 0} (honest : Type 0) (words : DiskWords D) → GroupsTalk honest words
-groups_talk {D = D} honest words changes at pieces old new group session peer said written all t =
-    becomes_of (each_becomes honest words changes at pieces group.heard.items [] old no_row all.before all.row all.pending session peer said written all.each (subst (λ (l : List Change). TalksTo l old session peer said written) (sym (append-nil changes)) t))
-  where
-    still : (later : Said) → TalksTo (changes ++ all.pending) all.before session peer later written → TalksTo (changes ++ all.pending) new session peer later written
-    still later talks =
-        subst (λ (l : List Change). TalksTo l new session peer later written) (append-nil (changes ++ all.pending))
-        (talks_stay (changes ++ all.pending) [] all.before new session peer later written (ap (λ l. slot_at l session) all.seats) (ap (λ l. slot_at l session) all.clients) all.config talks)
-
-    becomes_of : Becomes (changes ++ all.pending) all.before session peer said written pieces group.heard.items → Becomes (changes ++ all.pending) new session peer said written pieces group.heard.items
-    becomes_of (inl talks) = inl (record { later = talks.later; input = talks.input; talks = still talks.later talks.talks })
-    becomes_of (inr (inl closed)) = inr (inl (record {
+-- what becomes of a session has become of it while changes are added, as long as sessions and connections stay
+becomes_later : {D : Type 0} (list added : List Change) (mid new : RelayState D) (session : ℕ) (peer : List ℕ)
+    (said : Said) (written : List ℕ) (pieces : List Piece) (answers : List (Result Heard NodeFault))
+    → new.node.seats ≡ mid.node.seats → new.clients ≡ mid.clients → new.node.config ≡ mid.node.config
+    → Becomes list mid session peer said written pieces answers
+    → Becomes (list ++ added) new session peer said written pieces answers
+becomes_later list added mid new session peer said written pieces answers seats clients config (inl still) =
+    inl (record {
+      later = still.later;
+      input = still.input;
+      talks =
+          talks_stay list added mid new session peer still.later written (ap (λ l. slot_at l session) seats)
+          (ap (λ l. slot_at l session) clients) config still.talks;
+    })
+becomes_later list added mid new session peer said written pieces answers seats clients config (inr (inl closed)) =
+    inr (inl (record {
       later = closed.later;
       input = closed.input;
       last = closed.last;
       left = record {
-        closed = subst (λ (c : Config). HasClosed (setup_of_config c) closed.later) (sym all.config) closed.left.closed;
-        seat = ap (λ l. slot_at l session) all.seats ∙ closed.left.seat;
-        connection = ap (λ l. slot_at l session) all.clients ∙ closed.left.connection;
+        closed = subst (λ (c : Config). HasClosed (setup_of_config c) closed.later) (sym config) closed.left.closed;
+        seat = ap (λ l. slot_at l session) seats ∙ closed.left.seat;
+        connection = ap (λ l. slot_at l session) clients ∙ closed.left.connection;
         output = closed.left.output;
-        accepted = subst (λ (c : Config). AreAccepted c peer (changes ++ all.pending) closed.later) (sym all.config) closed.left.accepted;
+        accepted =
+            subst (λ (c : Config). AreAccepted c peer (list ++ added) closed.later) (sym config)
+            (accepted_stays mid.node.config peer list added closed.later closed.left.accepted);
       };
       told = closed.told;
     }))
-    becomes_of (inr (inr refused)) = inr (inr (record { gone = ap (λ l. slot_at l session) all.clients ∙ refused.gone; told = refused.told }))
+becomes_later list added mid new session peer said written pieces answers seats clients config (inr (inr refused)) =
+    inr (inr (record { gone = ap (λ l. slot_at l session) clients ∙ refused.gone; told = refused.told }))
+
+-- so it is behind the whole call
+pub groups_talk : {D : Type 0} (honest : Type 0) (words : DiskWords D) → GroupsTalk honest words
+groups_talk {D = D} honest words changes at pieces replies old new group session peer said written all t =
+    let a = all.answers in
+    let so = replies_leave honest words changes at replies group.answered.items a.staged a.between a.beside all.before
+    all.row all.pending a.replies_each in
+    let begun = subst (λ (l : List Change). TalksTo l old session peer said written) (sym (append-nil changes)) t in
+    let mid = each_becomes honest words changes at pieces group.heard.items [] old no_row a.between a.beside a.staged
+    session peer said written a.pieces_each begun in
+    subst (λ (l : List Change). Becomes l new session peer said written pieces group.heard.items)
+    (append_assoc changes a.staged so.added ∙ ap (λ (l : List Change). changes ++ l) (sym so.grows))
+    (becomes_later (changes ++ a.staged) so.added a.between new session peer said written pieces group.heard.items
+    (all.seats ∙ so.seats) (all.clients ∙ so.clients) (all.config ∙ so.config) mid)

@@ -1,8 +1,8 @@
 -- What the relay says where it closes a connection is one reply.
-use Rattle.std.proofs.Common.{◌≡◌, ℕ, ◌+◌, ◌<◌, ◌≤◌, Bool, true, false, List, [], ◌∷◌, ◌++◌, length, refl, ap, ◌∙◌, arith, length-append}
+use Rattle.std.proofs.Common.{◌≡◌, ℕ, ◌≤◌, Bool, true, false, List, ◌++◌, length, refl, ap, ◌∙◌, arith, length-append}
 use Rattle.std.specs.Prelude.{◌&&◌}
 use Rattle.relay_octets.proofs.Theorems.{no_cr_is_no_crlf, no_crlf_by_test, no_crlf_joined}
-use Rattle.relay_octets.specs.Line.{HasNoCrlf, begins_with_lf, ends_in_cr, has_crlf}
+use Rattle.relay_octets.specs.Line.{begins_with_lf, ends_in_cr, has_crlf}
 use Rattle.relay_envelope.specs.HostName.{IsHostName, is_host_octet}
 use Rattle.relay_lines.specs.Reply.{IsReply, one_line}
 use Rattle.relay_loop.specs.declared.closing.Closing.{Closing}

@@ -11,7 +11,8 @@ use Rattle.relay_records.specs.Staged.{Awaits, Row}
 use Rattle.relay_records.specs.declared.fault.NodeFault.{NodeFault}
 use Rattle.relay_loop.specs.declared.clients.Heard.{Heard}
 use Rattle.relay_loop.specs.declared.group.Piece.{Piece}
-use Rattle.relay_loop.specs.Groups.{AllAreGone, AnswersEach, AnswersOne, AreOfOthers, IsUndone, OnlyClients}
+use Rattle.relay_loop.specs.GroupPieces.{AnswersEach, AnswersOne, IsUndone}
+use Rattle.relay_loop.specs.Groups.{OnlyTheirs}
 use Rattle.relay_loop.specs.Relay.{OnlyClient, RelayState}
 use Rattle.relay_loop.proofs.GroupLemmas.{each_more}
 
@@ -30,38 +31,57 @@ all_join P [] x all last = (last, tt)
 all_join P (first ∷ xs) x all last = (all.0, all_join P xs x all.1 last)
 
 -- a piece more leaves the others
-only_more : {D : Type 0} (first mid new : RelayState D) (pieces : List Piece) (piece : Piece) → OnlyClients first mid pieces → OnlyClient mid new piece.session → OnlyClients first new (pieces ++ piece ∷ [])
+only_more : {D : Type 0} (first mid new : RelayState D) (pieces : List Piece) (piece : Piece) → OnlyTheirs first mid pieces [] → OnlyClient mid new piece.session → OnlyTheirs first new (pieces ++ piece ∷ []) []
 only_more first mid new pieces piece before only = record {
-  others = λ session all.
+  sessions = λ session all.
       let parts = all_split (λ (p : Piece). session ≢ p.session) pieces piece all in
-      let same = before.others session parts.0 in
+      let same = before.sessions session parts.0 in
       (only.seats session parts.1 ∙ same.0, only.clients session parts.1 ∙ same.1);
+  attempts = λ attempt all.
+      let same = before.attempts attempt all in
+      (ap (λ l. slot_at l attempt) only.attempts ∙ same.0, ap (λ l. slot_at l attempt) only.hops ∙ same.1);
   config = only.config ∙ before.config;
-  attempts = only.attempts ∙ before.attempts;
-  hops = only.hops ∙ before.hops;
 }
 
 -- connections that are gone stay so
-stays_gone : (old new : List (Option (List ℕ))) (pieces : List Piece) (number : ℕ) → AllAreGone old pieces → slot_at new number ≡ None → OthersStay old new number → AllAreGone new pieces
-stays_gone old new [] number gone one others = tt
-stays_gone old new (piece ∷ pieces) number gone one others = (still (cases_eq piece.session number), stays_gone old new pieces number gone.1 one others)
+stays_gone : {X : Type 0} (number_of : X → ℕ) (old new : List (Option (List ℕ))) (xs : List X) (number : ℕ)
+    → AllByRecursion (λ x. slot_at old (number_of x) ≡ None) xs → slot_at new number ≡ None → OthersStay old new number
+    → AllByRecursion (λ x. slot_at new (number_of x) ≡ None) xs
+stays_gone number_of old new [] number gone one others = tt
+stays_gone {X = X} number_of old new (x ∷ xs) number gone one others =
+    (still (cases_eq (number_of x) number), stays_gone number_of old new xs number gone.1 one others)
   where
-    still : (piece.session ≡ number) ⊎ (piece.session ≡ number → ⊥) → slot_at new piece.session ≡ None
+    still : (number_of x ≡ number) ⊎ (number_of x ≡ number → ⊥) → slot_at new (number_of x) ≡ None
     still (inl same) = ap (slot_at new) same ∙ one
-    still (inr other) = others piece.session other ∙ gone.0
+    still (inr other) = others (number_of x) other ∙ gone.0
 
--- the connections of these pieces are gone, and no others
-pub record AreDropped (old new : List (Option (List ℕ))) (pieces : List Piece) : Type 0 where
-  pub gone : AllAreGone new pieces
-  pub others : (session : ℕ) → AreOfOthers session pieces → slot_at new session ≡ slot_at old session
+-- the connections of these numbers are gone, and no others
+pub record AreDropped {X : Type 0} (number_of : X → ℕ) (old new : List (Option (List ℕ))) (xs : List X) : Type 0 where
+  pub gone : AllByRecursion (λ x. slot_at new (number_of x) ≡ None) xs
+  pub others : (number : ℕ) → AllByRecursion (λ x. number ≢ number_of x) xs → slot_at new number ≡ slot_at old number
 
-pub dropped_more : (old mid new : List (Option (List ℕ))) (pieces : List Piece) (piece : Piece) → AreDropped old mid pieces → slot_at new piece.session ≡ None → OthersStay mid new piece.session → AreDropped old new (pieces ++ piece ∷ [])
-dropped_more old mid new pieces piece so one others = record {
-  gone = all_join (λ (p : Piece). slot_at new p.session ≡ None) pieces piece (stays_gone mid new pieces piece.session so.gone one others) one;
-  others = λ session all.
-      let parts = all_split (λ (p : Piece). session ≢ p.session) pieces piece all in
-      others session parts.1 ∙ so.others session parts.0;
+pub dropped_more : {X : Type 0} (number_of : X → ℕ) (old mid new : List (Option (List ℕ))) (xs : List X) (x : X)
+    → AreDropped number_of old mid xs → slot_at new (number_of x) ≡ None → OthersStay mid new (number_of x)
+    → AreDropped number_of old new (xs ++ x ∷ [])
+dropped_more {X = X} number_of old mid new xs x so one others = record {
+  gone =
+      all_join (λ (y : X). slot_at new (number_of y) ≡ None) xs x (stays_gone number_of mid new xs (number_of x) so.gone one others) one;
+  others = λ number all.
+      let parts = all_split (λ (y : X). number ≢ number_of y) xs x all in
+      others number parts.1 ∙ so.others number parts.0;
 }
+
+-- a row that had room has it still where no call went to a device
+pub room_behind : {D : Type 0} (mid new : RelayState D) (row between left : Row) → IsUndone mid new
+    → (between ≡ row) ⊎ (mid.node.records.spool.size + room_of between.bodies ≤ 2 ^ 40)
+    → (left ≡ between) ⊎ (new.node.records.spool.size + room_of left.bodies ≤ 2 ^ 40)
+    → (left ≡ row) ⊎ (new.node.records.spool.size + room_of left.bodies ≤ 2 ^ 40)
+room_behind mid new row between left undone before (inr within) = inr within
+room_behind mid new row between left undone (inl same) (inl unmoved) = inl (unmoved ∙ same)
+room_behind mid new row between left undone (inr within) (inl unmoved) =
+    let size = ap (λ s. s.size) undone.spool in
+    let bodies = ap (λ (r : Row). room_of r.bodies) unmoved in
+    inr (omega (arith, size, bodies, within))
 
 -- so many pieces are answered, from this relay and row to those
 module _ {D : Type 0} (honest : Type 0) (words : DiskWords D) (at : ℕ) (first : RelayState D) (row : Row) where
@@ -75,7 +95,7 @@ module _ {D : Type 0} (honest : Type 0) (words : DiskWords D) (at : ℕ) (first 
     pub live : mid.node.records.spool.live ≡ true
     pub undone : IsUndone first mid
     pub room : (between ≡ row) ⊎ (mid.node.records.spool.size + room_of between.bodies ≤ 2 ^ 40)
-    pub only : OnlyClients first mid pieces
+    pub only : OnlyTheirs first mid pieces []
     pub lengths : length answers ≡ length pieces
     pub each : HasEach pieces answers mid between
 
@@ -84,7 +104,7 @@ module _ {D : Type 0} (honest : Type 0) (words : DiskWords D) (at : ℕ) (first 
     live = live;
     undone = record { spool = refl; noted = refl };
     room = inl refl;
-    only = record { others = λ session all. (refl, refl); config = refl; attempts = refl; hops = refl };
+    only = record { sessions = λ session all. (refl, refl); attempts = λ attempt all. (refl, refl); config = refl };
     lengths = ap length none;
     each = λ changes pending awaits. (pending, (none, refl, refl, refl), awaits);
   }
@@ -96,19 +116,11 @@ module _ {D : Type 0} (honest : Type 0) (words : DiskWords D) (at : ℕ) (first 
   module _ (mid new : RelayState D) (between left : Row) (piece : Piece) (answer : Result Heard NodeFault)
       (answers_one : (changes pending : List Change) → Awaits honest words mid.node.records changes pending between → (more : List Change) × AnswersOne honest words changes at pending piece mid between new left more answer)
       (only : OnlyClient mid new piece.session) (undone : IsUndone mid new) (room : (left ≡ between) ⊎ (new.node.records.spool.size + room_of left.bodies ≤ 2 ^ 40)) where
-    room_more : (between ≡ row) ⊎ (mid.node.records.spool.size + room_of between.bodies ≤ 2 ^ 40) → (left ≡ between) ⊎ (new.node.records.spool.size + room_of left.bodies ≤ 2 ^ 40) → (left ≡ row) ⊎ (new.node.records.spool.size + room_of left.bodies ≤ 2 ^ 40)
-    room_more before (inr within) = inr within
-    room_more (inl same) (inl unmoved) = inl (unmoved ∙ same)
-    room_more (inr within) (inl unmoved) =
-        let size = ap (λ s. s.size) undone.spool in
-        let bodies = ap (λ (r : Row). room_of r.bodies) unmoved in
-        inr (omega (arith, size, bodies, within))
-
     pub goes_on : (pieces : List Piece) (answers : List (Result Heard NodeFault)) → Goes pieces answers mid between → Goes (pieces ++ piece ∷ []) (answers ++ answer ∷ []) new left
     goes_on pieces answers so = record {
       live = ap (λ s. s.live) undone.spool ∙ so.live;
       undone = record { spool = undone.spool ∙ so.undone.spool; noted = undone.noted ∙ so.undone.noted };
-      room = room_more so.room room;
+      room = room_behind mid new row between left undone so.room room;
       only = only_more first mid new pieces piece so.only only;
       lengths = length-append answers (answer ∷ []) ∙ ap (λ n. n + 1) so.lengths ∙ sym (length-append pieces (piece ∷ []));
       each = λ changes pending awaits.

@@ -22,7 +22,7 @@ use Rattle.relay_loop.specs.declared.clients.Heard.{Heard}
 use Rattle.relay_loop.specs.declared.group.Piece.{Piece}
 use Rattle.relay_loop.specs.Accepted.{AreAccepted}
 use Rattle.relay_loop.specs.Clients.{IsHeardFrom, IsSetTo, IsUnknown, TalksTo}
-use Rattle.relay_loop.specs.Groups.{AnswersEach, AnswersOne, IsLaden, ReadsInto, unread}
+use Rattle.relay_loop.specs.GroupPieces.{AnswersEach, AnswersOne, IsLaden, ReadsInto, unread}
 use Rattle.relay_loop.specs.Outboxes.{unwritten_at}
 use Rattle.relay_loop.specs.Relay.{OnlyClient, RelayState}
 use Rattle.relay_loop.proofs.AcceptedLemmas.{accepted_alike}

@@ -1,18 +1,17 @@
--- What a call on several pieces leaves of a client that was talked to, and of a next hop.
+-- What a call on several pieces and replies leaves of a client that was talked to.
 use Rattle.std.specs.Prelude.{◌≡◌, ◌⊎◌, ℕ, ◌==◌, List, [], ◌∷◌, ◌++◌, take, Some, None, Result, Ok, Err, if◌then◌else◌}
 use Rattle.std.specs.Result.{IsErr}
 use Rattle.relay_disk.specs.Device.{DiskWords}
 use Rattle.relay_slots.specs.Slots.{slot_at}
-use Rattle.relay_attempts.specs.Reply.{Told}
 use Rattle.relay_server.specs.Dialogue.{Said}
 use Rattle.relay_book.specs.declared.change.Change.{Change}
 use Rattle.relay_records.specs.declared.fault.NodeFault.{NodeFault}
 use Rattle.relay_loop.specs.declared.clients.Heard.{Heard}
 use Rattle.relay_loop.specs.declared.group.Group.{Group}
 use Rattle.relay_loop.specs.declared.group.Piece.{Piece}
+use Rattle.relay_loop.specs.declared.replying.ReplyPiece.{ReplyPiece}
 use Rattle.relay_loop.specs.Clients.{HasLeft, TalksTo}
-use Rattle.relay_loop.specs.Groups.{OnlyClients, ReadsAll}
-use Rattle.relay_loop.specs.Hops.{HandsTo}
+use Rattle.relay_loop.specs.Groups.{ReadsAll}
 use Rattle.relay_loop.specs.Relay.{RelayState}
 
 -- what was used of a piece with this answer
@@ -75,15 +74,8 @@ module _ {D : Type 0} (list : List Change) (new : RelayState D) (session : ℕ) 
 -- A client that was talked to becomes one of these, whether a piece is its or not.
 abbrev pub GroupsTalk : {D : Type 0} → Type 0 → DiskWords D → Type 0
 GroupsTalk {D = D} honest words =
-    (changes : List Change) (at : ℕ) (pieces : List Piece) (old new : RelayState D) (group : Group) (session : ℕ)
-    (peer : List ℕ) (said : Said) (written : List ℕ)
-    → (all : ReadsAll honest words changes at pieces old new group) → TalksTo changes old session peer said written
+    (changes : List Change) (at : ℕ) (pieces : List Piece) (replies : List ReplyPiece) (old new : RelayState D)
+    (group : Group) (session : ℕ) (peer : List ℕ) (said : Said) (written : List ℕ)
+    → (all : ReadsAll honest words changes at pieces replies old new group)
+    → TalksTo changes old session peer said written
     → Becomes (changes ++ all.pending) new session peer said written pieces group.heard.items
-
--- To a next hop mail is handed on as before such a call, by the list with all that were pending.
-abbrev pub GroupsHand : {D : Type 0} → Type 0 → DiskWords D → Type 0
-GroupsHand {D = D} honest words =
-    (changes : List Change) (at : ℕ) (pieces : List Piece) (old new : RelayState D) (group : Group) (attempt : ℕ)
-    (told : Told) (written : List ℕ)
-    → (all : ReadsAll honest words changes at pieces old new group) → OnlyClients old new pieces
-    → HandsTo changes old attempt told written → HandsTo (changes ++ all.pending) new attempt told written

@@ -3,7 +3,10 @@ pub mod Closing
 pub mod Relay
 pub mod Accepted
 pub mod Clients
-pub mod Groups
 pub mod Hops
+pub mod GroupPieces
+pub mod GroupReplies
+pub mod Groups
 pub mod Laws
 pub mod GroupLaws
+pub mod GroupHopLaws

@@ -33,6 +33,19 @@ pub struct Answered {
     pub last: Option<Outbox>,
 }
 
+impl Answered {
+    /// Nothing was used, and nothing was done.
+    pub(crate) fn nothing() -> Self
+        ensures { result ≡ record { used = 0; change = None; last = None } }
+    {
+        Answered {
+            used: 0,
+            change: None,
+            last: None,
+        }
+    }
+}
+
 impl<D: Disk> Relay<D> {
     /// Begins an attempt, as [`Node::start`](relay_node::Node::start), whose connection stands: nothing waits to be
     /// written to it. At a fault nothing is changed.
@@ -92,11 +105,7 @@ impl<D: Disk> Relay<D> {
             return Err(NodeFault::Unknown);
         };
         if !waiting.is_empty() {
-            return Ok(Answered {
-                used: 0,
-                change: None,
-                last: None,
-            });
+            return Ok(Answered::nothing());
         }
         match self.node.reply(attempt, piece, now) {
             Ok(replied) => Ok(set_by(&mut self.hops, attempt, replied)),
@@ -164,7 +173,7 @@ impl<D: Disk> Relay<D> {
 
 /// Sets a connection by what was replied: what that leads to waits to be written, or comes back where the attempt has
 /// ended.
-fn set_by(hops: &mut Outboxes, attempt: usize, replied: Replied) -> Answered
+pub(crate) fn set_by(hops: &mut Outboxes, attempt: usize, replied: Replied) -> Answered
     requires { attempt < SLOT_COUNT }
     ensures answered { IsAnsweredBy replied result }
     ensures set { IsSetTo replied.change attempt replied.out.items result.last hops.new }

@@ -1,6 +1,7 @@
 //! What is true of the connections of a relay, whatever calls are made.
 ghost use Rattle.relay_loop.specs.Closing.{ClosingIsReply};
-ghost use Rattle.relay_loop.specs.GroupLaws.{GroupsHand, GroupsTalk};
+ghost use Rattle.relay_loop.specs.GroupHopLaws.{GroupsHand, GroupsLeaveHops};
+ghost use Rattle.relay_loop.specs.GroupLaws.{GroupsTalk};
 ghost use Rattle.relay_loop.specs.Laws.{HandsStay, OthersHand};
 ghost use Rattle.relay_loop.specs.Laws.{OthersTalk, QueuedAreAccepted, TalksAreDialogues, TalksStay};
 
@@ -37,16 +38,23 @@ pub fn others_hand<D>()
     ensures { OthersHand D }
 {}
 
-/// A call on several pieces leaves each client that was talked to so: it is talked to still, or it has closed, and its
-/// last octets are handed out, and what was used of its pieces is read behind its input; or a piece of it was refused,
-/// and its connection is gone.
+/// A call on several pieces and replies leaves each client that was talked to so: it is talked to still, or it has
+/// closed, and its last octets are handed out, and what was used of its pieces is read behind its input; or a piece of
+/// it was refused, and its connection is gone.
 pub fn groups_talk<D: Disk>()
     ensures { GroupsTalk D.honest D.words }
 {}
 
-/// A call on several pieces leaves what is handed on to each next hop.
+/// Such a call leaves each next hop that mail was handed to so: it is handed to still, and what was used of its replies
+/// is read behind its input; or its attempt has ended by them, with one outcome among the changes, and its last octets
+/// are handed out; or a reply of it was refused, and its attempt and connection are gone.
 pub fn groups_hand<D: Disk>()
     ensures { GroupsHand D.honest D.words }
+{}
+
+/// Such a call leaves what is handed on to each next hop without a reply.
+pub fn groups_leave_hops<D: Disk>()
+    ensures { GroupsLeaveHops D.honest D.words }
 {}
 
 /// What the relay says where it closes a connection by itself is one reply.

@@ -9,6 +9,7 @@ pub mod laws;
 mod outbox;
 mod outboxes;
 mod relay;
+mod replying;
 
 pub use clients::Heard;
 pub use closing::{Closing, closing_line};
@@ -16,3 +17,4 @@ pub use group::{Group, Piece};
 pub use hops::Answered;
 pub use outbox::Outbox;
 pub use relay::Relay;
+pub use replying::ReplyPiece;

@@ -1,7 +1,8 @@
 -- the connections of the pieces so far are gone, and no others
 use Rattle.std.proofs.Common.{◌≡◌, ℕ, take}
 use Rattle.relay_slots.specs.Slots.{slot_at}
-use Rattle.relay_loop.specs.Groups.{AllAreGone, AreOfOthers}
+use Rattle.relay_loop.specs.GroupPieces.{AreOfOthers}
+use Rattle.relay_loop.specs.Groups.{AllAreGone}
 use Rattle.relay_loop.proofs.group.drop_all.Given as goal
 
 abbrev pub invariant-loop-piece : goal.invariant-loop-piece

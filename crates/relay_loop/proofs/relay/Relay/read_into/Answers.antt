@@ -1,7 +1,7 @@
 -- A piece is left unread, read, or refused.
 use Rattle.std.proofs.Common.{◌≢◌, ◌⊎◌, inl, inr, [], Ok, Err, rules, refl, sym, ap, subst}
 use Rattle.relay_loop.specs.declared.clients.Heard.{Heard}
-use Rattle.relay_loop.specs.Groups.{AnswersOne, IsLaden}
+use Rattle.relay_loop.specs.GroupPieces.{AnswersOne, IsLaden}
 use Rattle.relay_loop.specs.Outboxes.{unwritten_at}
 use Rattle.relay_loop.specs.Relay.{RelayState}
 use Rattle.relay_loop.proofs.GroupLemmas.{is_drained, left_unread, some_there, was_read, was_refused}

@@ -1,0 +1,130 @@
+-- What a relay does with the octets of several next hops, one behind another, where the outcomes of their attempts come
+-- into its records together.
+use Rattle.std.specs.Prelude.{◌≡◌, ◌≢◌, ◌⊎◌, ℕ, ◌+◌, ◌≤◌, false, List, [], ◌∷◌, ◌++◌, length, take, Option, None, Some, Result, Ok, Err}
+use Rattle.std.specs.List.{AllByRecursion}
+use Rattle.relay_disk.specs.Device.{DiskWords}
+use Rattle.relay_slots.specs.Slots.{slot_at}
+use Rattle.relay_book.specs.declared.change.Change.{Change}
+use Rattle.relay_book.specs.declared.change.Change.TheVariants as change
+use Rattle.relay_book.specs.declared.change.Outcome.{Outcome}
+use Rattle.relay_book.specs.declared.change.Verdict.{Verdict}
+use Rattle.relay_records.specs.Staged.{Awaits, Row}
+use Rattle.relay_records.specs.declared.fault.NodeFault.{NodeFault}
+use Rattle.relay_records.specs.declared.fault.NodeFault.TheVariants.{Unknown, Full}
+use Rattle.relay_attempts.specs.AddedOutcome.{reported_as}
+use Rattle.relay_attempts.specs.Reply.{IsItsCourse, Told, outcome_at, told_more}
+use Rattle.relay_attempts.specs.Staging.{HasNoRoomAtEndBehind, MakesBehind, StagesOutcome}
+use Rattle.relay_node.specs.StagedReplies.{RefusesToReplyInto}
+use Rattle.relay_loop.specs.declared.hops.Answered.{Answered}
+use Rattle.relay_loop.specs.declared.replying.ReplyPiece.{ReplyPiece}
+use Rattle.relay_loop.specs.GroupPieces.{IsLaden}
+use Rattle.relay_loop.specs.Hops.{HandsTo, IsUnknown}
+use Rattle.relay_loop.specs.Outboxes.{unwritten_at}
+use Rattle.relay_loop.specs.Relay.{OnlyHop, RelayState}
+
+-- nothing of a reply was used
+abbrev pub unheard : Answered
+unheard = record { used = 0; change = None; last = None }
+
+-- none of these replies is to this attempt
+abbrev pub AreToOthers : ℕ → List ReplyPiece → Type 0
+AreToOthers attempt replies = AllByRecursion (λ reply. attempt ≢ reply.attempt) replies
+
+-- the changes that a reply stages: none, or an outcome, whose number comes next
+abbrev pub IsEnding : ℕ → Option ℕ → List Change → Type 0
+IsEnding next None more = more ≡ []
+IsEnding next (Some number) more =
+    (outcome : Outcome) × (number ≡ next) × (more ≡ change.Outcome outcome ∷ [])
+
+-- The words below are of a call at a moment, of a relay whose node keeps these changes and awaits those that are
+-- pending, which the row records. What one reply stages are the changes that it adds to these, one at most.
+module _ {D : Type 0} (honest : Type 0) (words : DiskWords D) (changes : List Change) (at : ℕ) where
+  -- The words below are of a reply to an attempt of which this is told and written, where nothing waited.
+  module _ (pending : List Change) (attempt : ℕ) (told : Told) (written piece : List ℕ) (old : RelayState D) (row : Row)
+      (new : RelayState D) (left : Row) (more : List Change) (answered : Answered) where
+    -- it goes on behind the whole piece, and the records and the row are the same
+    pub record HandsOnBehind : Type 0 where
+      pub used : answered.used ≡ length piece
+      pub same : new.node.records ≡ old.node.records
+      pub row_is : left ≡ row
+      pub last : answered.last ≡ None
+      pub out : List ℕ
+      pub hands : HandsTo (changes ++ pending) new attempt (told_more told (take answered.used piece) out) written
+
+    -- It has ended, with these last octets: the one outcome of its course is pending too, with the report that is due
+    -- of it, as the change of this number. The attempt and its connection are gone.
+    pub record HandsLastBehind (number : ℕ) : Type 0 where
+      pub last : List ℕ
+      pub last_is : answered.last ≡ Some last
+      pub verdicts : List Verdict
+      pub course : IsItsCourse old.node.config.host (told_more told (take answered.used piece) last) false verdicts
+      pub output : told.output ++ last ≡ written ++ last
+      pub stages : StagesOutcome honest words old.node.config.host changes pending row (outcome_at at told verdicts)
+          answered.used new.node.records left number
+      pub more_is : more ≡ reported_as (outcome_at at told verdicts) stages.report ∷ []
+      pub gone : slot_at new.node.attempts attempt ≡ None
+      pub connection : slot_at new.hops attempt ≡ None
+
+    abbrev pub HandsBy : Option ℕ → Type 0
+    HandsBy None = HandsOnBehind
+    HandsBy (Some number) = HandsLastBehind number
+
+  -- The reply was heard: it is left unread where octets wait for its next hop, or the row is laden. Otherwise it is
+  -- used up, unless the attempt has ended, which is gone then.
+  pub record HearsReply (pending : List Change) (reply : ReplyPiece) (old : RelayState D) (row : Row)
+      (new : RelayState D) (left : Row) (more : List Change) (answered : Answered)
+      : Type 0 where
+    pub known : slot_at old.hops reply.attempt ≢ None
+    pub within : answered.used ≤ length reply.octets.now
+    pub whole : unwritten_at old.hops reply.attempt ≡ [] → (IsLaden row → ⊥) → answered.change ≡ None
+        → answered.used ≡ length reply.octets.now
+    pub gone : answered.change ≢ None → slot_at new.node.attempts reply.attempt ≡ None
+    pub staged : IsEnding (length changes + length pending + 1) answered.change more
+    pub unread : (unwritten_at old.hops reply.attempt ≢ []) ⊎ IsLaden row
+        → (answered ≡ unheard) × (new ≡ old) × (left ≡ row)
+    pub makes : unwritten_at old.hops reply.attempt ≡ [] → (IsLaden row → ⊥)
+        → MakesBehind old.node.config.host at reply.attempt old.node.attempts new.node.attempts answered.used
+        old.node.records new.node.records row left answered.change
+    pub hands : unwritten_at old.hops reply.attempt ≡ [] → (IsLaden row → ⊥) → (told : Told) (written : List ℕ)
+        → HandsTo (changes ++ pending) old reply.attempt told written
+        → HandsBy pending reply.attempt told written reply.octets.now old row new left more answered answered.change
+
+  -- the reply was refused: its connection is gone, and the node leaves what its own call does
+  pub record RefusesReply (pending : List Change) (reply : ReplyPiece) (old : RelayState D) (row : Row)
+      (new : RelayState D) (left : Row) (more : List Change) (fault : NodeFault)
+      : Type 0 where
+    pub none : more ≡ []
+    pub gone : slot_at new.hops reply.attempt ≡ None
+    pub leaves : RefusesToReplyInto reply.attempt old.node new.node row left fault
+    pub unknown : fault ≡ Unknown → IsUnknown old reply.attempt
+    pub known : fault ≢ Unknown → slot_at old.hops reply.attempt ≢ None
+    pub full : (told : Told) (written : List ℕ) → HandsTo (changes ++ pending) old reply.attempt told written
+        → fault ≡ Full
+        → HasNoRoomAtEndBehind old.node.config.host at told reply.octets.now old.node.records row
+
+  abbrev pub RepliesBy
+      : List Change → ReplyPiece → RelayState D → Row → RelayState D → Row → List Change → Result Answered NodeFault
+      → Type 0
+  RepliesBy pending reply old row new left more (Ok answered) = HearsReply pending reply old row new left more answered
+  RepliesBy pending reply old row new left more (Err fault) = RefusesReply pending reply old row new left more fault
+
+  -- the reply has this answer, with these changes more, and nothing else happened
+  pub record RepliesOne (pending : List Change) (reply : ReplyPiece) (old : RelayState D) (row : Row)
+      (new : RelayState D) (left : Row) (more : List Change) (answer : Result Answered NodeFault)
+      : Type 0 where
+    pub by : RepliesBy pending reply old row new left more answer
+    pub only : OnlyHop old new reply.attempt
+    pub awaits : Awaits honest words new.node.records changes (pending ++ more) left
+
+  -- The replies have these answers, one behind another. The first found these changes pending; all are those behind the
+  -- last.
+  abbrev pub RepliesEach
+      : List ReplyPiece → List (Result Answered NodeFault) → List Change → RelayState D → Row → RelayState D → Row
+      → List Change → Type 0
+  RepliesEach [] answers pending old row new left all =
+      (answers ≡ []) × (new ≡ old) × (left ≡ row) × (all ≡ pending)
+  RepliesEach (reply ∷ replies) answers pending old row new left all =
+      (answer : Result Answered NodeFault) × (rest : List (Result Answered NodeFault)) × (answers ≡ answer ∷ rest)
+      × (mid : RelayState D) × (between : Row) × (more : List Change)
+      × RepliesOne pending reply old row mid between more answer
+      × RepliesEach replies rest (pending ++ more) mid between new left all
