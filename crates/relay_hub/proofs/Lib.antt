@@ -2,4 +2,3 @@ mod ListLemmas
 mod HubLemmas
 mod LinkLemmas
 mod RiseLemmas
-mod LaneLemmas

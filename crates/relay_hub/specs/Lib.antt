@@ -2,4 +2,3 @@ pub mod Receipts
 pub mod Hub
 pub mod Admission
 pub mod Link
-pub mod Round

@@ -3,15 +3,11 @@
 
 mod desk;
 mod hub;
-mod lane;
-mod lanes;
 mod link;
 mod opening;
 mod pass;
 mod receipt;
-mod rounds;
 mod same;
-mod served;
 mod told;
 
 pub use hub::{Hub, Mismatch};
@@ -19,5 +15,3 @@ pub use link::hub_link;
 pub use opening::Opening;
 pub use pass::Pass;
 pub use receipt::Receipt;
-pub use rounds::{Ended, NotBegun, round};
-pub use served::{Link, Served};

@@ -2,7 +2,7 @@
 use Rattle.std.specs.Prelude.{◌≡◌, Bool, true, false, List, [], ◌∷◌, Option, Some, Result, Ok, Err}
 use Rattle.relay_links.specs.declared.fault.LinkFault.{LinkFault}
 use Rattle.relay_links.specs.declared.fault.LinkFault.TheVariants as link_fault
-use Rattle.relay_hub.specs.declared.served.Served.{Served}
+use Rattle.relay_rounds.specs.declared.served.Served.{Served}
 use Rattle.relay_service.specs.declared.fault.Fault.{Fault}
 use Rattle.relay_service.specs.declared.fault.Fault.TheVariants as fault
 
