@@ -1,7 +1,1 @@
-pub mod Sessions
-pub mod Lanes
 pub mod Reopening
-pub mod Spares
-pub mod Readiness
-pub mod Phases
-pub mod Hearing

@@ -1,14 +1,13 @@
 //! The listener, and the clients that come by it.
-use crate::channel::Channel;
-use crate::clients::Clients;
-use crate::clocks::Now;
-use crate::leaving::Leaving;
-use crate::spares::Spares;
+ghost use Rattle.std.specs.Prelude.{◌≤◌};
+
 use mio::net::{TcpListener, TcpStream};
 use mio::{Interest, Registry, Token};
+use relay_connections::{Channel, Clients, Leaving, Now};
 use relay_disk::FileDisk;
 use relay_log::Log;
 use relay_loop::{Closing, Outbox, Relay, closing_line};
+use relay_next_hops::Spares;
 use relay_service::Fault;
 use relay_slots::SLOT_COUNT;
 use std::alloc::Global;
@@ -98,7 +97,9 @@ impl Door {
     }
 
     /// The tick at which clients are taken again, or the given one where that is earlier.
-    pub(crate) fn next_deadline(&self, otherwise: u64) -> u64 {
+    pub(crate) fn next_deadline(&self, otherwise: u64) -> u64
+        ensures { result ≤ otherwise }
+    {
         if self.is_ready {
             otherwise.min(self.paused_until)
         } else {

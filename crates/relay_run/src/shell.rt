@@ -1,24 +1,22 @@
 ghost use Rattle.std.specs.Prelude.{◌≡◌, ◌≤◌, ◌-◌, ℕ, true, IsErr};
-ghost use Rattle.relay_run.specs.Readiness.{IsLeftClient, IsLeftHop};
+ghost use Rattle.relay_connections.specs.Readiness.{IsLeftClient, clients_of};
+ghost use Rattle.relay_next_hops.specs.Lanes.{next_due_of};
+ghost use Rattle.relay_next_hops.specs.Readiness.{IsLeftHop, hops_of};
 ghost use Rattle.relay_run.specs.Reopening.{HasFailedToSync};
+ghost use Rattle.relay_run.specs.declared.shell.TheConstants.{LONGEST_WAIT};
 
-use crate::channel::Readiness;
-use crate::clients::Clients;
-use crate::clocks::Now;
 use crate::door::Door;
-use crate::hops::Hops;
-use crate::lanes::Lanes;
-use crate::leaving::Leaving;
 use crate::reopening::{Pauses, open_again};
-use crate::spares::Spares;
-use crate::starting::{Starts, give_up_next, start_tasks};
 use crate::tidying::Tidying;
 use mio::event::Event;
 use mio::{Events, Registry};
+use relay_connections::{Clients, Intake, Leaving, Now, Readiness, Replied};
 use relay_disk::FileDisk;
 use relay_limits::Limits;
 use relay_log::Log;
 use relay_loop::Relay;
+use relay_next_hops::{NextHops, Spares};
+use relay_node::NodeFault;
 use relay_service::Fault;
 use std::alloc::{AllocError, Global};
 use std::io::Write;
@@ -33,11 +31,9 @@ pub(crate) struct Shell {
     pub(crate) relay: Relay<FileDisk>,
     pub(crate) door: Door,
     clients: Clients,
-    hops: Hops,
+    next_hops: NextHops,
     leaving: Leaving,
-    lanes: Lanes,
     spares: Spares,
-    starts: Starts,
     tidying: Tidying,
     pauses: Pauses,
 }
@@ -49,11 +45,9 @@ impl Drop for Shell {
             relay: _relay,
             door: _door,
             clients: _clients,
-            hops: _hops,
+            next_hops: _next_hops,
             leaving: _leaving,
-            lanes: _lanes,
             spares: _spares,
-            starts: _,
             tidying: _,
             pauses: _,
         } = self;
@@ -70,18 +64,16 @@ impl Shell {
         limits: &Limits,
     ) -> Result<Self, AllocError> {
         let clients = Clients::new(alloc, limits)?;
-        let hops = Hops::new(alloc)?;
+        let next_hops = NextHops::new(alloc, limits)?;
         let leaving = Leaving::new(alloc, u64::from(limits.client_timeout))?;
         let pauses = Pauses::new(relay.node().size());
         Ok(Shell {
             relay,
             door,
             clients,
-            hops,
+            next_hops,
             leaving,
-            lanes: Lanes::new(alloc, usize::from(limits.attempts_per_hop)),
             spares,
-            starts: Starts { paused_until: 0 },
             tidying: Tidying::new(),
             pauses,
         })
@@ -102,18 +94,15 @@ impl Shell {
             relay,
             door,
             clients,
-            hops,
+            next_hops,
             leaving,
-            lanes,
             spares,
-            starts,
             tidying: _,
             pauses,
         } = self;
         let mut clients = clients;
         clients.clear();
-        let mut hops = hops;
-        hops.clear();
+        let next_hops = next_hops.renewed();
         let mut leaving = leaving;
         leaving.clear();
         let mut pauses = pauses;
@@ -122,11 +111,9 @@ impl Shell {
             relay,
             door,
             clients,
-            hops,
+            next_hops,
             leaving,
-            lanes: lanes.renewed(),
             spares,
-            starts,
             tidying: Tidying::behind_failure(&Now::of(clock)),
             pauses,
         })
@@ -142,10 +129,10 @@ impl Shell {
     fn note_event(&mut self, event: &Event) {
         let token = event.token().0;
         let ready = Readiness::of(event);
-        if token < Hops::FIRST_TOKEN {
+        if token < NextHops::FIRST_TOKEN {
             self.clients.note(token, ready);
         } else if token < Leaving::FIRST_TOKEN {
-            self.hops.note(token - Hops::FIRST_TOKEN, ready);
+            self.next_hops.note(token - NextHops::FIRST_TOKEN, ready);
         } else if token < Door::TOKEN {
             self.leaving.note(token - Leaving::FIRST_TOKEN, ready);
         } else {
@@ -170,8 +157,8 @@ impl Shell {
             now,
             log,
         )?;
-        self.serve_clients(registry, now, log)?;
-        self.serve_hops(registry, now, log)?;
+        self.attend_to_next_hops(registry, now, log)?;
+        self.exchange(registry, now, log)?;
         if self.leaving.serve(now) > 0 {
             self.door.resume();
         }
@@ -187,43 +174,81 @@ impl Shell {
         self.tidying.tidy(&mut self.relay, is_quiet, now, log)
     }
 
-    fn serve_clients(
+    /// Makes connections to next hops, and reads of those that reply.
+    fn attend_to_next_hops(
         &mut self,
         registry: &Registry,
         now: &Now,
         log: &mut Log<'_, Vec<u8>>,
     ) -> Result<(), Fault> {
-        let intake = self
-            .clients
-            .serve(registry, &mut self.relay, &mut self.leaving, now, log)?;
+        let closed = self
+            .next_hops
+            .attend(registry, &mut self.relay, &mut self.leaving, now, log)?;
+        self.note_ends(closed);
+        Ok(())
+    }
+
+    /// Serves the clients, and lets attempts hear what next hops have replied in the same call, so that accepted mail
+    /// and outcomes share their syncs.
+    fn exchange(
+        &mut self,
+        registry: &Registry,
+        now: &Now,
+        log: &mut Log<'_, Vec<u8>>,
+    ) -> Result<(), Fault> {
+        let (intake, replied) = self.hear(registry, now, log)?;
         if intake.was_full {
             self.tidying.note_full(now, log);
         }
         if intake.closed {
             self.door.resume();
         }
-        Ok(())
-    }
-
-    fn serve_hops(
-        &mut self,
-        registry: &Registry,
-        now: &Now,
-        log: &mut Log<'_, Vec<u8>>,
-    ) -> Result<(), Fault> {
-        let closed = self.hops.serve(
+        let closed = self.next_hops.answer(
+            replied,
             registry,
             &mut self.relay,
-            &mut self.lanes,
             &mut self.leaving,
             now,
             log,
         )?;
+        self.note_ends(closed);
+        Ok(())
+    }
+
+    /// Lets sessions and attempts hear what was read, in one call. Without memory for them replies wait, or one of them
+    /// is lost where nobody else was heard.
+    fn hear(
+        &mut self,
+        registry: &Registry,
+        now: &Now,
+        log: &mut Log<'_, Vec<u8>>,
+    ) -> Result<(Intake, Option<Replied>), NodeFault> {
+        match self.next_hops.replies() {
+            Ok(replies) => self.clients.serve(
+                registry,
+                &mut self.relay,
+                replies.as_slice(),
+                &mut self.leaving,
+                now,
+                log,
+            ),
+            Err(_) => self.clients.serve(
+                registry,
+                &mut self.relay,
+                &[],
+                &mut self.leaving,
+                now,
+                log,
+            ),
+        }
+    }
+
+    /// Takes note of whether connections to next hops were closed.
+    fn note_ends(&mut self, closed: bool) {
         if closed {
             self.tidying.note_shrunk();
             self.door.resume();
         }
-        Ok(())
     }
 
     /// Begins what is due.
@@ -234,46 +259,40 @@ impl Shell {
         now: &Now,
         log: &mut Log<'_, Vec<u8>>,
     ) -> Result<(), Fault> {
-        self.lanes.refresh(rt, &self.relay, &self.hops, now)?;
-        if give_up_next(&mut self.relay, &mut self.lanes, now, log)? {
+        let gave_up = self
+            .next_hops
+            .begin(rt, registry, &mut self.relay, &mut self.spares, now, log)?;
+        if gave_up {
             self.tidying.note_shrunk();
         }
-        start_tasks(
-            rt,
-            registry,
-            &mut self.relay,
-            &mut self.hops,
-            &mut self.lanes,
-            &mut self.spares,
-            &mut self.starts,
-            now,
-            log,
-        )?;
-        self.lanes.look_ahead(&self.relay, &self.hops, now)
+        Ok(())
     }
 
     /// Whether something can be done at once.
     fn is_ready(&self, now: &Now) -> bool
-        ensures client { (number : ℕ) → IsLeftClient self.now.clients.clients self.now.relay number
+        ensures client { (number : ℕ) → IsLeftClient (clients_of self.now.clients) self.now.relay number
             → result ≡ true }
-        ensures hop { (number : ℕ) → IsLeftHop self.now.hops.hops self.now.relay number → result ≡ true }
+        ensures hop { (number : ℕ) → IsLeftHop (hops_of self.now.next_hops) self.now.relay number
+            → result ≡ true }
     {
         if self.clients.is_ready(&self.relay) {
             return true;
         }
-        if self.hops.is_ready(&self.relay) {
+        if self.next_hops.is_ready(&self.relay) {
             return true;
         }
-        self.door.is_ready(now) || self.leaving.is_ready() || self.lanes.is_ready()
+        self.door.is_ready(now) || self.leaving.is_ready()
     }
 
-    /// How many milliseconds may be waited for the system to tell of something: none while a connection was left in
-    /// mid-read, and never past the tick at which the node has told that work may start.
+    /// How many milliseconds may be waited for the system to tell of something, a minute at most: none while a
+    /// connection was left in mid-read, and never past the tick at which the node has told that work may start.
     pub(crate) fn wait(&self, now: &Now) -> u64
-        ensures client { (number : ℕ) → IsLeftClient self.now.clients.clients self.now.relay number
+        ensures client { (number : ℕ) → IsLeftClient (clients_of self.now.clients) self.now.relay number
             → result ≡ 0 }
-        ensures hop { (number : ℕ) → IsLeftHop self.now.hops.hops self.now.relay number → result ≡ 0 }
-        ensures due { result ≤ self.now.lanes.next_due - now.now.tick }
+        ensures hop { (number : ℕ) → IsLeftHop (hops_of self.now.next_hops) self.now.relay number
+            → result ≡ 0 }
+        ensures due { result ≤ next_due_of self.now.next_hops - now.now.tick }
+        ensures longest { result ≤ LONGEST_WAIT }
     {
         if self.is_ready(now) {
             return 0;
@@ -281,20 +300,9 @@ impl Shell {
         let mut next = now.tick.saturating_add(LONGEST_WAIT);
         next = self.door.next_deadline(next);
         next = self.clients.next_deadline(next);
-        next = self.hops.next_deadline(next);
         next = self.leaving.next_deadline(next);
-        next = self.starts_deadline(next);
         next = self.tidying.next_deadline(next);
-        next = self.lanes.next_deadline(next);
+        next = self.next_hops.next_deadline(next);
         next.saturating_sub(now.tick)
-    }
-
-    /// The tick at which connections may be begun again that couldn't, or the given one where that is earlier.
-    fn starts_deadline(&self, otherwise: u64) -> u64 {
-        if self.lanes.is_open() && self.hops.free().is_some() {
-            otherwise.min(self.starts.paused_until)
-        } else {
-            otherwise
-        }
     }
 }

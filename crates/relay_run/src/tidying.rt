@@ -1,6 +1,8 @@
 //! The spool is written anew where much of it has gone: in a quiet moment, or at once where it is more than half full,
 //! or was full.
-use crate::clocks::Now;
+ghost use Rattle.std.specs.Prelude.{◌≤◌};
+
+use relay_connections::Now;
 use relay_disk::FileDisk;
 use relay_log::Log;
 use relay_loop::Relay;
@@ -78,7 +80,9 @@ impl Tidying {
     }
 
     /// The tick at which the spool is to be looked at, or the given one where that is earlier.
-    pub(crate) fn next_deadline(&self, otherwise: u64) -> u64 {
+    pub(crate) fn next_deadline(&self, otherwise: u64) -> u64
+        ensures { result ≤ otherwise }
+    {
         if self.was_full || self.has_shrunk {
             otherwise.min(self.next)
         } else {

@@ -1,0 +1,4 @@
+mod BlockLemmas
+mod HearingLemmas
+mod LeftLemmas
+pub mod Theorems

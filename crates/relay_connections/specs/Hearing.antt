@@ -1,0 +1,60 @@
+-- What the sessions of clients hear at a turn: each all octets that were read of its own connection, and none of them
+-- twice.
+use Rattle.std.specs.Prelude.{◌≡◌, ℕ, zero, suc, ◌+◌, ◌%◌, Bool, false, List, [], ◌∷◌, Option, None, Some, All, Box, length, map}
+use Rattle.std.specs.Global.{Global}
+use Rattle.std.specs.List.{filter}
+use Rattle.relay_disk.specs.File.{file_words}
+use Rattle.relay_disk.specs.declared.file.FileDisk.{FileDisk}
+use Rattle.relay_slots.specs.Slots.{slot_at}
+use Rattle.relay_book.specs.declared.change.Change.{Change}
+use Rattle.relay_records.specs.Records.{Keeps}
+use Rattle.relay_loop.specs.declared.group.Group.{Group}
+use Rattle.relay_loop.specs.declared.group.Piece.{Piece}
+use Rattle.relay_loop.specs.declared.replying.ReplyPiece.{ReplyPiece}
+use Rattle.relay_loop.specs.Groups.{ReadsAll}
+use Rattle.relay_loop.specs.Relay.{RelayState}
+use Rattle.relay_connections.specs.Channel.{unread_of}
+use Rattle.relay_connections.specs.declared.client.Client.{Client}
+use Rattle.relay_connections.specs.declared.hearing.Hearing.{Hearing}
+
+-- a client has octets that its session may hear
+abbrev pub hears : Option (Box Client Global) → Bool
+hears None = false
+hears (Some client) = client.value.hears
+
+-- so has the client of a number
+abbrev pub hears_at : List (Option (Box Client Global)) → ℕ → Bool
+hears_at clients number = hears (slot_at clients number)
+
+-- so many numbers of slots, one behind another from this one on, and 0 behind 63
+abbrev pub turned : ℕ → ℕ → List ℕ
+turned number zero = []
+turned number (suc count) = number % 64 ∷ turned (number + 1) count
+
+-- the numbers of all clients that have something to hear, from the first one on
+abbrev pub hearing_from : List (Option (Box Client Global)) → ℕ → List ℕ
+hearing_from clients first = filter (hears_at clients) (turned first (length clients))
+
+-- a piece is all that was read of its own session's client, and isn't used yet
+pub record IsOwn (clients : List (Option (Box Client Global))) (piece : Piece) : Type 0 where
+  pub client : Box Client Global
+  pub there : slot_at clients piece.session ≡ Some client
+  pub octets : piece.octets.now ≡ unread_of client.value.channel
+
+abbrev pub session_of : Piece → ℕ
+session_of piece = piece.session
+
+-- Each session that has something to hear has heard octets of its own client, all of them in one call, and what came of
+-- that stands at its place; and so have attempts these replies, in the same call.
+pub record HearOwn (clients : List (Option (Box Client Global))) (first : ℕ) (replies : List ReplyPiece) (at : ℕ)
+    (old new : RelayState FileDisk) (hearing : Hearing) : Type 0 where
+  pub pieces : List Piece
+  pub own : All (IsOwn clients) pieces
+  pub sessions : hearing.sessions.items ≡ map session_of pieces
+  pub each : hearing.sessions.items ≡ hearing_from clients first
+  pub group : Group
+  pub heard : group.heard ≡ hearing.heard
+  pub answered : group.answered ≡ hearing.replies.answered
+  pub notes : group.notes ≡ hearing.replies.notes
+  pub reads : (changes : List Change) → Keeps ⊥ file_words old.node.records changes
+      → ReadsAll ⊥ file_words changes at pieces replies old new group

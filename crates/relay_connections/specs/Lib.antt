@@ -1,0 +1,4 @@
+pub mod Channel
+pub mod Sessions
+pub mod Readiness
+pub mod Hearing

@@ -1,0 +1,23 @@
+-- Connections of clients that were left in mid-read: nobody tells of their octets any more, so nothing may be waited for
+-- before these are used.
+use Rattle.std.specs.Prelude.{◌≡◌, ◌≢◌, ℕ, List, [], Option, Some, Box}
+use Rattle.std.specs.Global.{Global}
+use Rattle.relay_slots.specs.Slots.{slot_at}
+use Rattle.relay_loop.specs.Outboxes.{unwritten_at}
+use Rattle.relay_loop.specs.Relay.{RelayState}
+use Rattle.relay_connections.specs.Channel.{held_of, unread_of}
+use Rattle.relay_connections.specs.declared.client.Client.{Client}
+use Rattle.relay_connections.specs.declared.clients.Clients.{Clients}
+
+-- the clients, each under the number of its session
+abbrev pub clients_of : Clients → List (Option (Box Client Global))
+clients_of clients = clients.clients
+
+-- the client of this number was left in mid-read, and nothing waits to be written to it
+pub record IsLeftClient {D : Type 0} (clients : List (Option (Box Client Global))) (relay : RelayState D) (number : ℕ)
+    : Type 0 where
+  pub client : Box Client Global
+  pub there : slot_at clients number ≡ Some client
+  pub unread : unread_of client.value.channel ≢ []
+  pub held : held_of client.value.channel ≡ []
+  pub written : unwritten_at relay.clients number ≡ []

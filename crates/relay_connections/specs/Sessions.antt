@@ -1,0 +1,34 @@
+-- How the session of a client ends where its connection does, or where the relay cuts it off.
+use Rattle.std.specs.Prelude.{◌≡◌, ℕ, List, [], None, Some}
+use Rattle.relay_slots.specs.Slots.{slot_at}
+use Rattle.relay_loop.specs.declared.closing.Closing.TheVariants.{Timeout}
+use Rattle.relay_loop.specs.Clients.{IsUnknown}
+use Rattle.relay_loop.specs.Closing.{closing_of}
+use Rattle.relay_loop.specs.Relay.{OnlyClient, RelayState}
+use Rattle.relay_connections.specs.declared.client.Next.{Next}
+use Rattle.relay_connections.specs.declared.client.Next.TheVariants.{Stays, Leaves, Gone}
+
+-- the connection of a session is gone, no change was made, and all other connections stay
+pub record EndsAlone {D : Type 0} (session : ℕ) (old new : RelayState D) : Type 0 where
+  pub gone : slot_at new.clients session ≡ None
+  pub only : OnlyClient old new session
+  pub records : new.node.records ≡ old.node.records
+
+-- At the end of its input a client is still written what waits. It is closed at once only where it isn't known.
+abbrev pub LeavesWithAll : {D : Type 0} → RelayState D → ℕ → Next → Type 0
+LeavesWithAll old session Stays = ⊥
+LeavesWithAll old session (Leaves last) = slot_at old.clients session ≡ Some last
+LeavesWithAll old session Gone = IsUnknown old session
+
+-- the last octets of a client that is cut off, if there are any, are the one line that says so (RFC 5321, section 3.8)
+abbrev pub IsTold : List ℕ → Next → Type 0
+IsTold host Stays = ⊥
+IsTold host (Leaves last) = last ≡ closing_of host Timeout
+IsTold host Gone = Unit {0}
+
+-- it is told so only where nothing waited, so that the line stands behind whole replies
+abbrev pub IsCutOff : {D : Type 0} → RelayState D → ℕ → Next → Type 0
+IsCutOff old session Stays = ⊥
+IsCutOff old session (Leaves last) =
+    (slot_at old.clients session ≡ Some []) × (last ≡ closing_of old.node.config.host Timeout)
+IsCutOff old session Gone = Unit {0}

@@ -1,0 +1,335 @@
+//! The connection of a client, and what is done with it at a turn.
+ghost use Rattle.std.specs.Prelude.{◌≡◌, ◌≢◌, [], IfErr, IfOk, false, true};
+ghost use Rattle.relay_loop.specs.Outboxes.{unwritten_at};
+ghost use Rattle.relay_connections.specs.Channel.{held_of, unread_of};
+ghost use Rattle.relay_connections.specs.Sessions.{EndsAlone, IsCutOff, IsTold, LeavesWithAll};
+
+use crate::channel::{Channel, End};
+use crate::clocks::Now;
+use relay_disk::FileDisk;
+use relay_log::Log;
+use relay_loop::{Closing, Heard, Outbox, Relay, closing_line};
+use relay_node::NodeFault;
+use std::alloc::Global;
+use std::net::SocketAddrV4;
+
+/// How many seconds a session may last without mail that is accepted.
+const SESSION_SECONDS: u64 = 30 * 60;
+
+/// How many octets of a text or a chunk are waited for as long as for a command line.
+const PART_SIZE: usize = 65_536;
+
+/// How many writes a connection has at a turn, where each takes a part alone.
+const WRITE_LIMIT: usize = 16;
+
+/// How the reply begins to mail for which the spool has no room.
+const SPOOL_FULL: &[u8] = b"452 spool full";
+
+/// The connection of a client, which stands under its session's number.
+pub(crate) struct Client {
+    pub(crate) channel: Channel,
+    pub(crate) peer: SocketAddrV4,
+    /// Octets were read that its session hasn't heard yet, and may hear.
+    pub(crate) hears: bool,
+    /// How many octets were read since the last answer, or since the deadline was set anew.
+    unanswered: usize,
+    /// A line end was among them.
+    has_line_end: bool,
+    /// The tick at which it is cut off. It is set anew by the first octet behind an answer, by 65,536 octets that lead
+    /// to none and have a line end, since they are of a text or a chunk, and by each write of which it takes something:
+    /// so a command line has to stand whole within the timeout of its first octet.
+    idle_deadline: u64,
+    /// The tick at which it is cut off, unless mail of it is accepted before.
+    session_deadline: u64,
+}
+
+// Written out, so that what drops it calls this, and doesn't look into its connection.
+impl Drop for Client {
+    fn drop(self) {
+        let Client {
+            channel: _channel,
+            peer: _,
+            hears: _,
+            unanswered: _,
+            has_line_end: _,
+            idle_deadline: _,
+            session_deadline: _,
+        } = self;
+    }
+}
+
+/// What becomes of a connection behind a turn.
+#[derive(Drop)]
+pub(crate) enum Next {
+    /// It stays.
+    Stays,
+    /// Its session has ended, and these are its last octets.
+    Leaves(Outbox),
+    /// It is closed at once.
+    Gone,
+}
+
+/// What clients have led to at a turn.
+#[derive(Clone, Copy, Debug)]
+pub struct Intake {
+    /// Mail was refused since the spool is full.
+    pub was_full: bool,
+    /// A connection was closed.
+    pub closed: bool,
+}
+
+impl Client {
+    /// A client that has just connected, and may be idle for so many seconds.
+    pub(crate) fn new(channel: Channel, peer: SocketAddrV4, timeout: u64, now: &Now) -> Self {
+        Client {
+            channel,
+            peer,
+            hears: false,
+            unanswered: 0,
+            has_line_end: false,
+            idle_deadline: now.behind(timeout),
+            session_deadline: now.behind(SESSION_SECONDS),
+        }
+    }
+
+    /// Its connection alone.
+    pub(crate) fn into_channel(self) -> Channel {
+        let Client {
+            channel,
+            peer: _,
+            hears: _,
+            unanswered: _,
+            has_line_end: _,
+            idle_deadline: _,
+            session_deadline: _,
+        } = self;
+        channel
+    }
+
+    /// The tick at which it is cut off as things stand.
+    pub(crate) fn deadline(&self) -> u64 {
+        self.idle_deadline.min(self.session_deadline)
+    }
+
+    /// Writes what waits for it as far as that goes at once.
+    pub(crate) fn flush(
+        &mut self,
+        relay: &mut Relay<FileDisk>,
+        session: usize,
+        timeout: u64,
+        now: &Now,
+    ) {
+        for _ in 0..WRITE_LIMIT {
+            let count = self.channel.write(relay.to_client(session));
+            if count == 0 || relay.to_client(session).len() < count {
+                return;
+            }
+            relay.wrote_to_client(session, count);
+            self.idle_deadline = now.behind(timeout);
+        }
+    }
+
+    /// Whether octets wait to be written to it.
+    fn waits(&self, relay: &Relay<FileDisk>, session: usize) -> bool
+        ensures { held_of self.now.channel ≡ [] → unwritten_at relay.now.clients session ≡ [] → result ≡ false }
+    {
+        self.channel.is_holding() || !relay.to_client(session).is_empty()
+    }
+
+    /// Whether something can be done with it at once.
+    pub(crate) fn is_ready(&self, relay: &Relay<FileDisk>, session: usize) -> bool
+        ensures { unread_of self.now.channel ≢ [] → held_of self.now.channel ≡ []
+            → unwritten_at relay.now.clients session ≡ [] → result ≡ true }
+    {
+        self.channel.is_ready(self.waits(relay, session))
+    }
+
+    /// Holds what waits for it back, where more of what was read is heard at this turn: what that leads to goes in the
+    /// same write. Where it is too much to be held, it is written at once as far as that goes.
+    fn hold(&mut self, relay: &mut Relay<FileDisk>, session: usize, timeout: u64, now: &Now) {
+        if self.channel.piece().is_empty() || !self.channel.hold(relay.to_client(session)) {
+            self.flush(relay, session, timeout, now);
+        } else {
+            let count = relay.to_client(session).len();
+            relay.wrote_to_client(session, count);
+            self.idle_deadline = now.behind(timeout);
+        }
+    }
+
+    /// Writes the replies that were held back, since what they tell of stands, though nothing comes behind them.
+    pub(crate) fn give_held(&mut self) {
+        let _none = self.channel.write(&[]);
+    }
+
+    /// Writes what waits, and reads a block where nothing waits any more and all of the last one is used. It tells what
+    /// becomes of the connection, unless there are octets for its session to hear.
+    pub(crate) fn read(
+        &mut self,
+        relay: &mut Relay<FileDisk>,
+        session: usize,
+        timeout: u64,
+        now: &Now,
+    ) -> Result<Option<Next>, NodeFault>
+        ensures fault { IfErr result (λ fault. fault ≡ NodeFault.Stopped) }
+    {
+        self.flush(relay, session, timeout, now);
+        if self.channel.end() == Some(End::Broken) {
+            return Ok(Some(drop_session(relay, session)?));
+        }
+        if self.waits(relay, session) {
+            return Ok(Some(Next::Stays));
+        }
+        if self.channel.fill() {
+            self.note_read(timeout, now);
+        }
+        if !self.channel.piece().is_empty() {
+            return Ok(None);
+        }
+        match self.channel.end() {
+            Some(_) => Ok(Some(end_session(relay, session)?)),
+            None => Ok(Some(Next::Stays)),
+        }
+    }
+
+    /// Whether it has octets for its session to hear, which may do so.
+    pub(crate) fn has_more(&self, relay: &Relay<FileDisk>, session: usize) -> bool {
+        !self.channel.piece().is_empty() && relay.to_client(session).is_empty()
+    }
+
+    /// A block was read.
+    fn note_read(&mut self, timeout: u64, now: &Now) {
+        let piece = self.channel.piece();
+        let is_first = self.unanswered == 0;
+        let has_line_end = piece.contains(&b'\n');
+        self.unanswered = self.unanswered.saturating_add(piece.len());
+        self.has_line_end = has_line_end || (self.has_line_end && !is_first);
+        if is_first {
+            self.idle_deadline = now.behind(timeout);
+        } else if self.unanswered >= PART_SIZE && self.has_line_end {
+            self.unanswered = 1;
+            self.has_line_end = false;
+            self.idle_deadline = now.behind(timeout);
+        }
+    }
+
+    /// Takes what its session has said to the octets that were read, and writes that at once as far as that goes, or
+    /// `holds` it back where more of them is heard at this turn.
+    pub(crate) fn answer(
+        &mut self,
+        relay: &mut Relay<FileDisk>,
+        session: usize,
+        heard: Result<Heard, NodeFault>,
+        holds: bool,
+        timeout: u64,
+        now: &Now,
+        intake: &mut Intake,
+        log: &mut Log<'_, Vec<u8>>,
+    ) -> Result<Next, NodeFault>
+        ensures fault { IfErr result (λ fault. fault ≡ NodeFault.Stopped) }
+    {
+        let Heard { used, change, last } = match heard {
+            Ok(heard) => heard,
+            Err(NodeFault::Stopped) => return Err(NodeFault::Stopped),
+            // The session is gone: there is no memory, or no number, for its mail.
+            Err(_) => {
+                self.give_held();
+                return Ok(Next::Gone);
+            }
+        };
+        self.channel.used(used);
+        if !relay.to_client(session).is_empty() {
+            self.unanswered = self.channel.piece().len();
+            self.has_line_end = false;
+        }
+        if let Some(number) = change {
+            self.session_deadline = now.behind(SESSION_SECONDS);
+            tell_accepted(relay, self.peer, number, log);
+        }
+        let replies = match &last {
+            Some(outbox) => outbox.as_slice(),
+            None => relay.to_client(session),
+        };
+        intake.was_full = intake.was_full || tells_full(replies);
+        match last {
+            Some(outbox) => return Ok(Next::Leaves(outbox)),
+            None if holds => self.hold(relay, session, timeout, now),
+            None => self.flush(relay, session, timeout, now),
+        }
+        Ok(Next::Stays)
+    }
+}
+
+/// Tells of the mail that was accepted as the message of a number.
+fn tell_accepted(
+    relay: &Relay<FileDisk>,
+    peer: SocketAddrV4,
+    number: u64,
+    log: &mut Log<'_, Vec<u8>>,
+) {
+    if let Some(message) = relay.node().message(number) {
+        log.accepted(peer, message);
+    }
+}
+
+/// Whether a line of these replies says that the spool is full.
+fn tells_full(replies: &[u8]) -> bool {
+    replies
+        .split(|octet| *octet == b'\n')
+        .any(|line| line.starts_with(SPOOL_FULL))
+}
+
+/// Ends the session of a client whose input has come to its end. What waits is still written.
+fn end_session(relay: &mut Relay<FileDisk>, session: usize) -> Result<Next, NodeFault>
+    ensures ends { EndsAlone session relay.old relay.new }
+    ensures next { IfOk result (LeavesWithAll relay.old session) }
+    ensures fault { IfErr result (λ fault. fault ≡ NodeFault.Stopped) }
+    ensures stopped { IfErr result (λ _. relay.old.node.records.spool.live ≡ false) }
+{
+    match relay.end_client(session) {
+        Ok(outbox) => Ok(Next::Leaves(outbox)),
+        Err(NodeFault::Stopped) => Err(NodeFault::Stopped),
+        Err(_) => Ok(Next::Gone),
+    }
+}
+
+/// Ends the session of a client whose connection is broken.
+pub(crate) fn drop_session(relay: &mut Relay<FileDisk>, session: usize) -> Result<Next, NodeFault>
+    ensures ends { EndsAlone session relay.old relay.new }
+    ensures next { IfOk result (λ next. next ≡ Next.Gone) }
+    ensures fault { IfErr result (λ fault. fault ≡ NodeFault.Stopped) }
+    ensures stopped { IfErr result (λ _. relay.old.node.records.spool.live ≡ false) }
+{
+    match relay.end_client(session) {
+        Err(NodeFault::Stopped) => Err(NodeFault::Stopped),
+        _ => Ok(Next::Gone),
+    }
+}
+
+/// Ends the session of a client that is late. It is told so where it has taken all that was written before; else it
+/// takes nothing, and is told nothing more.
+pub(crate) fn cut_off(
+    alloc: Global,
+    relay: &mut Relay<FileDisk>,
+    session: usize,
+) -> Result<Next, NodeFault>
+    ensures ends { EndsAlone session relay.old relay.new }
+    ensures next { IfOk result (IsCutOff relay.old session) }
+    ensures fault { IfErr result (λ fault. fault ≡ NodeFault.Stopped) }
+    ensures stopped { IfErr result (λ _. relay.old.node.records.spool.live ≡ false) }
+{
+    match relay.end_client(session) {
+        Ok(outbox) if outbox.is_empty() => Ok(farewell(alloc, relay)),
+        Err(NodeFault::Stopped) => Err(NodeFault::Stopped),
+        _ => Ok(Next::Gone),
+    }
+}
+
+/// The last octets of a client that is late.
+fn farewell(alloc: Global, relay: &Relay<FileDisk>) -> Next
+    ensures { IsTold relay.now.node.config.host result }
+{
+    match closing_line(alloc, &relay.node().config().host, Closing::Timeout) {
+        Ok(line) => Next::Leaves(Outbox::new(line)),
+        Err(_) => Next::Gone,
+    }
+}

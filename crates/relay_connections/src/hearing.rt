@@ -1,0 +1,121 @@
+//! What the sessions of clients hear at a turn, all in one call with the replies of next hops: the octets that were read
+//! of their own connections.
+ghost use Rattle.std.specs.Prelude.{◌≡◌, ◌<◌, All, IfErr, IfOk, IfSome, MatchOption, None, Some, map};
+ghost use Rattle.relay_slots.specs.Slots.{slot_at};
+ghost use Rattle.relay_connections.specs.Hearing.{HearOwn, IsOwn, hearing_from, session_of};
+
+use crate::client::Client;
+use crate::clocks::Now;
+use relay_disk::FileDisk;
+use relay_loop::{Answered, Group, Heard, Piece, Relay, ReplyPiece};
+use relay_node::{NodeFault, Noted};
+use relay_slots::SLOT_COUNT;
+use std::alloc::{AllocError, Global};
+
+/// What came of octets of a client.
+pub(crate) type Answer = Result<Heard, NodeFault>;
+
+/// The sessions that heard something in one call, and what came of that for each, in the same order; and what came of
+/// the replies that were used in the same call.
+#[derive(Drop)]
+pub(crate) struct Hearing {
+    pub(crate) sessions: Vec<usize>,
+    pub(crate) heard: Vec<Answer>,
+    pub(crate) replies: Replied,
+}
+
+/// What came of the replies of next hops that were used in one call with what clients had sent.
+#[derive(Drop)]
+pub struct Replied {
+    /// What came of each reply, in their order.
+    pub answered: Vec<Result<Answered, NodeFault>>,
+    /// A note of each change that the call has made, in the order of their numbers.
+    pub notes: Vec<Noted>,
+}
+
+/// Lets all sessions that have something to hear do so in one call, the first of them first, and behind them the
+/// attempts of next hops that have replied, so that the mail they bring and the outcomes of attempts come into the spool
+/// behind one pair of syncs. It answers nothing where no memory is left for that; nothing was heard then.
+pub(crate) fn hear_all(
+    alloc: Global,
+    clients: &[Option<Box<Client>>],
+    first: usize,
+    replies: &[ReplyPiece<'_>],
+    relay: &mut Relay<FileDisk>,
+    now: &Now,
+) -> Result<Option<Hearing>, NodeFault>
+    requires { first < 64 }
+    ensures own { IfOk result (λ hearing. IfSome hearing
+        (HearOwn clients.now first replies.now now.now.moment relay.old relay.new)) }
+    ensures fault { IfErr result (λ fault. fault ≡ NodeFault.Stopped) }
+{
+    let Ok(pieces) = pieces_of(alloc, clients, first) else {
+        return Ok(None);
+    };
+    let Ok(sessions) = sessions_of(alloc, pieces.as_slice()) else {
+        return Ok(None);
+    };
+    match relay.read_all(pieces.as_slice(), replies, now.moment) {
+        Ok(
+            Group {
+                heard,
+                answered,
+                notes,
+            },
+        ) => Ok(Some(Hearing {
+            sessions,
+            heard,
+            replies: Replied { answered, notes },
+        })),
+        Err(NodeFault::Stopped) => Err(NodeFault::Stopped),
+        Err(_) => Ok(None),
+    }
+}
+
+/// What was read of each client whose session has something to hear, the first of them first.
+fn pieces_of(
+    alloc: Global,
+    clients: &[Option<Box<Client>>],
+    first: usize,
+) -> Result<Vec<Piece<'_>>, AllocError>
+    requires { first < 64 }
+    ensures own { IfOk result (λ pieces. All (IsOwn clients.now) pieces.items) }
+    ensures each { IfOk result (λ pieces. map session_of pieces.items ≡ hearing_from clients.now first) }
+{
+    let mut pieces = Vec::new(alloc);
+    for step in 0..clients.len() {
+        let number = (first + step) % SLOT_COUNT;
+        if let Some(client) = client_at(clients, number) {
+            if client.hears {
+                pieces.push(Piece {
+                    session: number,
+                    octets: client.channel.piece(),
+                })?;
+            }
+        }
+    }
+    Ok(pieces)
+}
+
+/// The client of a number, where there is one.
+fn client_at(clients: &[Option<Box<Client>>], number: usize) -> Option<&Box<Client>>
+    ensures { MatchOption result (slot_at clients.now number ≡ None)
+        (λ client. slot_at clients.now number ≡ Some client.now) }
+{
+    match clients.get(number) {
+        Some(Some(client)) => Some(client),
+        Some(None) => None,
+        None => None,
+    }
+}
+
+/// The sessions that pieces are of.
+fn sessions_of(alloc: Global, pieces: &[Piece<'_>]) -> Result<Vec<usize>, AllocError>
+    ensures { IfOk result (λ sessions. sessions.items ≡ map session_of pieces.now) }
+{
+    let mut sessions = Vec::with_capacity(alloc, pieces.len())?;
+    for piece in pieces {
+        sessions.push(piece.session)?;
+    }
+    Ok(sessions)
+}

@@ -1,0 +1,209 @@
+//! Connections whose session or attempt has ended: their last octets are written, and what the peer still sends is
+//! read and dropped for a moment, since the system else resets the connection, and the last octets with it.
+ghost use Rattle.std.specs.Prelude.{◌≤◌};
+
+use crate::channel::{Channel, End, Readiness};
+use crate::clocks::Now;
+use crate::slot::{count, holds, put_back};
+use mio::Registry;
+use relay_loop::Outbox;
+use relay_slots::{SLOT_COUNT, Slots};
+use std::alloc::{AllocError, Global};
+
+/// How many seconds a connection is read behind its last octets.
+const DRAIN_SECONDS: u64 = 1;
+
+/// Where so many connections are leaving, one that had no session is closed at once.
+const MOST_STRANGERS: usize = SLOT_COUNT / 2;
+
+/// A connection that is leaving.
+struct Leaver {
+    channel: Channel,
+    /// The last octets, which wait to be written.
+    outbox: Outbox,
+    /// Whether they are written, and the peer was told that nothing more comes.
+    is_shut: bool,
+    /// The tick at which the connection is closed.
+    deadline: u64,
+}
+
+// Written out, so that what drops it calls this, and doesn't look into its connection.
+impl Drop for Leaver {
+    fn drop(self) {
+        let Leaver {
+            channel: _channel,
+            outbox: _outbox,
+            is_shut: _,
+            deadline: _,
+        } = self;
+    }
+}
+
+/// The connections that are leaving, up to 64.
+pub struct Leaving {
+    alloc: Global,
+    leavers: Slots<Box<Leaver>>,
+    /// How many seconds their last octets wait to be written.
+    seconds: u64,
+}
+
+// Written out, so that what drops them calls this, and doesn't look into each.
+impl Drop for Leaving {
+    fn drop(self) {
+        let Leaving {
+            alloc: _,
+            leavers: _leavers,
+            seconds: _,
+        } = self;
+    }
+}
+
+impl Leaving {
+    /// The token of the first of them; those of the others follow, in the order of their numbers.
+    pub const FIRST_TOKEN: usize = 2 * SLOT_COUNT;
+
+    /// None, whose last octets will wait for so many seconds at most. It fails where memory runs out.
+    pub fn new(alloc: Global, seconds: u64) -> Result<Self, AllocError> {
+        Ok(Leaving {
+            alloc,
+            leavers: Slots::new(alloc)?,
+            seconds,
+        })
+    }
+
+    /// Takes a connection with its last octets. They are written at once as far as they go. Where 64 are leaving
+    /// already, or no memory is left, it is closed behind that.
+    pub fn take(&mut self, registry: &Registry, channel: Channel, outbox: Outbox, now: &Now) {
+        let mut leaver = Leaver {
+            channel,
+            outbox,
+            is_shut: false,
+            deadline: now.behind(self.seconds),
+        };
+        leaver.write(now);
+        let Some(number) = self.leavers.free() else {
+            return;
+        };
+        let token = Leaving::FIRST_TOKEN.saturating_add(number);
+        if leaver.channel.register(registry, token).is_err() {
+            return;
+        }
+        if let Ok(leaver) = Box::new(self.alloc, leaver) {
+            self.leavers.put(number, leaver);
+        }
+    }
+
+    /// Whether a connection may be taken that had no session: so many of these at once leave room for others.
+    pub fn has_room_for_strangers(&self) -> bool {
+        count(self.leavers.as_slice()) < MOST_STRANGERS
+    }
+
+    /// Closes all connections.
+    pub fn clear(&mut self) {
+        for number in 0..SLOT_COUNT {
+            let _leaver = self.leavers.take(number);
+        }
+    }
+
+    /// The system tells what the connection of a number may be ready for.
+    pub fn note(&mut self, number: usize, ready: Readiness) {
+        if let Some(taken) = self.leavers.take(number) {
+            let mut leaver = taken;
+            leaver.channel.note(ready);
+            put_back(&mut self.leavers, number, leaver);
+        }
+    }
+
+    /// Serves each of them once: writes what goes, or reads a block and drops it. It tells how many were closed.
+    pub fn serve(&mut self, now: &Now) -> usize {
+        let mut closed: usize = 0;
+        for number in 0..SLOT_COUNT {
+            if holds(self.leavers.as_slice(), number) && !self.serve_one(number, now) {
+                closed = closed.saturating_add(1);
+            }
+        }
+        closed
+    }
+
+    /// Serves the connection of a number. It tells whether that stays.
+    fn serve_one(&mut self, number: usize, now: &Now) -> bool {
+        let Some(taken) = self.leavers.take(number) else {
+            return false;
+        };
+        let mut leaver = taken;
+        let stays = leaver.serve(now);
+        if stays {
+            put_back(&mut self.leavers, number, leaver);
+        }
+        stays
+    }
+
+    /// Whether one is left with something to be done at once.
+    pub fn is_ready(&self) -> bool {
+        for slot in self.leavers.as_slice() {
+            if let Some(leaver) = slot {
+                if leaver.channel.is_ready(!leaver.is_shut) {
+                    return true;
+                }
+            }
+        }
+        false
+    }
+
+    /// The tick at which the next of them is closed, or the given one where that is earlier.
+    pub fn next_deadline(&self, otherwise: u64) -> u64
+        ensures { result ≤ otherwise }
+    {
+        let mut next = otherwise;
+        for slot in self.leavers.as_slice() {
+            if let Some(leaver) = slot {
+                next = next.min(leaver.deadline);
+            }
+        }
+        next
+    }
+}
+
+impl Leaver {
+    /// Writes what goes, and tells the peer where that was all.
+    fn write(&mut self, now: &Now) {
+        if self.is_shut {
+            return;
+        }
+        let count = self.channel.write(self.outbox.as_slice());
+        if count <= self.outbox.as_slice().len() {
+            self.outbox.wrote(count);
+        }
+        if self.outbox.is_empty() && !self.channel.is_holding() {
+            self.channel.shut_down();
+            self.is_shut = true;
+            self.deadline = now.behind(DRAIN_SECONDS);
+        }
+    }
+
+    /// Writes what goes, or reads a block and drops it. It tells whether the connection stays.
+    fn serve(&mut self, now: &Now) -> bool {
+        self.write(now);
+        if self.is_shut {
+            self.drain();
+        }
+        let is_over = self.is_over();
+        let deadline = self.deadline;
+        !is_over && now.tick < deadline
+    }
+
+    fn drain(&mut self) {
+        self.channel.fill();
+        let count = self.channel.piece().len();
+        self.channel.used(count);
+    }
+
+    /// Whether nothing is left to be done: the connection is broken, or all was written and read.
+    fn is_over(&self) -> bool {
+        match self.channel.end() {
+            Some(End::Broken) => true,
+            Some(End::Input) => self.is_shut,
+            None => false,
+        }
+    }
+}

@@ -1,0 +1,4 @@
+pub mod Lanes
+pub mod Spares
+pub mod Readiness
+pub mod Phases

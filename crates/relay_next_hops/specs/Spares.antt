@@ -1,0 +1,7 @@
+-- Descriptors that are kept for attempts.
+use Rattle.std.specs.Prelude.{ℕ, vec_len}
+use Rattle.relay_next_hops.specs.declared.spares.Spares.{Spares}
+
+-- how many are kept
+abbrev pub held_of : Spares → ℕ
+held_of spares = vec_len spares.copies

@@ -1,0 +1,16 @@
+//! The next hops of a relay that stays up: the connections to them, what is due for them, and which of it may be begun.
+#![tactic(auto)]
+
+mod ending;
+mod hop;
+mod hops;
+mod lane;
+mod lanes;
+mod listing;
+mod next_hops;
+mod phase;
+mod spares;
+mod starting;
+
+pub use next_hops::NextHops;
+pub use spares::Spares;

@@ -1,0 +1,158 @@
+ghost use Rattle.std.specs.Prelude.{◌≡◌, ◌≤◌, ℕ, IfOk, true};
+ghost use Rattle.relay_slots.specs.Slots.{AreFree};
+ghost use Rattle.relay_next_hops.specs.Lanes.{next_due_of};
+ghost use Rattle.relay_next_hops.specs.Readiness.{IsLeftHop, hops_of};
+
+use crate::hops::Hops;
+use crate::lanes::Lanes;
+use crate::spares::Spares;
+use crate::starting::{Starts, give_up_next, start_tasks};
+use mio::Registry;
+use relay_connections::{Leaving, Now, Readiness, Replied};
+use relay_disk::FileDisk;
+use relay_limits::Limits;
+use relay_log::Log;
+use relay_loop::{Relay, ReplyPiece};
+use relay_service::Fault;
+use std::alloc::{AllocError, Global};
+use std::net::Net;
+use std::rt::Clock;
+
+/// The connections to next hops, up to 64, and what is due for them.
+pub struct NextHops {
+    hops: Hops,
+    lanes: Lanes,
+    starts: Starts,
+}
+
+// Written out, so that what drops them calls this, and doesn't look into each.
+impl Drop for NextHops {
+    fn drop(self) {
+        let NextHops {
+            hops: _hops,
+            lanes: _lanes,
+            starts: _,
+        } = self;
+    }
+}
+
+impl NextHops {
+    /// The token of the first connection; those of the others follow, in the order of their numbers.
+    pub const FIRST_TOKEN: usize = Hops::FIRST_TOKEN;
+
+    /// No connection, and nothing that is due is listed yet; within these limits. It fails where memory runs out.
+    pub fn new(alloc: Global, limits: &Limits) -> Result<Self, AllocError>
+        ensures { IfOk result (λ next_hops. AreFree (hops_of next_hops)) }
+    {
+        Ok(NextHops {
+            hops: Hops::new(alloc)?,
+            lanes: Lanes::new(alloc, usize::from(limits.attempts_per_hop)),
+            starts: Starts::new(),
+        })
+    }
+
+    /// The same without a connection and with nothing listed, for a relay that is opened again.
+    pub fn renewed(self) -> Self {
+        let NextHops {
+            hops,
+            lanes,
+            starts,
+        } = self;
+        let mut hops = hops;
+        hops.clear();
+        NextHops {
+            hops,
+            lanes: lanes.renewed(),
+            starts,
+        }
+    }
+
+    /// The system tells what the connection of a number may be ready for.
+    pub fn note(&mut self, number: usize, ready: Readiness) {
+        self.hops.note(number, ready);
+    }
+
+    /// Attends to each connection once, each time beginning with another: makes it, writes what waits, or reads a block
+    /// that its attempt may hear then. Where so many were lost that clients are to have their turn, it goes on behind
+    /// these the next time. It tells whether one was closed. Only a device that failed is a fault.
+    pub fn attend(
+        &mut self,
+        registry: &Registry,
+        relay: &mut Relay<FileDisk>,
+        leaving: &mut Leaving,
+        now: &Now,
+        log: &mut Log<'_, Vec<u8>>,
+    ) -> Result<bool, Fault> {
+        self.hops
+            .attend(registry, relay, &mut self.lanes, leaving, now, log)
+    }
+
+    /// What was read of each next hop whose attempt may hear it. It fails where memory runs out.
+    pub fn replies(&self) -> Result<Vec<ReplyPiece<'_>>, AllocError> {
+        self.hops.replies()
+    }
+
+    /// Takes what came of those replies, in their order, and writes what they lead to as far as that goes at once. Where
+    /// no memory was left to hear them, the first of them is lost. It tells whether a connection was closed. Only a
+    /// device that failed is a fault.
+    pub fn answer(
+        &mut self,
+        replied: Option<Replied>,
+        registry: &Registry,
+        relay: &mut Relay<FileDisk>,
+        leaving: &mut Leaving,
+        now: &Now,
+        log: &mut Log<'_, Vec<u8>>,
+    ) -> Result<bool, Fault> {
+        self.hops.answer(replied, registry, relay, &mut self.lanes, leaving, now, log)
+    }
+
+    /// Begins what is due and may be begun, with the descriptors that are kept for that, and gives the places of one
+    /// message up that have no next hop. It tells whether it did that. Only a device that failed is a fault.
+    pub fn begin<R: Clock + Net>(
+        &mut self,
+        rt: &R,
+        registry: &Registry,
+        relay: &mut Relay<FileDisk>,
+        spares: &mut Spares,
+        now: &Now,
+        log: &mut Log<'_, Vec<u8>>,
+    ) -> Result<bool, Fault> {
+        self.lanes.refresh(rt, relay, &self.hops, now)?;
+        let gave_up = give_up_next(relay, &mut self.lanes, now, log)?;
+        start_tasks(
+            rt,
+            registry,
+            relay,
+            &mut self.hops,
+            &mut self.lanes,
+            spares,
+            &mut self.starts,
+            now,
+            log,
+        )?;
+        self.lanes.look_ahead(relay, &self.hops, now)?;
+        Ok(gave_up)
+    }
+
+    /// Whether something can be done at once.
+    pub fn is_ready(&self, relay: &Relay<FileDisk>) -> bool
+        ensures { (number : ℕ) → IsLeftHop (hops_of self.now) relay.now number → result ≡ true }
+    {
+        if self.hops.is_ready(relay) {
+            return true;
+        }
+        self.lanes.is_ready()
+    }
+
+    /// The tick at which something is to be done, or the given one where that is earlier. It is never later than the
+    /// tick at which the node has told that work may start.
+    pub fn next_deadline(&self, otherwise: u64) -> u64
+        ensures otherwise { result ≤ otherwise }
+        ensures due { result ≤ next_due_of self.now }
+    {
+        let next = self.hops.next_deadline(otherwise);
+        let next = self.starts.next_deadline(&self.hops, &self.lanes, next);
+        self.lanes.next_deadline(next)
+    }
+}

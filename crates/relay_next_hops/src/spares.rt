@@ -1,0 +1,61 @@
+//! Descriptors that are kept for attempts, so that clients can't take all that there are.
+ghost use Rattle.std.specs.Prelude.{◌≡◌, ◌-◌, ◌↔◌, ◌≤◌, ◌<◌, IfOk, IsTrue};
+ghost use Rattle.relay_next_hops.specs.Spares.{held_of};
+ghost use Rattle.relay_next_hops.specs.declared.spares.TheConstants.{SPARE_COUNT};
+
+use std::alloc::{AllocError, Global};
+use std::fs::File;
+
+/// How many descriptors are kept.
+const SPARE_COUNT: usize = 4;
+
+/// Copies of an open file, each of which keeps a descriptor: four, where the system has them.
+pub struct Spares {
+    file: File,
+    copies: Vec<File>,
+}
+
+// Written out, so that what drops them calls this, and doesn't look into each.
+impl Drop for Spares {
+    fn drop(self) {
+        let Spares {
+            file: _file,
+            copies: _copies,
+        } = self;
+    }
+}
+
+impl Spares {
+    /// None are kept yet; they will be copies of this file. It fails where memory runs out.
+    pub fn new(alloc: Global, file: File) -> Result<Self, AllocError>
+        ensures { IfOk result (λ spares. held_of spares ≡ 0) }
+    {
+        Ok(Spares {
+            file,
+            copies: Vec::with_capacity(alloc, SPARE_COUNT)?,
+        })
+    }
+
+    /// Takes descriptors until all are kept, and tells whether they are: a client may be taken only then.
+    pub fn fill(&mut self) -> bool
+        ensures { IsTrue result ↔ (SPARE_COUNT ≤ held_of self.new) }
+    {
+        for _ in self.copies.len()..SPARE_COUNT {
+            match self.file.try_clone() {
+                Ok(copy) => {
+                    let _ = self.copies.push(copy);
+                }
+                Err(_) => break,
+            }
+        }
+        SPARE_COUNT <= self.copies.len()
+    }
+
+    /// Gives one up, and tells whether there was one.
+    pub(crate) fn give(&mut self) -> bool
+        ensures given { IsTrue result ↔ (0 < held_of self.old) }
+        ensures fewer { held_of self.new ≡ held_of self.old - 1 }
+    {
+        self.copies.pop().is_some()
+    }
+}

@@ -1,0 +1,119 @@
+//! The turns of a relay: each waits for what the system tells, and does at once what can be done then.
+ghost use Rattle.std.specs.Prelude.{IfOk};
+
+use crate::shell::Shell;
+use mio::{Events, Poll};
+use relay_connections::Now;
+use relay_log::Log;
+use relay_service::Fault;
+use std::alloc::Global;
+use std::io::Write;
+use std::net::Net;
+use std::rt::Clock;
+use std::time::Duration;
+
+/// Serves without an end.
+pub(crate) fn serve<R: Clock + Net, E: Write>(
+    alloc: Global,
+    rt: &R,
+    poll: Poll,
+    events: Events,
+    shell: Shell,
+    quiet: bool,
+    errors: &mut E,
+) -> Result<(), Fault>
+    ensures { IfOk result (λ _. ⊥) }
+{
+    let mut poll = poll;
+    let mut events = events;
+    let mut shell = shell;
+    let mut lines = Vec::new(alloc);
+    for _ in 0..u64::MAX {
+        wait(rt, &mut poll, &mut events, &mut shell);
+        let end = take_turn(alloc, rt, &poll, &mut shell, quiet, &mut lines, errors);
+        shell = behind_turn(alloc, rt, shell, end, quiet, errors)?;
+    }
+    // So many turns are never done.
+    Err(Fault::Socket)
+}
+
+/// Waits for the system to tell of something, no longer than there is nothing else to be done.
+fn wait<R: Clock>(rt: &R, poll: &mut Poll, events: &mut Events, shell: &mut Shell) {
+    let wait = Duration::from_millis(shell.wait(&Now::of(rt)));
+    // A wait that fails tells of nothing, and the clocks go on.
+    let _ = poll.poll(events, Some(wait));
+    shell.note_events(events);
+}
+
+/// The relay behind a turn that has come to this end: where its device has failed, it is opened again.
+fn behind_turn<R: Clock, E: Write>(
+    alloc: Global,
+    rt: &R,
+    shell: Shell,
+    end: Result<(), Fault>,
+    quiet: bool,
+    errors: &mut E,
+) -> Result<Shell, Fault> {
+    match end {
+        Ok(()) => Ok(shell),
+        Err(Fault::Device) => shell.reopened(alloc, rt, quiet, errors),
+        Err(fault) => Err(fault),
+    }
+}
+
+/// A turn, whose lines of the log are written then; and what keeps the spool small behind it, which may take a while,
+/// and so comes when those lines are out.
+fn take_turn<R: Clock + Net, E: Write>(
+    alloc: Global,
+    rt: &R,
+    poll: &Poll,
+    shell: &mut Shell,
+    quiet: bool,
+    lines: &mut Vec<u8>,
+    errors: &mut E,
+) -> Result<(), Fault> {
+    let now = Now::of(rt);
+    let end = serve_all(alloc, rt, poll, shell, &now, quiet, lines);
+    hand_out(lines, errors);
+    end?;
+    let end = tidy(alloc, shell, &now, quiet, lines);
+    hand_out(lines, errors);
+    end
+}
+
+/// Serves all connections once, and gathers the lines of the log.
+fn serve_all<R: Clock + Net>(
+    alloc: Global,
+    rt: &R,
+    poll: &Poll,
+    shell: &mut Shell,
+    now: &Now,
+    quiet: bool,
+    lines: &mut Vec<u8>,
+) -> Result<(), Fault> {
+    let mut log = Log::stamped(alloc, lines, !quiet, now.moment);
+    shell.turn(rt, poll.registry(), now, &mut log)
+}
+
+/// Writes the spool anew where that is due, and gathers the lines of the log.
+fn tidy(
+    alloc: Global,
+    shell: &mut Shell,
+    now: &Now,
+    quiet: bool,
+    lines: &mut Vec<u8>,
+) -> Result<(), Fault> {
+    let mut log = Log::stamped(alloc, lines, !quiet, now.moment);
+    shell.tidy(now, &mut log)
+}
+
+/// Writes the lines of a turn in one write, if there are any.
+fn hand_out<E: Write>(lines: &mut Vec<u8>, errors: &mut E) {
+    if lines.is_empty() {
+        return;
+    }
+    // Nothing is left to do where they can't be written.
+    let _ = errors.write_all(lines.as_slice());
+    let _ = errors.flush();
+    lines.clear();
+}
