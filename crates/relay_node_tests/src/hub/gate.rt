@@ -2,7 +2,7 @@
 //! thread of its own, and where no lock is held through a session.
 use crate::hub::mail::{BACK, FRONT, count_lines};
 use crate::hub::setup::{CLIENT, config_with, empty_node, run};
-use relay_hub::Link;
+use relay_rounds::Link;
 use std::alloc::Global;
 use std::io::{self, Read, Write};
 use std::sync::Wait;

@@ -3,9 +3,9 @@
 //! contracts.
 use crate::hub::mail::{COMMANDS, text_of};
 use relay_disk::{Disks, MemoryDisk};
-use relay_hub::{Ended, Link, NotBegun, round};
 use relay_links::{LinkFault, Pushed, push_link, serve_link};
 use relay_node::{Node, NodeFault, Work};
+use relay_rounds::{Ended, Link, NotBegun, round};
 use relay_routes::{Config, HostName};
 use relay_trace::Moment;
 use std::alloc::Global;

@@ -1,7 +1,7 @@
 //! A relay over memory at the first moment. Each call of it stands here alone, in a function without clauses: what
 //! calls these sees none of their contracts.
 use relay_disk::{Disks, MemoryDisk};
-use relay_loop::{Answered, Group, Heard, Outbox, Piece, Relay};
+use relay_loop::{Answered, Group, Heard, Outbox, Piece, Relay, ReplyPiece};
 use relay_node::{Node, NodeFault, Work};
 use relay_routes::{Config, HostName};
 use relay_trace::Moment;
@@ -80,8 +80,12 @@ pub(crate) fn read(
     relay.read(session, piece, first_moment())
 }
 
-pub(crate) fn read_all(relay: &mut MemoryRelay, pieces: &[Piece<'_>]) -> Result<Group, NodeFault> {
-    relay.read_all(pieces, first_moment())
+pub(crate) fn read_all(
+    relay: &mut MemoryRelay,
+    pieces: &[Piece<'_>],
+    replies: &[ReplyPiece<'_>],
+) -> Result<Group, NodeFault> {
+    relay.read_all(pieces, replies, first_moment())
 }
 
 pub(crate) fn end_client(relay: &mut MemoryRelay, session: usize) -> Result<Outbox, NodeFault> {

@@ -7,7 +7,7 @@
 //!   answered;
 //! - `read CLIENT OCTETS`: octets of a client are heard once, whatever waits for it; how many were used is answered,
 //!   and the change;
-//! - `group CLIENT OCTETS | CLIENT OCTETS ..`: the same of several clients at once;
+//! - `group CLIENT OCTETS | hop ATTEMPT OCTETS ..`: the same of several clients and next hops at once;
 //! - `waits CLIENT`: what waits for a client; `end CLIENT`: a client ends, and what waited for it is answered;
 //! - `begin`: the attempt for the one message that is due begins, and its number is answered;
 //! - `hop ATTEMPT OCTETS`: a next hop reads what waits for it and says these octets, one by one; what it was told is
@@ -20,7 +20,7 @@ use crate::scenes::setup::{
     MemoryRelay, accept, begin, count_changes, count_held, end_client, lose, read, read_all, reply,
 };
 use crate::scenes::talk::{Client, client_says, hop_says};
-use relay_loop::{Answered, Closing, Heard, Outbox, Piece, closing_line};
+use relay_loop::{Answered, Closing, Group, Heard, Outbox, Piece, ReplyPiece, closing_line};
 use relay_node::NodeFault;
 use std::alloc::{AllocError, Global};
 use std::test::Fail;
@@ -120,14 +120,28 @@ fn told_text(alloc: Global, clients: &[Client]) -> Result<String, AllocError> {
     Ok(text)
 }
 
+/// Whether these are octets of a next hop, of which connection they are, and the octets.
+fn read_part(alloc: Global, part: &str) -> Result<(bool, Client), Fail> {
+    let (is_hop, rest) = match part.split_once(' ') {
+        Some(("hop", rest)) => (true, rest),
+        _ => (false, part),
+    };
+    let (number, octets) = rest.split_once(' ').unwrap_or((rest, ""));
+    let session = number_in(number);
+    let octets = octets_of(alloc, octets)?;
+    Ok((is_hop, Client { session, octets }))
+}
+
 fn hear_group(alloc: Global, relay: &mut MemoryRelay, rest: &str) -> Result<String, Fail> {
     let mut clients: Vec<Client> = Vec::new(alloc);
+    let mut hops: Vec<Client> = Vec::new(alloc);
     for part in rest.split(" | ") {
-        let (number, octets) = part.split_once(' ').unwrap_or((part, ""));
-        clients.push(Client {
-            session: number_in(number),
-            octets: octets_of(alloc, octets)?,
-        })?;
+        let (is_hop, said) = read_part(alloc, part)?;
+        if is_hop {
+            hops.push(said)?;
+        } else {
+            clients.push(said)?;
+        }
     }
     let mut pieces = Vec::new(alloc);
     for client in clients.as_slice() {
@@ -136,24 +150,31 @@ fn hear_group(alloc: Global, relay: &mut MemoryRelay, rest: &str) -> Result<Stri
             octets: client.octets.as_slice(),
         })?;
     }
-    match read_all(relay, pieces.as_slice()) {
-        Ok(group) => Ok(group_text(alloc, group.heard.as_slice(), group.notes.len())?),
+    let mut replies = Vec::new(alloc);
+    for hop in hops.as_slice() {
+        replies.push(ReplyPiece {
+            attempt: hop.session,
+            octets: hop.octets.as_slice(),
+        })?;
+    }
+    match read_all(relay, pieces.as_slice(), replies.as_slice()) {
+        Ok(group) => Ok(group_text(alloc, &group)?),
         Err(fault) => Ok(format!(in alloc; "{fault}")?),
     }
 }
 
-/// What came of each piece of a group, and how many notes there are.
-fn group_text(
-    alloc: Global,
-    heard: &[Result<Heard, NodeFault>],
-    notes: usize,
-) -> Result<String, AllocError> {
+/// What came of each piece of a group, and of each reply, and how many notes there are.
+fn group_text(alloc: Global, group: &Group) -> Result<String, AllocError> {
     let mut text = String::new(alloc);
-    for answer in heard {
+    for answer in group.heard.as_slice() {
         text.push_str(heard_text(alloc, answer)?.as_str())?;
         text.push_str(" | ")?;
     }
-    write!(text, "notes {notes}")?;
+    for answer in group.answered.as_slice() {
+        text.push_str(answered_text(alloc, answer)?.as_str())?;
+        text.push_str(" | ")?;
+    }
+    write!(text, "notes {}", group.notes.len())?;
     Ok(text)
 }
 

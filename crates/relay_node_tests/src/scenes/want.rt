@@ -38,7 +38,7 @@ pub(crate) fn three_at_once(alloc: Global) -> Result<Came, Fail> {
         period_of(&clients[1]),
         period_of(&clients[2]),
     ];
-    let group = match read_all(&mut relay, &pieces) {
+    let group = match read_all(&mut relay, &pieces, &[]) {
         Ok(group) => group,
         Err(NodeFault::NoMemory) => return Ok(Came::NotBegun),
         Err(NodeFault::Stopped) => return Ok(Came::Stopped),
