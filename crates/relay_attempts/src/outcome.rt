@@ -50,9 +50,9 @@ pub(crate) fn add_outcome<D: Disk>(
     records.add(alloc, change, octets, used)
 }
 
-/// Stages an outcome of a queued message behind the changes of a row, with the report that is due of it by this host, in
-/// one change; what its report says doesn't count. The answer is its number, and `used` is how many octets of its piece
-/// the call had used. No device is called.
+/// Stages an outcome of a queued message behind the changes of a row, with the report that is due of it by this host,
+/// in one change; what its report says doesn't count. The answer is its number, and `used` is how many octets of its
+/// piece the call had used. No device is called.
 ///
 /// `NoMemory` leaves records and row as they were, and so does `Full`, where changes have no numbers any more or the
 /// spool would pass 2^40 octets with the row.
