@@ -397,7 +397,7 @@ def tell_workers(bench, packages):
 
 def tell_run(bench, packages):
     """What `run` takes beside `serve` with as many workers and the others; and what it hands on meanwhile."""
-    for sessions, count in ((1, 500), (8, 100), (64, 25)):
+    for sessions, count in ((1, 2000), (8, 100), (64, 25)):
         serve = {f"serve --workers {sessions}": lambda: bench.side_by_side(sessions, count, 1024)[0]}
         tell_side_by_side(f"run: messages of 1 KiB at {sessions} kept sessions", sessions * count,
                           lambda: bench.run_side_by_side(sessions, count, 1024),

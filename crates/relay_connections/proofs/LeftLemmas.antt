@@ -43,8 +43,8 @@ value_or other (Some value) = value
 pub same_value : {A : Type 0} (one other : A) → Some one ≡ Some other → one ≡ other
 same_value one other same = ap (value_or one) same
 
--- of two tables that are the same, what stands in one stands in the other
-pub some_there : {A : Type 0} (slots others : List (Option A)) (number : ℕ) (value : A) → slots ≡ others → slot_at others number ≡ Some value → slot_at slots number ≢ None
-some_there slots others number value same there none = absurd (some_not_none (sym there ∙ ap (λ table. slot_at table number) (sym same) ∙ none)) where
+-- where the same stands under a number in two tables, and something in one, so it does in the other
+pub some_there : {A : Type 0} (slots others : List (Option A)) (number : ℕ) (value : A) → slot_at slots number ≡ slot_at others number → slot_at others number ≡ Some value → slot_at slots number ≢ None
+some_there slots others number value same there none = absurd (some_not_none (sym there ∙ sym same ∙ none)) where
   some_not_none : {A : Type 0} {value : A} → Some value ≡ None → ⊥
   some_not_none e = absurd (cc e)

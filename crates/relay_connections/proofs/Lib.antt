@@ -1,4 +1,5 @@
 mod BlockLemmas
 mod HearingLemmas
 mod LeftLemmas
+mod TableLemmas
 pub mod Theorems

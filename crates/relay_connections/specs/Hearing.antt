@@ -26,14 +26,14 @@ hears (Some client) = client.value.hears
 abbrev pub hears_at : List (Option (Box Client Global)) → ℕ → Bool
 hears_at clients number = hears (slot_at clients number)
 
--- so many numbers of slots, one behind another from this one on, and 0 behind 63
-abbrev pub turned : ℕ → ℕ → List ℕ
-turned number zero = []
-turned number (suc count) = number % 64 ∷ turned (number + 1) count
+-- so many numbers of slots, of which there are this many: one behind another from this one on, and 0 behind the last
+abbrev pub turned : ℕ → ℕ → ℕ → List ℕ
+turned slots number zero = []
+turned slots number (suc count) = number % slots ∷ turned slots (number + 1) count
 
 -- the numbers of all clients that have something to hear, from the first one on
 abbrev pub hearing_from : List (Option (Box Client Global)) → ℕ → List ℕ
-hearing_from clients first = filter (hears_at clients) (turned first (length clients))
+hearing_from clients first = filter (hears_at clients) (turned (length clients) first (length clients))
 
 -- a piece is all that was read of its own session's client, and isn't used yet
 pub record IsOwn (clients : List (Option (Box Client Global))) (piece : Piece) : Type 0 where

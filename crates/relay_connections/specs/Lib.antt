@@ -1,3 +1,4 @@
+pub mod Table
 pub mod Channel
 pub mod Sessions
 pub mod Readiness

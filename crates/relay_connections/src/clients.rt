@@ -7,7 +7,7 @@ use crate::client::{Client, Intake, Next, cut_off, drop_session};
 use crate::clocks::Now;
 use crate::hearing::{Answer, Hearing, Replied, hear_all};
 use crate::leaving::Leaving;
-use crate::slot::{count, holds, put_back};
+use crate::table::{Table, holds, turned};
 use mio::Registry;
 use mio::net::TcpStream;
 use relay_disk::FileDisk;
@@ -15,7 +15,7 @@ use relay_limits::Limits;
 use relay_log::Log;
 use relay_loop::{Relay, ReplyPiece};
 use relay_node::NodeFault;
-use relay_slots::{SLOT_COUNT, Slots};
+use relay_slots::SLOT_COUNT;
 use std::alloc::{AllocError, Global};
 use std::net::{Ipv4Addr, SocketAddrV4};
 
@@ -23,7 +23,7 @@ use std::net::{Ipv4Addr, SocketAddrV4};
 pub struct Clients {
     alloc: Global,
     // In boxes, so that a walk over the slots touches little memory, and a client isn't copied where it is taken out.
-    clients: Slots<Box<Client>>,
+    clients: Table<Box<Client>>,
     /// The most of one address.
     most: usize,
     /// How many seconds one may be idle.
@@ -52,7 +52,7 @@ impl Clients {
     {
         Ok(Clients {
             alloc,
-            clients: Slots::new(alloc)?,
+            clients: Table::new(alloc)?,
             most: usize::from(limits.sessions_per_client),
             timeout: u64::from(limits.client_timeout),
             first: 0,
@@ -62,14 +62,14 @@ impl Clients {
     /// Whether there is room for one more at this address: fewer than 64 stand, and at this address fewer than may.
     pub fn has_room(&self, address: Ipv4Addr) -> bool {
         let mut alike: usize = 0;
-        for slot in self.clients.as_slice() {
+        for slot in self.clients.standing() {
             if let Some(client) = slot {
                 if client.peer.ip().octets() == address.octets() {
                     alike = alike.saturating_add(1);
                 }
             }
         }
-        alike < self.most && count(self.clients.as_slice()) < SLOT_COUNT
+        alike < self.most && self.clients.count() < SLOT_COUNT
     }
 
     /// Opens a session for a client, and greets it. Where the system or the node has no room for it, it is closed
@@ -102,7 +102,7 @@ impl Clients {
             return Ok(());
         };
         client.flush(relay, session, self.timeout, now);
-        put_back(&mut self.clients, session, client);
+        self.clients.put(session, client);
         Ok(())
     }
 
@@ -111,7 +111,7 @@ impl Clients {
         if let Some(taken) = self.clients.take(number) {
             let mut client = taken;
             client.channel.note(ready);
-            put_back(&mut self.clients, number, client);
+            self.clients.put(number, client);
         }
     }
 
@@ -128,9 +128,9 @@ impl Clients {
     /// Serves each of them once, each time beginning with another: first a block is read of each that has nothing to be
     /// written, and then their sessions hear what was read, all in one call. What stands behind a message in the same
     /// block is heard in a second one, since clients send the commands of the next message with it (RFC 2920), and what
-    /// both lead to goes out in one write. Attempts hear the replies of their next hops in the first of these calls, and
-    /// what came of them comes back, unless no memory was left for that: then nothing was heard. Only a device that failed
-    /// is a fault.
+    /// both lead to goes out in one write. Attempts hear the replies of their next hops in the first of these calls,
+    /// and what came of them comes back, unless no memory was left for that: then nothing was heard. Only a device
+    /// that failed is a fault.
     pub fn serve(
         &mut self,
         registry: &Registry,
@@ -147,14 +147,15 @@ impl Clients {
             closed: false,
         };
         let mut hears = false;
-        for step in 0..SLOT_COUNT {
-            let number = self.nth(step);
-            if holds(self.clients.as_slice(), number) {
+        let count = self.clients.standing().len();
+        for step in 0..count {
+            let number = turned(self.first, step, count);
+            if holds(self.clients.standing(), number) {
                 hears |= self.read_one(number, registry, relay, leaving, now, &mut intake, log)?;
             }
         }
         if !hears && replies.is_empty() {
-            self.first = self.nth(1);
+            self.first = turned(self.first, 1, SLOT_COUNT);
             return Ok((intake, None));
         }
         let (hears, replied) = self.hear(
@@ -170,7 +171,7 @@ impl Clients {
         if hears {
             let _none = self.hear(false, registry, relay, &[], leaving, now, &mut intake, log)?;
         }
-        self.first = self.nth(1);
+        self.first = turned(self.first, 1, SLOT_COUNT);
         Ok((intake, replied))
     }
 
@@ -189,14 +190,15 @@ impl Clients {
     ) -> Result<(bool, Option<Replied>), NodeFault>
         ensures fault { IfErr result (λ fault. fault ≡ NodeFault.Stopped) }
     {
-        let clients = self.clients.as_slice();
+        let clients = self.clients.standing();
+        let first = turned(self.first, 0, SLOT_COUNT);
         let Some(
             Hearing {
                 sessions,
                 heard,
                 replies,
             },
-        ) = hear_all(self.alloc, clients, self.nth(0), replies, relay, now)?
+        ) = hear_all(self.alloc, clients, first, replies, relay, now)?
         else {
             self.give_one_up(relay, intake)?;
             return Ok((false, None));
@@ -208,13 +210,6 @@ impl Clients {
             )?;
         }
         Ok((hears, Some(replies)))
-    }
-
-    /// The number that is served so many places behind the first.
-    fn nth(&self, step: usize) -> usize
-        ensures { result < 64 }
-    {
-        self.first.saturating_add(step) % SLOT_COUNT
     }
 
     /// Reads of the client of a number. It tells whether its session has something to hear.
@@ -237,7 +232,7 @@ impl Clients {
         let next = client.read(relay, number, self.timeout, now)?;
         client.hears = next.is_none();
         let Some(next) = next else {
-            put_back(&mut self.clients, number, client);
+            self.clients.put(number, client);
             return Ok(true);
         };
         self.settle(
@@ -282,9 +277,10 @@ impl Clients {
     ) -> Result<(), NodeFault>
         ensures fault { IfErr result (λ fault. fault ≡ NodeFault.Stopped) }
     {
-        for step in 0..SLOT_COUNT {
-            let number = self.nth(step);
-            match self.clients.as_slice().get(number) {
+        let count = self.clients.standing().len();
+        for step in 0..count {
+            let number = turned(self.first, step, count);
+            match self.clients.standing().get(number) {
                 Some(Some(client)) if client.hears => {
                     let _client = self.clients.take(number);
                     let _gone = drop_session(relay, number)?;
@@ -325,7 +321,7 @@ impl Clients {
             next => next,
         };
         match next {
-            Next::Stays => put_back(&mut self.clients, number, client),
+            Next::Stays => self.clients.put(number, client),
             Next::Leaves(outbox) => {
                 let channel = Box::into_inner(client).into_channel();
                 leaving.take(registry, channel, outbox, now);
@@ -339,7 +335,7 @@ impl Clients {
     pub fn is_ready(&self, relay: &Relay<FileDisk>) -> bool
         ensures { (number : ℕ) → IsLeftClient (clients_of self.now) relay.now number → result ≡ true }
     {
-        for (number, slot) in self.clients.as_slice().iter().enumerate() {
+        for (number, slot) in self.clients.standing().iter().enumerate() {
             if let Some(client) = slot {
                 if client.is_ready(relay, number) {
                     return true;
@@ -354,7 +350,7 @@ impl Clients {
         ensures { result ≤ otherwise }
     {
         let mut next = otherwise;
-        for slot in self.clients.as_slice() {
+        for slot in self.clients.standing() {
             if let Some(client) = slot {
                 next = next.min(client.deadline());
             }

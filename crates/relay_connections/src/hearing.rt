@@ -1,5 +1,5 @@
-//! What the sessions of clients hear at a turn, all in one call with the replies of next hops: the octets that were read
-//! of their own connections.
+//! What the sessions of clients hear at a turn, all in one call with the replies of next hops: the octets that were
+//! read of their own connections.
 ghost use Rattle.std.specs.Prelude.{◌≡◌, ◌<◌, All, IfErr, IfOk, IfSome, MatchOption, None, Some, map};
 ghost use Rattle.relay_slots.specs.Slots.{slot_at};
 ghost use Rattle.relay_connections.specs.Hearing.{HearOwn, IsOwn, hearing_from, session_of};
@@ -9,7 +9,6 @@ use crate::clocks::Now;
 use relay_disk::FileDisk;
 use relay_loop::{Answered, Group, Heard, Piece, Relay, ReplyPiece};
 use relay_node::{NodeFault, Noted};
-use relay_slots::SLOT_COUNT;
 use std::alloc::{AllocError, Global};
 
 /// What came of octets of a client.
@@ -34,8 +33,8 @@ pub struct Replied {
 }
 
 /// Lets all sessions that have something to hear do so in one call, the first of them first, and behind them the
-/// attempts of next hops that have replied, so that the mail they bring and the outcomes of attempts come into the spool
-/// behind one pair of syncs. It answers nothing where no memory is left for that; nothing was heard then.
+/// attempts of next hops that have replied, so that the mail they bring and the outcomes of attempts come into the
+/// spool behind one pair of syncs. It answers nothing where no memory is left for that; nothing was heard then.
 pub(crate) fn hear_all(
     alloc: Global,
     clients: &[Option<Box<Client>>],
@@ -84,7 +83,7 @@ fn pieces_of(
 {
     let mut pieces = Vec::new(alloc);
     for step in 0..clients.len() {
-        let number = (first + step) % SLOT_COUNT;
+        let number = (first + step) % clients.len();
         if let Some(client) = client_at(clients, number) {
             if client.hears {
                 pieces.push(Piece {

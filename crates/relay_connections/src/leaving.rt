@@ -4,10 +4,10 @@ ghost use Rattle.std.specs.Prelude.{◌≤◌};
 
 use crate::channel::{Channel, End, Readiness};
 use crate::clocks::Now;
-use crate::slot::{count, holds, put_back};
+use crate::table::{Table, holds};
 use mio::Registry;
 use relay_loop::Outbox;
-use relay_slots::{SLOT_COUNT, Slots};
+use relay_slots::SLOT_COUNT;
 use std::alloc::{AllocError, Global};
 
 /// How many seconds a connection is read behind its last octets.
@@ -42,7 +42,7 @@ impl Drop for Leaver {
 /// The connections that are leaving, up to 64.
 pub struct Leaving {
     alloc: Global,
-    leavers: Slots<Box<Leaver>>,
+    leavers: Table<Box<Leaver>>,
     /// How many seconds their last octets wait to be written.
     seconds: u64,
 }
@@ -66,7 +66,7 @@ impl Leaving {
     pub fn new(alloc: Global, seconds: u64) -> Result<Self, AllocError> {
         Ok(Leaving {
             alloc,
-            leavers: Slots::new(alloc)?,
+            leavers: Table::new(alloc)?,
             seconds,
         })
     }
@@ -95,7 +95,7 @@ impl Leaving {
 
     /// Whether a connection may be taken that had no session: so many of these at once leave room for others.
     pub fn has_room_for_strangers(&self) -> bool {
-        count(self.leavers.as_slice()) < MOST_STRANGERS
+        self.leavers.count() < MOST_STRANGERS
     }
 
     /// Closes all connections.
@@ -110,15 +110,15 @@ impl Leaving {
         if let Some(taken) = self.leavers.take(number) {
             let mut leaver = taken;
             leaver.channel.note(ready);
-            put_back(&mut self.leavers, number, leaver);
+            self.leavers.put(number, leaver);
         }
     }
 
     /// Serves each of them once: writes what goes, or reads a block and drops it. It tells how many were closed.
     pub fn serve(&mut self, now: &Now) -> usize {
         let mut closed: usize = 0;
-        for number in 0..SLOT_COUNT {
-            if holds(self.leavers.as_slice(), number) && !self.serve_one(number, now) {
+        for number in 0..self.leavers.standing().len() {
+            if holds(self.leavers.standing(), number) && !self.serve_one(number, now) {
                 closed = closed.saturating_add(1);
             }
         }
@@ -133,14 +133,14 @@ impl Leaving {
         let mut leaver = taken;
         let stays = leaver.serve(now);
         if stays {
-            put_back(&mut self.leavers, number, leaver);
+            self.leavers.put(number, leaver);
         }
         stays
     }
 
     /// Whether one is left with something to be done at once.
     pub fn is_ready(&self) -> bool {
-        for slot in self.leavers.as_slice() {
+        for slot in self.leavers.standing() {
             if let Some(leaver) = slot {
                 if leaver.channel.is_ready(!leaver.is_shut) {
                     return true;
@@ -155,7 +155,7 @@ impl Leaving {
         ensures { result ≤ otherwise }
     {
         let mut next = otherwise;
-        for slot in self.leavers.as_slice() {
+        for slot in self.leavers.standing() {
             if let Some(leaver) = slot {
                 next = next.min(leaver.deadline);
             }

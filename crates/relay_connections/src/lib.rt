@@ -1,5 +1,5 @@
-//! The connections of a relay that stays up, without a wait: a connection and what is read of it and written to it, those
-//! of its clients, whose sessions hear what was read of their own, and those that are leaving.
+//! The connections of a relay that stays up, without a wait: a connection and what is read of it and written to it,
+//! those of its clients, whose sessions hear what was read of their own, and those that are leaving.
 #![tactic(auto)]
 
 mod block;
@@ -10,7 +10,7 @@ mod clocks;
 mod hearing;
 mod held;
 mod leaving;
-mod slot;
+mod table;
 
 pub use channel::{Channel, End, Readiness};
 pub use client::Intake;
@@ -18,4 +18,4 @@ pub use clients::Clients;
 pub use clocks::{Now, tick_of};
 pub use hearing::Replied;
 pub use leaving::Leaving;
-pub use slot::{holds, put_back};
+pub use table::{Table, holds, turned};

@@ -297,8 +297,8 @@ impl Hop {
         }
     }
 
-    /// Takes what came of the octets that its attempt has heard, and writes what they lead to at once as far as that goes.
-    /// Where they end the attempt, the note is that of its outcome.
+    /// Takes what came of the octets that its attempt has heard, and writes what they lead to at once as far as that
+    /// goes. Where they end the attempt, the note is that of its outcome.
     pub(crate) fn answer(
         &mut self,
         relay: &mut Relay<FileDisk>,

@@ -8,14 +8,14 @@ use crate::lane::Task;
 use crate::lanes::Lanes;
 use mio::Registry;
 use mio::net::TcpStream;
-use relay_connections::{Channel, Leaving, Now, Readiness, Replied, holds, put_back};
+use relay_connections::{Channel, Leaving, Now, Readiness, Replied, Table, holds, turned};
 use relay_disk::FileDisk;
 use relay_log::{Log, Loss};
 use relay_loop::{Answered, Relay, ReplyPiece};
 use relay_node::{NodeFault, Noted};
 use relay_routes::HostName;
 use relay_service::Fault;
-use relay_slots::{SLOT_COUNT, Slots};
+use relay_slots::SLOT_COUNT;
 use std::alloc::{AllocError, Global};
 use std::io;
 use std::net::{Net, SocketAddr, SocketAddrV4};
@@ -30,7 +30,7 @@ const MOST_ALONE: usize = 4;
 /// The connections to next hops, up to 64.
 pub(crate) struct Hops {
     alloc: Global,
-    hops: Slots<Hop>,
+    hops: Table<Hop>,
     /// Which is served first at the next turn.
     first: usize,
 }
@@ -56,7 +56,7 @@ impl Hops {
     {
         Ok(Hops {
             alloc,
-            hops: Slots::new(alloc)?,
+            hops: Table::new(alloc)?,
             first: 0,
         })
     }
@@ -68,7 +68,7 @@ impl Hops {
 
     /// Whether a connection is being made for this message and next hop, in this lane.
     pub(crate) fn is_connecting(&self, message: u64, lane: usize, name: &HostName) -> bool {
-        for slot in self.hops.as_slice() {
+        for slot in self.hops.standing() {
             if let Some(hop) = slot {
                 if hop.is_connecting(message, lane, name) {
                     return true;
@@ -80,7 +80,7 @@ impl Hops {
 
     /// Whether a connection is being made.
     pub(crate) fn is_any_connecting(&self) -> bool {
-        for slot in self.hops.as_slice() {
+        for slot in self.hops.standing() {
             if let Some(hop) = slot {
                 if hop.attempt.is_none() {
                     return true;
@@ -113,7 +113,7 @@ impl Hops {
             Ok(channel) => {
                 let (message, name) = task.into_parts();
                 let hop = Hop::new(self.alloc, channel, aim, message, name, tells, now);
-                put_back(&mut self.hops, number, hop);
+                self.hops.put(number, hop);
                 Ok(())
             }
             Err(error) => Err((task, error)),
@@ -125,7 +125,7 @@ impl Hops {
         if let Some(taken) = self.hops.take(number) {
             let mut hop = taken;
             hop.channel.note(ready);
-            put_back(&mut self.hops, number, hop);
+            self.hops.put(number, hop);
         }
     }
 
@@ -141,26 +141,22 @@ impl Hops {
         log: &mut Log<'_, Vec<u8>>,
     ) -> Result<bool, Fault> {
         let mut closed: usize = 0;
-        for step in 0..SLOT_COUNT {
-            let number = self.nth(step);
-            if !holds(self.hops.as_slice(), number) {
+        let count = self.hops.standing().len();
+        for step in 0..count {
+            let number = turned(self.first, step, count);
+            if !holds(self.hops.standing(), number) {
                 continue;
             }
             if !self.attend_one(number, registry, relay, lanes, leaving, now, log)? {
                 closed = closed.saturating_add(1);
             }
             if closed == MOST_LOSSES {
-                self.first = self.nth(step.saturating_add(1));
+                self.first = number.saturating_add(1);
                 return Ok(true);
             }
         }
-        self.first = self.nth(1);
+        self.first = turned(self.first, 1, SLOT_COUNT);
         Ok(0 < closed)
-    }
-
-    /// The number that is served so many places behind the first.
-    fn nth(&self, step: usize) -> usize {
-        self.first.saturating_add(step) % SLOT_COUNT
     }
 
     /// Attends to the connection of a number. It tells whether that stays.
@@ -202,7 +198,7 @@ impl Hops {
         log: &mut Log<'_, Vec<u8>>,
     ) -> Result<bool, Fault> {
         if matches!(&course, Course::Stays) {
-            put_back(&mut self.hops, number, hop);
+            self.hops.put(number, hop);
             return Ok(true);
         }
         let ended = hop.into_parts();
@@ -214,8 +210,9 @@ impl Hops {
     /// out.
     pub(crate) fn replies(&self) -> Result<Vec<ReplyPiece<'_>>, AllocError> {
         let mut replies = Vec::new(self.alloc);
-        for step in 0..SLOT_COUNT {
-            if let Some(Some(hop)) = self.hops.as_slice().get(self.nth(step)) {
+        let hops = self.hops.standing();
+        for step in 0..hops.len() {
+            if let Some(Some(hop)) = hops.get(turned(self.first, step, hops.len())) {
                 if let Some(attempt) = hop.hearing() {
                     replies.push(ReplyPiece {
                         attempt,
@@ -249,8 +246,9 @@ impl Hops {
         let mut answers = answered.into_iter();
         let mut alone = MOST_ALONE;
         let mut closed = false;
-        for step in 0..SLOT_COUNT {
-            let number = self.nth(step);
+        let count = self.hops.standing().len();
+        for step in 0..count {
+            let number = turned(self.first, step, count);
             let Some(attempt) = self.hearing_at(number) else {
                 continue;
             };
@@ -277,7 +275,7 @@ impl Hops {
 
     /// The attempt of a number that may hear what was read, where there is one.
     fn hearing_at(&self, number: usize) -> Option<usize> {
-        match self.hops.as_slice().get(number) {
+        match self.hops.standing().get(number) {
             Some(Some(hop)) => hop.hearing(),
             _ => None,
         }
@@ -323,8 +321,9 @@ impl Hops {
         now: &Now,
         log: &mut Log<'_, Vec<u8>>,
     ) -> Result<bool, Fault> {
-        for step in 0..SLOT_COUNT {
-            let number = self.nth(step);
+        let count = self.hops.standing().len();
+        for step in 0..count {
+            let number = turned(self.first, step, count);
             if self.hearing_at(number).is_none() {
                 continue;
             }
@@ -343,7 +342,7 @@ impl Hops {
     pub(crate) fn is_ready(&self, relay: &Relay<FileDisk>) -> bool
         ensures { (number : ℕ) → IsLeftHop self.now.hops relay.now number → result ≡ true }
     {
-        for slot in self.hops.as_slice() {
+        for slot in self.hops.standing() {
             if let Some(hop) = slot {
                 if hop.is_ready(relay) {
                     return true;
@@ -358,7 +357,7 @@ impl Hops {
         ensures { result ≤ otherwise }
     {
         let mut next = otherwise;
-        for slot in self.hops.as_slice() {
+        for slot in self.hops.standing() {
             if let Some(hop) = slot {
                 next = next.min(hop.deadline());
             }

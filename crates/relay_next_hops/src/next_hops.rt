@@ -92,9 +92,9 @@ impl NextHops {
         self.hops.replies()
     }
 
-    /// Takes what came of those replies, in their order, and writes what they lead to as far as that goes at once. Where
-    /// no memory was left to hear them, the first of them is lost. It tells whether a connection was closed. Only a
-    /// device that failed is a fault.
+    /// Takes what came of those replies, in their order, and writes what they lead to as far as that goes at once.
+    /// Where no memory was left to hear them, the first of them is lost. It tells whether a connection was closed. Only
+    /// a device that failed is a fault.
     pub fn answer(
         &mut self,
         replied: Option<Replied>,

@@ -11,16 +11,16 @@ use Rattle.relay_connections.proofs.hearing.pieces_of.Goals.{in-Some+then-deref+
 pub loop-step-preserved : goal.loop-step-preserved
 loop-step-preserved c =
     let clients = c.args.clients.now in
-    let number = (c.args.first + c.loop-step.step) % 64 in
+    let number = (c.args.first + c.loop-step.step) % length clients in
     let before = c.loop-step.pieces.items in
-    let Holds : List Piece → Type 0 = λ pieces. All (IsOwn clients) pieces × (map session_of pieces ++ filter (hears_at clients) (turned (c.args.first + (c.loop-step.step + 1)) (length clients - (c.loop-step.step + 1))) ≡ hearing_from clients c.args.first) in
+    let Holds : List Piece → Type 0 = λ pieces. All (IsOwn clients) pieces × (map session_of pieces ++ filter (hears_at clients) (turned (length clients) (c.args.first + (c.loop-step.step + 1)) (length clients - (c.loop-step.step + 1))) ≡ hearing_from clients c.args.first) in
     let passed : hears_at clients number ≡ false → Holds before = λ none. (c.loop-step.invariant.0, passed_next (length clients) c.args.first c.loop-step.step (hears_at clients) (map session_of before) (hearing_from clients c.args.first) c.loop-step-test.true none c.loop-step.invariant.1) in
     elim c.match-client_at.branch [
       | in-Some+then-deref+in_ok-push w ↦
           let one : Piece = record { session = number; octets = w.piece.result } in
           let own : IsOwn clients one = record { client = w.in-Some.client.now; there = w.in-Some.ensures; octets = w.piece.ensures ∙ ap (λ client. client.channel.block) w.deref-then-deref.ensures } in
           let all = All-append (IsOwn clients) before (one ∷ []) c.loop-step.invariant.0 (All-cons (IsOwn clients) one [] own (All-nil (IsOwn clients))) in
-          let each = ap (λ sessions. sessions ++ filter (hears_at clients) (turned (c.args.first + (c.loop-step.step + 1)) (length clients - (c.loop-step.step + 1)))) (map-append session_of before (one ∷ []))
+          let each = ap (λ sessions. sessions ++ filter (hears_at clients) (turned (length clients) (c.args.first + (c.loop-step.step + 1)) (length clients - (c.loop-step.step + 1)))) (map-append session_of before (one ∷ []))
           ∙ found_next (length clients) c.args.first c.loop-step.step (hears_at clients) (map session_of before) (hearing_from clients c.args.first) c.loop-step-test.true (ap hears w.in-Some.ensures ∙ ap (λ client. client.hears) (sym w.deref.ensures) ∙ w.if-deref.true) c.loop-step.invariant.1 in
           subst Holds (sym (ap (λ pieces. pieces.items) w.pieces-is ∙ w.in_ok-push.ensures.items)) (all, each)
       | in-Some+else-deref w ↦ subst (λ pieces. Holds pieces.items) (sym w.pieces-is) (passed (ap hears w.in-Some.ensures ∙ ap (λ client. client.hears) (sym w.deref.ensures) ∙ w.if-deref.false))

@@ -1,6 +1,5 @@
 use Rattle.std.proofs.Common.{◌≡◌, ◌≢◌, [], Some, sym, ap, ◌∙◌, subst, arith}
 use Rattle.relay_connections.specs.Readiness.{IsLeftClient}
-use Rattle.relay_slots.specs.Slots.{slot_at}
 use Rattle.std.proofs.lemmas.Bool.{false≢true}
 use Rattle.relay_connections.proofs.LeftLemmas.{none_at_all, none_more, same_value, some_there, stands_there}
 use Rattle.relay_connections.proofs.clients.Clients.is_ready.Goals as goal
@@ -11,9 +10,9 @@ loop-number-init c = λ number below left. absurd (omega (arith, below))
 
 pub loop-number-preserved : goal.loop-number-preserved
 loop-number-preserved c =
-    let there = stands_there c.as_slice-slot-items.result.now c.loop-number.number c.slot-item.result c.loop-number-test.true c.slot-item.is in
+    let there = stands_there c.standing-slot-items.result.now c.loop-number.number c.slot-item.result c.loop-number-test.true c.slot-item.is in
     none_more (IsLeftClient c.args.self.now.clients c.args.relay.now) c.loop-number.number c.loop-number.invariant (λ left.
-    let found : c.slot-item.result ≡ Some left.client = sym there ∙ ap (λ slots. slot_at slots c.loop-number.number) c.as_slice-slot-items.ensures ∙ left.there in
+    let found : c.slot-item.result ≡ Some left.client = sym there ∙ c.standing-slot-items.ensures.slots c.loop-number.number ∙ left.there in
     elim c.match-slot.branch [
       | in-Some+else-is_ready w ↦
           let same = same_value w.in-Some.client left.client (sym w.in-Some.is ∙ found) in
@@ -26,6 +25,6 @@ loop-number-preserved c =
 
 pub returns : goal.returns
 returns c = λ number left.
-    absurd (none_at_all c.as_slice-slot-items.result.now (IsLeftClient c.args.self.now.clients c.args.relay.now) c.loop-number.number c.loop-number-test.false
-    (λ other here. some_there c.as_slice-slot-items.result.now c.args.self.now.clients other here.client c.as_slice-slot-items.ensures here.there)
+    absurd (none_at_all c.standing-slot-items.result.now (IsLeftClient c.args.self.now.clients c.args.relay.now) c.loop-number.number c.loop-number-test.false
+    (λ other here. some_there c.standing-slot-items.result.now c.args.self.now.clients other here.client (c.standing-slot-items.ensures.slots other) here.there)
     c.loop-number.invariant number left)

@@ -1,6 +1,5 @@
 use Rattle.std.proofs.Common.{◌≡◌, ◌≢◌, [], Some, sym, ap, ◌∙◌, subst, arith}
 use Rattle.relay_next_hops.specs.Readiness.{IsLeftHop}
-use Rattle.relay_slots.specs.Slots.{slot_at}
 use Rattle.relay_connections.specs.Channel.{unread_of}
 use Rattle.std.proofs.lemmas.Bool.{false≢true}
 use Rattle.relay_connections.proofs.Theorems.{none_at_all, none_more, same_value, some_there, stands_there}
@@ -12,9 +11,9 @@ loop-slot-init c = λ number below left. absurd (omega (arith, below))
 
 pub loop-slot-preserved : goal.loop-slot-preserved
 loop-slot-preserved c =
-    let there = stands_there c.as_slice-slot-items.result.now c.loop-slot.slot-index c.slot-item.result c.loop-slot-test.true c.slot-item.is in
+    let there = stands_there c.standing-slot-items.result.now c.loop-slot.slot-index c.slot-item.result c.loop-slot-test.true c.slot-item.is in
     none_more (IsLeftHop c.args.self.now.hops c.args.relay.now) c.loop-slot.slot-index c.loop-slot.invariant (λ left.
-    let found : c.slot-item.result ≡ Some left.hop = sym there ∙ ap (λ slots. slot_at slots c.loop-slot.slot-index) c.as_slice-slot-items.ensures ∙ left.there in
+    let found : c.slot-item.result ≡ Some left.hop = sym there ∙ c.standing-slot-items.ensures.slots c.loop-slot.slot-index ∙ left.there in
     elim c.match-slot.branch [
       | in-Some+else-is_ready w ↦
           let same = same_value w.in-Some.hop left.hop (sym w.in-Some.is ∙ found) in
@@ -26,6 +25,6 @@ loop-slot-preserved c =
 
 pub returns : goal.returns
 returns c = λ number left.
-    absurd (none_at_all c.as_slice-slot-items.result.now (IsLeftHop c.args.self.now.hops c.args.relay.now) c.loop-slot.slot-index c.loop-slot-test.false
-    (λ other here. some_there c.as_slice-slot-items.result.now c.args.self.now.hops other here.hop c.as_slice-slot-items.ensures here.there)
+    absurd (none_at_all c.standing-slot-items.result.now (IsLeftHop c.args.self.now.hops c.args.relay.now) c.loop-slot.slot-index c.loop-slot-test.false
+    (λ other here. some_there c.standing-slot-items.result.now c.args.self.now.hops other here.hop (c.standing-slot-items.ensures.slots other) here.there)
     c.loop-slot.invariant number left)

@@ -1,0 +1,127 @@
+//! Connections by number, of which those that stand are found without a walk over all that may.
+ghost use Rattle.std.specs.Prelude.{◌≡◌, ◌≤◌, ◌<◌, ◌+◌, ◌-◌, ◌%◌, ◌^◌, ℕ, None, Some, IfOk, MatchOption, is_some, length};
+ghost use Rattle.std.specs.Prelude.{min, slice_set};
+ghost use Rattle.relay_slots.specs.Slots.{AreFree, HasPlaces, IsFull, IsLeastFree, slot_at};
+ghost use Rattle.relay_slots.specs.declared.slots.TheConstants.{SLOT_COUNT};
+ghost use Rattle.relay_connections.specs.Table.{AreFreeFrom};
+
+use relay_slots::Slots;
+use std::alloc::{AllocError, Global};
+use std::marker::Model;
+
+/// Up to 64 connections, numbered from 0 to 63. A walk over those that stand touches no slot behind the last of them.
+pub struct Table<T> {
+    slots: Slots<T>,
+    /// Nothing stands in a slot from this one on.
+    end: usize,
+}
+
+// Written out, so that what drops a table calls this, and doesn't look into what it holds.
+impl<T: Drop> Drop for Table<T> {
+    fn drop(self) {
+        let Table {
+            slots: _slots,
+            end: _,
+        } = self;
+    }
+}
+
+impl<T> Model for Table<T> {
+    ghost use Rattle.std.specs.Prelude.{◌≤◌, List, Option};
+    ghost use Rattle.relay_slots.specs.Slots.{HasPlaces};
+    ghost use Rattle.relay_slots.specs.declared.slots.TheConstants.{SLOT_COUNT};
+    ghost use Rattle.relay_connections.specs.Table.{AreFreeFrom};
+
+    ghost Value = { List (Option T) };
+
+    ghost view = { λ table. table.slots };
+
+    ghost invariant = { λ table. HasPlaces table.slots × (table.end ≤ SLOT_COUNT)
+        × AreFreeFrom table.slots table.end };
+}
+
+impl<T: Drop> Table<T> {
+    /// None stands. It fails where memory runs out.
+    pub fn new(alloc: Global) -> Result<Self, AllocError>
+        ensures { IfOk result AreFree }
+    {
+        Ok(Table {
+            slots: Slots::new(alloc)?,
+            end: 0,
+        })
+    }
+
+    /// The slots up to the last in which something stands, by number.
+    pub fn standing(&self) -> &[Option<T>]
+        ensures slots { (number : ℕ) → slot_at result.now number ≡ slot_at self.now number }
+        ensures within { length result.now ≤ SLOT_COUNT }
+    {
+        &self.slots.as_slice()[..self.end]
+    }
+
+    /// The least number of a free slot.
+    pub fn free(&self) -> Option<usize>
+        ensures least { MatchOption result (IsFull self.now) (IsLeastFree self.now) }
+        ensures within { MatchOption result (Unit {0}) (λ number. number < length self.now) }
+    {
+        self.slots.free()
+    }
+
+    /// How many stand.
+    pub fn count(&self) -> usize {
+        self.standing().iter().filter(|slot| slot.is_some()).count()
+    }
+
+    /// Takes what stands under a number out, to be worked on outside of the table.
+    pub fn take(&mut self, number: usize) -> Option<T>
+        ensures taken { result ≡ slot_at self.old number }
+        ensures rest { self.new ≡ slice_set self.old number None }
+    {
+        let taken = self.slots.take(number);
+        self.end = end_of(self.slots.as_slice(), self.end);
+        taken
+    }
+
+    /// Puts a value under the number under which it was taken out, or under a free one. Behind the last slot there is
+    /// no place for one.
+    pub fn put(&mut self, number: usize, value: T)
+        ensures stands { number < length self.old
+            → self.new ≡ slice_set self.old number (Some value) }
+        ensures behind { length self.old ≤ number → self.new ≡ self.old }
+    {
+        if number < self.slots.as_slice().len() {
+            self.slots.put(number, value);
+            self.end = self.end.max(number + 1);
+        }
+    }
+}
+
+/// The number behind the last slot in which something stands, where nothing stands from this one on.
+fn end_of<T>(slots: &[Option<T>], end: usize) -> usize
+    requires within { end ≤ length slots.now }
+    requires free { AreFreeFrom slots.now end }
+    ensures free { AreFreeFrom slots.now result }
+    ensures within { result ≤ end }
+{
+    let mut last = end;
+    while 0 < last && !holds(slots, last - 1) {
+        last -= 1;
+    }
+    last
+}
+
+/// Whether a value stands under this number. To take nothing out costs as much as to take a value.
+pub fn holds<T>(slots: &[Option<T>], number: usize) -> bool
+    ensures { result ≡ is_some (slot_at slots.now number) }
+{
+    matches!(slots.get(number), Some(Some(_)))
+}
+
+/// The number that comes so many places behind another, of so many, where 0 comes behind the last.
+pub fn turned(number: usize, step: usize, count: usize) -> usize
+    requires { 0 < count }
+    ensures place { result ≡ min (number + step) (2 ^ 64 - 1) % count }
+    ensures within { result < count }
+{
+    number.saturating_add(step) % count
+}
