@@ -56,7 +56,7 @@ others_stay old mid new number before now = (λ other differs. now.0 other diffe
 module _ {D : Type 0} (honest : Type 0) (words : DiskWords D) (start : Start) (at number : ℕ) where
   -- what a session has said is a dialogue
   dialogue_at : (node : NodeState D) (said : Said) → SeatHasSaid start.config node.seats number start.peer said → IsDialogue (setup_of_config start.config) said
-  dialogue_at node said s = what_stands_is_a_dialogue (setup_of_config start.config) s.seat.session said s.says.stands
+  dialogue_at node said s = what_stands_is_a_dialogue (setup_of_config start.config) s.seat.session.value said s.says.stands
 
   -- of a fault that isn't the device's the node keeps what it has taken; it is full where changes have no numbers any more
   as_taken : (fault : LinkFault) (said : Said) (added : List Change) (records : Kept D) → (fault ≡ Device → ⊥) → (fault ≡ Full → 2 ^ 62 < records.queue.next) → HasTaken honest words start at said added records → Leaves honest words start at fault said added records
@@ -301,7 +301,7 @@ module _ {D : Type 0} (honest : Type 0) (words : DiskWords D) (at number : ℕ) 
   pub begun : Keeps honest words node.records changes → SeatHasSaid node.config node.seats number peer (greeted_by out) → (front rest : List ℕ) → out ≡ front ++ rest → Appends held new_held front → HasBegun honest words (start_at left held peer node changes) at left new_held node.records Output
   begun keeps says front rest parts wrote = record {
     said = greeted_by out;
-    dialogue = what_stands_is_a_dialogue (setup_of_config node.config) says.seat.session (greeted_by out) says.says.stands;
+    dialogue = what_stands_is_a_dialogue (setup_of_config node.config) says.seat.session.value (greeted_by out) says.says.stands;
     unread = [];
     read = Consumes-nil left;
     front = front;

@@ -55,7 +55,7 @@ module _ {D : Type 0} (list : List Change) (session : ℕ) (peer : List ℕ) (sa
   -- each offer has its answer
   pub even : length said.offers ≡ length said.answers
   even =
-      let by = offers_are_answered (setup_of_config old.node.config) t.seat.seat.session said t.seat.says.stands in
+      let by = offers_are_answered (setup_of_config old.node.config) t.seat.seat.session.value said t.seat.says.stands in
       let none = ap length t.seat.says.settled in
       omega (arith, by, none)
 

@@ -18,7 +18,7 @@ use Rattle.relay_loop.proofs.AcceptedLemmas.{accepted_stays, one_of}
 
 pub talks_are_dialogues : {D : Type 0} → TalksAreDialogues D
 talks_are_dialogues changes relay session peer said written t = (
-  what_stands_is_a_dialogue (setup_of_config relay.node.config) t.seat.seat.session said t.seat.says.stands,
+  what_stands_is_a_dialogue (setup_of_config relay.node.config) t.seat.seat.session.value said t.seat.says.stands,
   (t.waiting, t.output),
 )
 
@@ -31,7 +31,7 @@ talks_stay changes added old new session peer said written seats clients config 
     seat = t.seat.seat;
     at = seats ∙ t.seat.at;
     peer_is = t.seat.peer_is;
-    says = subst (λ (c : Config). SessionHasSaid (setup_of_config c) t.seat.seat.session said) (sym config) t.seat.says;
+    says = subst (λ (c : Config). SessionHasSaid (setup_of_config c) t.seat.seat.session.value said) (sym config) t.seat.says;
   };
   waiting = t.waiting;
   connection = clients ∙ t.connection;

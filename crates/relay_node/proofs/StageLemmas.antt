@@ -32,12 +32,12 @@ module _ {D : Type 0} (old new : Kept D) (row left : Row) where
 
 module _ {D : Type 0} (honest : Type 0) (words : DiskWords D) (config : Config) (changes pending : List Change) (at number : ℕ) (piece : List ℕ) (old : List (Option Seat)) (taken : Seat) (runs more : List (Option Run))
     (was : Some taken ≡ slot_at old number) (new : Seat) (peer_kept : new.peer ≡ taken.peer) (before after : Kept D) (row left : Row) (received : Received)
-    (behind : HearsBehind honest words config changes pending at taken.peer taken.session new.session piece before row after left received) where
+    (behind : HearsBehind honest words config changes pending at taken.peer taken.session.value new.session.value piece before row after left received) where
   module _ (peer : List ℕ) (said : Said) (is : SeatHasSaid config old number peer said) where
-    heard : HearsInto config changes pending peer at said piece new.session before row after left behind.more received
+    heard : HearsInto config changes pending peer at said piece new.session.value before row after left behind.more received
     heard =
         let peer_is = peer_of_taken config peer number said old taken is was in
-        subst (λ p. HearsInto config changes pending p at said piece new.session before row after left behind.more received) peer_is (behind.hears said (taken_says config peer number said old taken is was))
+        subst (λ p. HearsInto config changes pending p at said piece new.session.value before row after left behind.more received) peer_is (behind.hears said (taken_says config peer number said old taken is was))
 
     new_peer : new.peer ≡ peer
     new_peer = peer_kept ∙ peer_of_taken config peer number said old taken is was

@@ -49,7 +49,7 @@ pub record SeatHasSaid (config : Config) (seats : List (Option Seat)) (number : 
   pub seat : Seat
   pub at : slot_at seats number ≡ Some seat
   pub peer_is : seat.peer ≡ peer
-  pub says : SessionHasSaid (setup_of_config config) seat.session said
+  pub says : SessionHasSaid (setup_of_config config) seat.session.value said
 
 -- something was said on a session
 abbrev pub HasHistory : Config → Session → Type 0
@@ -59,7 +59,7 @@ HasHistory config session = (said : Said) × SessionHasSaid (setup_of_config con
 abbrev pub HaveHistories : Config → List (Option Seat) → Type 0
 HaveHistories config [] = Unit {0}
 HaveHistories config (None ∷ seats) = HaveHistories config seats
-HaveHistories config (Some seat ∷ seats) = HasHistory config seat.session × HaveHistories config seats
+HaveHistories config (Some seat ∷ seats) = HasHistory config seat.session.value × HaveHistories config seats
 
 -- what was said is a dialogue that the server has closed, and octets behind it belong to its rest
 pub record HasClosed (setup : Setup) (said : Said) : Type 0 where
@@ -76,7 +76,7 @@ SessionGoesOn config seats number peer said false = SeatHasSaid config seats num
 -- the session of this number waits for more octets: it has not closed
 abbrev pub IsOpen : List (Option Seat) → ℕ → Type 0
 IsOpen seats number =
-    (seat : Seat) → slot_at seats number ≡ Some seat → next_of seat.session ≡ next.More
+    (seat : Seat) → slot_at seats number ≡ Some seat → next_of seat.session.value ≡ next.More
 
 -- nothing was said but this greeting
 abbrev pub greeted_by : List ℕ → Said

@@ -217,6 +217,9 @@ impl<D: Disk> Node<D> {
         let Ok((session, out)) = Session::new(self.alloc, &self.config) else {
             return Err(NodeFault::NoMemory);
         };
+        let Ok(session) = Box::new(self.alloc, session) else {
+            return Err(NodeFault::NoMemory);
+        };
         self.seats.put(number, Seat { session, peer });
         Ok(Connected {
             session: number,

@@ -39,19 +39,19 @@ pub(crate) fn hear<D: Disk>(
     now: Moment,
 ) -> Result<Received, NodeFault>
     requires live { IsTrue records.old.spool.live }
-    requires history { HasHistory config.now seat.old.session }
+    requires history { HasHistory config.now seat.old.session.value }
     ensures hears { (changes : List Change) (said : Said) → Keeps D.honest D.words records.old changes
-        → SessionHasSaid (setup_of_config config.now) seat.old.session said
+        → SessionHasSaid (setup_of_config config.now) seat.old.session.value said
         → IfOk result (Hears D.honest D.words config.now changes seat.old.peer now said piece.now
-        seat.new.session records.old records.new) }
+        seat.new.session.value records.old records.new) }
     ensures cut { (changes : List Change) (said : Said) → Keeps D.honest D.words records.old changes
-        → SessionHasSaid (setup_of_config config.now) seat.old.session said → result ≡ Err NodeFault.Stopped
+        → SessionHasSaid (setup_of_config config.now) seat.old.session.value said → result ≡ Err NodeFault.Stopped
         → CutsTalk D.honest D.words config.now changes seat.old.peer now said piece.now
         records.old records.new }
-    ensures full { (said : Said) → SessionHasSaid (setup_of_config config.now) seat.old.session said
+    ensures full { (said : Said) → SessionHasSaid (setup_of_config config.now) seat.old.session.value said
         → result ≡ Err NodeFault.Full → ComesToOffer (setup_of_config config.now) said piece.now }
     ensures heard { IfOk result (IsHeard D.words config.now (length piece.now) records.old records.new
-        seat.new.session) }
+        seat.new.session.value) }
     ensures refused { IfErr result (RefusesToHear D.words records.old records.new) }
     ensures peer { seat.new.peer ≡ seat.old.peer }
 {

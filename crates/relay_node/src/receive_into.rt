@@ -89,15 +89,15 @@ fn hear_into<D: Disk>(
     piece: &[u8],
     now: Moment,
 ) -> Result<Received, NodeFault>
-    requires { HasHistory config.now seat.old.session }
+    requires { HasHistory config.now seat.old.session.value }
     ensures hears { (changes pending : List Change)
         → Awaits D.honest D.words records.old changes pending row.old
-        → IfOk result (HearsBehind D.honest D.words config.now changes pending now seat.old.peer seat.old.session
-        seat.new.session piece.now records.old row.old records.new row.new) }
-    ensures full { (said : Said) → SessionHasSaid (setup_of_config config.now) seat.old.session said
+        → IfOk result (HearsBehind D.honest D.words config.now changes pending now seat.old.peer seat.old.session.value
+        seat.new.session.value piece.now records.old row.old records.new row.new) }
+    ensures full { (said : Said) → SessionHasSaid (setup_of_config config.now) seat.old.session.value said
         → result ≡ Err NodeFault.Full → ComesToOffer (setup_of_config config.now) said piece.now }
     ensures heard { IfOk result (IsHeardInto config.now (length piece.now) records.old row.old records.new row.new
-        seat.new.session) }
+        seat.new.session.value) }
     ensures refused { IfErr result (RefusesToHearInto records.old records.new row.old row.new) }
     ensures peer { seat.new.peer ≡ seat.old.peer }
 {

@@ -2,7 +2,8 @@ use relay_server::Session;
 
 /// A session, and the address of its client.
 pub(crate) struct Seat {
-    pub(crate) session: Session,
+    /// In a box, since it has room for a long command line, and a seat is moved at each call.
+    pub(crate) session: Box<Session>,
     /// The IPv4 address that the client connected from.
     pub(crate) peer: [u8; 4],
 }

@@ -140,7 +140,7 @@ module _ {D : Type 0} (honest : Type 0) (words : DiskWords D) where
           its_node.config_is opens.connects.says
 
       dialogue : IsDialogue (setup_of_config host.config) (greeted_by opens.connected.out.items)
-      dialogue = what_stands_is_a_dialogue (setup_of_config host.config) says_now.seat.session
+      dialogue = what_stands_is_a_dialogue (setup_of_config host.config) says_now.seat.session.value
           (greeted_by opens.connected.out.items) says_now.says.stands
 
       its_end : ServerEnd

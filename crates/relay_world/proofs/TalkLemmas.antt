@@ -100,7 +100,7 @@ module _ {D : Type 0} (honest : Type 0) (words : DiskWords D) (old : World D) (l
           → IsDialogue (setup_of_config of.before.config) talk.later
       dialogue_by true goes = goes.1.dialogue
       dialogue_by false goes =
-          what_stands_is_a_dialogue (setup_of_config of.before.config) goes.seat.session talk.later goes.says.stands
+          what_stands_is_a_dialogue (setup_of_config of.before.config) goes.seat.session.value talk.later goes.says.stands
 
       dialogue : IsDialogue (setup_of_config of.host.config) talk.later
       dialogue =
