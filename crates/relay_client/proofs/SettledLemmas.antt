@@ -3,10 +3,11 @@ use Rattle.std.proofs.Common.{◌≡◌, ◌<◌, ◌≤◌, ℕ, zero, suc, ◌
 use Rattle.std.specs.Prelude.{slice_get, slice_index_or, unwrap_or}
 use Rattle.std.proofs.lemmas.List.{append_assoc, drop-append-le, length-append, length-drop, length-map, length-take, map_more, take-append-le, take_all}
 use Rattle.relay_lines.specs.Reply.{Reply, last_text}
+use Rattle.relay_lines.specs.Word.{shown}
 use Rattle.relay_book.specs.declared.change.Verdict.{Verdict}
 use Rattle.relay_book.specs.declared.change.Verdict.TheVariants.{Later, Refused}
 use Rattle.relay_course.specs.declared.reply_kind.ReplyKind.TheVariants.{Completion, Intermediate, Transient, Permanent}
-use Rattle.relay_course.specs.VerdictTable.{all_later, rcpt_verdict, rcpt_verdict_by, refusal, shown, some_accepted, verdicts_of}
+use Rattle.relay_course.specs.VerdictTable.{all_later, rcpt_verdict, rcpt_verdict_by, refusal, some_accepted, verdicts_of}
 use Rattle.relay_client.specs.declared.settled.Said.{Said}
 use Rattle.relay_client.specs.declared.settled.Said.TheVariants.{Accepted, Delayed, Rejected}
 use Rattle.relay_client.specs.Conversation.{has_open, verdicts_from}

@@ -2,13 +2,14 @@
 ghost use Rattle.std.specs.Prelude.{◌≡◌, ◌≤◌, length, map, take, IfOk};
 ghost use Rattle.relay_lines.specs.Reply.{last_text};
 ghost use Rattle.relay_book.specs.Record.{refusal_limit};
-ghost use Rattle.relay_course.specs.VerdictTable.{content_verdict_by, rcpt_verdict, refusal, shown};
+ghost use Rattle.relay_course.specs.VerdictTable.{content_verdict_by, rcpt_verdict, refusal};
+ghost use Rattle.relay_lines.specs.Word.{shown};
 ghost use Rattle.relay_client.specs.Settled.{verdict_as};
 
 use relay_book::{REFUSAL_LIMIT, Verdict};
 use relay_course::{ReplyKind, kind_of};
 use relay_lines::Reply;
-use relay_lines::word::is_printable;
+use relay_lines::word::all_shown;
 use relay_octets::Octets;
 use std::alloc::{AllocError, Global};
 
@@ -92,24 +93,6 @@ fn kept_of(text: &[u8]) -> &[u8]
     } else {
         &text[..REFUSAL_LIMIT]
     }
-}
-
-/// The text as it is kept. It fails where memory runs out.
-fn all_shown(alloc: Global, text: &[u8]) -> Result<Vec<u8>, AllocError>
-    ensures { IfOk result (λ all. all.items ≡ map shown text.now) }
-{
-    let mut all = Vec::with_capacity(alloc, text.len())?;
-    for octet in text {
-        all.push(shown(*octet))?;
-    }
-    Ok(all)
-}
-
-/// The octet as it is kept.
-fn shown(octet: u8) -> u8
-    ensures { result ≡ shown octet }
-{
-    if is_printable(octet) { octet } else { b'?' }
 }
 
 /// What the reply to the content says of the places that are left, at a server that offers DSN or doesn't. It fails

@@ -1,13 +1,13 @@
 -- What replies have answered, and what the verdicts of a course are.
 use Rattle.std.proofs.Common.{◌≡◌, ◌⊎◌, inl, inr, ◌≤◌, ℕ, zero, suc, Bool, true, false, ◌==◌, ◌&&◌, List, [], ◌∷◌, ◌++◌, length, map, take, Option, Some, None, refl, sym, ap, ◌∙◌, subst, cond, arith}
 use Rattle.std.specs.Prelude.{unwrap_or}
-use Rattle.std.specs.List.{AllByRecursion, Contains, list_all}
+use Rattle.std.specs.List.{AllByRecursion, Contains}
 use Rattle.std.proofs.lemmas.List.{append_assoc, append-nil, length-map, length-take, map-append}
-use Rattle.std.proofs.lemmas.List.Sums.{AllPass-from_list_all}
 use Rattle.relay_octets.specs.Beginning.{Begins}
 use Rattle.relay_lines.specs.Reply.{Reply, IsReply, last_text}
 use Rattle.relay_lines.specs.ReplyReading.{CutsReplies}
-use Rattle.relay_lines.specs.Word.{is_printable}
+use Rattle.relay_lines.specs.Word.{shown}
+use Rattle.relay_lines.proofs.Theorems.{shown_is_printable}
 use Rattle.relay_book.specs.declared.change.Verdict.{Verdict}
 use Rattle.relay_book.specs.declared.change.Verdict.TheVariants.{Later}
 use Rattle.relay_book.specs.Record.{IsVerdict}
@@ -15,7 +15,7 @@ use Rattle.relay_course.specs.declared.awaited.Awaited.{Awaited}
 use Rattle.relay_course.specs.declared.awaited.Awaited.TheVariants.{Greeting, Ehlo, Helo, Mail, Rcpt, Data, Content}
 use Rattle.relay_course.specs.declared.reply_kind.ReplyKind.{ReplyKind}
 use Rattle.relay_course.specs.declared.reply_kind.ReplyKind.TheVariants.{Completion, Intermediate, Transient, Permanent}
-use Rattle.relay_course.specs.VerdictTable.{all_later, content_verdict_by, kind_of, rcpt_verdict_by, refusal, shown, verdicts_of}
+use Rattle.relay_course.specs.VerdictTable.{all_later, content_verdict_by, kind_of, rcpt_verdict_by, refusal, verdicts_of}
 use Rattle.relay_course.specs.Progress.{Errand, Answered, Progress, answer_of, rcpt_replies, at_greeting, with_answer, behind_reply, behind_replies, progress}
 use Rattle.relay_course.specs.Course.{Concludes, errand_of}
 use Rattle.relay_course.specs.Laws.{AnsweredAreFirst, AnswersStay, CommandsKeepUp, CourseMayBeLost, RcptsAreInOrder, VerdictForEachPlace, VerdictsMayBeStored, rcpt_places, replies_in}
@@ -151,22 +151,13 @@ verdict_for_each_place host envelope text places input told output verdicts is =
     (concluded places told runs.rest
     (progress (errand_of host envelope text is.dot_text places) runs.replies).verdicts verdicts runs.concludes)
 
-shown-by : (octet : ℕ) (test : Bool) → is_printable octet ≡ test → is_printable (cond test octet 63) ≡ true
-shown-by octet true e = e
-shown-by octet false e = refl
-
-shown-all : (text : List ℕ) → list_all is_printable (map shown text) ≡ true
-shown-all [] = refl
-shown-all (octet ∷ text) =
-    ap (λ b. b && list_all is_printable (map shown text)) (shown-by octet (is_printable octet) refl) ∙ shown-all text
-
 refusal-stored : (reply : Reply) → IsReply reply → IsVerdict (refusal reply)
 refusal-stored reply is =
     let front : List ℕ = take 200 (last_text reply.lines) in
     record {
       low = is.code_is.low;
       high = is.code_is.high;
-      printable = AllPass-from_list_all is_printable (map shown front) (shown-all front);
+      printable = shown_is_printable front;
       text_fits = omega (arith, length-map front shown, length-take 200 (last_text reply.lines));
     }
 

@@ -2,7 +2,7 @@
 -- one.
 use Rattle.std.specs.Prelude.{ℕ, Bool, true, false, ◌==◌, nat_lt, List, [], ◌∷◌, map, take, Option, Some, None, unwrap_or, if◌then◌else◌}
 use Rattle.relay_lines.specs.Reply.{Reply, last_text}
-use Rattle.relay_lines.specs.Word.{is_printable}
+use Rattle.relay_lines.specs.Word.{shown}
 use Rattle.relay_book.specs.Record.{refusal_limit}
 use Rattle.relay_book.specs.declared.change.Verdict.{Verdict}
 use Rattle.relay_book.specs.declared.change.Verdict.TheVariants.{Taken, Refused, Later}
@@ -14,10 +14,6 @@ abbrev pub kind_of : ℕ → ReplyKind
 kind_of code =
     if nat_lt code 300 then Completion
     else (if nat_lt code 400 then Intermediate else (if nat_lt code 500 then Transient else Permanent))
-
--- profile: an octet that isn't printable is kept as "?"
-abbrev pub shown : ℕ → ℕ
-shown octet = if is_printable octet then octet else 63
 
 -- profile: a refusal is kept as the code and the text of the reply's last line, of that as many octets
 -- as a record holds

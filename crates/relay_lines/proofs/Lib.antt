@@ -1,4 +1,5 @@
 mod HeldLineLemmas
+mod ShownLemmas
 mod WordLemmas
 mod CommandLemmas
 mod CommandFaultLemmas

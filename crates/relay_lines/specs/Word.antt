@@ -23,6 +23,10 @@ is_blank octet = octet == 32 || octet == 9
 abbrev pub is_printable : ℕ → Bool
 is_printable octet = is_in_range 32 126 octet
 
+-- profile: an octet that isn't printable stands as `?` where it is shown or kept
+abbrev pub shown : ℕ → ℕ
+shown octet = if is_printable octet then octet else 63
+
 -- a letter, a digit, `-` or `.` (section 4.1.2); profile: `_` too
 abbrev pub is_domain_octet : ℕ → Bool
 is_domain_octet octet = is_ascii_alphanumeric octet || octet == 45 || octet == 46 || octet == 95

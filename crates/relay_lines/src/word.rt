@@ -1,6 +1,9 @@
-//! Words of a command line (RFC 5321, sections 2.4 and 4.1.1).
-ghost use Rattle.std.specs.Prelude.{◌≡◌, ◌≤◌, length, option_copied};
-ghost use Rattle.relay_lines.specs.Word.{is_printable, is_blank, is_domain_octet, is_literal_octet, are_printable, are_domain_octets, are_literal_octets, without_trailing_blanks, word_len, space_len, first_word, argument_of, is_word, behind_keyword, is_address_literal, is_host_word};
+//! Words of a command line (RFC 5321, sections 2.4 and 4.1.1), and what is shown of octets.
+ghost use Rattle.std.specs.Prelude.{◌≡◌, ◌≤◌, IfOk, length, map, option_copied};
+ghost use Rattle.std.specs.List.{AllPass};
+ghost use Rattle.relay_lines.specs.Word.{is_printable, shown, is_blank, is_domain_octet, is_literal_octet, are_printable, are_domain_octets, are_literal_octets, without_trailing_blanks, word_len, space_len, first_word, argument_of, is_word, behind_keyword, is_address_literal, is_host_word};
+
+use std::alloc::{AllocError, Global};
 
 fn is_blank(octet: u8) -> bool
     ensures { result ≡ is_blank octet }
@@ -13,6 +16,26 @@ pub fn is_printable(octet: u8) -> bool
     ensures { result ≡ is_printable octet }
 {
     b' ' <= octet && octet <= b'~'
+}
+
+/// The octet, or `?` where it isn't printable.
+fn shown(octet: u8) -> u8
+    ensures { result ≡ shown octet }
+{
+    if is_printable(octet) { octet } else { b'?' }
+}
+
+/// The text with `?` in place of each octet that isn't printable, so that nobody's terminal or log takes it for more
+/// than text. It fails where memory runs out.
+pub fn all_shown(alloc: Global, text: &[u8]) -> Result<Vec<u8>, AllocError>
+    ensures shown { IfOk result (λ all. all.items ≡ map shown text.now) }
+    ensures printable { IfOk result (λ all. AllPass is_printable all.items) }
+{
+    let mut all = Vec::with_capacity(alloc, text.len())?;
+    for octet in text {
+        all.push(shown(*octet))?;
+    }
+    Ok(all)
 }
 
 fn is_domain_octet(octet: u8) -> bool

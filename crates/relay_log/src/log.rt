@@ -1,7 +1,6 @@
 //! What was done, for a postmaster.
 use crate::attempt_line::{Attempt, attempt_text};
 use crate::client_line::{Connection, client_text, unserved_text};
-use crate::line::printable;
 use crate::run_line::{
     accepted_text, cut_off_text, device_failed_text, held_off_text, opened_again_text,
     refused_text, spool_full_text,
@@ -9,6 +8,7 @@ use crate::run_line::{
 use crate::stamp::write_stamp;
 use relay_book::Message;
 use relay_disk::Disk;
+use relay_lines::word::all_shown;
 use relay_node::Node;
 use relay_trace::Moment;
 use std::alloc::Global;
@@ -164,7 +164,7 @@ fn write_line<E: Write>(
     if let Some(moment) = moment {
         write_stamp(&mut line, moment)?;
     }
-    let shown = printable(alloc, text)?;
+    let shown = all_shown(alloc, text)?;
     line.extend_from_slice(shown.as_slice())?;
     line.push(b'\n')?;
     errors.write_all(line.as_slice())?;
