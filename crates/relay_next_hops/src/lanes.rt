@@ -178,7 +178,7 @@ impl Lanes {
     /// A connection of a lane is made.
     pub(crate) fn began(&mut self, number: usize) {
         if let Some(lane) = self.lanes.get_mut(number) {
-            lane.began();
+            lane.pace.began();
         }
     }
 
@@ -187,14 +187,14 @@ impl Lanes {
         self.is_unsure = true;
         self.is_open = true;
         if let Some(lane) = self.lanes.get_mut(number) {
-            lane.ended();
+            lane.pace.ended();
         }
     }
 
     /// The next hop of a lane has said something: more may be begun.
     pub(crate) fn answered(&mut self, number: usize) {
         if let Some(lane) = self.lanes.get_mut(number) {
-            lane.answered();
+            lane.pace.answered();
             self.is_open = true;
         }
     }
@@ -202,7 +202,7 @@ impl Lanes {
     /// Whether the place of a lane is left alone.
     pub(crate) fn is_held(&self, number: usize, now: &Now) -> bool {
         match self.lanes.get(number) {
-            Some(lane) => lane.is_held(now),
+            Some(lane) => lane.pace.is_held(now.tick),
             None => false,
         }
     }
@@ -214,7 +214,7 @@ impl Lanes {
         }
         match self.lanes.get_mut(number) {
             Some(lane) => {
-                let seconds = lane.hold(now);
+                let seconds = lane.pace.hold(now.tick);
                 self.next_hold_end = self.next_hold_end.min(now.behind(seconds));
                 Some(seconds)
             }

@@ -96,7 +96,7 @@ impl Lanes {
     fn note_hold_end(&mut self, now: &Now) {
         self.next_hold_end = u64::MAX;
         for lane in self.lanes.as_slice() {
-            if let Some(until) = lane.held_until(now) {
+            if let Some(until) = lane.pace.held_until(now.tick) {
                 self.next_hold_end = self.next_hold_end.min(until);
             }
         }

@@ -1,0 +1,48 @@
+-- When one more connection to a next hop may be begun, and how long a next hop is left alone.
+use Rattle.std.specs.Prelude.{◌≡◌, ℕ, ◌<◌, ◌+◌, ◌-◌, ◌*◌, ◌^◌, min, nat_lt, Bool, true, false, Option, None, Some, if◌then◌else◌}
+use Rattle.relay_limits.specs.declared.pace.Hold.{Hold}
+use Rattle.relay_limits.specs.declared.pace.Pace.{Pace}
+
+-- profile: in seconds, a minute the first time, and then twice as long each time, up to half an hour
+abbrev pub next_hold : Option Hold → ℕ
+next_hold None = 60
+next_hold (Some hold) = min (hold.seconds * 2) 1800
+
+-- at this tick the next hop is left alone
+abbrev pub IsHeld : Option Hold → ℕ → Type 0
+IsHeld None tick = ⊥
+IsHeld (Some hold) tick = tick < hold.until
+
+-- where that ends, while it goes on
+abbrev pub hold_end : ℕ → Option Hold → Option ℕ
+hold_end tick None = None
+hold_end tick (Some hold) = if nat_lt tick hold.until then Some hold.until else None
+
+-- Fewer connections stand than the most, or none where the next hop has said nothing yet, and it isn't left alone.
+pub record MayBegin (most tick : ℕ) (pace : Pace) : Type 0 where
+  pub fewer : pace.has_answered ≡ true → pace.running < most
+  pub one : pace.has_answered ≡ false → pace.running ≡ 0
+  pub alone : IsHeld pace.hold tick → ⊥
+
+-- nothing is known of the next hop
+abbrev pub unknown_pace : Pace
+unknown_pace = record { running = 0; has_answered = false; hold = None }
+
+-- so many connections stand
+abbrev pub with_running : ℕ → Pace → Pace
+with_running running pace = record { running = running; has_answered = pace.has_answered; hold = pace.hold }
+
+-- the next hop has said something
+abbrev pub answered_pace : Pace → Pace
+answered_pace pace = record { running = pace.running; has_answered = true; hold = None }
+
+-- it is left alone from this tick on, or up to the last that there is
+abbrev pub held_from : ℕ → Pace → Pace
+held_from tick pace = record {
+  running = pace.running;
+  has_answered = false;
+  hold = Some (record {
+    until = min (tick + next_hold pace.hold * 1000) (2 ^ 64 - 1);
+    seconds = next_hold pace.hold;
+  });
+}
