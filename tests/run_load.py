@@ -27,6 +27,9 @@ CONTENT = int(os.environ.get("CONTENT", 1 << 20))
 AWAY = 63
 # How many messages are in one piece, and the piece's next hop's domain.
 AT_ONCE = 20
+# How many messages come before all of them have to be out: what waits at once takes memory of which an allocator doesn't
+# give all back, more or less of it by how far the next hop is behind.
+WAVE = 2000
 # What memory may grow by while mail goes through, in octets: what a run keeps doesn't grow with what has left.
 MOST_GROWN = 4 << 20
 
@@ -45,6 +48,19 @@ def pour(relay, domains, count, address="127.0.0.1"):
             client.link.sendall(batch(domains[number % len(domains)], AT_ONCE))
             replies = [client.reply() for _ in range(3 * AT_ONCE)]
             same("replies that aren't 250", [reply for reply in replies if reply[:4] != "250 "], [])
+
+
+def pour_through(field, relay, count):
+    """Hands in about so many messages at eight connections, and waits until all have come to the next hop."""
+    each = count // 8 // AT_ONCE * AT_ONCE
+    threads = [threading.Thread(target=pour, args=(relay, ["example.org"], each)) for _ in range(8)]
+    for thread in threads:
+        thread.start()
+    for thread in threads:
+        thread.join()
+    # The sink takes a hundred a second at the least.
+    field.sink.wait_for(8 * each, 10 * PATIENCE + count / 100)
+    field.sink.take_all()
 
 
 def descriptors(process):
@@ -86,14 +102,8 @@ def memory_and_descriptors_stay_as_mail_goes_through(field):
     with relay.running("--quiet") as process:
         seen = []
         for part in range(4):
-            threads = [threading.Thread(target=pour, args=(relay, ["example.org"], THROUGH // 32)) for _ in range(8)]
-            for thread in threads:
-                thread.start()
-            for thread in threads:
-                thread.join()
-            # The sink takes a hundred a second at the least.
-            field.sink.wait_for(THROUGH // 32 // AT_ONCE * AT_ONCE * 8, 10 * PATIENCE + THROUGH / 400)
-            field.sink.take_all()
+            for _ in range(max(1, THROUGH // 4 // WAVE)):
+                pour_through(field, relay, min(WAVE, THROUGH // 4))
             until("an empty list", lambda: relay.held() == [])
             comes_to_rest(process, "behind much mail")
             until("descriptors of none but itself", lambda: part == 0 or descriptors(process) == seen[0][1])

@@ -7,8 +7,8 @@ nothing that this process hasn't started.
 
 UNIT is how many seconds of a processor one `rt lib` of relay_octets from nothing takes on this machine. What a run takes
 between the last look and its end is missed: half a second at most of each of its processes. Behind a crate's sums stand
-the seconds of its edits, in their order: the first with the second proof of the crate, and where there are several one
-more at the end, which is the crate as it stands.
+the seconds of its edits, in their order; where there are several, those of the second proof of the crate before them,
+and of the crate as it stands behind them.
 """
 import os
 import pathlib
