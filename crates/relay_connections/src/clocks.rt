@@ -1,8 +1,7 @@
 //! What the clocks show at a turn.
 ghost use Rattle.std.specs.Prelude.{◌≡◌, ◌+◌, ◌-◌, ◌*◌, ◌^◌, min};
 
-use relay_log::clock_moment;
-use relay_trace::Moment;
+use relay_trace::{Moment, clock_moment};
 use std::rt::Clock;
 
 /// What both clocks show. Mail is due by the wall clock, which may be set back; connections are waited for by the

@@ -5,7 +5,6 @@
 mod attempt_line;
 mod client_line;
 mod client_writer;
-mod clock;
 mod hop_link;
 mod log;
 mod replies;
@@ -15,7 +14,6 @@ mod stamp;
 pub use attempt_line::Attempt;
 pub use client_line::{Connection, Messages};
 pub use client_writer::ClientWriter;
-pub use clock::clock_moment;
 pub use hop_link::{HopReader, HopWriter, Loss, Why};
 pub use log::Log;
 pub use replies::{Deferral, Replies};

@@ -47,7 +47,7 @@ impl From<AllocError> for TraceFault {
 }
 
 impl Moment {
-    ghost use Rattle.std.specs.Prelude.{◌≡◌, ◌≤◌, ◌<◌, MatchResult};
+    ghost use Rattle.std.specs.Prelude.{◌≡◌, ◌≤◌, ◌<◌, min, MatchResult};
     ghost use Rattle.relay_trace.specs.DateTime.{last_second};
 
     /// The moment that many seconds from 1970. It takes no memory.
@@ -59,6 +59,15 @@ impl Moment {
             return Err(TraceFault::OutOfRange);
         }
         Ok(Moment { seconds })
+    }
+
+    /// The moment that is nearest to this many seconds from 1970: the greatest one where there are more.
+    pub fn nearest(seconds: u64) -> Self
+        ensures { result ≡ min seconds last_second }
+    {
+        Moment {
+            seconds: seconds.min(LAST_SECOND),
+        }
     }
 
     /// The seconds from 1970.
