@@ -2,4 +2,5 @@ pub mod Table
 pub mod Channel
 pub mod Sessions
 pub mod Readiness
+pub mod Room
 pub mod Hearing

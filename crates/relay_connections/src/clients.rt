@@ -1,6 +1,9 @@
-ghost use Rattle.std.specs.Prelude.{◌≡◌, ◌≤◌, ◌<◌, ℕ, IfErr, IfOk, true};
+ghost use Rattle.std.specs.Prelude.{◌≡◌, ◌≤◌, ◌<◌, ◌↔◌, ℕ, IfErr, IfOk, IsTrue, true};
+ghost use Rattle.std.specs.Net.Addr.{ipv4_octets};
 ghost use Rattle.relay_slots.specs.Slots.{AreFree};
 ghost use Rattle.relay_connections.specs.Readiness.{IsLeftClient, clients_of};
+ghost use Rattle.relay_connections.specs.Room.{HasRoom, is_at};
+ghost use Rattle.relay_connections.specs.Table.{count_of_such, is_such};
 
 use crate::channel::{Channel, Readiness};
 use crate::client::{Client, Intake, Next, cut_off, drop_session};
@@ -18,6 +21,16 @@ use relay_node::NodeFault;
 use relay_slots::SLOT_COUNT;
 use std::alloc::{AllocError, Global};
 use std::net::{Ipv4Addr, SocketAddrV4};
+
+/// Whether the client in a slot is at an address.
+fn is_at(slot: &Option<Box<Client>>, address: [u8; 4]) -> bool
+    ensures { result ≡ is_such (is_at address) slot.now }
+{
+    match slot {
+        Some(client) => client.peer.ip().octets() == address,
+        None => false,
+    }
+}
 
 /// The connections of clients, up to 64, each under its session's number, which is its token too.
 pub struct Clients {
@@ -60,16 +73,24 @@ impl Clients {
     }
 
     /// Whether there is room for one more at this address: fewer than 64 stand, and at this address fewer than may.
-    pub fn has_room(&self, address: Ipv4Addr) -> bool {
-        let mut alike: usize = 0;
-        for slot in self.clients.standing() {
-            if let Some(client) = slot {
-                if client.peer.ip().octets() == address.octets() {
-                    alike = alike.saturating_add(1);
-                }
+    pub fn has_room(&self, address: Ipv4Addr) -> bool
+        ensures { IsTrue result ↔ HasRoom (ipv4_octets address) self.now }
+    {
+        self.count_at(address.octets()) < self.most && self.clients.count() < SLOT_COUNT
+    }
+
+    /// How many clients are at an address.
+    fn count_at(&self, address: [u8; 4]) -> usize
+        ensures { result ≡ count_of_such (is_at address) (clients_of self.now) }
+    {
+        let standing = self.clients.standing();
+        let mut count = 0;
+        for number in 0..standing.len() {
+            if is_at(&standing[number], address) {
+                count += 1;
             }
         }
-        alike < self.most && self.clients.count() < SLOT_COUNT
+        count
     }
 
     /// Opens a session for a client, and greets it. Where the system or the node has no room for it, it is closed

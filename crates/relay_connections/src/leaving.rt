@@ -1,6 +1,8 @@
 //! Connections whose session or attempt has ended: their last octets are written, and what the peer still sends is
 //! read and dropped for a moment, since the system else resets the connection, and the last octets with it.
-ghost use Rattle.std.specs.Prelude.{◌≤◌};
+ghost use Rattle.std.specs.Prelude.{◌≤◌, ◌<◌, ◌↔◌, IsTrue};
+ghost use Rattle.relay_connections.specs.declared.leaving.TheConstants.{MOST_STRANGERS};
+ghost use Rattle.relay_connections.specs.Table.{count_of};
 
 use crate::channel::{Channel, End, Readiness};
 use crate::clocks::Now;
@@ -94,7 +96,9 @@ impl Leaving {
     }
 
     /// Whether a connection may be taken that had no session: so many of these at once leave room for others.
-    pub fn has_room_for_strangers(&self) -> bool {
+    pub fn has_room_for_strangers(&self) -> bool
+        ensures { IsTrue result ↔ (count_of self.now.leavers < MOST_STRANGERS) }
+    {
         self.leavers.count() < MOST_STRANGERS
     }
 

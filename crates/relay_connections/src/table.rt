@@ -3,7 +3,7 @@ ghost use Rattle.std.specs.Prelude.{◌≡◌, ◌≤◌, ◌<◌, ◌+◌, ◌-
 ghost use Rattle.std.specs.Prelude.{min, slice_set};
 ghost use Rattle.relay_slots.specs.Slots.{AreFree, HasPlaces, IsFull, IsLeastFree, slot_at};
 ghost use Rattle.relay_slots.specs.declared.slots.TheConstants.{SLOT_COUNT};
-ghost use Rattle.relay_connections.specs.Table.{AreFreeFrom};
+ghost use Rattle.relay_connections.specs.Table.{AreFreeFrom, count_of};
 
 use relay_slots::Slots;
 use std::alloc::{AllocError, Global};
@@ -68,8 +68,17 @@ impl<T: Drop> Table<T> {
     }
 
     /// How many stand.
-    pub fn count(&self) -> usize {
-        self.standing().iter().filter(|slot| slot.is_some()).count()
+    pub fn count(&self) -> usize
+        ensures { result ≡ count_of self.now }
+    {
+        let standing = self.standing();
+        let mut count = 0;
+        for number in 0..standing.len() {
+            if holds(standing, number) {
+                count += 1;
+            }
+        }
+        count
     }
 
     /// Takes what stands under a number out, to be worked on outside of the table.

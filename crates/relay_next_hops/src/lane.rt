@@ -1,4 +1,4 @@
-ghost use Rattle.std.specs.Prelude.{IfSome};
+ghost use Rattle.std.specs.Prelude.{◌≡◌, [], ◌++◌, None, IfSome, option_to_list};
 ghost use Rattle.relay_limits.specs.Pace.{MayBegin};
 
 use relay_connections::Now;
@@ -90,9 +90,13 @@ impl Lane {
         let _ = self.tasks.push_front(task);
     }
 
-    /// Takes the next task, where one more connection may be begun beside those that stand, of `most` at most.
+    /// Takes the next task, where there is one, and one more connection may be begun beside those that stand, of `most`
+    /// at most.
     pub(crate) fn next(&mut self, most: usize, now: &Now) -> Option<Task>
         ensures begins { IfSome result (λ _. MayBegin most now.now.tick self.old.pace) }
+        ensures tasks { self.old.tasks.items ≡ option_to_list result ++ self.new.tasks.items }
+        ensures none { result ≡ None → MayBegin most now.now.tick self.old.pace → self.old.tasks.items ≡ [] }
+        ensures pace { self.new.pace ≡ self.old.pace }
     {
         if self.pace.may_begin(most, now.tick) {
             self.tasks.pop_front()
