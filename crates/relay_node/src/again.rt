@@ -1,9 +1,11 @@
 //! A node that is opened again under the same configuration.
-ghost use Rattle.std.specs.Prelude.{◌≡◌, IfErr, IfOk, MatchResult};
+ghost use Rattle.std.specs.Prelude.{◌≡◌, IfErr, IfOk, MatchResult, None};
 ghost use Rattle.relay_disk.specs.Disks.{FailsNot, seen_of};
 ghost use Rattle.relay_node.specs.Node.{IsIdle};
 ghost use Rattle.relay_records.specs.Open.{FailsFor, Opens, RefusesImage};
+ghost use Rattle.relay_records.specs.declared.fault.Cause.TheVariants.{Spool};
 ghost use Rattle.relay_spool.specs.Spool.{OnlyReads};
+ghost use Rattle.relay_spool.specs.declared.fault.SpoolFault.TheVariants.{NoMemory};
 
 use crate::node::{Node, out_of_memory};
 use relay_attempts::Attempts;
@@ -34,27 +36,43 @@ impl<D: Disk> Node<D> {
         ensures failures { MatchResult result (λ node. FailsNot D.words disk node.records.spool.disk)
             (λ not. FailsFor D.words disk not.refused.disk not.refused.cause) }
     {
+        match Records::open(alloc, disk) {
+            Ok(records) => Node::of_records(alloc, config, records),
+            Err(refused) => Err(NotReopened { config, refused }),
+        }
+    }
+
+    /// A node of these records, on which nothing has been noted, without a session and without an attempt. Where memory
+    /// runs out, their disks come back.
+    fn of_records(
+        alloc: Global,
+        config: Config,
+        records: Records<D>,
+    ) -> Result<Self, NotReopened<D>>
+        requires { records.noted ≡ None }
+        ensures records { IfOk result (λ node. node.records ≡ records) }
+        ensures idle { IfOk result (IsIdle config) }
+        ensures refused { IfErr result (λ not. (not.config ≡ config) × (not.refused.disk ≡ records.spool.disk)
+            × (not.refused.cause ≡ Spool NoMemory)) }
+    {
         let Ok(seats) = Slots::new(alloc) else {
             return Err(NotReopened {
                 config,
-                refused: out_of_memory(disk),
+                refused: out_of_memory(records.into_disk()),
             });
         };
-        match Records::open(alloc, disk) {
-            Ok(records) => match Attempts::new(alloc, &config.routes, &records) {
-                Ok(attempts) => Ok(Node {
-                    alloc,
-                    config,
-                    seats,
-                    attempts,
-                    records,
-                }),
-                Err(_) => Err(NotReopened {
-                    config,
-                    refused: out_of_memory(records.into_disk()),
-                }),
-            },
-            Err(refused) => Err(NotReopened { config, refused }),
-        }
+        let Ok(attempts) = Attempts::new(alloc, &config.routes, &records) else {
+            return Err(NotReopened {
+                config,
+                refused: out_of_memory(records.into_disk()),
+            });
+        };
+        Ok(Node {
+            alloc,
+            config,
+            seats,
+            attempts,
+            records,
+        })
     }
 }
