@@ -9,23 +9,22 @@ use Rattle.std.specs.declared.net.socket_addr.SocketAddrV4.{SocketAddrV4}
 use Rattle.relay_disk.specs.Device.{DiskWords}
 use Rattle.relay_disk.specs.declared.disks.Disks.{Disks}
 use Rattle.relay_routes.specs.declared.config.Config.{Config}
-use Rattle.relay_records.specs.Records.{Keeps}
 use Rattle.relay_book.specs.declared.change.Change.{Change}
 use Rattle.relay_world.specs.declared.link.Link.{Link}
 use Rattle.relay_world.specs.Bound.{StateKeeps, HostKeeps, IsBound}
 use Rattle.relay_world.specs.Ledger.{steps_of}
 use Rattle.relay_world.specs.World.{Down, HostState, Host, Undecided, Up, link_at}
-use Rattle.relay_node.specs.Node.{IsIdle, NodeState}
+use Rattle.relay_node.specs.Node.{NodeState}
 use Rattle.relay_world.specs.Once.{OnceAtFirst}
 use Rattle.relay_world.specs.HopLinks.{HopLinksAtFirst}
-use Rattle.relay_pair.specs.Begin.{AreNew, IsNew, address_of, at_place, begun_with, mail_at}
-use Rattle.relay_pair.specs.Host.{notes_of}
+use Rattle.relay_pair.specs.Begin.{AreNew}
+use Rattle.relay_hosts.specs.Begin.{IsNew}
+use Rattle.relay_pair.specs.Profiles.{address_of, at_place, mail_at}
+use Rattle.relay_events.specs.Begin.{begun_with}
 use Rattle.relay_pair.specs.Network.{HaveOneHost, IsHostBefore}
-use Rattle.relay_pair.specs.Relays.{AreBound, HaveOwnNames}
-use Rattle.relay_pair.specs.Room.{HasRoom, lines_held, lines_left}
-use Rattle.relay_pair.specs.Told.{IsToldOfBreaks}
-use Rattle.relay_pair.proofs.CallLemmas.{owed_live}
-use Rattle.relay_pair.proofs.SlotLemmas.{count_free}
+use Rattle.relay_events.specs.Relays.{AreBound, HaveOwnNames}
+use Rattle.relay_hosts.specs.Room.{HasRoom, lines_held, lines_left}
+use Rattle.relay_events.specs.Told.{IsToldOfBreaks}
 
 none_there : {A : Type 0} (place : ℕ) (value : A) → slice_get {X = A} [] place ≡ Some value → ⊥
 none_there zero value is = false≢true (ap is_some is)
@@ -247,8 +246,3 @@ module _ {D : Type 0} (honest : Type 0) (words : DiskWords D) where
 
     pub begun_has_room : (free : ℕ) → HasRoom (begun_with hosts) free
     begun_has_room free = subst (λ (lines : ℕ). 0 + lines ≤ free) (sym (none_left 0 0 configs hosts are)) (omega arith)
-
--- a node that has just begun owes no note
-pub new_owes_none : {D : Type 0} (honest : Type 0) (words : DiskWords D) (config : Config) (node : NodeState D)
-    → Keeps honest words node.records [] → IsIdle config node → notes_of node ≡ 0
-new_owes_none honest words config node keeps idle = owed_live node keeps.live ∙ count_free node.attempts idle.none_runs

@@ -29,7 +29,7 @@ use Rattle.relay_world.specs.Once.{IsTriedOnce}
 use Rattle.relay_world.specs.World.{World, link_at}
 use Rattle.relay_world.proofs.Theorems.{decided_by}
 use Rattle.relay_pair.specs.Copied.{AreReplies, CountsBy, CountsCopies, accepts_place, behind_mail, is_no_memory}
-use Rattle.relay_pair.proofs.PlaceLemmas.{value_same}
+use Rattle.relay_events.proofs.Theorems.{value_same}
 use Rattle.relay_pair.proofs.AcceptedLemmas.{accepted_by_replies, accepted_in}
 
 -- one place, and whether its RCPT was accepted

@@ -8,10 +8,10 @@ use Rattle.relay_routes.specs.declared.config.Config.{Config}
 use Rattle.relay_book.specs.declared.change.Change.{Change}
 use Rattle.relay_world.specs.Bound.{StateKeeps}
 use Rattle.relay_world.specs.World.{Down, HostState, Host, Up, World}
-use Rattle.relay_pair.specs.Relays.{AreBound}
-use Rattle.relay_pair.proofs.BoundLemmas.{there_too}
+use Rattle.relay_events.specs.Relays.{AreBound}
+use Rattle.relay_events.proofs.Theorems.{there_too}
 use Rattle.relay_pair.specs.Marks.{mark_of, marks_from}
-use Rattle.relay_pair.specs.Work.{KnowsIfUp, marks_in}
+use Rattle.relay_hosts.specs.Work.{KnowsIfUp, marks_in}
 
 -- what is left of a row from a place on
 drop_there : {A : Type 0} (xs : List A) (place : ℕ) (x : A) → place < length xs → x ≡ slice_index_or xs place x

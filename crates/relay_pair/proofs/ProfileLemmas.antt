@@ -13,7 +13,7 @@ use Rattle.std.proofs.lemmas.Str.Ascii.{lowercase_is}
 use Rattle.relay_envelope.specs.HostName.{IsHostName, is_host_octet}
 use Rattle.relay_routes.specs.declared.config.Config.{Config}
 use Rattle.relay_routes.specs.Routes.{Route, in_lower_case}
-use Rattle.relay_pair.specs.Begin.{HaveProfiles, IsProfile, address_of, host_of, route_to_node, routes_among, routes_to_others}
+use Rattle.relay_pair.specs.Profiles.{HaveProfiles, IsProfile, address_of, host_of, route_to_node, routes_among, routes_to_others}
 
 letter_lower : (place : ℕ) → to_ascii_lowercase (97 + place) ≡ 97 + place
 letter_lower place = (lowercase_is (97 + place)).2 (omega arith)

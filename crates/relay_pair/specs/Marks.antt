@@ -1,7 +1,7 @@
 -- The places that the relays of a pair hold.
 use Rattle.std.specs.Prelude.{ℕ, ◌+◌, List, [], ◌++◌, ◌∷◌, map}
 use Rattle.relay_world.specs.World.{Host}
-use Rattle.relay_pair.specs.Work.{marks_in}
+use Rattle.relay_hosts.specs.Work.{marks_in}
 
 -- a held place of a node
 abbrev pub mark_of : ℕ → ℕ × ℕ → ℕ × ℕ × ℕ

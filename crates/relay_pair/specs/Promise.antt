@@ -1,14 +1,13 @@
--- What a run of a pair promises of mail (RFC 5321, section 6.1).
-use Rattle.std.specs.Prelude.{ℕ, List}
+-- What a run of relays promises of mail (RFC 5321, section 6.1).
+use Rattle.std.specs.Prelude.{List}
 use Rattle.relay_disk.specs.Device.{DiskWords}
 use Rattle.relay_book.specs.declared.change.Change.{Change}
 use Rattle.relay_world.specs.Bound.{IsBound}
 use Rattle.relay_world.specs.Growth.{HasGrown, ListsGrow}
-use Rattle.relay_world.specs.Once.{Happen}
 use Rattle.relay_world.specs.Promise.{KeepsPromise}
 use Rattle.relay_world.specs.World.{World}
 
--- Of the mail of the pair behind a run: each node has a list of changes, which its spool holds, and which begins with
+-- Of the mail of relays behind a run: each node has a list of changes, which its spool holds, and which begins with
 -- the one that it had; by these lists the promise is kept; and nothing that was recorded, told, written or read before
 -- is gone.
 pub record KeepsItsPromise {D : Type 0} (honest : Type 0) (words : DiskWords D) (old new : World D) : Type 0 where
@@ -19,7 +18,3 @@ pub record KeepsItsPromise {D : Type 0} (honest : Type 0) (words : DiskWords D) 
   pub before : List (List Change)
   pub were : IsBound honest words old before
   pub longer : ListsGrow before lists
-
--- The other world was made of the one by events, each of which keeps relays bound.
-abbrev pub HasHappened : {D : Type 0} → Type 0 → DiskWords D → World D → World D → Type 0
-HasHappened honest words old new = (count : ℕ) × Happen honest words count old new

@@ -2,70 +2,68 @@
 ghost use Rattle.std.specs.Prelude.{◌≡◌, ◌==◌, ◌&&◌, ◌≤◌, [], ◌∷◌, length, slice_get, Some, IfOk};
 ghost use Rattle.relay_course.specs.VerdictTable.{is_accepted};
 ghost use Rattle.relay_pair.specs.Copied.{AreReplies, CountsBy, CountsCopies, accepts_place, behind_mail, is_greeted_again, is_no_memory};
-ghost use Rattle.relay_pair.specs.Relays.{AreBound, world_of};
+ghost use Rattle.relay_events.specs.Relays.{AreBound, world_of};
 ghost use Rattle.relay_world.specs.Ledger.{accepts_on};
 
-use crate::links::place_of;
-use crate::relays::Relays;
 use relay_course::{ReplyKind, kind_of};
 use relay_disk::Disk;
+use relay_events::Relays;
+use relay_hosts::links::place_of;
 use relay_lines::{Reply, ReplyFault, ReplyReader};
 use relay_world::passing::copies_are_few;
 use relay_world::{Attempt, Line};
 use std::alloc::{AllocError, Global};
 
-impl<D: Disk> Relays<D> {
-    /// How many copies of a node's message hold a place of it: all messages that were accepted on the links of attempts
-    /// whose RCPT for the place was answered 2yz. It fails where memory runs out.
-    pub(crate) fn copies(
-        &self,
-        alloc: Global,
-        node: usize,
-        message: u64,
-        place: u64,
-    ) -> Result<usize, AllocError>
-        requires { AreBound D.honest D.words (world_of self.now) }
-        ensures { IfOk result (CountsCopies D.honest D.words (world_of self.now) node message place) }
-    {
-        copies_are_few::<D>();
-        let mut count: usize = 0;
-        for (at, attempt) in self.attempts.iter().enumerate() {
-            count += self.copies_by(alloc, node, message, place, at, attempt)?;
-        }
-        Ok(count)
+/// How many copies of a node's message hold a place of it: all messages that were accepted on the links of attempts
+/// whose RCPT for the place was answered 2yz. It fails where memory runs out.
+pub(crate) fn count_copies<D: Disk>(
+    relays: &Relays<D>,
+    alloc: Global,
+    node: usize,
+    message: u64,
+    place: u64,
+) -> Result<usize, AllocError>
+    requires { AreBound D.honest D.words (world_of relays.now) }
+    ensures { IfOk result (CountsCopies D.honest D.words (world_of relays.now) node message place) }
+{
+    copies_are_few::<D>();
+    let mut count: usize = 0;
+    for (at, attempt) in relays.attempts.iter().enumerate() {
+        count += count_copies_by(relays, alloc, node, message, place, at, attempt)?;
     }
+    Ok(count)
+}
 
-    /// How many of them were made by this attempt.
-    fn copies_by(
-        &self,
-        alloc: Global,
-        node: usize,
-        message: u64,
-        place: u64,
-        at: usize,
-        attempt: &Attempt,
-    ) -> Result<usize, AllocError>
-        requires bound { AreBound D.honest D.words (world_of self.now) }
-        requires is_there { slice_get self.now.attempts.items at ≡ Some attempt.now }
-        ensures { IfOk result (CountsBy D.honest D.words (world_of self.now) node message place attempt.now) }
-    {
-        if attempt.node != node || attempt.message != message {
-            return Ok(0);
-        }
-        let Some(link) = place_of(self.links.as_slice(), attempt.link) else {
-            unreachable!()
-        };
-        let link = &self.links[link];
-        let replies = replies_in(alloc, &link.down.as_slice()[..link.down_read])?;
-        if accepts_place(
-            place,
-            attempt.places.as_slice(),
-            rcpt_replies(replies.as_slice()),
-        ) {
-            return Ok(accepts_on(self.ledger.as_slice(), attempt.link));
-        }
-        Ok(0)
+/// How many of them were made by this attempt.
+fn count_copies_by<D: Disk>(
+    relays: &Relays<D>,
+    alloc: Global,
+    node: usize,
+    message: u64,
+    place: u64,
+    at: usize,
+    attempt: &Attempt,
+) -> Result<usize, AllocError>
+    requires bound { AreBound D.honest D.words (world_of relays.now) }
+    requires is_there { slice_get relays.now.attempts.items at ≡ Some attempt.now }
+    ensures { IfOk result (CountsBy D.honest D.words (world_of relays.now) node message place attempt.now) }
+{
+    if attempt.node != node || attempt.message != message {
+        return Ok(0);
     }
+    let Some(link) = place_of(relays.links.as_slice(), attempt.link) else {
+        unreachable!()
+    };
+    let link = &relays.links[link];
+    let replies = replies_in(alloc, &link.down.as_slice()[..link.down_read])?;
+    if accepts_place(
+        place,
+        attempt.places.as_slice(),
+        rcpt_replies(replies.as_slice()),
+    ) {
+        return Ok(accepts_on(relays.ledger.as_slice(), attempt.link));
+    }
+    Ok(0)
 }
 
 /// How many messages were accepted on a link.

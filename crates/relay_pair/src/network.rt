@@ -1,11 +1,12 @@
 //! Networks of relays: the configurations that make one, and how its nodes begin.
 ghost use Rattle.std.specs.Prelude.{◌≡◌, ◌<◌, ◌≤◌, IfOk, MatchBool, MatchOption, length};
-ghost use Rattle.relay_pair.specs.Begin.{AreNew, at_place};
+ghost use Rattle.relay_pair.specs.Begin.{AreNew};
+ghost use Rattle.relay_pair.specs.Profiles.{at_place};
 ghost use Rattle.relay_pair.specs.Network.{AreNetwork, HasOwnHop, HaveOneHost, IsHostBefore, IsNoNetwork, SendsHome};
 
-use crate::host::Host;
 use crate::profile::{address_of, mail_at};
 use relay_disk::{Disk, Disks, MemoryDisk};
+use relay_hosts::Host;
 use relay_routes::Config;
 use std::alloc::{AllocError, Global};
 use thiserror::Error;

@@ -1,24 +1,26 @@
 //! Relays that run.
 ghost use Rattle.std.specs.Prelude.{◌≡◌, ◌≤◌, IfErr, IfOk, List};
-ghost use Rattle.relay_pair.specs.Begin.{AreNew, HasBegun, HasBegunAsMany, HasBegunAsTwo, begun_with};
+ghost use Rattle.relay_pair.specs.Begin.{AreNew, HasBegun, HasBegunAsMany, HasBegunAsTwo};
+ghost use Rattle.relay_events.specs.Begin.{begun_with};
 ghost use Rattle.relay_pair.specs.Copied.{CountsCopies};
 ghost use Rattle.relay_pair.specs.Marks.{marks_from};
 ghost use Rattle.relay_pair.specs.Network.{AreNetwork, HaveOneHost, IsNoNetwork};
-ghost use Rattle.relay_pair.specs.Promise.{HasHappened, KeepsItsPromise};
-ghost use Rattle.relay_pair.specs.Relays.{AreBound};
-ghost use Rattle.relay_pair.specs.Step.{Steps, StepsEach};
+ghost use Rattle.relay_events.specs.Happened.{HasHappened};
+ghost use Rattle.relay_events.specs.Relays.{AreBound};
+ghost use Rattle.relay_events.specs.Step.{Steps};
+ghost use Rattle.relay_pair.specs.Promise.{KeepsItsPromise};
+ghost use Rattle.relay_pair.specs.Run.{StepsEach};
 ghost use Rattle.relay_routes.specs.declared.config.Config.{Config as Configuration};
 ghost use Rattle.relay_world.specs.Copies.{lost_replies_of};
 
-use crate::event::Event;
-use crate::fault::PairFault;
-use crate::host::Host;
+use crate::copies::count_copies;
 use crate::lost::lost_replies;
+use crate::marks::held_marks;
 use crate::network::{NetFault, begin_hosts, fault_of_network};
 use crate::profile::{first_profile, profiles_of, second_profile};
-use crate::relays::Relays;
-use crate::seen::Seen;
 use relay_disk::{Disk, Disks, MemoryDisk, Reboot};
+use relay_events::{Event, PairFault, Relays, Seen};
+use relay_hosts::Host;
 use relay_routes::Config;
 use relay_world::passing::{hop_links_at_first, once_at_first, promise_is_kept};
 use relay_world::{Attempt, Line, Link};
@@ -38,7 +40,7 @@ impl<D: Disk + Drop> Drop for Pair<D> {
 }
 
 impl<D: Disk> Model for Pair<D> {
-    ghost use Rattle.relay_pair.specs.Relays.{AreInOrder, world_of};
+    ghost use Rattle.relay_events.specs.Relays.{AreInOrder, world_of};
     ghost use Rattle.relay_world.specs.World.{World};
 
     ghost Value = { World D };
@@ -155,7 +157,7 @@ impl<D: Disk> Pair<D> {
     pub fn marks(&self, alloc: Global) -> Result<Vec<(usize, u64, u8)>, AllocError>
         ensures { IfOk result (λ marks. marks.items ≡ marks_from 0 self.now.hosts) }
     {
-        self.relays.marks(alloc)
+        held_marks(&self.relays, alloc)
     }
 
     /// How many copies of a place of a node's message its attempts have made, among nodes of ours: the messages that
@@ -170,7 +172,7 @@ impl<D: Disk> Pair<D> {
     ) -> Result<usize, AllocError>
         ensures { IfOk result (CountsCopies D.honest D.words self.now node message place) }
     {
-        self.relays.copies(alloc, node, message, place)
+        count_copies(&self.relays, alloc, node, message, place)
     }
 
     /// How many replies to attempts at a place of a node's message were lost: the attempts for it that have ended by no

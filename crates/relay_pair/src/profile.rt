@@ -1,7 +1,7 @@
 //! The configurations of the relays of a play: of the two that a pair begins with, and of any number of them.
 ghost use Rattle.std.specs.Prelude.{◌≡◌, ◌<◌, ◌≤◌, [], ◌∷◌, ◌++◌, codes, IfOk, OnOk};
 ghost use Rattle.relay_envelope.specs.HostName.{IsHostName};
-ghost use Rattle.relay_pair.specs.Begin.{AreProfiles, IsProfile, address_of, first_routes, host_of, mail_at, node_behind, route_to, route_to_node, routes_among, routes_of_the_rest, routes_to_others, second_routes};
+ghost use Rattle.relay_pair.specs.Profiles.{AreProfiles, IsProfile, address_of, first_routes, host_of, mail_at, node_behind, route_to, route_to_node, routes_among, routes_of_the_rest, routes_to_others, second_routes};
 ghost use Rattle.relay_routes.specs.Routes.{in_lower_case, with_route};
 
 use relay_routes::{BareNewlines, Config, Hop, HostName, SpoolPath, Table};

@@ -6,7 +6,9 @@ use Rattle.std.proofs.lemmas.Iterator.Consumers.{YieldsList-end, YieldsList-turn
 use Rattle.std.proofs.lemmas.List.{map-id}
 use Rattle.relay_disk.specs.Memory.{memory_words}
 use Rattle.relay_routes.specs.declared.config.Config.{Config}
-use Rattle.relay_pair.specs.Begin.{AreNew, IsNew, at_place}
+use Rattle.relay_pair.specs.Begin.{AreNew}
+use Rattle.relay_hosts.specs.Begin.{IsNew}
+use Rattle.relay_pair.specs.Profiles.{at_place}
 use Rattle.relay_pair.proofs.BeginLemmas.{as_many_hosts, one_more_new}
 use Rattle.relay_pair.proofs.network.begin_hosts.Goals as goal
 

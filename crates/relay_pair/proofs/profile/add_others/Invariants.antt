@@ -1,5 +1,5 @@
 use Rattle.std.proofs.Common.{◌≡◌}
-use Rattle.relay_pair.specs.Begin.{routes_to_others}
+use Rattle.relay_pair.specs.Profiles.{routes_to_others}
 use Rattle.relay_pair.proofs.profile.add_others.Given as goal
 
 -- the routes so far are those to the others so far, in the table of the same host

@@ -1,6 +1,6 @@
 use Rattle.std.proofs.Common.{◌≡◌, [], ◌∷◌, ◌++◌, codes}
-use Rattle.relay_pair.specs.Begin.{address_of, host_of, node_behind, route_to}
-use Rattle.relay_pair.specs.Step.{outside_address}
+use Rattle.relay_pair.specs.Profiles.{address_of, host_of, node_behind, route_to}
+use Rattle.relay_events.specs.Step.{outside_address}
 use Rattle.relay_pair.proofs.ProfileLemmas.{three_more}
 use Rattle.relay_pair.proofs.profile.add_rest.Goals as goal
 

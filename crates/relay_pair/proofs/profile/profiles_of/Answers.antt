@@ -1,6 +1,6 @@
 use Rattle.std.proofs.Common.{◌≡◌, [], ◌∷◌, ◌++◌, length, ap, subst, sym, arith}
 use Rattle.std.proofs.lemmas.List.{length_push}
-use Rattle.relay_pair.specs.Begin.{HaveProfiles, IsProfile, address_of, host_of, routes_among}
+use Rattle.relay_pair.specs.Profiles.{HaveProfiles, IsProfile, address_of, host_of, routes_among}
 use Rattle.relay_pair.proofs.ProfileLemmas.{one_profile_more}
 use Rattle.relay_pair.proofs.profile.profiles_of.Goals as goal
 

@@ -1,5 +1,5 @@
 use Rattle.std.proofs.Common.{◌≡◌, length}
-use Rattle.relay_pair.specs.Begin.{HaveProfiles}
+use Rattle.relay_pair.specs.Profiles.{HaveProfiles}
 use Rattle.relay_pair.proofs.profile.profiles_of.Given as goal
 
 -- the configurations so far are those of the nodes so far

@@ -1,9 +1,9 @@
 -- Relays that have just begun are in order.
 use Rattle.std.proofs.Common.{sym, subst}
 use Rattle.relay_world.specs.World.{World}
-use Rattle.relay_pair.specs.Relays.{AreBound, free_lines}
-use Rattle.relay_pair.specs.Room.{HasRoom}
-use Rattle.relay_pair.specs.Told.{IsToldOfBreaks}
+use Rattle.relay_events.specs.Relays.{AreBound, free_lines}
+use Rattle.relay_hosts.specs.Room.{HasRoom}
+use Rattle.relay_events.specs.Told.{IsToldOfBreaks}
 use Rattle.relay_pair.proofs.BeginLemmas.{begun_are_bound, begun_are_told, begun_has_room}
 use Rattle.relay_pair.proofs.pair.Pair.of_hosts.Goals as goal
 

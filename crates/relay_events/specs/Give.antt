@@ -1,0 +1,111 @@
+-- What a node does first, and what its calls for that make of relays.
+use Rattle.std.specs.Prelude.{◌≡◌, ◌⊎◌, ◌<◌, ◌≤◌, ℕ, ◌+◌, List, [], ◌∷◌, ◌++◌, length, Result, Ok, Err, Some, slice_get, slice_set, vec_capacity, vec_len}
+use Rattle.std.specs.Global.{Vec}
+use Rattle.relay_disk.specs.Device.{DiskWords}
+use Rattle.relay_slots.specs.Slots.{IsFull}
+use Rattle.relay_attempts.specs.declared.start.Started.{Started}
+use Rattle.relay_attempts.specs.declared.work.Work.{Work}
+use Rattle.relay_records.specs.declared.fault.NodeFault.{NodeFault}
+use Rattle.relay_records.specs.declared.fault.NodeFault.TheVariants as node_fault
+use Rattle.relay_world.specs.declared.attempt.Attempt.{Attempt}
+use Rattle.relay_world.specs.declared.link.Link.{Link}
+use Rattle.relay_world.specs.Steps.{IsPutAt, started_attempt}
+use Rattle.relay_world.specs.World.{Host, World, link_at}
+use Rattle.relay_events.specs.declared.relays.Relays.{Relays}
+use Rattle.relay_hosts.specs.declared.work.GivenUp.{GivenUp}
+use Rattle.relay_events.specs.Relays.{free_lines}
+use Rattle.relay_hosts.specs.Room.{lines_left, lines_to_come}
+use Rattle.relay_events.specs.Told.{running_of}
+use Rattle.relay_hosts.specs.Work.{BeginsAttempt, GivesUpOrNot, GivesUpUnlessFull, HasChanges, LacksRoom, attempts_in, works_in}
+
+-- this is the first work of a node, at the moment of the clock
+pub record IsFirstWork {D : Type 0} (world : World D) (node : ℕ) (work : Work) : Type 0 where
+  pub host : Host D
+  pub host_at : slice_get world.hosts node ≡ Some host
+  pub first : slice_get (works_in world.clock host.state) 0 ≡ Some work
+
+-- why a node may refuse to begin an attempt: it has no memory, or 64 attempts of it run
+abbrev pub IsWhyNotBegun : {D : Type 0} → Host D → NodeFault → Type 0
+IsWhyNotBegun host why = (why ≡ node_fault.NoMemory) ⊎ ((why ≡ node_fault.TooMany) × IsFull (attempts_in host.state))
+
+-- and to give up places without a hop: it has no memory, or no room for their outcome
+abbrev pub IsWhyNotGivenUp : {D : Type 0} → Type 0 → DiskWords D → ℕ → Host D → ℕ → NodeFault → Type 0
+IsWhyNotGivenUp honest words now host message why =
+    (why ≡ node_fault.NoMemory) ⊎ ((why ≡ node_fault.Full) × LacksRoom honest words now host.state message)
+
+-- the node that the hop of another is, and the address from which that comes there
+pub record LeadsOn {D : Type 0} (world : World D) (node : ℕ) (hop : List ℕ) (to : ℕ) (peer : List ℕ) : Type 0 where
+  pub opener : Host D
+  pub opener_at : slice_get world.hosts node ≡ Some opener
+  pub from : peer ≡ opener.config.listen.ip.octets
+  pub host : Host D
+  pub host_at : slice_get world.hosts to ≡ Some host
+  pub named : host.config.host ≡ hop
+
+-- a node has begun an attempt on the link of this number, and it stands behind the others
+pub record HasBegun {D : Type 0} (honest : Type 0) (words : DiskWords D) (old new : World D) (node message : ℕ)
+    (hop : List ℕ) (number place : ℕ) : Type 0 where
+  pub was : Host D
+  pub was_at : slice_get old.hosts node ≡ Some was
+  pub now : Host D
+  pub started : Started
+  pub begins : BeginsAttempt honest words old.clock was now message hop started
+  pub attempt : Attempt
+  pub is_attempt : started_attempt node message hop started number attempt
+  pub place_is : place ≡ length old.attempts
+  pub new_is : new ≡ record old { hosts = slice_set old.hosts node now; attempts = old.attempts ++ attempt ∷ [] }
+
+-- it has, or it has refused to, and nothing has changed
+abbrev pub HasBegunOrNot : {D : Type 0} → Type 0 → DiskWords D → World D → World D → ℕ → ℕ → List ℕ → ℕ
+    → Result ℕ NodeFault → Type 0
+HasBegunOrNot honest words old new node message hop number (Ok place) =
+    HasBegun honest words old new node message hop number place
+HasBegunOrNot {D} honest words old new node message hop number (Err why) =
+    (new ≡ old) × ((host : Host D) × (slice_get old.hosts node ≡ Some host) × IsWhyNotBegun host why)
+
+-- a node has begun an attempt on this link, and has its client end
+pub record HasBegunOn {D : Type 0} (honest : Type 0) (words : DiskWords D) (old new : World D) (node message : ℕ)
+    (hop : List ℕ) (number place : ℕ) : Type 0 where
+  pub blank : Link
+  pub blank_at : link_at old.links number ≡ Some blank
+  pub middle : World D
+  pub begun : HasBegun honest words old middle node message hop number place
+  pub moved : List Link
+  pub put : IsPutAt old.links moved number (record blank { client = Some (length old.attempts) })
+  pub new_is : new ≡ record middle { links = moved }
+
+-- it has, or it has refused to, and nothing has changed
+abbrev pub HasBegunThere : {D : Type 0} → Type 0 → DiskWords D → World D → World D → ℕ → ℕ → List ℕ → ℕ
+    → Result ℕ NodeFault → Type 0
+HasBegunThere honest words old new node message hop number (Ok place) =
+    HasBegunOn honest words old new node message hop number place
+HasBegunThere {D} honest words old new node message hop number (Err why) =
+    (new ≡ old) × ((host : Host D) × (slice_get old.hosts node ≡ Some host) × IsWhyNotBegun host why)
+
+-- A node was called to give up the places of a message that have no hop, as its first work. Nothing else has changed
+-- yet.
+pub record IsCalledToGiveUp {D : Type 0} (honest : Type 0) (words : DiskWords D) (old new : World D)
+    (node message : ℕ) (given : GivenUp) : Type 0
+  where
+    pub was : Host D
+    pub was_at : slice_get old.hosts node ≡ Some was
+    pub has : HasChanges honest words was
+    pub now : Host D
+    pub gives : GivesUpOrNot honest words old.clock was now message given
+    pub first : GivesUpUnlessFull honest words old.clock was message given
+    pub new_is : new ≡ record old { hosts = slice_set old.hosts node now }
+
+-- the most places that an attempt, or an outcome, is for
+abbrev pub most_places : ℕ
+most_places = 100
+
+-- there is room for a link more, an attempt more, and the lines of the ledger that may come, also of its places
+pub record HasRoomForWork {D : Type 0} (relays : Relays D) : Type 0 where
+  pub link : vec_len relays.links < vec_capacity relays.links
+  pub attempt : vec_len relays.attempts < vec_capacity relays.attempts
+  pub lines : lines_to_come relays.attempts.items + lines_left 0 relays.hosts.items + most_places ≤ free_lines relays
+
+-- an empty list, with room for each node that may stop in a step
+pub record IsListOfStops {D : Type 0} (relays : Relays D) (stopped : Vec ℕ) : Type 0 where
+  pub empty : stopped.items ≡ []
+  pub room : vec_len stopped + 1 + running_of relays.attempts.items ≤ vec_capacity stopped

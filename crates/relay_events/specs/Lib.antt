@@ -1,0 +1,16 @@
+pub mod Act
+pub mod Begin
+pub mod BreakOff
+pub mod Carried
+pub mod ClientEnd
+pub mod Compact
+pub mod FirstFault
+pub mod Give
+pub mod Happened
+pub mod Hear
+pub mod Open
+pub mod Relays
+pub mod Restart
+pub mod Step
+pub mod StopNow
+pub mod Told

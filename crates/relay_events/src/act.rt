@@ -1,0 +1,91 @@
+//! What an event did of itself, and how it is answered once nodes were told of the links that it broke.
+ghost use Rattle.std.specs.Prelude.{◌≡◌, ◌+◌, ◌≤◌, ◌++◌, List, ℕ, [], vec_capacity, vec_len};
+ghost use Rattle.relay_events.specs.Act.{IsFinished, did_of, stops_of};
+ghost use Rattle.relay_events.specs.Happened.{HasHappened};
+ghost use Rattle.relay_events.specs.Relays.{AreBound, AreInOrder, free_lines, world_of};
+ghost use Rattle.relay_hosts.specs.Room.{HasRoom};
+ghost use Rattle.relay_events.specs.Step.{IsSeen, fault_of};
+ghost use Rattle.relay_events.specs.Told.{running_of};
+
+use crate::fault::PairFault;
+use crate::relays::Relays;
+use crate::seen::{Seen, seen_of};
+use relay_disk::Reboot;
+use relay_node::NodeFault;
+
+/// What an event did of itself, before nodes are told of links that it broke.
+#[derive(Drop)]
+pub(crate) enum Act {
+    /// It shows something.
+    Shows(Seen),
+    /// A node refused its part.
+    Refuses(PairFault),
+    /// A node has stopped.
+    Stops(usize),
+}
+
+impl<D: Reboot + Drop> Relays<D> {
+    /// Nodes are told of links that an event broke, and it is answered. The list is empty, with room for each node that
+    /// may stop.
+    pub(crate) fn finish(&mut self, act: Act, stopped: Vec<usize>) -> Result<Seen, PairFault>
+        requires honest { D.Disk.honest }
+        requires bound { AreBound D.Disk.honest D.Disk.words (world_of self.old) }
+        requires room { HasRoom (world_of self.old) (free_lines self.old) }
+        requires empty { stopped.items ≡ [] }
+        requires list { vec_len stopped + 1 + running_of self.old.attempts.items ≤ vec_capacity stopped }
+        ensures finished { IsFinished D.Disk.honest D.Disk.words (world_of self.old) (did_of act) (world_of self.new)
+            result }
+        ensures happened { HasHappened D.Disk.honest D.Disk.words (world_of self.old) (world_of self.new) }
+        ensures order { AreInOrder D.Disk.honest D.Disk.words self.new }
+    {
+        let mut stopped = stopped;
+        list_stop(&act, &mut stopped);
+        self.tell(&mut stopped);
+        answer_of(act, stopped)
+    }
+}
+
+/// Adds the node that has stopped, if one has, to these, for which there is room.
+fn list_stop(act: &Act, stopped: &mut Vec<usize>)
+    requires { vec_len stopped.old + 1 ≤ vec_capacity stopped.old }
+    ensures items { stopped.new.items ≡ stopped.old.items ++ stops_of (did_of act.now) }
+    ensures len { vec_len stopped.new ≤ vec_len stopped.old + 1 }
+    ensures capacity { vec_capacity stopped.old ≤ vec_capacity stopped.new }
+{
+    if let Act::Stops(node) = act {
+        stopped.push(*node).unwrap();
+    }
+}
+
+/// The answer to an event that did so, when these nodes have stopped.
+fn answer_of(act: Act, stopped: Vec<usize>) -> Result<Seen, PairFault>
+    ensures { (told : List ℕ) → stopped.items ≡ stops_of (did_of act) ++ told → IsSeen (did_of act) told result }
+{
+    match act {
+        Act::Shows(own) => Ok(seen_of(own, stopped)),
+        Act::Refuses(why) => {
+            if stopped.is_empty() {
+                return Err(why);
+            }
+            Ok(Seen::Stopped(stopped))
+        }
+        Act::Stops(_) => Ok(Seen::Stopped(stopped)),
+    }
+}
+
+/// The fault of a node that refused its part.
+pub(crate) fn fault_of(fault: NodeFault) -> PairFault
+    ensures { result ≡ fault_of fault }
+{
+    match fault {
+        NodeFault::NoMemory => PairFault::NoMemory,
+        NodeFault::Stopped => PairFault::Node(NodeFault::Stopped),
+        NodeFault::Unknown => PairFault::Node(NodeFault::Unknown),
+        NodeFault::TooMany => PairFault::Node(NodeFault::TooMany),
+        NodeFault::NotDue => PairFault::Node(NodeFault::NotDue),
+        NodeFault::Busy => PairFault::Node(NodeFault::Busy),
+        NodeFault::Open(cause) => PairFault::Node(NodeFault::Open(cause)),
+        NodeFault::Full => PairFault::Node(NodeFault::Full),
+        NodeFault::NoSecond => PairFault::Node(NodeFault::NoSecond),
+    }
+}

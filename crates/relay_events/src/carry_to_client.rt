@@ -1,0 +1,195 @@
+//! What waits at the client end of a link is carried to the attempt there.
+ghost use Rattle.std.specs.Prelude.{◌≡◌, ◌+◌, ◌<◌, ◌≤◌, ℕ, None, Some, true, false, length, slice_get, vec_capacity, vec_len};
+ghost use Rattle.relay_world.specs.Steps.{waiting_down};
+ghost use Rattle.relay_world.specs.declared.attempt.Attempt.{Attempt as AttemptOf};
+ghost use Rattle.relay_events.specs.Act.{did_of};
+ghost use Rattle.relay_events.specs.Carried.{IsAnswered, RunsAndWaits, RunsAt, TakesReplies, TriesWhole};
+ghost use Rattle.relay_hosts.specs.Replied.{replied_lines};
+ghost use Rattle.relay_events.specs.ClientEnd.{HasMore, IsCalledToRead, RunsThere};
+ghost use Rattle.relay_events.specs.FirstFault.{first_fault};
+ghost use Rattle.relay_events.specs.Happened.{HasHappened};
+ghost use Rattle.relay_events.specs.Relays.{AreBound, AreInOrder, free_lines, world_of};
+ghost use Rattle.relay_hosts.specs.Room.{HasRoom};
+ghost use Rattle.relay_events.specs.Step.{Carries, Steps};
+ghost use Rattle.relay_events.specs.Told.{TriesAt, running_of};
+ghost use Rattle.relay_events.specs.declared.event.Event.TheVariants.{Carry};
+
+use crate::act::{Act, fault_of};
+use crate::client_end::ClientEnd;
+use crate::fault::PairFault;
+use crate::relays::Relays;
+use crate::seen::Seen;
+use crate::tell::Loss;
+use relay_disk::{Disk, Reboot};
+use relay_hosts::links::{is_read, read_down};
+use relay_hosts::replied::{end_by_replies, waiting_down, write_up};
+use relay_hosts::{Origin, Read, Recorded};
+use relay_node::Replied;
+use relay_world::passing::{crashing_happens, runs_keep_all};
+use relay_world::{Fate, Link};
+
+impl<D: Reboot + Drop> Relays<D> {
+    /// What waits at the client end of a link is carried to the attempt there: replies, up to so many octets; or, where
+    /// none waits, that the other end has closed.
+    pub(crate) fn carry_to_client(&mut self, number: usize, count: usize) -> Result<Seen, PairFault>
+        requires honest { D.Disk.honest }
+        requires order { AreInOrder D.Disk.honest D.Disk.words self.old }
+        requires tries { TriesWhole (world_of self.old) number }
+        ensures steps { (node : ℕ) → first_fault (world_of self.old) (Carry number node count) ≡ None
+            → RunsAt (world_of self.old) number node
+            → Steps D.Disk.honest D.Disk.words (world_of self.old) (Carry number node count)
+            (world_of self.new) result }
+        ensures happened { HasHappened D.Disk.honest D.Disk.words (world_of self.old) (world_of self.new) }
+        ensures order { AreInOrder D.Disk.honest D.Disk.words self.new }
+    {
+        runs_keep_all::<D>();
+        let Ok(stopped) = self.list_of_stops() else {
+            return Err(PairFault::NoMemory);
+        };
+        let act = self.carry_replies(number, count);
+        self.finish(act, stopped)
+    }
+
+    /// Replies that wait are read by an attempt, or it is told that its connection is over.
+    fn carry_replies(&mut self, number: usize, count: usize) -> Act
+        requires honest { D.Disk.honest }
+        requires bound { AreBound D.Disk.honest D.Disk.words (world_of self.old) }
+        requires room { HasRoom (world_of self.old) (free_lines self.old) }
+        requires tries { TriesWhole (world_of self.old) number }
+        ensures carries { (node : ℕ) → RunsAt (world_of self.old) number node
+            → Carries D.Disk.honest D.Disk.words (world_of self.old) number node count (world_of self.new)
+            (did_of result) }
+        ensures happened { HasHappened D.Disk.honest D.Disk.words (world_of self.old) (world_of self.new) }
+        ensures room { HasRoom (world_of self.new) (free_lines self.new) }
+        ensures running { running_of self.new.attempts.items ≤ running_of self.old.attempts.items }
+    {
+        let link = &self.links[number - 1];
+        if is_read(link.down.as_slice(), link.down_read) {
+            return self.tell_end(number);
+        }
+        self.read_replies(number, count)
+    }
+
+    /// The node of the attempt at the client end of a link is told that its connection is over.
+    fn tell_end(&mut self, number: usize) -> Act
+        requires honest { D.Disk.honest }
+        requires bound { AreBound D.Disk.honest D.Disk.words (world_of self.old) }
+        requires room { HasRoom (world_of self.old) (free_lines self.old) }
+        requires tries { TriesAt (world_of self.old) number }
+        ensures carries { (node count : ℕ) → RunsAndWaits (world_of self.old) number node false
+            → Carries D.Disk.honest D.Disk.words (world_of self.old) number node count (world_of self.new)
+            (did_of result) }
+        ensures happened { HasHappened D.Disk.honest D.Disk.words (world_of self.old) (world_of self.new) }
+        ensures room { HasRoom (world_of self.new) (free_lines self.new) }
+        ensures running { running_of self.new.attempts.items ≤ running_of self.old.attempts.items }
+    {
+        match self.lose_attempt(number) {
+            Loss::Ended(change) => Act::Shows(Seen::Carried {
+                used: 0,
+                out: 0,
+                change: Some(change),
+                end: true,
+            }),
+            Loss::Gone(why) => {
+                self.break_off(number);
+                Act::Refuses(fault_of(why))
+            }
+            Loss::Stopped(node) => Act::Stops(node),
+        }
+    }
+
+    /// The attempt at the client end of a link reads replies, up to so many octets of those that wait, by one call of
+    /// its node.
+    fn read_replies(&mut self, number: usize, count: usize) -> Act
+        requires honest { D.Disk.honest }
+        requires bound { AreBound D.Disk.honest D.Disk.words (world_of self.old) }
+        requires room { HasRoom (world_of self.old) (free_lines self.old) }
+        requires tries { TriesWhole (world_of self.old) number }
+        ensures carries { (node : ℕ) → RunsAndWaits (world_of self.old) number node true
+            → Carries D.Disk.honest D.Disk.words (world_of self.old) number node count (world_of self.new)
+            (did_of result) }
+        ensures happened { HasHappened D.Disk.honest D.Disk.words (world_of self.old) (world_of self.new) }
+        ensures room { HasRoom (world_of self.new) (free_lines self.new) }
+        ensures running { running_of self.new.attempts.items ≤ running_of self.old.attempts.items }
+    {
+        runs_keep_all::<D>();
+        crashing_happens::<D>();
+        let end = self.client_end(number);
+        match self.call_to_read(number, end, count) {
+            Read::Done(replied, recorded) => {
+                self.take_replies(number, end.place, &replied, &recorded)
+            }
+            Read::Gone(why) => {
+                self.set_fate(end.place, Fate::Dropped);
+                self.break_off(number);
+                Act::Refuses(fault_of(why))
+            }
+            Read::Stopped => {
+                self.restart(
+                    end.node,
+                    Origin::FromReplies(number, end.place, end.message),
+                );
+                Act::Stops(end.node)
+            }
+        }
+    }
+}
+
+impl<D: Disk> Relays<D> {
+    /// The node of an attempt is called to read replies that wait for it, up to so many octets. Nothing else is done
+    /// yet.
+    fn call_to_read(&mut self, number: usize, end: ClientEnd, count: usize) -> Read
+        requires bound { AreBound D.honest D.words (world_of self.old) }
+        requires runs { RunsThere D.honest D.words (world_of self.old) number end }
+        ensures called { IsCalledToRead D.honest D.words (world_of self.old) (world_of self.new) number end.node
+            end.slot count result }
+        ensures ledger { self.new.ledger ≡ self.old.ledger }
+    {
+        let piece = waiting_down(&self.links[number - 1], count);
+        self.hosts[end.node].read(end.slot, piece, self.clock)
+    }
+
+    /// What an attempt has read is read, and what its node writes stands on the link. Where that led to a change, the
+    /// attempt has ended, and what left by the change stands in the ledger, for which there is room.
+    fn take_replies(
+        &mut self,
+        number: usize,
+        place: usize,
+        replied: &Replied,
+        recorded: &Option<Recorded>,
+    ) -> Act
+        requires there { HasMore (world_of self.old) number replied.now.used }
+        requires place { place < length self.old.attempts.items }
+        requires room { (attempt : AttemptOf) → slice_get self.old.attempts.items place ≡ Some attempt
+            → vec_len self.old.ledger + length (replied_lines number attempt replied.now.change recorded.now)
+            ≤ vec_capacity self.old.ledger }
+        ensures takes { TakesReplies (world_of self.old) (world_of self.new) number place replied.now recorded.now
+            result }
+        ensures len { (attempt : AttemptOf) → slice_get self.old.attempts.items place ≡ Some attempt
+            → vec_len self.new.ledger
+            ≡ vec_len self.old.ledger + length (replied_lines number attempt replied.now.change recorded.now) }
+        ensures capacity { vec_capacity self.old.ledger ≤ vec_capacity self.new.ledger }
+    {
+        let attempt = &mut self.attempts[place];
+        end_by_replies(attempt, &mut self.ledger, number, replied.change, recorded);
+        write_replies(&mut self.links[number - 1], replied)
+    }
+}
+
+/// Replies were read at the client end of a link, and what the node writes stands on it. Where it writes something, and
+/// memory runs out for that, the link breaks.
+fn write_replies(link: &mut Link, replied: &Replied) -> Act
+    requires { link.old.down_read + replied.now.used ≤ length link.old.down }
+    ensures { IsAnswered link.old link.new replied.now result }
+{
+    read_down(link, replied.used);
+    match write_up(link, replied.out.as_slice()) {
+        Ok(()) => Act::Shows(Seen::Carried {
+            used: replied.used,
+            out: replied.out.len(),
+            change: replied.change,
+            end: replied.change.is_some(),
+        }),
+        Err(_) => Act::Refuses(PairFault::NoMemory),
+    }
+}

@@ -1,0 +1,31 @@
+//! Relays that run beside each other, and what each event makes of them: of their nodes, of their links, and of the
+//! ledger of their mail.
+#![tactic(auto)]
+
+mod act;
+mod breaks;
+mod carry;
+mod carry_to_client;
+mod carry_to_server;
+mod client_end;
+mod compact;
+mod connect;
+mod event;
+mod fault;
+mod first_fault;
+mod give;
+mod ledger;
+mod let_go;
+mod relays;
+mod restart;
+mod room;
+mod seen;
+mod send;
+mod step;
+mod stop;
+mod tell;
+
+pub use event::Event;
+pub use fault::PairFault;
+pub use relays::Relays;
+pub use seen::Seen;

@@ -1,0 +1,57 @@
+//! The parts of relays that run.
+ghost use Rattle.std.specs.Prelude.{◌≡◌};
+ghost use Rattle.relay_events.specs.Begin.{begun_with};
+ghost use Rattle.relay_events.specs.Relays.{world_of};
+
+use relay_disk::Disk;
+use relay_hosts::Host;
+use relay_trace::Moment;
+use relay_world::{Attempt, Line, Link};
+use std::alloc::Global;
+
+/// Relays, their links and attempts, and the ledger, at a moment of their clock.
+pub struct Relays<D: Disk> {
+    pub(crate) alloc: Global,
+    /// The hosts, each by its place: that of node 0 is the first.
+    pub hosts: Vec<Host<D>>,
+    /// All links, in the order of their numbers, which count from 1.
+    pub links: Vec<Link>,
+    /// All attempts to pass mail on, in the order in which they began.
+    pub attempts: Vec<Attempt>,
+    /// What has come of mail so far, in order.
+    pub ledger: Vec<Line>,
+    pub(crate) clock: Moment,
+}
+
+// Written out, so that what drops relays calls this, and doesn't look into their parts.
+impl<D: Disk + Drop> Drop for Relays<D> {
+    fn drop(self) {
+        let Relays {
+            alloc: _,
+            hosts: _hosts,
+            links: _links,
+            attempts: _attempts,
+            ledger: _ledger,
+            clock: _,
+        } = self;
+    }
+}
+
+impl<D: Disk + Drop> Relays<D> {
+    /// Relays without links, at the moment 0. It takes no memory.
+    pub fn of_hosts(alloc: Global, hosts: Vec<Host<D>>) -> Self
+        ensures { world_of result ≡ begun_with hosts.items }
+    {
+        let Ok(clock) = Moment::new(0) else {
+            unreachable!()
+        };
+        Relays {
+            alloc,
+            hosts,
+            links: Vec::new(alloc),
+            attempts: Vec::new(alloc),
+            ledger: Vec::new(alloc),
+            clock,
+        }
+    }
+}

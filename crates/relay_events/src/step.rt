@@ -1,0 +1,48 @@
+//! One event.
+ghost use Rattle.relay_events.specs.Happened.{HasHappened};
+ghost use Rattle.relay_events.specs.Relays.{AreInOrder, world_of};
+ghost use Rattle.relay_events.specs.Step.{Steps};
+ghost use Rattle.relay_events.specs.declared.event.Event.TheVariants.{Tick};
+
+use crate::event::Event;
+use crate::fault::PairFault;
+use crate::relays::Relays;
+use crate::seen::Seen;
+use relay_disk::Reboot;
+use relay_trace::Moment;
+use relay_world::passing::runs_keep_all;
+
+impl<D: Reboot + Drop> Relays<D> {
+    /// One event happens. Where it is refused, nothing changes.
+    pub fn step(&mut self, event: &Event) -> Result<Seen, PairFault>
+        requires honest { D.Disk.honest }
+        requires order { AreInOrder D.Disk.honest D.Disk.words self.old }
+        ensures steps { Steps D.Disk.honest D.Disk.words (world_of self.old) event.now (world_of self.new) result }
+        ensures happened { HasHappened D.Disk.honest D.Disk.words (world_of self.old) (world_of self.new) }
+        ensures order { AreInOrder D.Disk.honest D.Disk.words self.new }
+    {
+        match event {
+            Event::Connect(node) => self.connect(*node),
+            Event::Carry { link, node, count } => self.carry(*link, *node, *count),
+            Event::Tick(now) => self.tick(*now),
+            Event::Give(node) => self.give(*node),
+            Event::Compact(node) => self.compact(*node),
+            Event::Break(link) => self.break_link(*link),
+            Event::Send(link, octets) => self.send(*link, octets.as_slice()),
+            Event::Stop { node, calls, pick } => self.stop(*node, *calls, *pick),
+        }
+    }
+
+    /// The clock is set.
+    fn tick(&mut self, now: Moment) -> Result<Seen, PairFault>
+        requires honest { D.Disk.honest }
+        requires order { AreInOrder D.Disk.honest D.Disk.words self.old }
+        ensures steps { Steps D.Disk.honest D.Disk.words (world_of self.old) (Tick now) (world_of self.new) result }
+        ensures happened { HasHappened D.Disk.honest D.Disk.words (world_of self.old) (world_of self.new) }
+        ensures order { AreInOrder D.Disk.honest D.Disk.words self.new }
+    {
+        runs_keep_all::<D>();
+        self.clock = now;
+        Ok(Seen::Set)
+    }
+}

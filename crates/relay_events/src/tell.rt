@@ -1,0 +1,197 @@
+//! Nodes are told of links that broke.
+ghost use Rattle.std.specs.Prelude.{◌≡◌, ◌+◌, ◌++◌, ◌<◌, ◌≤◌, [], IfOk, MatchOption, length, vec_capacity, vec_len};
+ghost use Rattle.relay_world.specs.Ledger.{left_lines, report_told};
+ghost use Rattle.relay_world.specs.Steps.{EndsSession};
+ghost use Rattle.relay_world.specs.declared.attempt.Fate.TheVariants.{Lost};
+ghost use Rattle.relay_events.specs.Carried.{TellsLoss, stops_by};
+ghost use Rattle.relay_events.specs.ClientEnd.{EndsBy, HasAttemptAt, IsCalledToLose};
+ghost use Rattle.relay_events.specs.Happened.{HasHappened};
+ghost use Rattle.relay_events.specs.Relays.{AreBound, free_lines, world_of};
+ghost use Rattle.relay_hosts.specs.Room.{HasRoom};
+ghost use Rattle.relay_events.specs.Told.{AreToldTo, HearsAt, IsFirstUntold, IsToldOfBreaks, TellsSome, TriesAt, ends_of, running_of};
+
+use crate::client_end::ClientEnd;
+use crate::relays::Relays;
+use relay_disk::{Disk, Reboot};
+use relay_hosts::links::{hears_on, is_untold};
+use relay_hosts::{Origin, Recorded, ToldLoss};
+use relay_node::NodeFault;
+use relay_world::passing::{crashing_happens, runs_keep_all};
+use relay_world::{Fate, ServerEnd};
+use std::alloc::AllocError;
+
+/// What became of an attempt whose node was told that its connection is lost.
+#[derive(Clone, Copy)]
+pub(crate) enum Loss {
+    /// It has an outcome, the change of this number.
+    Ended(u64),
+    /// It is gone without one, for want of memory or room.
+    Gone(NodeFault),
+    /// Its node has stopped.
+    Stopped(usize),
+}
+
+impl<D: Disk> Relays<D> {
+    /// The number of the first broken link of which a node has still to be told.
+    fn first_untold(&self) -> Option<usize>
+        ensures { MatchOption result (IsToldOfBreaks (world_of self.now)) (IsFirstUntold (world_of self.now)) }
+    {
+        for place in 0..self.links.len() {
+            if is_untold(self.attempts.as_slice(), &self.links[place]) {
+                return Some(place + 1);
+            }
+        }
+        None
+    }
+}
+
+impl<D: Disk> Relays<D> {
+    /// An empty list with room for each node that may stop in a step: each that stops in a call of an attempt has lost
+    /// one, and one more may stop before.
+    pub(crate) fn list_of_stops(&self) -> Result<Vec<usize>, AllocError>
+        ensures empty { IfOk result (λ list. list.items ≡ []) }
+        ensures room { IfOk result (λ list. vec_len list + 1 + running_of self.now.attempts.items ≤ vec_capacity list) }
+    {
+        let mut stopped = Vec::new(self.alloc);
+        stopped.reserve(self.attempts.len() + 1)?;
+        Ok(stopped)
+    }
+}
+
+impl<D: Reboot + Drop> Relays<D> {
+    /// Nodes are told of each link that broke, the least first. Those that stop in it are added to these, for which
+    /// there is room.
+    pub(crate) fn tell(&mut self, stopped: &mut Vec<usize>)
+        requires honest { D.Disk.honest }
+        requires bound { AreBound D.Disk.honest D.Disk.words (world_of self.old) }
+        requires room { HasRoom (world_of self.old) (free_lines self.old) }
+        requires list { vec_len stopped.old + running_of self.old.attempts.items ≤ vec_capacity stopped.old }
+        ensures told { AreToldTo D.Disk.honest D.Disk.words (world_of self.old) (world_of self.new) stopped.old.items
+            stopped.new.items }
+        ensures happened { HasHappened D.Disk.honest D.Disk.words (world_of self.old) (world_of self.new) }
+        ensures bound { AreBound D.Disk.honest D.Disk.words (world_of self.new) }
+        ensures room { HasRoom (world_of self.new) (free_lines self.new) }
+    {
+        while let Some(number) = self.first_untold() {
+            self.tell_one(number, stopped);
+        }
+    }
+
+    /// One node is told that a link broke. If it stops in it, it is added to these.
+    fn tell_one(&mut self, number: usize, stopped: &mut Vec<usize>)
+        requires honest { D.Disk.honest }
+        requires bound { AreBound D.Disk.honest D.Disk.words (world_of self.old) }
+        requires room { HasRoom (world_of self.old) (free_lines self.old) }
+        requires first { IsFirstUntold (world_of self.old) number }
+        requires list { vec_len stopped.old + running_of self.old.attempts.items ≤ vec_capacity stopped.old }
+        ensures told { TellsSome D.Disk.honest D.Disk.words (world_of self.old) (world_of self.new) number
+            stopped.old.items
+            stopped.new.items }
+        ensures list { vec_len stopped.new + running_of self.new.attempts.items ≤ vec_capacity stopped.new }
+        ensures happened { HasHappened D.Disk.honest D.Disk.words (world_of self.old) (world_of self.new) }
+        ensures bound { AreBound D.Disk.honest D.Disk.words (world_of self.new) }
+        ensures room { HasRoom (world_of self.new) (free_lines self.new) }
+        ensures fewer { ends_of (world_of self.new) < ends_of (world_of self.old) }
+    {
+        runs_keep_all::<D>();
+        if hears_on(&self.links[number - 1].server) {
+            self.end_session(number);
+            return;
+        }
+        let loss = self.lose_attempt(number);
+        list_loss(loss, stopped);
+    }
+
+    /// The node at the server end of a link is told that its session has ended.
+    pub(crate) fn end_session(&mut self, number: usize)
+        requires bound { AreBound D.Disk.honest D.Disk.words (world_of self.old) }
+        requires room { HasRoom (world_of self.old) (free_lines self.old) }
+        requires hears { HearsAt (world_of self.old) number }
+        ensures told { EndsSession (world_of self.old) (world_of self.new) number }
+        ensures room { HasRoom (world_of self.new) (free_lines self.new) }
+        ensures fewer { ends_of (world_of self.new) < ends_of (world_of self.old) }
+    {
+        let Some(end) = &self.links[number - 1].server else {
+            unreachable!()
+        };
+        let Some(session) = end.session else {
+            unreachable!()
+        };
+        let node = end.node;
+        let peer = end.peer;
+        self.hosts[node].end(session);
+        self.links[number - 1].server = Some(ServerEnd {
+            node,
+            peer,
+            session: None,
+        });
+    }
+
+    /// The node of the attempt at the client end of a link is told of its loss.
+    pub(crate) fn lose_attempt(&mut self, number: usize) -> Loss
+        requires honest { D.Disk.honest }
+        requires bound { AreBound D.Disk.honest D.Disk.words (world_of self.old) }
+        requires room { HasRoom (world_of self.old) (free_lines self.old) }
+        requires tries { TriesAt (world_of self.old) number }
+        ensures told { TellsLoss D.Disk.honest D.Disk.words (world_of self.old) (world_of self.new) number result }
+        ensures happened { HasHappened D.Disk.honest D.Disk.words (world_of self.old) (world_of self.new) }
+        ensures room { HasRoom (world_of self.new) (free_lines self.new) }
+        ensures fewer { ends_of (world_of self.new) < ends_of (world_of self.old) }
+        ensures running { running_of self.new.attempts.items < running_of self.old.attempts.items }
+    {
+        runs_keep_all::<D>();
+        crashing_happens::<D>();
+        let end = self.client_end(number);
+        match self.call_to_lose(end.node, end.slot) {
+            ToldLoss::Ended(change, recorded) => {
+                self.end_by_loss(number, end, change, &recorded);
+                Loss::Ended(change)
+            }
+            ToldLoss::Gone(why) => {
+                self.set_fate(end.place, Fate::Dropped);
+                Loss::Gone(why)
+            }
+            ToldLoss::Stopped => {
+                self.restart(end.node, Origin::FromLoss(number, end.place, end.message));
+                Loss::Stopped(end.node)
+            }
+        }
+    }
+}
+
+impl<D: Disk> Relays<D> {
+    /// The node of an attempt that goes on is told that its connection is lost. Nothing else is done yet.
+    fn call_to_lose(&mut self, node: usize, slot: usize) -> ToldLoss
+        requires { HasAttemptAt D.honest D.words (world_of self.old) node slot }
+        ensures called { IsCalledToLose D.honest D.words (world_of self.old) (world_of self.new) node slot result }
+        ensures ledger { self.new.ledger ≡ self.old.ledger }
+    {
+        self.hosts[node].lose(slot, self.clock)
+    }
+
+    /// An attempt has ended by the loss of its link, by the change of this number: what left by that stands in the
+    /// ledger, for which there is room.
+    fn end_by_loss(&mut self, number: usize, end: ClientEnd, change: u64, recorded: &Recorded)
+        requires there { end.place < length self.old.attempts.items }
+        requires room { vec_len self.old.ledger + length recorded.now.left.items ≤ vec_capacity self.old.ledger }
+        ensures world { EndsBy (world_of self.old) (world_of self.new) end.place (Lost change)
+            (left_lines end.node end.message number (report_told change recorded.now.report) recorded.now.left.items) }
+        ensures len { vec_len self.new.ledger ≡ vec_len self.old.ledger + length recorded.now.left.items }
+        ensures capacity { vec_capacity self.old.ledger ≤ vec_capacity self.new.ledger }
+    {
+        self.note_left(end.node, end.message, number, change, recorded);
+        self.set_fate(end.place, Fate::Lost(change));
+    }
+}
+
+/// Adds the node that has stopped when it was told of a loss, if it has, to these, for which there is room.
+fn list_loss(loss: Loss, stopped: &mut Vec<usize>)
+    requires { vec_len stopped.old + 1 ≤ vec_capacity stopped.old }
+    ensures items { stopped.new.items ≡ stopped.old.items ++ stops_by loss }
+    ensures len { vec_len stopped.new ≤ vec_len stopped.old + 1 }
+    ensures capacity { vec_capacity stopped.old ≤ vec_capacity stopped.new }
+{
+    if let Loss::Stopped(node) = loss {
+        stopped.push(node).unwrap();
+    }
+}

@@ -1,0 +1,16 @@
+-- A host that has just begun.
+use Rattle.std.specs.Prelude.{◌≡◌, []}
+use Rattle.relay_disk.specs.Device.{DiskWords}
+use Rattle.relay_routes.specs.declared.config.Config.{Config}
+use Rattle.relay_records.specs.Records.{Keeps}
+use Rattle.relay_node.specs.Node.{IsIdle, NodeState}
+use Rattle.relay_world.specs.World.{Host, Up}
+
+-- A host that has just begun, and runs by this configuration: it is up, and nothing has come.
+pub record IsNew {D : Type 0} (honest : Type 0) (words : DiskWords D) (config : Config) (host : Host D) : Type 0 where
+  pub node : NodeState D
+  pub up : host.state ≡ Up node
+  pub idle : IsIdle config node
+  pub keeps : Keeps honest words node.records []
+  pub config_is : host.config ≡ config
+  pub records : host.records ≡ []

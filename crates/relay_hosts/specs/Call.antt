@@ -1,0 +1,221 @@
+-- What a call of its node makes of one host.
+use Rattle.std.specs.Prelude.{◌≡◌, ◌⊎◌, ℕ, ◌≤◌, Bool, true, false, List, [], ◌∷◌, ◌++◌, length, Option, None, Some}
+use Rattle.relay_disk.specs.Device.{DiskWords}
+use Rattle.relay_slots.specs.Slots.{OthersStay}
+use Rattle.relay_server.specs.Dialogue.{Said}
+use Rattle.relay_book.specs.declared.change.Change.{Change}
+use Rattle.relay_records.specs.declared.fault.NodeFault.{NodeFault}
+use Rattle.relay_records.specs.declared.fault.NodeFault.TheVariants as node_fault
+use Rattle.relay_records.specs.declared.noted.Noted.{Noted}
+use Rattle.relay_records.specs.Records.{Keeps}
+use Rattle.relay_attempts.specs.declared.reply.Replied.{Replied}
+use Rattle.relay_attempts.specs.Reply.{CutsLoss, CutsReply, IsLost, Told}
+use Rattle.relay_node.specs.declared.receive.Received.{Received}
+use Rattle.relay_node.specs.Attempts.{Replies, Tells}
+use Rattle.relay_node.specs.Node.{CutsTalk, Receives, SeatHasSaid, NodeState}
+use Rattle.relay_world.specs.Steps.{without_note}
+use Rattle.relay_world.specs.World.{Down, HostState, Host, Up}
+use Rattle.relay_hosts.specs.declared.recorded.Recorded.{Recorded}
+use Rattle.relay_hosts.specs.declared.calls.Heard.{Heard}
+use Rattle.relay_hosts.specs.declared.calls.Heard.TheVariants as heard
+use Rattle.relay_hosts.specs.declared.calls.Read.{Read}
+use Rattle.relay_hosts.specs.declared.calls.Read.TheVariants as read
+use Rattle.relay_hosts.specs.declared.calls.ToldLoss.{ToldLoss}
+use Rattle.relay_hosts.specs.declared.calls.ToldLoss.TheVariants as loss
+
+-- whether this fault says that the node has stopped
+abbrev pub is_stop : NodeFault → Bool
+is_stop node_fault.NoMemory = false
+is_stop node_fault.Stopped = true
+is_stop node_fault.Unknown = false
+is_stop node_fault.TooMany = false
+is_stop node_fault.NotDue = false
+is_stop node_fault.Busy = false
+is_stop (node_fault.Open cause) = false
+is_stop node_fault.Full = false
+is_stop node_fault.NoSecond = false
+
+-- why a node loses a session or an attempt: there was no memory for what it heard or read, or no room
+abbrev pub IsWant : NodeFault → Type 0
+IsWant fault = (fault ≡ node_fault.NoMemory) ⊎ (fault ≡ node_fault.Full)
+
+-- the host is up with this node, and becomes the same host with that node
+pub record Runs {D : Type 0} (old new : Host D) (before after : NodeState D) : Type 0 where
+  pub up : old.state ≡ Up before
+  pub config : after.config ≡ before.config
+  pub new_is : new ≡ record old { state = Up after }
+
+-- this was recorded by a change, as its note tells
+pub record TellsNote (noted : Noted) (recorded : Recorded) : Type 0 where
+  pub accepted : recorded.accepted ≡ noted.accepted
+  pub left : recorded.left.items ≡ noted.left.items
+  pub report : recorded.report ≡ noted.report
+
+-- the note of a node was taken, and its record added to those before
+pub record TakesNote {D : Type 0} (before after : NodeState D) (old new : List (List ℕ)) (recorded : Recorded)
+    : Type 0 where
+  pub noted : Noted
+  pub note_is : before.records.noted ≡ Some noted
+  pub tells : TellsNote noted recorded
+  pub after_is : after ≡ without_note before
+  pub records : new ≡ old ++ noted.octets ∷ []
+
+-- A host whose node has become this one by a call that made a change: its note was taken, and its record noted.
+pub record NotesOne {D : Type 0} (old new : Host D) (after : NodeState D) (recorded : Recorded) : Type 0 where
+  pub noted : Noted
+  pub note_is : after.records.noted ≡ Some noted
+  pub tells : TellsNote noted recorded
+  pub new_is : new ≡ record old { state = Up (without_note after); records = old.records ++ noted.octets ∷ [] }
+
+-- the same of a call that made the change of this number, or none
+abbrev pub NotesChange : {D : Type 0} → Host D → Host D → NodeState D → Option ℕ → Option Recorded → Type 0
+NotesChange old new after None None = new ≡ record old { state = Up after }
+NotesChange old new after None (Some recorded) = ⊥
+NotesChange old new after (Some change) None = ⊥
+NotesChange old new after (Some change) (Some recorded) = NotesOne old new after recorded
+
+-- A host's node has lost the session of this number, and nothing else.
+pub record LosesSession {D : Type 0} (old new : Host D) (session : ℕ) : Type 0 where
+  pub before : NodeState D
+  pub after : NodeState D
+  pub runs : Runs old new before after
+  pub records : after.records ≡ before.records
+  pub others : OthersStay before.seats after.seats session
+  pub attempts : after.attempts ≡ before.attempts
+
+-- the same of the attempt of this number
+pub record LosesAttempt {D : Type 0} (old new : Host D) (slot : ℕ) : Type 0 where
+  pub before : NodeState D
+  pub after : NodeState D
+  pub runs : Runs old new before after
+  pub records : after.records ≡ before.records
+  pub others : OthersStay before.attempts after.attempts slot
+  pub seats : after.seats ≡ before.seats
+
+module _ {D : Type 0} (honest : Type 0) (words : DiskWords D) where
+  -- the node keeps a list of changes, and something was said on its session of this number
+  pub record KnowsSession (node : NodeState D) (session : ℕ) : Type 0 where
+    pub changes : List Change
+    pub keeps : Keeps honest words node.records changes
+    pub peer : List ℕ
+    pub said : Said
+    pub says : SeatHasSaid node.config node.seats session peer said
+
+  -- the same of its attempt of this number
+  pub record KnowsAttempt (node : NodeState D) (slot : ℕ) : Type 0 where
+    pub changes : List Change
+    pub keeps : Keeps honest words node.records changes
+    pub told : Told
+    pub tells : Tells node.config.host changes node.attempts slot told
+
+  abbrev pub HoldsSession : HostState D → ℕ → Type 0
+  HoldsSession (Up node) session = KnowsSession node session
+  HoldsSession (Down disk undecided) session = ⊥
+
+  abbrev pub HoldsAttempt : HostState D → ℕ → Type 0
+  HoldsAttempt (Up node) slot = KnowsAttempt node slot
+  HoldsAttempt (Down disk undecided) slot = ⊥
+
+  -- the host is up, and has a session or an attempt of this number, that goes on
+  abbrev pub HasSession : Host D → ℕ → Type 0
+  HasSession host session = HoldsSession host.state session
+
+  abbrev pub HasAttempt : Host D → ℕ → Type 0
+  HasAttempt host slot = HoldsAttempt host.state slot
+
+  -- A host has heard octets on a session, without a fault.
+  pub record Hears (now : ℕ) (old new : Host D) (session : ℕ) (piece : List ℕ) (received : Received)
+      (recorded : Option Recorded) : Type 0 where
+    pub before : NodeState D
+    pub up : old.state ≡ Up before
+    pub after : NodeState D
+    pub receives : (changes : List Change) (peer : List ℕ) (said : Said) → Keeps honest words before.records changes
+        → SeatHasSaid before.config before.seats session peer said
+        → Receives honest words before.config changes peer now session said piece before after received
+    pub used : received.used ≤ length piece
+    pub others : OthersStay before.seats after.seats session
+    pub config : after.config ≡ before.config
+    pub attempts : after.attempts ≡ before.attempts
+    pub notes : NotesChange old new after received.change recorded
+
+  -- A host's node stopped in that call, with a note of the accept.
+  pub record StopsHearing (now : ℕ) (old new : Host D) (session : ℕ) (piece : List ℕ) : Type 0 where
+    pub before : NodeState D
+    pub after : NodeState D
+    pub runs : Runs old new before after
+    pub cuts : (changes : List Change) (peer : List ℕ) (said : Said) → Keeps honest words before.records changes
+        → SeatHasSaid before.config before.seats session peer said
+        → CutsTalk honest words before.config changes peer now said piece before.records after.records
+    pub live : after.records.spool.live ≡ false
+    pub noted : Noted
+    pub note_is : after.records.noted ≡ Some noted
+
+  abbrev pub HearsOrNot : ℕ → Host D → Host D → ℕ → List ℕ → Heard → Type 0
+  HearsOrNot now old new session piece (heard.Done received recorded) =
+      Hears now old new session piece received recorded
+  HearsOrNot now old new session piece (heard.Gone fault) = LosesSession old new session × IsWant fault
+  HearsOrNot now old new session piece heard.Stopped = StopsHearing now old new session piece
+  HearsOrNot now old new session piece heard.NoRoom = new ≡ old
+
+  -- A host has read replies for an attempt, without a fault.
+  pub record Reads (now : ℕ) (old new : Host D) (slot : ℕ) (piece : List ℕ) (replied : Replied)
+      (recorded : Option Recorded) : Type 0 where
+    pub before : NodeState D
+    pub up : old.state ≡ Up before
+    pub after : NodeState D
+    pub replies : (changes : List Change) (told : Told) → Keeps honest words before.records changes
+        → Tells before.config.host changes before.attempts slot told
+        → Replies honest words before.config.host now changes slot told piece before after replied
+    pub used : replied.used ≤ length piece
+    pub others : OthersStay before.attempts after.attempts slot
+    pub config : after.config ≡ before.config
+    pub seats : after.seats ≡ before.seats
+    pub notes : NotesChange old new after replied.change recorded
+
+  -- A host's node stopped in that call, with a note of the outcome.
+  pub record StopsReading (now : ℕ) (old new : Host D) (slot : ℕ) (piece : List ℕ) : Type 0 where
+    pub before : NodeState D
+    pub after : NodeState D
+    pub runs : Runs old new before after
+    pub cuts : (changes : List Change) (told : Told) → Keeps honest words before.records changes
+        → Tells before.config.host changes before.attempts slot told
+        → CutsReply honest words before.config.host now changes slot told piece after.records
+    pub live : after.records.spool.live ≡ false
+    pub noted : Noted
+    pub note_is : after.records.noted ≡ Some noted
+
+  abbrev pub ReadsOrNot : ℕ → Host D → Host D → ℕ → List ℕ → Read → Type 0
+  ReadsOrNot now old new slot piece (read.Done replied recorded) = Reads now old new slot piece replied recorded
+  ReadsOrNot now old new slot piece (read.Gone fault) = LosesAttempt old new slot × IsWant fault
+  ReadsOrNot now old new slot piece read.Stopped = StopsReading now old new slot piece
+
+  -- A host was told that the connection of an attempt is lost, and has recorded its outcome, under this number.
+  pub record Loses (now : ℕ) (old new : Host D) (slot change : ℕ) (recorded : Recorded) : Type 0 where
+    pub before : NodeState D
+    pub up : old.state ≡ Up before
+    pub after : NodeState D
+    pub loses : (changes : List Change) (told : Told) → Keeps honest words before.records changes
+        → Tells before.config.host changes before.attempts slot told
+        → IsLost honest words before.config.host now changes slot told after.records after.attempts change
+    pub others : OthersStay before.attempts after.attempts slot
+    pub config : after.config ≡ before.config
+    pub seats : after.seats ≡ before.seats
+    pub notes : NotesOne old new after recorded
+
+  -- A host's node stopped in that call, with a note of the outcome.
+  pub record StopsLosing (now : ℕ) (old new : Host D) (slot : ℕ) : Type 0 where
+    pub before : NodeState D
+    pub after : NodeState D
+    pub runs : Runs old new before after
+    pub cuts : (changes : List Change) (told : Told) → Keeps honest words before.records changes
+        → Tells before.config.host changes before.attempts slot told
+        → CutsLoss honest words before.config.host now changes slot told after.records
+    pub live : after.records.spool.live ≡ false
+    pub noted : Noted
+    pub note_is : after.records.noted ≡ Some noted
+
+  -- what became of an attempt whose host was told of the loss
+  abbrev pub IsToldLoss : ℕ → Host D → Host D → ℕ → ToldLoss → Type 0
+  IsToldLoss now old new slot (loss.Ended change recorded) = Loses now old new slot change recorded
+  IsToldLoss now old new slot (loss.Gone fault) = LosesAttempt old new slot × IsWant fault
+  IsToldLoss now old new slot loss.Stopped = StopsLosing now old new slot

@@ -1,0 +1,12 @@
+pub mod Begin
+pub mod Call
+pub mod Compact
+pub mod Crash
+pub mod Heard
+pub mod Host
+pub mod Links
+pub mod Named
+pub mod Replied
+pub mod Room
+pub mod StopNow
+pub mod Work

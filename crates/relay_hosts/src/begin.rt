@@ -1,0 +1,26 @@
+//! A node that begins.
+ghost use Rattle.std.specs.Prelude.{IfOk};
+ghost use Rattle.relay_hosts.specs.Begin.{IsNew};
+
+use crate::host::{Host, HostState};
+use relay_disk::{Disk, Disks};
+use relay_node::{Node, NotOpened};
+use relay_routes::Config;
+use std::alloc::Global;
+
+impl<D: Disk> Host<D> {
+    /// A node that begins, on two disks of size 0. It fails where memory runs out, or a disk fails or isn't empty.
+    pub fn create(alloc: Global, config: Config, disk: Disks<D>) -> Result<Self, NotOpened<D>>
+        ensures { IfOk result (IsNew D.honest D.words config) }
+    {
+        match Node::create(alloc, config, disk) {
+            Ok(node) => Ok(Host {
+                state: HostState::Up(node),
+                records: Vec::new(alloc),
+                owed: 0,
+                pick: 0,
+            }),
+            Err(refused) => Err(refused),
+        }
+    }
+}

@@ -1,0 +1,100 @@
+//! What a node that has heard octets makes of their link and of the ledger.
+ghost use Rattle.std.specs.Prelude.{◌≡◌, ◌+◌, ◌++◌, ◌<◌, ◌≤◌, false, OnErr, OnOk, drop, length, take, vec_capacity, vec_len};
+ghost use Rattle.std.specs.Option.{option_map};
+ghost use Rattle.relay_world.specs.HangUp.{broken_link};
+ghost use Rattle.relay_hosts.specs.Heard.{accept_lines, cut_off, end_after, heard_on};
+
+use crate::links::read_up;
+use crate::recorded::Recorded;
+use relay_node::Received;
+use relay_world::{Line, Link, ServerEnd};
+use std::alloc::AllocError;
+
+/// Of octets of which so many were read, as many as these that wait, or all.
+pub fn waiting(octets: &[u8], read: usize, count: usize) -> &[u8]
+    requires { read ≤ length octets.now }
+    ensures { result.now ≡ take count (drop read octets.now) }
+{
+    let rest = &octets[read..];
+    if rest.len() <= count {
+        return rest;
+    }
+    &rest[..count]
+}
+
+/// What a node has heard on a link is read, and what it answers is written. Where it answers something, and memory runs
+/// out for that, the link breaks.
+pub fn answer_on(link: &mut Link, received: &Received) -> Result<(), AllocError>
+    requires whole { link.old.broken ≡ false }
+    requires within { link.old.up_read + received.now.used ≤ length link.old.up }
+    ensures ok { OnOk result (link.new ≡ heard_on link.old received.now) }
+    ensures err { OnErr result (link.new ≡ heard_on (broken_link link.old) received.now) }
+    ensures answers { OnErr result (0 < length received.now.out.items) }
+{
+    read_up(link, received.used);
+    close_server(link, received.close);
+    if received.out.is_empty() {
+        return Ok(());
+    }
+    match link.down.push_slice(received.out.as_slice()) {
+        Ok(()) => Ok(()),
+        Err(fault) => {
+            link.broken = true;
+            Err(fault)
+        }
+    }
+}
+
+/// The session at the server end of a link is gone, and the link breaks.
+pub fn cut_off(link: &mut Link)
+    ensures { link.new ≡ cut_off link.old }
+{
+    close_server(link, true);
+    link.broken = true;
+}
+
+/// The server end of a link closes, or not.
+fn close_server(link: &mut Link, close: bool)
+    ensures { link.new ≡ record link.old { server = option_map (end_after close) link.old.server } }
+{
+    if let Some(end) = &mut link.server {
+        close_end(end, close);
+    }
+}
+
+/// A server end closes, or not.
+fn close_end(end: &mut ServerEnd, close: bool)
+    ensures { end.new ≡ end_after close end.old }
+{
+    if close {
+        end.session = None;
+    }
+}
+
+/// Adds the line of an accept, where a node has made one, to the ledger, which has room for it.
+pub fn push_accept(
+    ledger: &mut Vec<Line>,
+    node: usize,
+    link: usize,
+    change: Option<u64>,
+    recorded: &Option<Recorded>,
+)
+    requires { vec_len ledger.old + 1 ≤ vec_capacity ledger.old }
+    ensures items { ledger.new.items ≡ ledger.old.items ++ accept_lines node link change recorded.now }
+    ensures len { vec_len ledger.new ≤ vec_len ledger.old + 1 }
+    ensures capacity { vec_capacity ledger.old ≤ vec_capacity ledger.new }
+{
+    let Some(number) = change else {
+        return;
+    };
+    let Some(recorded) = recorded else {
+        return;
+    };
+    let line = Line::Accepted {
+        node,
+        number,
+        places: recorded.accepted,
+        link,
+    };
+    ledger.push(line).unwrap();
+}

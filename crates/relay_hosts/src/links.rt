@@ -1,0 +1,167 @@
+//! One link, and what its ends say.
+ghost use Rattle.std.specs.Prelude.{◌≡◌, ◌+◌, ◌<◌, ◌≤◌, suc, None, Some, drop, length, MatchOption};
+ghost use Rattle.relay_world.specs.World.{link_at};
+ghost use Rattle.relay_hosts.specs.Links.{client_closed, client_idles, has_outside, hears_on, is_nil, is_running, is_untold, runs_there, server_closed, server_idles, tries_on, whole_link};
+ghost use Rattle.relay_world.specs.Crashes.{serves_for, tries_for};
+
+use relay_world::{Attempt, Fate, Link, ServerEnd};
+
+/// The place of the link of a number. Numbers count from 1.
+pub fn place_of(links: &[Link], number: usize) -> Option<usize>
+    ensures { MatchOption result (link_at links.now number ≡ None)
+        (λ place. (number ≡ suc place) × (place < length links.now)) }
+{
+    if number == 0 || links.len() < number {
+        return None;
+    }
+    Some(number - 1)
+}
+
+/// The place of the link of a number, unless it is broken.
+pub fn whole_link(links: &[Link], number: usize) -> Option<&Link>
+    ensures { MatchOption result (whole_link links.now number ≡ None)
+        (λ link. whole_link links.now number ≡ Some link.now) }
+{
+    let place = place_of(links, number)?;
+    let link = &links[place];
+    if link.broken {
+        return None;
+    }
+    Some(link)
+}
+
+/// Whether an attempt goes on.
+pub(crate) fn is_running(fate: Fate) -> bool
+    ensures { result ≡ is_running fate }
+{
+    match fate {
+        Fate::Running(_) => true,
+        Fate::Replied(_) => false,
+        Fate::Lost(_) => false,
+        Fate::Dropped => false,
+    }
+}
+
+/// Whether the attempt of a client end runs.
+pub(crate) fn tries_on(attempts: &[Attempt], client: Option<usize>) -> bool
+    ensures { result ≡ tries_on attempts.now client }
+{
+    let Some(place) = client else {
+        return false;
+    };
+    match attempts.get(place) {
+        Some(attempt) => is_running(attempt.fate),
+        None => false,
+    }
+}
+
+/// Whether a session goes on at a server end.
+pub fn hears_on(server: &Option<ServerEnd>) -> bool
+    ensures { result ≡ hears_on server.now }
+{
+    match server {
+        Some(end) => end.session.is_some(),
+        None => false,
+    }
+}
+
+/// Whether the attempt of a client end is over.
+fn client_closed(attempts: &[Attempt], client: Option<usize>) -> bool
+    ensures { result ≡ client_closed attempts.now client }
+{
+    if client.is_none() {
+        return false;
+    }
+    !tries_on(attempts, client)
+}
+
+/// Whether the session of a server end is over.
+fn server_closed(server: &Option<ServerEnd>) -> bool
+    ensures { result ≡ server_closed server.now }
+{
+    match server {
+        Some(end) => end.session.is_none(),
+        None => false,
+    }
+}
+
+/// Whether outside has an end of a link.
+pub fn has_outside(link: &Link) -> bool
+    ensures { result ≡ has_outside link.now }
+{
+    if link.client.is_none() {
+        return true;
+    }
+    link.server.is_none()
+}
+
+/// Whether a node has still to be told that a link is broken.
+pub fn is_untold(attempts: &[Attempt], link: &Link) -> bool
+    ensures { result ≡ is_untold attempts.now link.now }
+{
+    if !link.broken {
+        return false;
+    }
+    if hears_on(&link.server) {
+        return true;
+    }
+    tries_on(attempts, link.client)
+}
+
+/// Whether there is nothing to carry to the server end of a link: it has closed; or no octet waits there, and the other
+/// end goes on.
+pub fn server_idles(attempts: &[Attempt], link: &Link) -> bool
+    ensures { result ≡ server_idles attempts.now link.now }
+{
+    if server_closed(&link.server) {
+        return true;
+    }
+    if is_read(link.up.as_slice(), link.up_read) {
+        return !client_closed(attempts, link.client);
+    }
+    false
+}
+
+/// Whether there is nothing to carry to the client end of a link.
+pub fn client_idles(attempts: &[Attempt], link: &Link) -> bool
+    ensures { result ≡ client_idles attempts.now link.now }
+{
+    if client_closed(attempts, link.client) {
+        return true;
+    }
+    if is_read(link.down.as_slice(), link.down_read) {
+        return !server_closed(&link.server);
+    }
+    false
+}
+
+/// Whether no octet waits behind so many.
+#[tactic(auto, using(crate::proofs::LinkLemmas::all_read, crate::proofs::LinkLemmas::some_waits))]
+pub fn is_read(octets: &[u8], read: usize) -> bool
+    ensures { result ≡ is_nil (drop read octets.now) }
+{
+    if octets.len() <= read {
+        return true;
+    }
+    false
+}
+
+/// So many octets more were read at the server end of a link.
+pub fn read_up(link: &mut Link, used: usize)
+    requires { link.old.up_read + used ≤ length link.old.up }
+    ensures { link.new ≡ record link.old { up_read = link.old.up_read + used } }
+{
+    // no more is read than was written, so the sum fits
+    let _written = link.up.len();
+    link.up_read += used;
+}
+
+/// So many octets more were read at the client end of a link.
+pub fn read_down(link: &mut Link, used: usize)
+    requires { link.old.down_read + used ≤ length link.old.down }
+    ensures { link.new ≡ record link.old { down_read = link.old.down_read + used } }
+{
+    // no more is read than was written, so the sum fits
+    let _written = link.down.len();
+    link.down_read += used;
+}

@@ -1,4 +1,0 @@
-use Rattle.relay_pair.proofs.host.Host.open.Goals as goal
-
-pub returns : goal.returns
-returns g c = rw (← c.self.view_is) c.open.ensures

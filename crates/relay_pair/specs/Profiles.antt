@@ -1,0 +1,92 @@
+-- The configurations of the relays of a play: of the two that a pair begins with, and of any number of them.
+use Rattle.std.specs.Prelude.{◌≡◌, ℕ, ◌+◌, ◌==◌, nat_lt, not, List, [], ◌∷◌, ◌++◌, codes, length, map, Some, slice_get, if◌then◌else◌}
+use Rattle.std.specs.List.{filter, range_with_len}
+use Rattle.std.specs.declared.net.socket_addr.SocketAddrV4.{SocketAddrV4}
+use Rattle.relay_routes.specs.Routes.{Route}
+use Rattle.relay_routes.specs.declared.bare_newlines.BareNewlines.TheVariants.{Pass}
+use Rattle.relay_routes.specs.declared.config.Config.{Config}
+use Rattle.relay_events.specs.Step.{outside_address}
+
+-- the port of mail, at an address
+abbrev pub mail_at : List ℕ → SocketAddrV4
+mail_at address = record { ip = record { octets = address }; port = 25 }
+
+-- the address of the node at this place, counted from 0: 10.0.0.1 is that of the first
+abbrev pub address_of : ℕ → List ℕ
+address_of place = 10 ∷ 0 ∷ 0 ∷ (place + 1) ∷ []
+
+-- mail for this domain goes to the hop of this name, at this address
+abbrev pub route_to : List ℕ → List ℕ → List ℕ → Route
+route_to domain name address = record { domain = domain; hop = record { name = name; at = mail_at address } }
+
+-- node a sends what is for `b.example`, `c.example` and `loop.example` to node b, and the rest outside
+abbrev pub first_routes : List Route
+first_routes =
+    route_to (codes "b.example") (codes "b.example") (address_of 1)
+    ∷ route_to (codes "c.example") (codes "b.example") (address_of 1)
+    ∷ route_to (codes "loop.example") (codes "b.example") (address_of 1)
+    ∷ route_to (codes "out.example") (codes "out.example") outside_address
+    ∷ []
+
+-- node b sends what is for `a.example` and `loop.example` to node a, and the rest outside
+abbrev pub second_routes : List Route
+second_routes =
+    route_to (codes "a.example") (codes "a.example") (address_of 0)
+    ∷ route_to (codes "loop.example") (codes "a.example") (address_of 0)
+    ∷ route_to (codes "b.example") (codes "out.example") outside_address
+    ∷ route_to (codes "c.example") (codes "out.example") outside_address
+    ∷ route_to (codes "out.example") (codes "out.example") outside_address
+    ∷ []
+
+-- the host of the node at this place: `a.example` is that of the first
+abbrev pub host_of : ℕ → List ℕ
+host_of place = (97 + place) ∷ codes ".example"
+
+-- the route to the host of the node at this place
+abbrev pub route_to_node : ℕ → Route
+route_to_node place = route_to (host_of place) (host_of place) (address_of place)
+
+-- the routes to so many nodes, but for one
+abbrev pub routes_to_others : ℕ → ℕ → List Route
+routes_to_others count node = map route_to_node (filter (λ other. not (other == node)) (range_with_len 0 count))
+
+-- the node behind this one, in a circle of so many
+abbrev pub node_behind : ℕ → ℕ → ℕ
+node_behind count node = if nat_lt (node + 1) count then node + 1 else 0
+
+-- the routes of what isn't for another of so many nodes: to the node behind this one, and outside
+abbrev pub routes_of_the_rest : ℕ → ℕ → List Route
+routes_of_the_rest count node =
+    route_to (codes "loop.example") (host_of (node_behind count node)) (address_of (node_behind count node))
+    ∷ route_to (host_of node) (codes "out.example") outside_address
+    ∷ route_to (codes "out.example") (codes "out.example") outside_address
+    ∷ []
+
+-- each of so many nodes sends what is for another to it, what is for `loop.example` to the node behind it, and what is
+-- for itself and for `out.example` outside
+abbrev pub routes_among : ℕ → ℕ → List Route
+routes_among count node = routes_to_others count node ++ routes_of_the_rest count node
+
+-- a relay of this name and address has these routes, and the limits that a configuration has where it gives none
+pub record IsProfile (host address : List ℕ) (routes : List Route) (config : Config) : Type 0 where
+  pub host_is : config.host ≡ host
+  pub listen : config.listen ≡ mail_at address
+  pub routes_are : config.routes.routes ≡ routes
+  pub max_content : config.max_content ≡ 1048576
+  pub spool_limit : config.spool_limit ≡ 67108864
+  pub bare_newlines : config.bare_newlines ≡ Pass
+
+-- each of these is the configuration of the node at its place among so many
+abbrev pub HaveProfiles : ℕ → List Config → Type 0
+HaveProfiles count configs =
+    (node : ℕ) (config : Config) → slice_get configs node ≡ Some config
+    → IsProfile (host_of node) (address_of node) (routes_among count node) config
+
+-- the configurations of so many nodes of a play
+pub record AreProfiles (count : ℕ) (configs : List Config) : Type 0 where
+  pub count_is : length configs ≡ count
+  pub each : HaveProfiles count configs
+
+-- a configuration as the node at this place has it: with the address of that place
+abbrev pub at_place : ℕ → Config → Config
+at_place place config = record config { listen = mail_at (address_of place) }
