@@ -165,7 +165,7 @@ def main(program, *words):
         bring_back(it)
     lanes = int(subprocess.run([TOP / "tools" / "lanes.sh"], stdout=subprocess.PIPE, check=True).stdout)
     print(f"Proving {program} and what it stands on, {lanes} side by side; where nothing is kept of an earlier run, "
-          "that takes half an hour or more.", flush=True)
+          "that takes 40 minutes or more.", flush=True)
     try:
         prove_all(below, closure(below, program), lanes)
         print(run(program, TOP / "crates" / program, "run", "--jobs", str(lanes), "--", *words), flush=True)
