@@ -1,4 +1,4 @@
--- What has happened to relays: the events of their world, each of which keeps the promise of mail.
+-- What has happened to relays: the events of their world.
 use Rattle.std.specs.Prelude.{ℕ}
 use Rattle.relay_disk.specs.Device.{DiskWords}
 use Rattle.relay_world.specs.Once.{Happen}
