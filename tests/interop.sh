@@ -59,7 +59,7 @@ for package in postfix exim4-daemon-light opensmtpd swaks haproxy; do
     if unpack "$package"; then
         had+=("$package")
     else
-        echo "interop: skipped: $package can't be had ($log)"
+        echo "interop: skipped: $package can't be had; $log says why (without lists of packages: apt-get update)"
     fi
 done
 tests/interop.py "$relayd" "$packages" "${had[@]}"

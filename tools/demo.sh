@@ -15,7 +15,7 @@ trap 'rm -rf "$folder"' EXIT
 # needs: the program's own files, and a main that holds one session.
 dialogue() {
     tar -c --exclude=out --exclude=must-fail --exclude=data crates crates.txt HANDLES | tar -x -C "$folder"
-    sed -i 's/^\(relayd:.*\) relay_play .*$/\1/' "$folder/crates.txt"
+    sed -i 's/^\(relayd:.*\) relay_service .*$/\1/' "$folder/crates.txt"
     cd "$folder/crates/relayd"
     find src -name '*.rt' ! -name setup.rt ! -name streams.rt -delete
     cat > src/main.rt <<'END'

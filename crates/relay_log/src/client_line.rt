@@ -3,9 +3,9 @@ ghost use Rattle.std.specs.Prelude.{◌≡◌, ◌≢◌, ◌⊎◌, ◌<◌, �
 ghost use Rattle.relay_records.specs.HeldPlace.{waiting_at};
 
 use relay_disk::Disk;
-use relay_links::LinkFault;
 use relay_node::Node;
 use std::alloc::Global;
+use std::fmt::Display;
 use std::io::{self, Write};
 use std::net::SocketAddrV4;
 
@@ -23,11 +23,11 @@ pub enum Messages<'a> {
 
 /// The connection of a client that has ended.
 #[derive(Clone, Copy, Debug)]
-pub struct Connection<'a> {
+pub struct Connection<'a, F> {
     /// The client's address and port.
     pub peer: SocketAddrV4,
     /// How it has ended.
-    pub end: Result<(), LinkFault>,
+    pub end: Result<(), F>,
     /// How many octets were read on it.
     pub octets: u64,
     /// How many of its replies have refused something.
@@ -39,14 +39,14 @@ pub struct Connection<'a> {
 /// Says how a connection has ended, how many octets were read on it, how many commands and contents were refused, and
 /// of each message that the node has taken on it the number and how many recipients it has. No attempt was made for
 /// them yet.
-pub(crate) fn client_text<D: Disk>(
+pub(crate) fn client_text<D: Disk, F: Display>(
     alloc: Global,
     node: &Node<D>,
-    connection: &Connection<'_>,
+    connection: &Connection<'_, F>,
 ) -> io::Result<Vec<u8>> {
     let mut text = Vec::new(alloc);
     write!(text, "relayd: client {} ", connection.peer)?;
-    match connection.end {
+    match &connection.end {
         Ok(()) => write!(text, "ended")?,
         Err(fault) => write!(text, "broken off by a fault: {fault}")?,
     }

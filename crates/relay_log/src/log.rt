@@ -58,7 +58,7 @@ impl<'a, E: Write> Log<'a, E> {
     }
 
     /// Says how the connection of a client has ended, and which messages the node has taken on it.
-    pub fn client<D: Disk>(&mut self, node: &Node<D>, connection: &Connection<'_>) {
+    pub fn client<D: Disk, F: Display>(&mut self, node: &Node<D>, connection: &Connection<'_, F>) {
         if self.speaks {
             self.say(client_text(self.alloc, node, connection));
         }

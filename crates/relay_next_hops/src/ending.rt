@@ -4,11 +4,11 @@ use crate::lanes::Lanes;
 use mio::Registry;
 use relay_connections::{Channel, Leaving, Now};
 use relay_disk::FileDisk;
+use relay_files::Fault;
 use relay_log::{Attempt, Log, Loss, Why};
 use relay_loop::Relay;
 use relay_node::{NodeFault, Noted};
 use relay_routes::HostName;
-use relay_service::Fault;
 
 /// Does what is left to be done for an errand that has come to this end.
 pub(crate) fn conclude(

@@ -1,8 +1,9 @@
 //! Why a play ends before its script does.
-ghost use Rattle.std.specs.Prelude.{◌≡◌, ◌⊎◌};
+ghost use Rattle.std.specs.Prelude.{◌≡◌, ◌≢◌};
+ghost use Rattle.std.specs.IoError.{error_kind};
 
 use std::alloc::AllocError;
-use std::io;
+use std::io::{self, ErrorKind};
 use thiserror::Error;
 
 /// Why a play ends before its script does. Its text stands behind `relayd: `.
@@ -25,23 +26,23 @@ pub enum PlayFault {
 impl PlayFault {
     /// The fault of a reader.
     pub(crate) fn of_input(error: &io::Error) -> Self
-        ensures { (result ≡ PlayFault.NoMemory) ⊎ (result ≡ PlayFault.Input) }
+        ensures memory { error_kind error.now ≡ ErrorKind.OutOfMemory → result ≡ PlayFault.NoMemory }
+        ensures other { error_kind error.now ≢ ErrorKind.OutOfMemory → result ≡ PlayFault.Input }
     {
-        if error.kind() == io::ErrorKind::OutOfMemory {
-            PlayFault::NoMemory
-        } else {
-            PlayFault::Input
+        match error.kind() {
+            ErrorKind::OutOfMemory => PlayFault::NoMemory,
+            _ => PlayFault::Input,
         }
     }
 
     /// The fault of a writer.
     pub(crate) fn of_output(error: &io::Error) -> Self
-        ensures { (result ≡ PlayFault.NoMemory) ⊎ (result ≡ PlayFault.Output) }
+        ensures memory { error_kind error.now ≡ ErrorKind.OutOfMemory → result ≡ PlayFault.NoMemory }
+        ensures other { error_kind error.now ≢ ErrorKind.OutOfMemory → result ≡ PlayFault.Output }
     {
-        if error.kind() == io::ErrorKind::OutOfMemory {
-            PlayFault::NoMemory
-        } else {
-            PlayFault::Output
+        match error.kind() {
+            ErrorKind::OutOfMemory => PlayFault::NoMemory,
+            _ => PlayFault::Output,
         }
     }
 }

@@ -3,11 +3,11 @@ ghost use Rattle.std.specs.Prelude.{◌≡◌, IfErr, IsErr, OnOk};
 ghost use Rattle.relay_run.specs.Reopening.{HasFailedToSync, next_pause};
 
 use relay_disk::{Disk, Disks, FileDisk};
+use relay_files::Fault;
 use relay_log::Log;
 use relay_loop::Relay;
 use relay_node::{Node, NotOpened, NotReopened};
 use relay_routes::Config;
-use relay_service::Fault;
 use relay_trace::clock_moment;
 use std::alloc::Global;
 use std::io::Write;

@@ -1,9 +1,9 @@
 //! What a relay begins with.
 use relay_disk::FileDisk;
+use relay_files::{Fault, configuration_text, locked_node};
 use relay_limits::Limits;
 use relay_loop::Relay;
 use relay_routes::{Config, ConfigFault};
-use relay_service::{Fault, configuration_text, locked_node};
 use std::alloc::Global;
 use std::fs::File;
 use std::io::{self, Write};

@@ -4,10 +4,10 @@ ghost use Rattle.std.specs.Prelude.{◌≤◌};
 
 use relay_connections::Now;
 use relay_disk::FileDisk;
+use relay_files::{Fault, is_worth_it};
 use relay_log::Log;
 use relay_loop::Relay;
 use relay_node::NodeFault;
-use relay_service::{Fault, is_worth_it};
 
 /// The least milliseconds between two times that the spool is written anew.
 const PAUSE: u64 = 1_000;

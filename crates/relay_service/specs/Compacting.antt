@@ -1,22 +1,13 @@
--- A spool that is written anew while clients are served: when, and what that leaves.
-use Rattle.std.specs.Prelude.{◌≡◌, ◌⊎◌, ℕ, ◌+◌, ◌*◌, ◌/◌, ◌-◌, ◌^◌, ◌<◌, ◌≤◌, min, Bool, true, length, Result, OnOk}
+-- What it leaves of a node to write its spool anew while clients are served.
+use Rattle.std.specs.Prelude.{◌≡◌, ◌⊎◌, ◌+◌, ◌-◌, ◌^◌, min, Bool, length, Result, OnOk}
 use Rattle.relay_disk.specs.Device.{DiskWords}
 use Rattle.relay_book.specs.Snapshot.{snapshot}
 use Rattle.relay_records.specs.Records.{Compacts}
-use Rattle.relay_service.specs.declared.fault.Fault.{Fault}
+use Rattle.relay_files.specs.declared.fault.Fault.{Fault}
+use Rattle.relay_files.specs.Compacting.{IsWorthIt}
 use Rattle.relay_node.specs.Node.{NodeState}
 
--- A spool of this size, which would take so many octets if it were written anew, passes the lesser of 16 MiB and half
--- of its limit, and is more than twice as large.
-abbrev pub HasHalved : ℕ → ℕ → ℕ → Type 0
-HasHalved size compacted limit = (min (2 ^ 24) (limit / 2) < size) × (2 * compacted < size)
-
--- So it is; or mail was refused because it was full, and a sixteenth of it would go.
-abbrev pub IsWorthIt : ℕ → ℕ → ℕ → Bool → Type 0
-IsWorthIt size compacted limit was_full =
-    HasHalved size compacted limit ⊎ ((was_full ≡ true) × (compacted + size / 16 ≤ size))
-
--- the same of a node's spool
+-- It is worth it to write a node's spool anew.
 abbrev pub MayShrink : {D : Type 0} → NodeState D → Bool → Type 0
 MayShrink node was_full =
     IsWorthIt node.records.spool.size (min (23 + length (snapshot node.records.queue)) (2 ^ 64 - 1))

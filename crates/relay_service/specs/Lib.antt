@@ -1,4 +1,3 @@
 pub mod Compacting
-pub mod Fault
 pub mod Pushing
 pub mod Workers

@@ -3,8 +3,8 @@ use Rattle.std.specs.Prelude.{◌≡◌, Bool, true, false, List, [], ◌∷◌,
 use Rattle.relay_links.specs.declared.fault.LinkFault.{LinkFault}
 use Rattle.relay_links.specs.declared.fault.LinkFault.TheVariants as link_fault
 use Rattle.relay_rounds.specs.declared.served.Served.{Served}
-use Rattle.relay_service.specs.declared.fault.Fault.{Fault}
-use Rattle.relay_service.specs.declared.fault.Fault.TheVariants as fault
+use Rattle.relay_files.specs.declared.fault.Fault.{Fault}
+use Rattle.relay_files.specs.declared.fault.Fault.TheVariants as fault
 
 -- a connection that met a failing device ends the service, and any other end doesn't
 abbrev pub end_by : Option (Result (Unit {0}) LinkFault) → Result (Unit {0}) Fault → Result (Unit {0}) Fault

@@ -1,6 +1,6 @@
 //! The next hops of a push: connections to them, and which of them it couldn't reach.
-use crate::fault::Fault;
-use crate::sockets::{connect, is_want_of_sockets};
+use crate::sockets::connect;
+use relay_files::{Fault, is_want_of_sockets};
 use relay_log::{Loss, Why};
 use std::alloc::Global;
 use std::collections::HashMap;

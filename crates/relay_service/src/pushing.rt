@@ -10,11 +10,9 @@ ghost use Rattle.relay_records.specs.Records.{Keeps};
 ghost use Rattle.relay_service.specs.Pushing.{HandsOn, IsSameButNote, TellsDevice, WorksOff, WorksTo};
 ghost use Rattle.relay_slots.specs.Slots.{OthersStay, slot_at};
 
-use crate::fault::Fault;
-use crate::gathering::gathering;
 use crate::hops::Unreached;
-use crate::settings::{configuration, locked_node};
 use relay_disk::FileDisk;
+use relay_files::{Fault, configuration, gathering, locked_node};
 use relay_links::{LinkFault, Pushed, lose_link, push_link};
 use relay_log::{Attempt, HopReader, HopWriter, Log, Loss, Why};
 use relay_node::{Node, NodeFault, Work};

@@ -5,13 +5,11 @@ ghost use Rattle.relay_links.specs.Link.{LinkHasEnded, start_at};
 ghost use Rattle.relay_records.specs.Records.{Keeps};
 
 use crate::compacting::compact_behind;
-use crate::fault::Fault;
-use crate::gathering::gathering;
 use crate::pushing::push_due;
-use crate::settings::{configurations, locked_node};
 use crate::sockets::{listener, next_client};
 use crate::workers::{MOST_WORKERS, OCTET_LIMIT, Service};
 use relay_disk::{Disk, FileDisk};
+use relay_files::{Fault, configurations, gathering, locked_node};
 use relay_links::{LinkFault, serve_link};
 use relay_log::{ClientWriter, Connection, Log, Messages};
 use relay_node::{Node, NodeFault};

@@ -1,6 +1,6 @@
 //! Sockets of clients and of next hops. A peer that is silent for longer than its timeout is gone
 //! (RFC 5321, section 4.5.3.2).
-use crate::fault::Fault;
+use relay_files::Fault;
 use std::io;
 use std::net::{Net, SocketAddr, SocketAddrV4, TcpListener, TcpStream};
 use std::rt::Clock;
@@ -25,12 +25,6 @@ const FIRST_WAIT: u64 = 100;
 
 /// The most milliseconds that are waited behind a client that was missed.
 const LONGEST_WAIT: u64 = 1_000;
-
-/// Linux's error where all of the system's descriptors are taken. The kit's `libc` has no name for it.
-const ENFILE: i32 = 23;
-
-/// Linux's error where there is no room for a socket's buffers.
-const ENOBUFS: i32 = 105;
 
 /// A listener at this place.
 pub(crate) fn listener<N: Net<Listener = TcpListener, Stream = TcpStream>>(
@@ -84,15 +78,6 @@ pub(crate) fn connect<N: Net<Stream = TcpStream>>(
     let stream = net.connect_timeout(SocketAddr::V4(at), Duration::from_secs(CONNECT_SECONDS))?;
     set_up(&stream, HOP_SECONDS)?;
     Ok(stream)
-}
-
-/// Whether a socket couldn't be had since this process or its system has no descriptor, or no memory, left for
-/// one: then it isn't for the other side.
-pub fn is_want_of_sockets(error: &io::Error) -> bool {
-    matches!(
-        error.raw_os_error(),
-        Some(libc::EMFILE | ENFILE | libc::ENOMEM | ENOBUFS)
-    )
 }
 
 /// Sets how many seconds a read or a write of the stream may wait, and that octets go at once: all that

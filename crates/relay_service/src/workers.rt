@@ -2,9 +2,9 @@
 ghost use Rattle.std.specs.Prelude.{◌≡◌, ◌≤◌, length, vec_len, IfOk};
 ghost use Rattle.relay_service.specs.Workers.{IsEndOf};
 
-use crate::fault::Fault;
 use crate::sockets::next_client;
 use relay_disk::{Disk, FileDisk};
+use relay_files::Fault;
 use relay_hub::Receipt;
 use relay_links::LinkFault;
 use relay_log::{ClientWriter, Connection, Log, Messages};

@@ -1,4 +1,5 @@
 ghost use Rattle.std.specs.Prelude.{◌≡◌, ◌≢◌, ◌⊎◌, [], ◌∷◌, map, MatchResult};
+ghost use Rattle.std.specs.IoError.{error_kind};
 ghost use Rattle.clap.specs.Words.{kind_of};
 ghost use Rattle.relay_arguments.specs.Arguments.{AreWrong, AskForPlay, AskForSession, faults_in};
 ghost use Rattle.relayd.specs.Session.{EndsAs};
@@ -7,14 +8,15 @@ use crate::streams::session;
 use clap::Error;
 use clap::error::ErrorKind;
 use relay_arguments::{Subcommand, arguments};
+use relay_files::{compact, init, list};
 use relay_play::play;
 use relay_run::run;
-use relay_service::{ServeOptions, compact, init, list, push, serve};
+use relay_service::{ServeOptions, push, serve};
 use std::alloc::Global;
 use std::convert::AsStr;
 use std::fmt::Display;
 use std::fs::File;
-use std::io::{self, Read, Write};
+use std::io::{self, ErrorKind as IoErrorKind, Read, Write};
 use std::net::{Net, TcpListener, TcpStream};
 use std::rt::{Clock, Files};
 use std::sync::Wait;
@@ -101,14 +103,17 @@ fn ended<F: Display + Drop, E: Write>(end: Result<(), F>, errors: &mut E) -> u8
 /// Answers the status where the system can't give the words: 1 where memory ran out, and else 2,
 /// since one isn't UTF-8. A line on `errors` says so.
 pub fn refuse_words<E: Write>(error: &io::Error, errors: &mut E) -> u8
-    ensures { (result ≡ 1) ⊎ (result ≡ 2) }
+    ensures memory { error_kind error.now ≡ IoErrorKind.OutOfMemory → result ≡ 1 }
+    ensures wrong { error_kind error.now ≢ IoErrorKind.OutOfMemory → result ≡ 2 }
 {
-    if error.kind() == io::ErrorKind::OutOfMemory {
-        return fail(errors, "no memory");
+    match error.kind() {
+        IoErrorKind::OutOfMemory => fail(errors, "no memory"),
+        _ => {
+            // Nothing is left to do where this line can't be written either: the status tells of the fault.
+            let _ = writeln!(errors, "relayd: an argument is not UTF-8");
+            WRONG_ARGUMENTS
+        }
     }
-    // Nothing is left to do where this line can't be written either: the status tells of the fault.
-    let _ = writeln!(errors, "relayd: an argument is not UTF-8");
-    WRONG_ARGUMENTS
 }
 
 /// Answers the status where the descriptors of the standard streams can't be held, and says so on `errors`.

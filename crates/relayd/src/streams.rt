@@ -6,9 +6,9 @@ ghost use Rattle.relayd.specs.Setup.{IsProfile};
 
 use crate::setup::{ADDRESS, configuration, moment};
 use relay_disk::{Disks, MemoryDisk};
+use relay_files::Fault;
 use relay_links::serve_link;
 use relay_node::{Connected, Node};
-use relay_service::Fault;
 use std::alloc::Global;
 use std::io::{Read, Write};
 

@@ -1,4 +1,6 @@
-ghost use Rattle.std.specs.Prelude.{◌≡◌, ◌⊎◌};
+ghost use Rattle.std.specs.Prelude.{◌≡◌, ◌≢◌, ◌↔◌, IsTrue};
+ghost use Rattle.std.specs.IoError.{error_kind, raw_os_error};
+ghost use Rattle.relay_files.specs.Fault.{IsWantOfSockets};
 
 use relay_limits::Limit;
 use relay_links::LinkFault;
@@ -6,8 +8,14 @@ use relay_node::{Cause, NodeFault};
 use relay_routes::ConfigFault;
 use relay_spool::SpoolFault;
 use std::alloc::AllocError;
-use std::io;
+use std::io::{self, ErrorKind};
 use thiserror::Error;
+
+/// Linux's error where all of the system's descriptors are taken. The kit's `libc` has no name for it.
+const ENFILE: i32 = 23;
+
+/// Linux's error where there is no room for a socket's buffers.
+const ENOBUFS: i32 = 105;
 
 /// Why a run ends with status 1. Its text stands behind `relayd: `.
 #[derive(Clone, Copy, Debug, PartialEq, Eq, Error)]
@@ -61,39 +69,53 @@ pub enum Fault {
 impl Fault {
     /// The fault of a file that can't be read.
     pub fn of_input(error: &io::Error) -> Self
-        ensures { (result ≡ Fault.NoMemory) ⊎ (result ≡ Fault.Input) }
+        ensures memory { error_kind error.now ≡ ErrorKind.OutOfMemory → result ≡ Fault.NoMemory }
+        ensures other { error_kind error.now ≢ ErrorKind.OutOfMemory → result ≡ Fault.Input }
     {
         Fault::unless_memory(error, Fault::Input)
     }
 
     /// The fault of a spool's file that can't be opened.
     pub fn of_device(error: &io::Error) -> Self
-        ensures { (result ≡ Fault.NoMemory) ⊎ (result ≡ Fault.Device) }
+        ensures memory { error_kind error.now ≡ ErrorKind.OutOfMemory → result ≡ Fault.NoMemory }
+        ensures other { error_kind error.now ≢ ErrorKind.OutOfMemory → result ≡ Fault.Device }
     {
         Fault::unless_memory(error, Fault::Device)
     }
 
     /// The fault of a writer.
     pub fn of_output(error: &io::Error) -> Self
-        ensures { (result ≡ Fault.NoMemory) ⊎ (result ≡ Fault.Output) }
+        ensures memory { error_kind error.now ≡ ErrorKind.OutOfMemory → result ≡ Fault.NoMemory }
+        ensures other { error_kind error.now ≢ ErrorKind.OutOfMemory → result ≡ Fault.Output }
     {
         Fault::unless_memory(error, Fault::Output)
     }
 
     fn unless_memory(error: &io::Error, other: Fault) -> Self
-        ensures { (result ≡ Fault.NoMemory) ⊎ (result ≡ other) }
+        ensures memory { error_kind error.now ≡ ErrorKind.OutOfMemory → result ≡ Fault.NoMemory }
+        ensures other { error_kind error.now ≢ ErrorKind.OutOfMemory → result ≡ other }
     {
-        if error.kind() == io::ErrorKind::OutOfMemory {
-            Fault::NoMemory
-        } else {
-            other
+        match error.kind() {
+            ErrorKind::OutOfMemory => Fault::NoMemory,
+            _ => other,
         }
     }
 }
 
+/// Whether a socket couldn't be had since this process or its system has no descriptor, or no memory, left for
+/// one: then it isn't for the other side.
+pub fn is_want_of_sockets(error: &io::Error) -> bool
+    ensures { IsTrue result ↔ IsWantOfSockets (raw_os_error error.now) }
+{
+    matches!(
+        error.raw_os_error(),
+        Some(libc::EMFILE | ENFILE | libc::ENOMEM | ENOBUFS)
+    )
+}
+
 impl From<AllocError> for Fault {
     ghost use Rattle.std.specs.Prelude.{◌≡◌};
-    ghost use Rattle.relay_service.specs.declared.fault.Fault.TheVariants.{NoMemory};
+    ghost use Rattle.relay_files.specs.declared.fault.Fault.TheVariants.{NoMemory};
 
     ghost from_gives = { λ _ fault. fault ≡ NoMemory };
 
@@ -104,7 +126,7 @@ impl From<AllocError> for Fault {
 
 impl From<ConfigFault> for Fault {
     ghost use Rattle.std.specs.Prelude.{◌≡◌};
-    ghost use Rattle.relay_service.specs.Fault.{fault_of_config};
+    ghost use Rattle.relay_files.specs.Fault.{fault_of_config};
 
     ghost from_gives = { λ given fault. fault ≡ fault_of_config given };
 
@@ -118,7 +140,7 @@ impl From<ConfigFault> for Fault {
 
 impl From<Limit> for Fault {
     ghost use Rattle.std.specs.Prelude.{◌≡◌};
-    ghost use Rattle.relay_service.specs.Fault.{fault_of_limit};
+    ghost use Rattle.relay_files.specs.Fault.{fault_of_limit};
 
     ghost from_gives = { λ given fault. fault ≡ fault_of_limit given };
 
@@ -129,7 +151,7 @@ impl From<Limit> for Fault {
 
 impl From<Cause> for Fault {
     ghost use Rattle.std.specs.Prelude.{◌≡◌};
-    ghost use Rattle.relay_service.specs.Fault.{fault_of_cause};
+    ghost use Rattle.relay_files.specs.Fault.{fault_of_cause};
 
     ghost from_gives = { λ given fault. fault ≡ fault_of_cause given };
 
@@ -143,7 +165,7 @@ impl From<Cause> for Fault {
 
 impl From<SpoolFault> for Fault {
     ghost use Rattle.std.specs.Prelude.{◌≡◌};
-    ghost use Rattle.relay_service.specs.Fault.{fault_of_spool};
+    ghost use Rattle.relay_files.specs.Fault.{fault_of_spool};
 
     ghost from_gives = { λ given fault. fault ≡ fault_of_spool given };
 
@@ -162,7 +184,7 @@ impl From<SpoolFault> for Fault {
 
 impl From<NodeFault> for Fault {
     ghost use Rattle.std.specs.Prelude.{◌≡◌};
-    ghost use Rattle.relay_service.specs.Fault.{fault_of_node};
+    ghost use Rattle.relay_files.specs.Fault.{fault_of_node};
 
     ghost from_gives = { λ given fault. fault ≡ fault_of_node given };
 
@@ -183,7 +205,7 @@ impl From<NodeFault> for Fault {
 
 impl From<LinkFault> for Fault {
     ghost use Rattle.std.specs.Prelude.{◌≡◌};
-    ghost use Rattle.relay_service.specs.Fault.{fault_of_link};
+    ghost use Rattle.relay_files.specs.Fault.{fault_of_link};
 
     ghost from_gives = { λ given fault. fault ≡ fault_of_link given };
 

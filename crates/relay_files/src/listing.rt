@@ -1,6 +1,6 @@
 //! The spool that a configuration names: made, and listed.
 use crate::fault::Fault;
-use crate::gathering::gathering;
+use crate::line_writer::gathering;
 use crate::settings::{configuration, spool_files, spool_files_to_read};
 use relay_disk::{Disk, DiskFault, Disks, FileDisk};
 use relay_node::Node;

@@ -1,4 +1,8 @@
 //! What a configuration file says, and the spool that it names.
+ghost use Rattle.std.specs.Prelude.{◌≡◌, ℕ, true, List, IfOk, Ok};
+ghost use Rattle.relay_node.specs.Node.{IsIdle};
+ghost use Rattle.relay_routes.specs.Config.{ReadsConfig};
+
 use crate::fault::Fault;
 use relay_disk::{Disks, FileDisk};
 use relay_node::Node;
@@ -8,22 +12,28 @@ use std::fs::File;
 use std::io;
 use std::rt::Files;
 
-/// The configuration in the file at this path.
-pub(crate) fn configuration<F: Files<File = File>>(
+/// The configuration in the file at this path: what a text says. Faults are looked for in this order: the file, its
+/// content.
+pub fn configuration<F: Files<File = File>>(
     alloc: Global,
     files: &F,
     path: &str,
-) -> Result<Config, Fault> {
+) -> Result<Config, Fault>
+    ensures { IfOk result (λ config. (text : List ℕ) × ReadsConfig text (Ok config)) }
+{
     let text = configuration_text(alloc, files, path)?;
     Ok(Config::read(alloc, text.as_str())?)
 }
 
-/// The configuration in the file at this path, twice over one reading: a node keeps one for itself.
-pub(crate) fn configurations<F: Files<File = File>>(
+/// The configuration in the file at this path, twice over one reading, so that both are what one text says: a node keeps
+/// one for itself. Faults are looked for in that order.
+pub fn configurations<F: Files<File = File>>(
     alloc: Global,
     files: &F,
     path: &str,
-) -> Result<(Config, Config), Fault> {
+) -> Result<(Config, Config), Fault>
+    ensures { IfOk result (λ both. (text : List ℕ) × ReadsConfig text (Ok both.0) × ReadsConfig text (Ok both.1)) }
+{
     let text = configuration_text(alloc, files, path)?;
     let first = Config::read(alloc, text.as_str())?;
     let second = Config::read(alloc, text.as_str())?;
@@ -119,12 +129,16 @@ fn lock(disk: &FileDisk) -> Result<(), Fault> {
     }
 }
 
-/// The node of the spool that the configuration names, whose files are taken for this process alone.
+/// The node of the spool that the configuration names, whose files are taken for this process alone. It is live and
+/// idle, by this configuration. Faults are looked for in this order: the files, their locks, what they hold.
 pub fn locked_node<F: Files<File = File>>(
     alloc: Global,
     files: &F,
     config: Config,
-) -> Result<Node<FileDisk>, Fault> {
+) -> Result<Node<FileDisk>, Fault>
+    ensures idle { IfOk result (IsIdle config) }
+    ensures live { IfOk result (λ node. node.records.spool.live ≡ true) }
+{
     let disks = locked_spool_files(alloc, files, &config)?;
     match Node::open(alloc, config, disks) {
         Ok(node) => Ok(node),
