@@ -1,13 +1,20 @@
 //! An event of a script, and what is seen of it.
+ghost use Rattle.std.specs.Prelude.{◌≡◌, Result};
+ghost use Rattle.relay_events.specs.Step.{Steps};
+ghost use Rattle.relay_play.specs.Script.{event_in};
+
 use crate::print::{print_refused, print_seen};
-use relay_disk::MemoryDisk;
-use relay_pair::{Event, Pair};
+use relay_disk::{Disk, MemoryDisk};
+use relay_pair::{Event, Pair, PairFault, Seen};
 use relay_script::Event as Said;
 use std::io;
 
 /// An event happens to the relays. What is seen of it, or why it was refused, is added as a line, or a line for each
 /// node that has stopped. It fails where memory runs out.
-pub(crate) fn happen(pair: &mut Pair<MemoryDisk>, said: Said, out: &mut Vec<u8>) -> io::Result<()> {
+pub(crate) fn happen(pair: &mut Pair<MemoryDisk>, said: Said, out: &mut Vec<u8>) -> io::Result<()>
+    ensures { (answer : Result Seen PairFault) × Steps ⟦<MemoryDisk as Disk>⟧.honest ⟦<MemoryDisk as Disk>⟧.words pair.old
+        (event_in said) pair.new answer }
+{
     let event = event_of(said);
     match pair.step(&event) {
         Ok(seen) => print_seen(pair, &event, &seen, out),
@@ -16,7 +23,9 @@ pub(crate) fn happen(pair: &mut Pair<MemoryDisk>, said: Said, out: &mut Vec<u8>)
 }
 
 /// The event that a line of a script says.
-fn event_of(said: Said) -> Event {
+fn event_of(said: Said) -> Event
+    ensures { result ≡ event_in said }
+{
     match said {
         Said::Connect { node } => Event::Connect(node.index()),
         Said::Send { link, text } => Event::Send(link as usize, text),

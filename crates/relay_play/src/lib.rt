@@ -6,6 +6,7 @@ mod happen;
 mod print;
 mod script;
 mod show;
+mod state;
 
 pub use fault::PlayFault;
 pub use script::play;

@@ -59,7 +59,7 @@ pub fn command<
 {
     match arguments(alloc, words) {
         Ok(Subcommand::Session) => ended(session(alloc, reader, writer), errors),
-        Ok(Subcommand::Play) => ended(play(alloc, reader, writer), errors),
+        Ok(Subcommand::Play) => ended(play(alloc, reader, writer).map(|_pair| ()), errors),
         Ok(Subcommand::Init(file)) => ended(init(alloc, system, file), errors),
         Ok(Subcommand::List(file)) => ended(list(alloc, system, file, writer), errors),
         Ok(Subcommand::Compact(file)) => ended(compact(alloc, system, file, writer), errors),

@@ -1,0 +1,230 @@
+-- Scripts, line by line: where a line ends, and that lines are played one behind another.
+use Rattle.std.proofs.Common.{◌≡◌, ◌<◌, ◌+◌, ◌==◌, ℕ, zero, suc, Bool, true, false, List, [], ◌∷◌, ◌++◌, length, take, drop, get_or, Option, None, Some, MatchOption, refl, sym, ap, subst, ◌∙◌, arith, append_assoc, append-nil}
+use Rattle.std.proofs.lemmas.Bool.{eqb-true, false_from_ne_true}
+use Rattle.std.proofs.lemmas.List.{take_all}
+use Rattle.std.proofs.Math.Numerals.{add-one}
+use Rattle.std.specs.List.{onto_first, slice_split}
+use Rattle.std.proofs.lemmas.List.Splits.{slice_split-cons_no, slice_split-cons_yes}
+use Rattle.std.specs.Io.KnownBytes.{Consumes, Keeps}
+use Rattle.std.proofs.KnownBytes.{Consumes-kept, Consumes-nil, Consumes-trans}
+use Rattle.memchr.specs.Find.{IsFirstByte, is_byte}
+use Rattle.relay_disk.specs.Device.{DiskWords}
+use Rattle.relay_disk.specs.declared.memory.MemoryDisk.{MemoryDisk}
+use Rattle.relay_world.specs.World.{World}
+use Rattle.relay_play.specs.declared.state.PlayState.{PlayState}
+use Rattle.relay_play.specs.Script.{HasNoLineFeed, HasNotBegun, HasPlayed, IsPlayed, IsRead, IsReadTo, PlaysAll, PlaysBlock, PlaysEach, PlaysLine, is_line_feed}
+
+-- the front of octets, where no LF stands in it
+no_line_feed_in : (octets : List ℕ) (count : ℕ)
+    → ((place : ℕ) → place < count → place < length octets → is_line_feed (get_or octets place 0) ≡ false)
+    → HasNoLineFeed (take count octets)
+no_line_feed_in [] zero none = tt
+no_line_feed_in [] (suc count) none = tt
+no_line_feed_in (octet ∷ octets) zero none = tt
+no_line_feed_in (octet ∷ octets) (suc count) none =
+    (none 0 (omega arith) (omega arith), no_line_feed_in octets count (λ place low high. none (suc place) (omega (arith, low)) (omega (arith, high))))
+
+-- what stands at a place, and what is behind it
+split_here : (octets : List ℕ) (place : ℕ) → place < length octets → get_or octets place 0 ≡ 10
+    → octets ≡ take place octets ++ 10 ∷ drop (suc place) octets
+split_here [] place within here = absurd (omega (arith, within))
+split_here (octet ∷ octets) zero within here = ap (λ o. o ∷ octets) here
+split_here (octet ∷ octets) (suc place) within here =
+    ap (λ l. octet ∷ l) (split_here octets place (omega (arith, within)) here)
+
+-- what a search for an LF answers
+pub line_found : (text : List ℕ) (answer : Option ℕ) → IsFirstByte (is_byte 10) text answer
+    → MatchOption answer (HasNoLineFeed text)
+    (λ place. HasNoLineFeed (take place text) × (text ≡ take place text ++ 10 ∷ drop (place + 1) text))
+line_found text None nowhere =
+    subst HasNoLineFeed (take_all (length text) text (omega arith))
+    (no_line_feed_in text (length text)
+    (λ place low high. false_from_ne_true (get_or text place 0 == 10) (λ h. nowhere place (omega arith) low h)))
+line_found text (Some place) found =
+    let high = found.0.high in (
+      no_line_feed_in text place
+          (λ at low within. false_from_ne_true (get_or text at 0 == 10) (λ h. found.0.before at (omega arith) low h)),
+      split_here text place high (eqb-true (get_or text place 0) 10 found.1)
+          ∙ ap (λ n. take place text ++ 10 ∷ drop n text) (sym (add-one place)),
+    )
+
+-- octets of a line, and more of it
+bare_joined : (front back : List ℕ) → HasNoLineFeed front → HasNoLineFeed back → HasNoLineFeed (front ++ back)
+bare_joined [] back none also = also
+bare_joined (octet ∷ front) back none also = (none.0, bare_joined front back none.1 also)
+
+-- a line, and what stands behind its LF
+splits_line : (line more : List ℕ) → HasNoLineFeed line
+    → slice_split is_line_feed (line ++ 10 ∷ more) ≡ line ∷ slice_split is_line_feed more
+splits_line [] more none = slice_split-cons_yes is_line_feed 10 more refl
+splits_line (octet ∷ line) more none =
+    slice_split-cons_no is_line_feed octet (line ++ 10 ∷ more) none.0
+    ∙ ap (onto_first octet) (splits_line line more none.1)
+
+-- a line that no LF ends
+is_one_line : (line : List ℕ) → HasNoLineFeed line → slice_split is_line_feed line ≡ line ∷ []
+is_one_line [] none = refl
+is_one_line (octet ∷ line) none =
+    slice_split-cons_no is_line_feed octet line none.0 ∙ ap (onto_first octet) (is_one_line line none.1)
+
+-- a read that gave nothing
+pub kept_is_read : (old new : Option (List ℕ)) → Keeps old new → Consumes old new []
+kept_is_read old new kept = Consumes-kept old old new [] (Consumes-nil old) kept
+
+module _ (honest : Type 0) (words : DiskWords MemoryDisk) where
+  -- lines behind others
+  plays_more : (texts others : List (List ℕ)) (first mid last : PlayState) → PlaysEach honest words texts first mid
+      → PlaysEach honest words others mid last → PlaysEach honest words (texts ++ others) first last
+  plays_more [] others first mid last same plays = subst (λ p. PlaysEach honest words others p last) same plays
+  plays_more (text ∷ texts) others first mid last plays then =
+      (plays.0, plays.1, plays_more texts others plays.0 mid last plays.2 then)
+
+  -- nothing of a script was read
+  pub nothing_played : (first : PlayState) → HasPlayed honest words first [] [] first
+  nothing_played first = record { lines = []; splits = λ more. refl; bare = tt; plays = refl }
+
+  -- a line has ended, and was played
+  pub line_played : (first now later : PlayState) (front begun line : List ℕ) → HasPlayed honest words first front begun now
+      → HasNoLineFeed line → PlaysLine honest words (begun ++ line) now later
+      → HasPlayed honest words first (front ++ (line ++ 10 ∷ [])) [] later
+  line_played first now later front begun line played none does =
+      let whole = begun ++ line in
+      let bare = bare_joined begun line played.bare none in
+      record {
+        lines = played.lines ++ whole ∷ [];
+        splits = λ more.
+            ap (slice_split is_line_feed)
+            (append_assoc front (line ++ 10 ∷ []) more ∙ ap (λ l. front ++ l) (append_assoc line (10 ∷ []) more))
+            ∙ played.splits (line ++ 10 ∷ more)
+            ∙ ap (λ l. played.lines ++ slice_split is_line_feed l) (sym (append_assoc begun line (10 ∷ more)))
+            ∙ ap (λ l. played.lines ++ l) (splits_line whole more bare)
+            ∙ sym (append_assoc played.lines (whole ∷ []) (slice_split is_line_feed more));
+        bare = tt;
+        plays = plays_more played.lines (whole ∷ []) first now later played.plays (later, does, refl);
+      }
+
+  -- a line goes on
+  pub line_goes_on : (first now : PlayState) (front begun rest : List ℕ) → HasPlayed honest words first front begun now
+      → HasNoLineFeed rest → HasPlayed honest words first (front ++ rest) (begun ++ rest) now
+  line_goes_on first now front begun rest played none = record {
+    lines = played.lines;
+    splits = λ more.
+        ap (slice_split is_line_feed) (append_assoc front rest more)
+        ∙ played.splits (rest ++ more)
+        ∙ ap (λ l. played.lines ++ slice_split is_line_feed l) (sym (append_assoc begun rest more));
+    bare = bare_joined begun rest played.bare none;
+    plays = played.plays;
+  }
+
+  -- of octets that were read, those before the rest are used, and the lines that end in them were played
+  abbrev pub AreUsedTo : List ℕ → List ℕ → PlayState → List ℕ → List ℕ → PlayState → Type 0
+  AreUsedTo octets before old rest begun now =
+      (used : List ℕ) × (octets ≡ used ++ rest)
+      × ((first : PlayState) (front : List ℕ) → HasPlayed honest words first front before old
+      → HasPlayed honest words first (front ++ used) begun now)
+
+  -- none are used yet
+  pub none_used : (octets before : List ℕ) (old : PlayState) → AreUsedTo octets before old octets before old
+  none_used octets before old = (
+    [],
+    refl,
+    λ first front played. subst (λ f. HasPlayed honest words first f before old) (sym (append-nil front)) played,
+  )
+
+  -- a line of the rest has ended, and was played behind what had begun
+  pub line_used : (octets before rest begun line behind filled after : List ℕ) (old now later : PlayState)
+      → AreUsedTo octets before old rest begun now → HasNoLineFeed line → rest ≡ line ++ 10 ∷ behind
+      → filled ≡ begun ++ line → PlaysLine honest words filled now later → after ≡ []
+      → AreUsedTo octets before old behind after later
+  line_used octets before rest begun line behind filled after old now later so_far none its fills does empty =
+      let ended = line ++ 10 ∷ [] in (
+        so_far.0 ++ ended,
+        so_far.1 ∙ ap (λ l. so_far.0 ++ l) (its ∙ sym (append_assoc line (10 ∷ []) behind))
+            ∙ sym (append_assoc so_far.0 ended behind),
+        λ first front played.
+            subst (λ a. HasPlayed honest words first (front ++ (so_far.0 ++ ended)) a later) (sym empty)
+            (subst (λ f. HasPlayed honest words first f [] later) (append_assoc front so_far.0 ended)
+            (line_played first now later (front ++ so_far.0) begun line (so_far.2 first front played) none
+            (subst (λ b. PlaysLine honest words b now later) fills does))),
+      )
+
+  -- no line of the rest has ended
+  pub all_used : (octets before rest begun filled : List ℕ) (old now : PlayState)
+      → AreUsedTo octets before old rest begun now → HasNoLineFeed rest → filled ≡ begun ++ rest
+      → (first : PlayState) (front : List ℕ) → HasPlayed honest words first front before old
+      → HasPlayed honest words first (front ++ octets) filled now
+  all_used octets before rest begun filled old now so_far none fills first front played =
+      subst (λ b. HasPlayed honest words first (front ++ octets) b now) (sym fills)
+      (subst (λ f. HasPlayed honest words first f (begun ++ rest) now)
+      (append_assoc front so_far.0 rest ∙ ap (λ l. front ++ l) (sym so_far.1))
+      (line_goes_on first now (front ++ so_far.0) begun rest (so_far.2 first front played) none))
+
+  -- the script has ended, and its last line was played
+  pub all_played : (first now last : PlayState) (front begun : List ℕ) → HasPlayed honest words first front begun now
+      → PlaysLine honest words begun now last → PlaysAll honest words first front last
+  all_played first now last front begun played does =
+      subst (λ texts. PlaysEach honest words texts first last)
+      (sym
+      (ap (slice_split is_line_feed) (sym (append-nil front)) ∙ played.splits []
+      ∙ ap (λ l. played.lines ++ slice_split is_line_feed l) (append-nil begun)
+      ∙ ap (λ l. played.lines ++ l) (is_one_line begun played.bare)))
+      (plays_more played.lines (begun ∷ []) first now last played.plays (last, does, refl))
+
+  -- a read that was interrupted
+  pub none_read : (old new : Option (List ℕ)) (first now : PlayState) (front begun : List ℕ) → Keeps old new
+      → HasPlayed honest words first front begun now → PlaysBlock honest words old new first front begun now false
+  none_read old new first now front begun kept played =
+      ([], kept_is_read old new kept, subst (λ f. HasPlayed honest words first f begun now) (sym (append-nil front)) played)
+
+  -- nothing was left to read
+  pub end_read : (old new : Option (List ℕ)) (count : ℕ) (block : List ℕ) (first now last : PlayState) (front begun after : List ℕ)
+      → Consumes old new (take count block) → count ≡ 0
+      → HasPlayed honest words first front begun now → PlaysLine honest words begun now last
+      → PlaysBlock honest words old new first front after last true
+  end_read old new count block first now last front begun after reads none played does = (
+    [],
+    subst (λ n. Consumes old new (take n block)) none reads,
+    subst (λ f. PlaysAll honest words first f last) (sym (append-nil front)) (all_played first now last front begun played does),
+  )
+
+  -- what was read so far, and a block more
+  pub block_read : (old mid new : Option (List ℕ)) (first now later : PlayState) (front begun after : List ℕ) (ended : Bool)
+      → IsRead old mid (λ octets. HasPlayed honest words first (front ++ octets) begun now)
+      → ((so_far : List ℕ) → HasPlayed honest words first so_far begun now
+      → PlaysBlock honest words mid new first so_far after later ended)
+      → ended ≡ false → IsRead old new (λ octets. HasPlayed honest words first (front ++ octets) after later)
+  block_read old mid new first now later front begun after ended so_far step goes_on =
+      let more =
+      subst (λ e. PlaysBlock honest words mid new first (front ++ so_far.0) after later e) goes_on
+      (step (front ++ so_far.0) so_far.2) in (
+        so_far.0 ++ more.0,
+        Consumes-trans old mid new so_far.0 more.0 so_far.1 more.1,
+        subst (λ f. HasPlayed honest words first f after later) (append_assoc front so_far.0 more.0) more.2,
+      )
+
+  -- and the last one
+  pub blocks_end : (old mid new : Option (List ℕ)) (first now last : PlayState) (front begun after : List ℕ) (ended : Bool)
+      → IsRead old mid (λ octets. HasPlayed honest words first (front ++ octets) begun now)
+      → ((so_far : List ℕ) → HasPlayed honest words first so_far begun now
+      → PlaysBlock honest words mid new first so_far after last ended)
+      → ended ≡ true → IsRead old new (λ octets. PlaysAll honest words first (front ++ octets) last)
+  blocks_end old mid new first now last front begun after ended so_far step has_ended =
+      let more =
+      subst (λ e. PlaysBlock honest words mid new first (front ++ so_far.0) after last e) has_ended
+      (step (front ++ so_far.0) so_far.2) in (
+        so_far.0 ++ more.0,
+        Consumes-trans old mid new so_far.0 more.0 so_far.1 more.1,
+        subst (λ f. PlaysAll honest words first f last) (append_assoc front so_far.0 more.0) more.2,
+      )
+
+  -- a whole script, from relays to which nothing has happened
+  pub whole_played : (old new : Option (List ℕ)) (first last : PlayState) (begun : List ℕ) (world : World MemoryDisk)
+      → HasNotBegun honest words first → begun ≡ []
+      → ((from : PlayState) (front : List ℕ) → HasPlayed honest words from front begun first
+      → IsReadTo old new (λ octets. PlaysAll honest words from (front ++ octets) last))
+      → world ≡ last.pair → IsReadTo old new (λ script. IsPlayed honest words script world)
+  whole_played old new first last begun world begins none plays its =
+      let all =
+      plays first [] (subst (λ b. HasPlayed honest words first [] b first) (sym none) (nothing_played first)) in
+      let read = all.1 in
+      (all.0, (read.0, read.1, record { first = first; begins = begins; last = last; plays = read.2; world_is = its }))

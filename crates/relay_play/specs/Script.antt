@@ -1,0 +1,132 @@
+-- A script of a play: its lines, and what they do to relays.
+use Rattle.std.specs.Prelude.{◌≡◌, ◌<◌, ◌==◌, ℕ, Bool, true, false, List, [], ◌∷◌, ◌++◌, Option, None, Some, Result, ⊤}
+use Rattle.std.specs.List.{slice_split}
+use Rattle.std.specs.Io.KnownBytes.{Consumes, IsAtEnd}
+use Rattle.relay_disk.specs.Device.{DiskWords}
+use Rattle.relay_disk.specs.declared.memory.MemoryDisk.{MemoryDisk}
+use Rattle.relay_world.specs.World.{World}
+use Rattle.relay_script.specs.declared.event.Event.{Event as Said}
+use Rattle.relay_script.specs.declared.event.Event.TheVariants as said
+use Rattle.relay_script.specs.declared.event.ScriptLine.{ScriptLine}
+use Rattle.relay_script.specs.declared.event.ScriptLine.TheVariants.{Skipped, Nodes, Event as Happens, Ledger, Marks, Copies, Lost}
+use Rattle.relay_script.specs.Line.{Spells}
+use Rattle.relay_events.specs.declared.event.Event.{Event}
+use Rattle.relay_events.specs.declared.event.Event.TheVariants.{Connect, Send, Carry, Break, Tick, Give, Compact, Stop}
+use Rattle.relay_events.specs.declared.fault.PairFault.{PairFault}
+use Rattle.relay_events.specs.declared.seen.Seen.{Seen}
+use Rattle.relay_events.specs.Step.{Steps}
+use Rattle.relay_pair.specs.Begin.{HasBegunAsMany, HasBegunAsTwo}
+use Rattle.relay_play.specs.declared.state.PlayState.{PlayState}
+
+-- an octet ends a line
+abbrev pub is_line_feed : ℕ → Bool
+is_line_feed octet = octet == 10
+
+-- none of these octets does
+abbrev pub HasNoLineFeed : List ℕ → Type 0
+HasNoLineFeed [] = ⊤
+HasNoLineFeed (octet ∷ octets) = (is_line_feed octet ≡ false) × HasNoLineFeed octets
+
+-- the event of relays that an event of a script is
+abbrev pub event_in : Said → Event
+event_in (said.Connect node) = Connect node
+event_in (said.Send link text) = Send link text
+event_in (said.Carry link node count) = Carry link node count
+event_in (said.Break link) = Break link
+event_in (said.Tick moment) = Tick moment
+event_in (said.Give node) = Give node
+event_in (said.Compact node) = Compact node
+event_in (said.Stop node calls pick) = Stop node calls pick
+
+-- the node that an event names, if it names one
+abbrev pub named_by : Said → Option ℕ
+named_by (said.Connect node) = Some node
+named_by (said.Send link text) = None
+named_by (said.Carry link node count) = Some node
+named_by (said.Break link) = None
+named_by (said.Tick moment) = None
+named_by (said.Give node) = Some node
+named_by (said.Compact node) = Some node
+named_by (said.Stop node calls pick) = Some node
+
+-- the node that a line names, if it names one
+abbrev pub named_in : ScriptLine → Option ℕ
+named_in Skipped = None
+named_in (Nodes count) = None
+named_in (Happens event) = named_by event
+named_in Ledger = None
+named_in Marks = None
+named_in (Copies node number place) = Some node
+named_in (Lost node number place) = Some node
+
+-- a node that is named is one of so many
+abbrev pub IsAmong : Option ℕ → ℕ → Type 0
+IsAmong None nodes = ⊤
+IsAmong (Some node) nodes = node < nodes
+
+-- octets were read, of which this is true
+abbrev pub IsRead : Option (List ℕ) → Option (List ℕ) → (List ℕ → Type 0) → Type 0
+IsRead old new IsOf = (octets : List ℕ) × Consumes old new octets × IsOf octets
+
+-- so it is of all octets that were left
+abbrev pub IsReadTo : Option (List ℕ) → Option (List ℕ) → (List ℕ → Type 0) → Type 0
+IsReadTo old new IsOf = IsAtEnd new × IsRead old new IsOf
+
+module _ (honest : Type 0) (words : DiskWords MemoryDisk) where
+  -- two relays to which nothing has happened, by no line yet
+  pub record HasNotBegun (play : PlayState) : Type 0 where
+    pub two : HasBegunAsTwo honest words play.pair
+    pub nodes : play.nodes ≡ 2
+    pub said : play.has_begun ≡ false
+
+  -- What a line does to a play: how many nodes play is said by the first line that says something, an event happens,
+  -- and what is asked for changes nothing.
+  abbrev pub Does : ScriptLine → PlayState → PlayState → Type 0
+  Does Skipped old new = new ≡ old
+  Does (Nodes count) old new =
+      (old.has_begun ≡ false) × HasBegunAsMany honest words count new.pair
+      × (new ≡ record old { pair = new.pair; nodes = count; has_begun = true })
+  Does (Happens event) old new =
+      ((answer : Result Seen PairFault) × Steps honest words old.pair (event_in event) new.pair answer)
+      × (new ≡ record old { pair = new.pair; has_begun = true })
+  Does Ledger old new = new ≡ record old { has_begun = true }
+  Does Marks old new = new ≡ record old { has_begun = true }
+  Does (Copies node number place) old new = new ≡ record old { has_begun = true }
+  Does (Lost node number place) old new = new ≡ record old { has_begun = true }
+
+  -- a text spells a line that names no node but those that play, and this is what it does
+  pub record PlaysLine (text : List ℕ) (old new : PlayState) : Type 0 where
+    pub line : ScriptLine
+    pub spells : Spells text line
+    pub among : IsAmong (named_in line) old.nodes
+    pub does : Does line old new
+
+  -- so does each line, one behind another
+  abbrev pub PlaysEach : List (List ℕ) → PlayState → PlayState → Type 0
+  PlaysEach [] old new = new ≡ old
+  PlaysEach (text ∷ texts) old new = (mid : PlayState) × PlaysLine text old mid × PlaysEach texts mid new
+
+  -- so do the lines of a script: each ends at an LF, and the last one where the script does
+  abbrev pub PlaysAll : PlayState → List ℕ → PlayState → Type 0
+  PlaysAll first script last = PlaysEach (slice_split is_line_feed script) first last
+
+  -- These relays are those that a script leaves.
+  pub record IsPlayed (script : List ℕ) (world : World MemoryDisk) : Type 0 where
+    pub first : PlayState
+    pub begins : HasNotBegun first
+    pub last : PlayState
+    pub plays : PlaysAll first script last
+    pub world_is : world ≡ last.pair
+
+  -- Of a script that goes on, the lines that have ended were played, and the octets behind them are of one line.
+  pub record HasPlayed (first : PlayState) (front begun : List ℕ) (now : PlayState) : Type 0 where
+    pub lines : List (List ℕ)
+    pub splits : (more : List ℕ)
+        → slice_split is_line_feed (front ++ more) ≡ lines ++ slice_split is_line_feed (begun ++ more)
+    pub bare : HasNoLineFeed begun
+    pub plays : PlaysEach lines first now
+
+  -- a read gave octets, whose lines were played; where the script has ended, its last line was too
+  abbrev pub PlaysBlock : Option (List ℕ) → Option (List ℕ) → PlayState → List ℕ → List ℕ → PlayState → Bool → Type 0
+  PlaysBlock old new first front begun now false = IsRead old new (λ octets. HasPlayed first (front ++ octets) begun now)
+  PlaysBlock old new first front begun now true = IsRead old new (λ octets. PlaysAll first (front ++ octets) now)
