@@ -1,7 +1,8 @@
-ghost use Rattle.std.specs.Prelude.{◌≡◌, ◌≢◌, ◌⊎◌, [], ◌∷◌, map, MatchResult};
+ghost use Rattle.std.specs.Prelude.{◌≡◌, ◌≢◌, ◌⊎◌, [], ◌∷◌, map, MatchResult, OnOk};
 ghost use Rattle.std.specs.IoError.{error_kind};
 ghost use Rattle.clap.specs.Words.{kind_of};
 ghost use Rattle.relay_arguments.specs.Arguments.{AreWrong, AskForPlay, AskForSession, faults_in};
+ghost use Rattle.relayd.specs.Play.{IsPlayedWhole};
 ghost use Rattle.relayd.specs.Session.{EndsAs};
 
 use crate::streams::session;
@@ -9,7 +10,7 @@ use clap::Error;
 use clap::error::ErrorKind;
 use relay_arguments::{Subcommand, arguments};
 use relay_files::{compact, init, list};
-use relay_play::play;
+use relay_play::{PlayFault, play};
 use relay_run::run;
 use relay_service::{ServeOptions, push, serve};
 use std::alloc::Global;
@@ -49,6 +50,8 @@ pub fn command<
     ensures session { AskForSession (map S.text words.now)
         → EndsAs result (R.remaining reader.old) (R.remaining reader.new) (W.contents writer.old)
         (W.contents writer.new) }
+    ensures play { AskForPlay (map S.text words.now) → result ≡ 0
+        → IsPlayedWhole (R.remaining reader.old) (R.remaining reader.new) }
     ensures status { faults_in (map S.text words.now) ≡ [] → (result ≡ 0) ⊎ (result ≡ 1) }
     ensures wrong { AreWrong (faults_in (map S.text words.now))
         → ((result ≡ 1) ⊎ (result ≡ 2)) × (W.contents writer.new ≡ W.contents writer.old) }
@@ -59,7 +62,7 @@ pub fn command<
 {
     match arguments(alloc, words) {
         Ok(Subcommand::Session) => ended(session(alloc, reader, writer), errors),
-        Ok(Subcommand::Play) => ended(play(alloc, reader, writer).map(|_pair| ()), errors),
+        Ok(Subcommand::Play) => ended(play_script(alloc, reader, writer), errors),
         Ok(Subcommand::Init(file)) => ended(init(alloc, system, file), errors),
         Ok(Subcommand::List(file)) => ended(list(alloc, system, file, writer), errors),
         Ok(Subcommand::Compact(file)) => ended(compact(alloc, system, file, writer), errors),
@@ -88,6 +91,18 @@ pub fn command<
         }
         Err(error) => explain(&error, writer, errors),
     }
+}
+
+/// Plays a script to its end, and lets its relays go.
+fn play_script<R: Read, W: Write>(
+    alloc: Global,
+    reader: &mut R,
+    writer: &mut W,
+) -> Result<(), PlayFault>
+    ensures { OnOk result (IsPlayedWhole (R.remaining reader.old) (R.remaining reader.new)) }
+{
+    let _pair = play(alloc, reader, writer)?;
+    Ok(())
 }
 
 /// The status of a subcommand's end; a fault has its line on `errors`.

@@ -31,3 +31,9 @@ returns-in-Err-clause-session g c = λ ask.
   where
     not_both : {status : ℕ} → status ≡ 1 → status ≡ 0 → ⊥
     not_both one none = cc
+
+pub returns-in-Err-clause-play : goal.returns-in-Err-clause-play
+returns-in-Err-clause-play g c = λ ask done.
+    let has : HasKind _ c.in-Err.error = search rules in
+    let status = c.explain.ensures.memory (only_memory c.in-Err.error _ has ask.0) in
+    absurd (cc)
