@@ -4,7 +4,7 @@
 # between a run on MANY units and one on FEW, so that what starting the program takes isn't counted. It needs bash,
 # coreutils, awk, yes and valgrind.
 #
-#   bench/instructions.sh build/relayd build/relay_bench
+#   bench/instructions.sh build/relayd build/relay_node_tests
 #
 # FUNCTIONS (0) is how many functions follow each figure, with their share of the longer run's instructions.
 set -euo pipefail
@@ -12,7 +12,8 @@ export LC_ALL=C
 . "$(dirname "$0")/inputs.sh"
 
 relayd=$1
-bench=$2
+# The measurements are words of the program of tests.
+bench=("$2" bench)
 functions=${FUNCTIONS:-0}
 room=$(mktemp -d)
 trap 'rm -rf "$room"' EXIT
@@ -66,13 +67,13 @@ of_input "session: small messages behind 90,000 others" message 90000 100000 1 s
 of_input "session: pipelined NOOPs" command 10000 30000 1 noops "$relayd" session
 of_input "session: RCPTs with all parameters" command 20 60 100 full_transactions "$relayd" session
 octets_of 4096 > "$room/body"
-"$bench" append 500 "$room/spool.500" < "$room/body" > "$room/out"
-"$bench" append 1500 "$room/spool.1500" < "$room/body" > "$room/out"
+"${bench[@]}" append 500 "$room/spool.500" < "$room/body" > "$room/out"
+"${bench[@]}" append 1500 "$room/spool.1500" < "$room/body" > "$room/out"
 of_words "library: a spool that is opened" octet 500 1500 4101 /dev/null \
-    "$bench" open 1 "$room/spool.{}"
+    "${bench[@]}" open 1 "$room/spool.{}"
 of_words "library: appends to a spool on a file" append 500 1500 1 "$room/body" \
-    "$bench" append {} "$room/append.{}"
-of_words "library: messages into a book" message 10000 30000 1 /dev/null "$bench" fill {}
-of_words "library: messages into a book, and out" message 10000 30000 1 /dev/null "$bench" drain {}
+    "${bench[@]}" append {} "$room/append.{}"
+of_words "library: messages into a book" message 10000 30000 1 /dev/null "${bench[@]}" fill {}
+of_words "library: messages into a book, and out" message 10000 30000 1 /dev/null "${bench[@]}" drain {}
 # A record is decoded 200 times.
-of_input "library: a record that is decoded" octet 100000 300000 200 record_of "$bench" decode 200
+of_input "library: a record that is decoded" octet 100000 300000 200 record_of "${bench[@]}" decode 200

@@ -2,7 +2,7 @@
 # Measures the built program and library calls, each beside `wc` on the same octets through the same kind of pipe in
 # the same run: one line a figure, the median of RUNS runs (5). It needs bash, coreutils, awk and yes.
 #
-#   bench/run.sh build/relayd build/relay_bench [GROUP ..]
+#   bench/run.sh build/relayd build/relay_node_tests [GROUP ..]
 #
 # The groups of figures are sessions, texts, attempts, reports, spools, books, nodes and queues; all where none is
 # given. DISK (build) is the folder whose device the appends of a spool are measured on, and MEMORY (/dev/shm) one in
@@ -12,7 +12,8 @@ export LC_ALL=C
 . "$(dirname "$0")/inputs.sh"
 
 relayd=$1
-bench=$2
+# The measurements are words of the program of tests.
+bench=("$2" bench)
 shift 2
 runs=${RUNS:-5}
 room=$(mktemp -d)
@@ -90,7 +91,7 @@ among() {
             for spool in "$5" "$6"; do
                 cp "$room/$spool" "$memory/$spool"
                 cp "$room/$spool.2" "$memory/$spool.2"
-                micros_of "$bench $4 $count $memory/$spool" >> "$room/turns.$spool.$count"
+                micros_of "${bench[*]} $4 $count $memory/$spool" >> "$room/turns.$spool.$count"
             done
         done
     done
@@ -104,7 +105,7 @@ among() {
 # FILE, in octets: the median of RUNS runs.
 peak() {
     for ((run = 0; run < runs; run++)); do
-        "$bench" "$1" "$2" < "$3" | awk '{ print $(NF - 1) * 1024 }'
+        "${bench[@]}" "$1" "$2" < "$3" | awk '{ print $(NF - 1) * 1024 }'
     done | median
 }
 
@@ -151,7 +152,7 @@ texts() {
     # A content of 16 MB, of which every fourth line begins with a period.
     content_with_periods 52632 > "$room/content"
     copies "$room/content"
-    against=$room/content.20 measure "library: a dot text that is written" octets "$(file_size "$room/content.20")" "$room/content" -l 1 "$bench" dots 20
+    against=$room/content.20 measure "library: a dot text that is written" octets "$(file_size "$room/content.20")" "$room/content" -l 1 "${bench[@]}" dots 20
 }
 
 # Attempts with the replies of a next hop in memory.
@@ -160,11 +161,11 @@ attempts() {
     copies "$room/content"
     # A text that doesn't end in CR LF.
     head -c -1 "$room/content" > "$room/chunk"
-    against=$room/content.20 measure "library: an attempt that hands a text on by DATA" octets "$(file_size "$room/content.20")" "$room/content" -l 1 "$bench" attempts 20
-    against=$room/content.20 measure "library: an attempt that hands a text on by BDAT" octets "$(file_size "$room/content.20")" "$room/chunk" -c 1 "$bench" attempts 20
+    against=$room/content.20 measure "library: an attempt that hands a text on by DATA" octets "$(file_size "$room/content.20")" "$room/content" -l 1 "${bench[@]}" attempts 20
+    against=$room/content.20 measure "library: an attempt that hands a text on by BDAT" octets "$(file_size "$room/content.20")" "$room/chunk" -c 1 "${bench[@]}" attempts 20
     printf 'Subject: x\r\n\r\ny\r\n' > "$room/mail"
     runs=3 compare "library: 100,000 attempts of one recipient" attempts 100000 \
-        "$bench attempts 100000 < $room/mail" "sleep 2" "two seconds"
+        "${bench[*]} attempts 100000 < $room/mail" "sleep 2" "two seconds"
     held "library: 10,000 attempts that wait, of 100 places" waiting 10000 /dev/null 0 "an attempt"
 }
 
@@ -173,10 +174,10 @@ reports() {
     mail_lines 13797 > "$room/stored"
     boundary_lines 55739 > "$room/boundaries"
     copies "$room/stored"
-    against=$room/stored.20 measure "library: a report that returns 1 MiB" octets "$(file_size "$room/stored.20")" "$room/stored" -l 1 "$bench" reports 20
-    against=$room/stored.20 measure "library: the same, full of boundaries" octets "$(file_size "$room/stored.20")" "$room/boundaries" -l 1 "$bench" reports 20
+    against=$room/stored.20 measure "library: a report that returns 1 MiB" octets "$(file_size "$room/stored.20")" "$room/stored" -l 1 "${bench[@]}" reports 20
+    against=$room/stored.20 measure "library: the same, full of boundaries" octets "$(file_size "$room/stored.20")" "$room/boundaries" -l 1 "${bench[@]}" reports 20
     compare "library: the same, beside one without a boundary" reports 20 \
-        "$bench reports 20 < $room/boundaries" "$bench reports 20 < $room/stored" "a report that returns 1 MiB"
+        "${bench[*]} reports 20 < $room/boundaries" "${bench[*]} reports 20 < $room/stored" "a report that returns 1 MiB"
 }
 
 # A spool of 62,430 bodies of 4,096 octets (its head, the links, and the last gate), and appends.
@@ -193,23 +194,23 @@ spools() {
         printf '\x00'
     } > "$room/spool"
     compare "library: a spool of 256 MB that is opened" octets "$(file_size "$room/spool")" \
-        "$bench open 1 $room/spool" "cat $room/spool | wc -c" "cat | wc -c"
+        "${bench[*]} open 1 $room/spool" "cat $room/spool | wc -c" "cat | wc -c"
     rm "$room/spool"
     octets_of 4096 > "$room/body"
     # A device's syncs take from one to ten times their least: many short runs.
     runs=31 compare "library: appends to a spool on a file" appends 500 \
-        "rm -f $disk/a $disk/a.2; $bench append 500 $disk/a < $room/body" "$(bare_syncs 500 4101)" "two bare syncs"
+        "rm -f $disk/a $disk/a.2; ${bench[*]} append 500 $disk/a < $room/body" "$(bare_syncs 500 4101)" "two bare syncs"
 }
 
 # bare_syncs COUNT OCTETS: the command that does on a bare file what the device does for COUNT appends that add OCTETS
 # each.
 bare_syncs() {
     octets_of "$2" > "$room/octets.$2"
-    echo "rm -f $disk/b; $bench syncs $1 $disk/b < $room/octets.$2"
+    echo "rm -f $disk/b; ${bench[*]} syncs $1 $disk/b < $room/octets.$2"
 }
 
 books() {
-    compare "library: 100,000 messages into a book, and out" messages 100000 "$bench drain 100000" "$bench fill 100000" "filling alone"
+    compare "library: 100,000 messages into a book, and out" messages 100000 "${bench[*]} drain 100000" "${bench[*]} fill 100000" "filling alone"
     octets_of 1024 > "$room/text"
     held "library: 100,000 messages held in a book" fill 100000 "$room/text" 1024 "a message, beside 1,024 of text"
     # A record of 1 MiB, which is decoded 200 times, and as many octets for `cat`.
@@ -218,7 +219,7 @@ books() {
         cat "$room/record"
     done > "$room/records"
     compare "library: a record of 1 MiB that is decoded" octets "$(file_size "$room/records")" \
-        "$bench decode 200 < $room/record" "cat $room/records | wc -c" "cat | wc -c"
+        "${bench[*]} decode 200 < $room/record" "cat $room/records | wc -c" "cat | wc -c"
     rm "$room/records"
 }
 
@@ -226,21 +227,21 @@ books() {
 nodes() {
     local accepts
     transaction_of 1048576 > "$room/large"
-    accepts="rm -f $disk/a $disk/a.2; $bench accepts 60 $disk/a < $room/large"
+    accepts="rm -f $disk/a $disk/a.2; ${bench[*]} accepts 60 $disk/a < $room/large"
     runs=11 compare "node: messages of 1 MiB on one session, on a file" octets 62914560 "$accepts" \
         "rm -f $disk/b; dd if=/dev/zero of=$disk/b bs=1048576 count=60 oflag=dsync status=none" "dd with a sync for each"
     runs=11 compare "node: the same, beside the syncs that they need" octets 62914560 "$accepts" \
         "$(bare_syncs 60 1048748)" "two bare syncs"
     full_node
     compare "node: 10,000 messages of 1 KiB that are opened" octets "$(file_size "$room/node")" \
-        "$bench node 1 $room/node" "$bench open 1 $room/node" "opening the spool alone"
-    awk -v octets="$("$bench" node 1 "$room/node" < /dev/null | awk '{ print $(NF - 1) * 1024 }')" \
+        "${bench[*]} node 1 $room/node" "${bench[*]} open 1 $room/node" "opening the spool alone"
+    awk -v octets="$("${bench[@]}" node 1 "$room/node" < /dev/null | awk '{ print $(NF - 1) * 1024 }')" \
         -v file="$(file_size "$room/node")" 'BEGIN {
         printf "%-52s %12.0f octets at its peak, %.2f of the file\n", "node: the memory of that", octets, octets / file }'
     compactions
     # A message of 1,024 octets adds 1,196 to the file: the time stamp line, envelope, length and gate.
     runs=31 compare "node: messages of 1 KiB on one session, on a file" messages 500 \
-        "rm -f $disk/a $disk/a.2; $bench accepts 500 $disk/a < $room/small" "$(bare_syncs 500 1196)" "two bare syncs"
+        "rm -f $disk/a $disk/a.2; ${bench[*]} accepts 500 $disk/a < $room/small" "$(bare_syncs 500 1196)" "two bare syncs"
 }
 
 # The full file written anew, and opened again then. The program opens it first, which is taken off by the figure above.
@@ -248,11 +249,11 @@ compactions() {
     local size
     full_node
     fresh_copy
-    "$bench" compact 1 "$disk/a" < /dev/null > "$room/out"
+    "${bench[@]}" compact 1 "$disk/a" < /dev/null > "$room/out"
     size=$(file_size "$disk/a.2")
     before=fresh_copy compare "node: 10,000 messages of 1 KiB that are compacted" octets "$size" \
-        "$bench compact 1 $disk/a" "rm -f $disk/b; dd if=$disk/a.2 of=$disk/b bs=1048576 conv=fsync status=none" "dd with one sync"
-    compare "node: a compacted spool that is opened" octets "$size" "$bench node 1 $disk/a" "$bench node 1 $room/node" \
+        "${bench[*]} compact 1 $disk/a" "rm -f $disk/b; dd if=$disk/a.2 of=$disk/b bs=1048576 conv=fsync status=none" "dd with one sync"
+    compare "node: a compacted spool that is opened" octets "$size" "${bench[*]} node 1 $disk/a" "${bench[*]} node 1 $room/node" \
         "opening the chain of the same"
 }
 
@@ -261,8 +262,8 @@ compactions() {
 full_node() {
     transaction_of 1024 > "$room/small"
     if [ ! -e "$room/node" ]; then
-        "$bench" accepts 10000 "$memory/node" < "$room/small" > "$room/out"
-        "$bench" accepts 100 "$memory/few" < "$room/small" > "$room/out"
+        "${bench[@]}" accepts 10000 "$memory/node" < "$room/small" > "$room/out"
+        "${bench[@]}" accepts 100 "$memory/few" < "$room/small" > "$room/out"
         mv "$memory"/* "$room"
     fi
 }
@@ -275,7 +276,7 @@ queues() {
     among "node: ten attempts that begin and are lost" turns 10000 begins node few "10 of 100 queued"
     # An outcome of one place adds 43 octets.
     before=fresh_copy compare "node: 10,000 queued messages that are delivered" messages 10000 \
-        "$bench deliver 1 $disk/a" "$(bare_syncs 10000 43)" "two bare syncs"
+        "${bench[*]} deliver 1 $disk/a" "$(bare_syncs 10000 43)" "two bare syncs"
 }
 
 fresh_copy() {

@@ -1,4 +1,5 @@
-//! Each call of a node once, in a function without clauses: what calls these sees none of a node's contracts.
+//! Each call of a node once, in a function without clauses: what calls these sees none of a node's contracts. And the
+//! usual node over memory, at the first moment.
 use relay_disk::{Disks, MemoryDisk};
 use relay_node::{
     Connected, HeldPlace, Node, NodeFault, NotOpened, Noted, Received, Replied, Started, Work,
@@ -6,6 +7,7 @@ use relay_node::{
 use relay_routes::{Config, HostName};
 use relay_trace::Moment;
 use std::alloc::{AllocError, Global};
+use std::test::Fail;
 
 /// Two disks in memory.
 pub type MemoryDisks = Disks<MemoryDisk>;
@@ -15,6 +17,15 @@ pub type MemoryNode = Node<MemoryDisk>;
 
 /// Disks in memory that were refused.
 pub type Refused = NotOpened<MemoryDisk>;
+
+/// The limit of a spool, in octets, where no other one is set.
+pub const SPOOL_LIMIT: u64 = 67_108_864;
+
+/// A table of routes: a domain, and the name of its hop.
+pub const TABLE: &str = "example.org next.example";
+
+/// The address of each client.
+pub const CLIENT: [u8; 4] = [127, 0, 0, 1];
 
 /// What a node has done with octets of a client or of a next hop.
 #[derive(Drop)]
@@ -49,6 +60,50 @@ spool = \"relay.spool\"
         )?;
     }
     Ok(Config::read(alloc, text.as_str()).ok())
+}
+
+/// The first moment.
+pub fn first_moment() -> Moment {
+    match Moment::new(0) {
+        Ok(moment) => moment,
+        Err(_) => unreachable!(),
+    }
+}
+
+/// The configuration with this line of further keys, and these routes.
+pub fn config_of(alloc: Global, keys: &str, table: &str) -> Result<Config, Fail> {
+    match configuration(alloc, keys, table)? {
+        Some(config) => Ok(config),
+        None => Err(Fail::new("no configuration")),
+    }
+}
+
+/// The configuration with this limit of the spool, and a route for one domain.
+pub fn config_with(alloc: Global, limit: u64) -> Result<Config, Fail> {
+    let limit = format!(in alloc; "spool_limit = {limit}")?;
+    config_of(alloc, limit.as_str(), TABLE)
+}
+
+/// A node without changes, of this configuration.
+pub fn node_of(alloc: Global, config: Config) -> Result<MemoryNode, Fail> {
+    match create(alloc, config) {
+        Ok(node) => Ok(node),
+        Err(_) => Err(Fail::new("not created")),
+    }
+}
+
+/// A node without changes, of the usual configuration.
+pub fn empty_node(alloc: Global) -> Result<MemoryNode, Fail> {
+    empty_node_with(alloc, SPOOL_LIMIT, None)
+}
+
+/// A node without changes, with this limit of its spool, whose device takes so many calls and no more, if that is said.
+pub fn empty_node_with(alloc: Global, limit: u64, calls: Option<u64>) -> Result<MemoryNode, Fail> {
+    let mut node = node_of(alloc, config_with(alloc, limit)?)?;
+    if let Some(calls) = calls {
+        node.fuse(calls);
+    }
+    Ok(node)
 }
 
 /// A node without changes, on empty disks.
@@ -106,9 +161,9 @@ pub fn compact(node: &mut MemoryNode) -> Result<(usize, usize), NodeFault> {
     node.compact()
 }
 
-/// Opens a session for a client at 127.0.0.1.
+/// Opens a session for a client.
 pub fn connect(node: &mut MemoryNode) -> Result<Connected, NodeFault> {
-    node.connect([127, 0, 0, 1])
+    node.connect(CLIENT)
 }
 
 /// Gives a session octets of its client.
@@ -200,4 +255,14 @@ pub fn take_noted(node: &mut MemoryNode) -> Option<Noted> {
 /// The number of the next change.
 pub fn next_number(node: &MemoryNode) -> u64 {
     node.next_number()
+}
+
+/// How many changes there are.
+pub fn count_changes(node: &MemoryNode) -> u64 {
+    next_number(node).saturating_sub(1)
+}
+
+/// How many places a node holds.
+pub fn count_held(alloc: Global, node: &MemoryNode) -> Result<usize, NodeFault> {
+    Ok(marks(alloc, node)?.len())
 }

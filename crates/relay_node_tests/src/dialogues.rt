@@ -1,6 +1,6 @@
 //! Dialogues of a session that are written down as files of octets, held by a node: with one client, and among so many
 //! others that 64 are there. None of its calls may want for memory.
-use crate::calls::{MemoryNode, configuration, connect, create, receive};
+use crate::calls::{MemoryNode, TABLE, config_of, connect, node_of, receive};
 use crate::crowd::fill;
 use relay_trace::Moment;
 use std::alloc::Global;
@@ -17,13 +17,13 @@ struct Host {
 /// Takes contents of up to 1,048,576 octets for one domain.
 const PLAIN: Host = Host {
     keys: "",
-    table: "example.org next.example",
+    table: TABLE,
 };
 
 /// Takes contents of up to four octets.
 const SMALL: Host = Host {
     keys: "max_content = 4",
-    table: "example.org next.example",
+    table: TABLE,
 };
 
 /// Takes mail for every domain.
@@ -35,7 +35,7 @@ const OPEN: Host = Host {
 /// Refuses a content in which a CR or an LF stands alone.
 const STRICT: Host = Host {
     keys: "bare_newlines = \"refuse\"",
-    table: "example.org next.example",
+    table: TABLE,
 };
 
 /// Holds the dialogues of a folder that the words name: the client's octets stand in `NAME.in`, the replies in
@@ -63,27 +63,37 @@ pub fn dialogues(rt: &HostRuntime, folder: &str, words: &[String]) -> Result<(),
 
 /// Holds a dialogue with its client alone and in a crowd, prints a line for it, and says whether it came as it is to.
 fn hold(rt: &HostRuntime, folder: &str, name: &str, host: Host) -> Result<bool, Fail> {
-    let alloc = rt.alloc();
-    let said = fs::read(rt, format!(in alloc; "{folder}/{name}.in")?.as_str())?;
-    let expected = fs::read(rt, format!(in alloc; "{folder}/{name}.ref")?.as_str())?;
-    let alone = replies_to(alloc, said.as_slice(), host, false)?;
-    let crowded = replies_to(alloc, said.as_slice(), host, true)?;
-    let is_right = alone.as_slice() == expected.as_slice()
-        && crowded.as_slice() == expected.as_slice();
-    println!(rt;
-        "{name}: {}",
-        if is_right {
-            "as written down"
-        } else {
-            "otherwise"
-        }
-    )?;
+    let said = octets_of(rt, folder, name, "in")?;
+    let expected = octets_of(rt, folder, name, "ref")?;
+    let is_right = is_answered_so(rt.alloc(), said.as_slice(), host, expected.as_slice())?;
+    let end = if is_right {
+        "as written down"
+    } else {
+        "otherwise"
+    };
+    println!(rt; "{name}: {end}")?;
     Ok(is_right)
+}
+
+/// The octets of one of a dialogue's files.
+fn octets_of(rt: &HostRuntime, folder: &str, name: &str, end: &str) -> Result<Vec<u8>, Fail> {
+    let path = format!(in rt.alloc(); "{folder}/{name}.{end}")?;
+    Ok(fs::read(rt, path.as_str())?)
+}
+
+/// Whether a client that says this is answered so, alone and in a crowd.
+fn is_answered_so(alloc: Global, said: &[u8], host: Host, expected: &[u8]) -> Result<bool, Fail> {
+    for is_crowded in [false, true] {
+        if replies_to(alloc, said, host, is_crowded)?.as_slice() != expected {
+            return Ok(false);
+        }
+    }
+    Ok(true)
 }
 
 /// The greeting of a new node, and its replies to a client that says this, up to a close.
 fn replies_to(alloc: Global, said: &[u8], host: Host, is_crowded: bool) -> Result<Vec<u8>, Fail> {
-    let mut node = node_of(alloc, host)?;
+    let mut node = node_of(alloc, config_of(alloc, host.keys, host.table)?)?;
     let client = connect(&mut node)?;
     if is_crowded {
         fill(&mut node, Moment::new(0)?)?;
@@ -114,15 +124,4 @@ fn answer(
         }
     }
     Ok(())
-}
-
-/// A node without changes.
-fn node_of(alloc: Global, host: Host) -> Result<MemoryNode, Fail> {
-    let Some(config) = configuration(alloc, host.keys, host.table)? else {
-        return Err(Fail::new("no configuration"));
-    };
-    match create(alloc, config) {
-        Ok(node) => Ok(node),
-        Err(_) => Err(Fail::new("not created")),
-    }
 }

@@ -24,13 +24,13 @@ mod sockets;
 mod trial;
 
 use came::difference_of;
-use flushes::a_flush_that_fails_ends_the_session;
+use flushes::ends_where_a_flush_fails;
 use gate::two_links_wait_for_each_other;
-use link_rows::link_rows;
+use link_rows::show_link_rows;
 use rounds::outcome_of;
 use row::Row;
 use small::{Small, small_round};
-use sockets::{a_client_is_answered_over_a_socket, a_hop_is_handed_mail_over_a_socket};
+use sockets::{is_answered_over_a_socket, is_handed_mail_over_a_socket};
 use std::alloc::Global;
 use std::fs;
 use std::io::{self, Print};
@@ -67,14 +67,12 @@ pub fn play_rounds<T: Print + Threads + Wait + Sync>(
     for line in rows.lines() {
         play_round(rt, alloc, line)?;
     }
-    let do_wait = two_links_wait_for_each_other(rt, alloc)?;
     say(
         rt,
         "two links that wait for each other are answered",
-        do_wait,
+        two_links_wait_for_each_other(rt, alloc)?,
     )?;
-    print!(rt; "{}", link_rows(rt, alloc)?.as_str())?;
-    Ok(())
+    show_link_rows(rt, alloc)
 }
 
 /// Plays a row of rounds, and prints a line for it.
@@ -83,9 +81,7 @@ fn play_round<T: Print + Threads + Wait + Sync>(
     alloc: Global,
     line: &str,
 ) -> Result<(), Fail> {
-    let Some(row) = Row::read(line) else {
-        return Err(Fail::new("no row"));
-    };
+    let row = Row::read(line);
     let end = if outcome_of(rt, alloc, row.trial)? == row.came {
         "as written down"
     } else {
@@ -97,10 +93,7 @@ fn play_round<T: Print + Threads + Wait + Sync>(
 
 /// Plays a row of a link without a thread, and prints a line for it.
 fn play_link(rt: &HostRuntime, line: &str) -> Result<(), Fail> {
-    let Some(row) = trial::Row::read(line) else {
-        return Err(Fail::new("no row"));
-    };
-    match difference_of(rt.alloc(), row)? {
+    match difference_of(rt.alloc(), trial::Row::read(line))? {
         Some(number) => println!(rt; "{line}: differs at {number}")?,
         None => println!(rt; "{line}: as written down")?,
     }
@@ -109,12 +102,23 @@ fn play_link(rt: &HostRuntime, line: &str) -> Result<(), Fail> {
 
 /// Prints a line for each row of sockets and flushes.
 fn show_streams(rt: &HostRuntime) -> Result<(), Fail> {
-    let holds = a_client_is_answered_over_a_socket(rt.alloc(), rt)?;
-    say(rt, "a client is answered over a socket", holds)?;
-    let holds = a_hop_is_handed_mail_over_a_socket(rt.alloc(), rt)?;
-    say(rt, "a hop is handed mail over a socket", holds)?;
-    let holds = a_flush_that_fails_ends_the_session(rt.alloc())?;
-    say(rt, "a flush that fails ends the session", holds)?;
+    let rows = [
+        (
+            "a client is answered over a socket",
+            is_answered_over_a_socket(rt.alloc(), rt)?,
+        ),
+        (
+            "a hop is handed mail over a socket",
+            is_handed_mail_over_a_socket(rt.alloc(), rt)?,
+        ),
+        (
+            "a flush that fails ends the session",
+            ends_where_a_flush_fails(rt.alloc())?,
+        ),
+    ];
+    for (row, holds) in rows {
+        say(rt, row, holds)?;
+    }
     Ok(())
 }
 

@@ -1,15 +1,17 @@
 //! Plays each scenario of data/ on a node over memory: in one piece, with what the other sides say cut in
 //! two at each octet, octet by octet, and in one piece among so many other clients that 64 are there; or, where
 //! a device fails, for each call and each stop. What comes of each event is compared with what is written down. Then
-//! it shows the scenes of a relay without a socket, and rounds and links over the node.
+//! it shows the scenes of a relay without a socket, and rounds and links over the node, and runs each measurement of
+//! bench/ on a few octets.
 //!
 //! By the word `sessions`, `chunks`, `report` or `compactions` it plays what tests/node_without_memory.sh refuses each
 //! allocation of in turn, by `three` what tests/groups_without_memory.sh does, and by `small` a round of links, as
-//! tests/hub_without_memory.sh does; by `file` and a path the scenarios of that file alone, and by `dialogues`, a
-//! folder and names the dialogues of that folder.
+//! tests/hub_without_memory.sh does; by `file` and a path the scenarios of that file alone, by `dialogues`, a folder
+//! and names the dialogues of that folder, and by `bench` the measurement that the next words name.
 #![tactic(auto)]
 
 mod answers;
+mod bench;
 mod calls;
 mod course;
 mod crowd;
@@ -27,6 +29,7 @@ mod talk;
 mod trial;
 mod words;
 
+use bench::{measure_each, measure_named};
 use dialogues::dialogues;
 use hub::{play_rounds, play_small, show_links};
 use refused::{chunks, compactions, report, sessions};
@@ -57,12 +60,11 @@ fn main(rt: HostRuntime) -> Result<(), Fail> {
     let words: Vec<String> = env::args(&rt)?.collect(rt.alloc())?;
     match word_of(words.as_slice(), 1) {
         "" => {
-            play_files(&rt, ".")?;
-            show_scenes(&rt)?;
+            play_node(&rt)?;
             // The runtime has its threads in this function alone.
             let rounds = fs::read_to_string(&rt, "rounds.in")?;
             play_rounds(&rt, rt.alloc(), rounds.as_str())?;
-            show_links(&rt)
+            show_rest(&rt)
         }
         "sessions" => sessions(&rt),
         "chunks" => chunks(&rt),
@@ -76,8 +78,22 @@ fn main(rt: HostRuntime) -> Result<(), Fail> {
             word_of(words.as_slice(), 2),
             words.get(3..).unwrap_or(&[]),
         ),
+        "bench" if words.len() == 2 => measure_each(&rt),
+        "bench" => measure_named(&rt, words.get(2..).unwrap_or(&[])),
         folder => play_files(&rt, folder),
     }
+}
+
+/// Plays the scenarios of a node, and the scenes of a relay.
+fn play_node(rt: &HostRuntime) -> Result<(), Fail> {
+    play_files(rt, ".")?;
+    show_scenes(rt)
+}
+
+/// Shows the links without a thread, and each measurement.
+fn show_rest(rt: &HostRuntime) -> Result<(), Fail> {
+    show_links(rt)?;
+    measure_each(rt)
 }
 
 /// The word at this place; an empty one where there is none.

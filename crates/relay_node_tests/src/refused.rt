@@ -1,13 +1,12 @@
 //! What tests/node_without_memory.sh refuses each allocation of in turn. From the first line that is printed
 //! on, nothing here takes memory but the node.
 use crate::calls::{
-    Handed, MemoryNode, compact, configuration, connect, create, marks, next_number, receive,
+    Handed, MemoryNode, compact, connect, empty_node, first_moment, marks, next_number, receive,
     stop_and_open,
 };
 use crate::pushed::push;
 use relay_node::NodeFault;
 use relay_trace::Moment;
-use std::alloc::Global;
 use std::test::Fail;
 
 /// A client that gives mail without content.
@@ -40,46 +39,58 @@ pub fn chunks(rt: &HostRuntime) -> Result<(), Fail> {
 /// Two sessions on one node: each gives this mail, and then quits; then the node stops, and is opened again. It prints
 /// what came of each piece, and what is held in the end.
 fn two_sessions(rt: &HostRuntime, mail: &[u8]) -> Result<(), Fail> {
-    let mut node = node(rt.alloc())?;
-    let first = session(&mut node)?;
-    let second = session(&mut node)?;
-    give(rt, &mut node, first, mail)?;
-    give(rt, &mut node, second, mail)?;
-    give(rt, &mut node, first, QUIT)?;
-    give(rt, &mut node, second, QUIT)?;
-    println!(rt; "the next change is {}", next_number(&node))?;
+    let mut node = empty_node(rt.alloc())?;
+    give_in_turn(rt, &mut node, mail)?;
     open_again(rt, node)
+}
+
+/// Two sessions, of which each gives this mail, and then each quits.
+fn give_in_turn(rt: &HostRuntime, node: &mut MemoryNode, mail: &[u8]) -> Result<(), Fail> {
+    let first = session(node)?;
+    let second = session(node)?;
+    for (session, piece) in [(first, mail), (second, mail), (first, QUIT), (second, QUIT)] {
+        give(rt, node, session, piece)?;
+    }
+    Ok(println!(rt; "the next change is {}", next_number(node))?)
 }
 
 /// One message whose three places go three ways at one attempt, with a report of one of them; then the node stops, and
 /// is opened again. What was refused for want of memory is tried once more. It prints what came of each call, and what
 /// is held in the end.
 pub fn report(rt: &HostRuntime) -> Result<(), Fail> {
-    let mut node = node(rt.alloc())?;
-    let session = session(&mut node)?;
-    match receive(&mut node, session, MAIL_FOR_THREE, Moment::new(0)?) {
-        Ok(_) => {
-            push(rt, &mut node, Moment::new(1000)?)?;
-            open_again(rt, node)
-        }
-        Err(_) => Err(Fail::new("no mail")),
-    }
+    let mut node = empty_node(rt.alloc())?;
+    take_mail(&mut node, MAIL_FOR_THREE)?;
+    push(rt, &mut node, Moment::new(1000)?)?;
+    open_again(rt, node)
 }
 
 /// A spool that is written anew twice behind a message, and a session that gives another behind that; then the node
 /// stops, and is opened again. It prints what came of each call but the first message's, and what is held in the end.
 pub fn compactions(rt: &HostRuntime) -> Result<(), Fail> {
-    let mut node = node(rt.alloc())?;
-    let session = session(&mut node)?;
-    if receive(&mut node, session, MAIL, Moment::new(0)?).is_err() {
-        return Err(Fail::new("no mail"));
-    }
-    write_anew(rt, &mut node)?;
-    write_anew(rt, &mut node)?;
-    give(rt, &mut node, session, MAIL)?;
-    give(rt, &mut node, session, QUIT)?;
-    println!(rt; "the next change is {}", next_number(&node))?;
+    let mut node = empty_node(rt.alloc())?;
+    compact_twice(rt, &mut node)?;
     open_again(rt, node)
+}
+
+/// A message, two compactions, another message, and the end of its session.
+fn compact_twice(rt: &HostRuntime, node: &mut MemoryNode) -> Result<(), Fail> {
+    let session = take_mail(node, MAIL)?;
+    for _ in 0..2 {
+        write_anew(rt, node)?;
+    }
+    for piece in [MAIL, QUIT] {
+        give(rt, node, session, piece)?;
+    }
+    Ok(println!(rt; "the next change is {}", next_number(node))?)
+}
+
+/// The number of a session that has given this mail.
+fn take_mail(node: &mut MemoryNode, mail: &[u8]) -> Result<usize, Fail> {
+    let session = session(node)?;
+    match receive(node, session, mail, first_moment()) {
+        Ok(_) => Ok(session),
+        Err(_) => Err(Fail::new("no mail")),
+    }
 }
 
 /// Stops the node, opens it again, and prints the number of its next change and the places that are held.
@@ -107,17 +118,6 @@ fn write_anew(rt: &HostRuntime, node: &mut MemoryNode) -> Result<(), Fail> {
     Ok(())
 }
 
-/// A node without changes, on disks in memory.
-fn node(alloc: Global) -> Result<MemoryNode, Fail> {
-    let Some(config) = configuration(alloc, "", "example.org next.example")? else {
-        return Err(Fail::new("no configuration"));
-    };
-    match create(alloc, config) {
-        Ok(node) => Ok(node),
-        Err(_) => Err(Fail::new("not created")),
-    }
-}
-
 /// Connects a client, and gives the number of its session.
 fn session(node: &mut MemoryNode) -> Result<usize, Fail> {
     match connect(node) {
@@ -128,7 +128,7 @@ fn session(node: &mut MemoryNode) -> Result<usize, Fail> {
 
 /// Gives a session a piece, and prints what came of it.
 fn give(rt: &HostRuntime, node: &mut MemoryNode, session: usize, piece: &[u8]) -> Result<(), Fail> {
-    let handed = receive(node, session, piece, Moment::new(0)?);
+    let handed = receive(node, session, piece, first_moment());
     print_handed(rt, "session", session, handed)
 }
 

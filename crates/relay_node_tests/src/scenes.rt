@@ -2,13 +2,12 @@
 //! their octets one by one or end, several are heard at once, next hops take the mail or are lost, and a device fails.
 //! Each step has a line, which says what came of it.
 
-mod octets;
 mod setup;
 mod step;
 mod talk;
 mod want;
 
-use setup::{WIDE, relay_with};
+use setup::{MemoryRelay, WIDE, relay_with};
 use std::fs;
 use std::test::Fail;
 use step::take_step;
@@ -32,19 +31,26 @@ pub fn show_three(rt: &HostRuntime) -> Result<(), Fail> {
 
 /// Takes each step. A line that begins with `#` says what the next ones show, and stands as it is; `relay LIMIT`, and
 /// `relay LIMIT CALLS`, begin with a relay without mail, of a spool of so many octets, on a device that takes so many
-/// calls and no more.
+/// calls and no more. `\r\n` stands for CR LF in a step and in its answer.
 fn play_scenes(rt: &HostRuntime, scenes: &str) -> Result<(), Fail> {
     let mut relay = relay_with(rt.alloc(), WIDE, None)?;
     for line in scenes.lines() {
-        if let Some(words) = line.strip_prefix("relay ") {
-            let (limit, calls) = words.split_once(' ').unwrap_or((words, "-"));
-            relay = relay_with(rt.alloc(), limit.parse::<u64>()?, calls.parse::<u64>().ok())?;
-        } else if line.starts_with("#") {
-            println!(rt; "{line}")?;
-        } else {
-            let answer = take_step(rt.alloc(), &mut relay, line)?;
-            println!(rt; "{line}: {answer}")?;
-        }
+        play_line(rt, &mut relay, line)?;
     }
     Ok(())
+}
+
+fn play_line(rt: &HostRuntime, relay: &mut MemoryRelay, line: &str) -> Result<(), Fail> {
+    if line.starts_with("#") {
+        return Ok(println!(rt; "{line}")?);
+    }
+    if let Some(words) = line.strip_prefix("relay ") {
+        let (limit, calls) = words.split_once(' ').unwrap_or((words, "-"));
+        *relay = relay_with(rt.alloc(), limit.parse::<u64>()?, calls.parse::<u64>().ok())?;
+        return Ok(());
+    }
+    let step = line.replace(rt.alloc(), "\\r\\n", "\r\n")?;
+    let mut answer = String::new(rt.alloc());
+    take_step(rt.alloc(), relay, step.as_str(), &mut answer)?;
+    Ok(println!(rt; "{line}: {answer}")?)
 }

@@ -1,5 +1,6 @@
 use crate::calls::{
-    MemoryDisks, MemoryNode, Refused, after_stop, configuration, create, into_disk, open,
+    MemoryDisks, MemoryNode, Refused, SPOOL_LIMIT, TABLE, after_stop, configuration, create,
+    into_disk, open,
 };
 use crate::course::Course;
 use crate::scene::Scene;
@@ -10,12 +11,6 @@ use relay_node::NodeFault;
 use relay_routes::Config;
 use relay_trace::Moment;
 use std::alloc::{AllocError, Global};
-
-/// The limit of a spool, in octets, where a scenario sets no other one.
-const SPOOL_LIMIT: u64 = 67_108_864;
-
-/// The table of routes where a scenario sets no other one.
-const TABLE: &str = "example.org next.example";
 
 /// What scenarios happen to: a node or its disks, what it is made with, and what comes.
 pub struct Stage<'a> {

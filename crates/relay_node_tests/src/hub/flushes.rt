@@ -1,7 +1,8 @@
 //! A writer whose flush fails.
+use crate::calls::{count_held, empty_node};
 use crate::hub::faulty::{BadCall, Held, Lines};
 use crate::hub::mail::{REPLIES, text_of};
-use crate::hub::setup::{count_held, empty_node, serve};
+use crate::hub::setup::serve;
 use relay_links::LinkFault;
 use std::alloc::Global;
 use std::test::Fail;
@@ -9,7 +10,7 @@ use std::test::Fail;
 /// The number of the flush behind the reply to the content, by which the message is taken already.
 const TAKEN: usize = 6;
 
-pub(crate) fn a_flush_that_fails_ends_the_session(alloc: Global) -> Result<bool, Fail> {
+pub(crate) fn ends_where_a_flush_fails(alloc: Global) -> Result<bool, Fail> {
     for bad_flush in 1..=REPLIES.len() {
         if !ends_at_flush(alloc, bad_flush)? {
             return Ok(false);

@@ -1,8 +1,9 @@
 //! Two links, each of which goes on only once the other has come as far. They are both answered only where each has a
 //! thread of its own, and where no lock is held through a session.
+use crate::calls::{CLIENT, SPOOL_LIMIT, config_with, empty_node};
 use crate::hub::mail::{BACK, FRONT, count_lines};
-use crate::hub::setup::{CLIENT, config_with, empty_node, run};
-use relay_rounds::Link;
+use crate::hub::setup::run;
+use relay_rounds::{Link, Served};
 use std::alloc::Global;
 use std::io::{self, Read, Write};
 use std::sync::Wait;
@@ -124,26 +125,27 @@ pub(crate) fn two_links_wait_for_each_other<T: Threads + Wait + Sync>(
     rt: &T,
     alloc: Global,
 ) -> Result<bool, Fail> {
-    let config = config_with(alloc, None)?;
+    let config = config_with(alloc, SPOOL_LIMIT)?;
     let node = empty_node(alloc)?;
     let gate = Gate {
         begun: AtomicU64::new(0),
         told: AtomicU64::new(0),
     };
-    let mut links = Vec::new(alloc);
-    for _ in 0..2 {
-        links.push(link_at(alloc, &gate))?;
+    let links = Vec::from_array(alloc, [link_at(alloc, &gate), link_at(alloc, &gate)])?;
+    match run(rt, alloc, node, &config, links) {
+        Ok(ended) => Ok(ended.agrees && are_answered(ended.links.as_slice())),
+        Err(_) => Err(Fail::new("no round")),
     }
-    let Ok(ended) = run(rt, alloc, node, &config, links) else {
-        return Err(Fail::new("no round"));
-    };
-    let mut answered: u32 = 0;
-    for link in ended.links.as_slice() {
-        if count_lines(link.writer.held.as_slice(), b"250 queued as ") == 1 {
-            answered = answered.saturating_add(1);
+}
+
+/// Whether each link has been told once that its message was queued.
+fn are_answered(links: &[Served<Gated<'_>, Told<'_>>]) -> bool {
+    for link in links {
+        if count_lines(link.writer.held.as_slice(), b"250 queued as ") != 1 {
+            return false;
         }
     }
-    Ok(ended.agrees && answered == 2)
+    true
 }
 
 fn link_at(alloc: Global, gate: &Gate) -> Link<Gated<'_>, Told<'_>> {

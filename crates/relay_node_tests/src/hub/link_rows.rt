@@ -4,14 +4,17 @@ ghost use Rattle.relay_disk.specs.Memory.{memory_words};
 ghost use Rattle.relay_book.specs.declared.change.Change.{Change};
 ghost use Rattle.relay_hub.specs.Hub.{Answers};
 
+use crate::calls::{
+    CLIENT, MemoryNode, SPOOL_LIMIT, config_with, count_held, empty_node, first_moment,
+};
 use crate::hub::faulty::{BadCall, Held, Lines};
 use crate::hub::serving::word_of;
-use crate::hub::setup::{CLIENT, MemoryNode, config_with, count_held, empty_node, first_moment};
 use relay_disk::MemoryDisk;
 use relay_hub::{Hub, Opening, hub_link};
 use relay_links::LinkFault;
 use relay_routes::Config;
 use std::alloc::Global;
+use std::io::Print;
 use std::marker::Brand;
 use std::sync::Wait;
 use std::sync::ledger::Blank;
@@ -29,50 +32,44 @@ struct Came {
     held: usize,
 }
 
-/// A line for each call that fails: how the link ended, how many octets it wrote, how many receipts its thread has,
-/// and how many places the node then holds. There is a read for each line, and a write and a flush for the greeting
-/// and each reply; the last call of each kind is one that the link doesn't come to.
-pub(crate) fn link_rows<T: Wait>(rt: &T, alloc: Global) -> Result<String, Fail> {
-    let mut text = String::new(alloc);
+/// Prints a line for each call that fails: how the link ended, how many octets it wrote, how many receipts its thread
+/// has, and how many places the node then holds. There is a read for each line, and a write and a flush for the
+/// greeting and each reply; the last call of each kind is one that the link doesn't come to.
+pub(crate) fn show_link_rows<T: Print + Wait>(rt: &T, alloc: Global) -> Result<(), Fail> {
     for number in 1..=7 {
-        let came = came_of(rt, alloc, BadCall::Read(number))?;
-        say(alloc, &mut text, "read", number, came)?;
+        show_row(rt, alloc, "read", number, BadCall::Read(number))?;
     }
     for number in 1..=8 {
-        let came = came_of(rt, alloc, BadCall::Write(number))?;
-        say(alloc, &mut text, "write", number, came)?;
+        show_row(rt, alloc, "write", number, BadCall::Write(number))?;
     }
     for number in 1..=8 {
-        let came = came_of(rt, alloc, BadCall::Flush(number))?;
-        say(alloc, &mut text, "flush", number, came)?;
+        show_row(rt, alloc, "flush", number, BadCall::Flush(number))?;
     }
-    Ok(text)
+    Ok(())
 }
 
-/// Puts a line behind the others.
-fn say(
+/// Prints the line of a call.
+fn show_row<T: Print + Wait>(
+    rt: &T,
     alloc: Global,
-    text: &mut String,
     call: &str,
     number: usize,
-    came: Came,
+    bad: BadCall,
 ) -> Result<(), Fail> {
     let Came {
         end,
         written,
         receipts,
         held,
-    } = came;
-    let line = format!(in alloc;
-        "{call} {number} fails: {end}, octets {written}, receipts {receipts}, held {held}\n"
-    )?;
-    text.push_str(line.as_str())?;
-    Ok(())
+    } = came_of(rt, alloc, bad)?;
+    Ok(println!(rt;
+        "{call} {number} fails: {end}, octets {written}, receipts {receipts}, held {held}"
+    )?)
 }
 
 /// Serves the client, by a link of which a call fails.
 fn came_of<T: Wait>(rt: &T, alloc: Global, bad: BadCall) -> Result<Came, Fail> {
-    let config = config_with(alloc, None)?;
+    let config = config_with(alloc, SPOOL_LIMIT)?;
     let node = empty_node(alloc)?;
     let mut reader = Lines { reads: 0, bad };
     let mut writer = Held {

@@ -46,7 +46,7 @@ Received: from x ([127.0.0.1])\r\n by relay.example with SMTP id 1;\r\n Thu, 01 
 .\r\nQUIT\r\n";
 
 /// What a client says that gives so many messages.
-pub(crate) fn messages(alloc: Global, count: u32) -> Result<Vec<u8>, AllocError> {
+pub(crate) fn messages(alloc: Global, count: u64) -> Result<Vec<u8>, AllocError> {
     let mut text = Vec::from_slice(alloc, HELLO)?;
     for _ in 0..count {
         text.extend_from_slice(MESSAGE)?;
@@ -56,8 +56,8 @@ pub(crate) fn messages(alloc: Global, count: u32) -> Result<Vec<u8>, AllocError>
 }
 
 /// How often a line begins with these octets.
-pub(crate) fn count_lines(text: &[u8], front: &[u8]) -> u32 {
-    let mut count: u32 = 0;
+pub(crate) fn count_lines(text: &[u8], front: &[u8]) -> u64 {
+    let mut count: u64 = 0;
     let mut is_first = true;
     for (at, octet) in text.iter().enumerate() {
         if is_first && text[at..].starts_with(front) {

@@ -1,7 +1,8 @@
 //! An attempt over a reader and a writer of which one may fail.
+use crate::calls::{MemoryNode, count_changes, count_held};
 use crate::hub::came::{Came, count_written, reader_of, writer_of};
 use crate::hub::mail::{HOP_COMMANDS, HOP_REPLIES};
-use crate::hub::setup::{MemoryNode, begin, count_changes, count_held, node_with_mail, push};
+use crate::hub::setup::{begin, node_with_mail, push};
 use crate::hub::trial::Trial;
 use relay_links::{LinkFault, Pushed};
 use std::alloc::Global;

@@ -1,10 +1,12 @@
 //! Rounds of a node, and what came of them.
+use crate::calls::{CLIENT, MemoryNode, config_with, empty_node_with};
 use crate::hub::mail::{count_lines, messages};
 use crate::hub::row::{Came, Trial};
-use crate::hub::setup::{CLIENT, config_with, count_reopened, node_with, run};
+use crate::hub::setup::{count_reopened, run};
 use relay_disk::MemoryDisk;
 use relay_hub::Receipt;
 use relay_rounds::{Ended, Link};
+use relay_routes::Config;
 use std::alloc::{AllocError, Global};
 use std::sync::Wait;
 use std::test::Fail;
@@ -14,18 +16,29 @@ use std::thread::Threads;
 const ROOM: usize = 8_192;
 
 /// What the links of the rounds so far have come to.
-#[derive(Drop)]
 struct Tally {
     /// How many replies said that a message was queued.
-    queued: u32,
+    queued: u64,
     /// How many said that there was no room.
-    full: u32,
+    full: u64,
     /// How many links ended well.
-    ended: u32,
+    ended: u64,
     /// The numbers of the receipts, link by link, round by round.
     numbers: Vec<u64>,
     /// Whether in each round the receipts agreed with the node, and those of each link rose.
     agrees: bool,
+}
+
+impl Drop for Tally {
+    fn drop(self) {
+        let Tally {
+            queued: _,
+            full: _,
+            ended: _,
+            numbers: _numbers,
+            agrees: _,
+        } = self;
+    }
 }
 
 /// Runs the rounds, and says what came of them.
@@ -34,9 +47,6 @@ pub(crate) fn outcome_of<T: Threads + Wait + Sync>(
     alloc: Global,
     trial: Trial,
 ) -> Result<Came, Fail> {
-    let config = config_with(alloc, trial.limit)?;
-    let mut node = node_with(alloc, config_with(alloc, trial.limit)?, trial.calls)?;
-    let text = messages(alloc, trial.messages)?;
     let mut tally = Tally {
         queued: 0,
         full: 0,
@@ -44,16 +54,9 @@ pub(crate) fn outcome_of<T: Threads + Wait + Sync>(
         numbers: Vec::new(alloc),
         agrees: true,
     };
-    for _ in 0..trial.rounds {
-        let links = links_of(alloc, trial.threads, text.as_slice())?;
-        let Ok(ended) = run(rt, alloc, node, &config, links) else {
-            return Err(Fail::new("no round"));
-        };
-        count(&ended, &mut tally)?;
-        (node, _, _) = ended.into_parts();
-    }
+    let held = run_rounds(rt, alloc, trial, &mut tally)?;
     Ok(Came {
-        queued: if tally.numbers.len() == tally.queued as usize {
+        queued: if tally.numbers.len() as u64 == tally.queued {
             Some(tally.queued)
         } else {
             None
@@ -61,14 +64,50 @@ pub(crate) fn outcome_of<T: Threads + Wait + Sync>(
         full: tally.full,
         ended: tally.ended,
         agrees: tally.agrees && are_the_first_numbers(alloc, tally.numbers.as_slice())?,
-        held: count_reopened(alloc, config, node)?,
+        held,
     })
+}
+
+/// Runs the rounds, and adds what each came to. It says how many places the disk opens to behind them.
+fn run_rounds<T: Threads + Wait + Sync>(
+    rt: &T,
+    alloc: Global,
+    trial: Trial,
+    tally: &mut Tally,
+) -> Result<Option<u64>, Fail> {
+    let config = config_with(alloc, trial.limit)?;
+    let mut node = empty_node_with(alloc, trial.limit, trial.calls)?;
+    for _ in 0..trial.rounds {
+        node = run_round(rt, alloc, node, &config, trial, tally)?;
+    }
+    Ok(count_reopened(alloc, config, node))
+}
+
+/// Runs a round, and adds what it came to.
+fn run_round<T: Threads + Wait + Sync>(
+    rt: &T,
+    alloc: Global,
+    node: MemoryNode,
+    config: &Config,
+    trial: Trial,
+    tally: &mut Tally,
+) -> Result<MemoryNode, Fail> {
+    let text = messages(alloc, trial.messages)?;
+    let links = links_of(alloc, trial.threads, text.as_slice())?;
+    match run(rt, alloc, node, config, links) {
+        Ok(ended) => {
+            count(&ended, tally)?;
+            let (node, _, _) = ended.into_parts();
+            Ok(node)
+        }
+        Err(_) => Err(Fail::new("no round")),
+    }
 }
 
 /// So many links, each of which says this.
 pub(crate) fn links_of(
     alloc: Global,
-    count: u8,
+    count: u64,
     text: &[u8],
 ) -> Result<Vec<Link<&[u8], Vec<u8>>>, AllocError> {
     let mut links = Vec::new(alloc);

@@ -1,7 +1,8 @@
 //! A session over a reader and a writer of which one may fail.
+use crate::calls::{count_changes, count_held, empty_node};
 use crate::hub::came::{Came, count_written, reader_of, writer_of};
 use crate::hub::mail::{COMMANDS, REPLIES, text_of};
-use crate::hub::setup::{count_changes, count_held, empty_node, serve};
+use crate::hub::setup::serve;
 use crate::hub::trial::Trial;
 use relay_links::LinkFault;
 use std::alloc::Global;

@@ -1,7 +1,8 @@
 //! Rows over sockets. What the other end says is written before the link begins, and what it was told is
 //! read when the link has ended.
+use crate::calls::{count_held, empty_node};
 use crate::hub::mail::{COMMANDS, HOP_COMMANDS, HOP_REPLIES, REPLIES, text_of};
-use crate::hub::setup::{begin, count_held, empty_node, node_with_mail, push, serve};
+use crate::hub::setup::{begin, node_with_mail, push, serve};
 use relay_links::Pushed;
 use std::alloc::Global;
 use std::io::{self, Read, Write};
@@ -27,9 +28,10 @@ fn was_told(alloc: Global, end: &TcpStream, text: &[u8]) -> Result<bool, Fail> {
     Ok(told.as_slice() == text)
 }
 
-pub(crate) fn a_client_is_answered_over_a_socket<
-    N: Net<Listener = TcpListener, Stream = TcpStream>,
->(alloc: Global, net: &N) -> Result<bool, Fail> {
+pub(crate) fn is_answered_over_a_socket<N: Net<Listener = TcpListener, Stream = TcpStream>>(
+    alloc: Global,
+    net: &N,
+) -> Result<bool, Fail> {
     let (client, relay) = connection(net)?;
     (&client).write_all(text_of(alloc, &COMMANDS)?.as_slice())?;
     let mut node = empty_node(alloc)?;
@@ -39,9 +41,10 @@ pub(crate) fn a_client_is_answered_over_a_socket<
     Ok(was_told(alloc, &client, replies.as_slice())? && count_held(alloc, &node)? == 1)
 }
 
-pub(crate) fn a_hop_is_handed_mail_over_a_socket<
-    N: Net<Listener = TcpListener, Stream = TcpStream>,
->(alloc: Global, net: &N) -> Result<bool, Fail> {
+pub(crate) fn is_handed_mail_over_a_socket<N: Net<Listener = TcpListener, Stream = TcpStream>>(
+    alloc: Global,
+    net: &N,
+) -> Result<bool, Fail> {
     let mut node = node_with_mail(alloc)?;
     let attempt = begin(alloc, &mut node)?;
     let (hop, relay) = connection(net)?;

@@ -1,3 +1,5 @@
+use crate::words::Words;
+
 /// A row of links.in: which link is tried, and where it ends or fails, the first and the last number of that, and
 /// what is to come of each.
 ///
@@ -41,24 +43,21 @@ pub struct Trial {
 
 impl<'a> Row<'a> {
     /// Reads a row: its words in this order, with a space between each two.
-    pub fn read(line: &'a str) -> Option<Self> {
-        let mut words = line.split(' ');
-        let link = Link::read(words.next()?)?;
-        let what = words.next()?;
-        let first = words.next()?.parse::<usize>().ok()?;
-        let last = words.next()?.parse::<usize>().ok()?;
-        let end = words.next()?;
-        let written = words.next()?.parse::<usize>().ok();
-        let held = words.next()?.parse::<usize>().ok()?;
-        Some(Row {
-            link,
-            what,
-            first,
-            last,
-            end,
-            written,
-            held,
-        })
+    pub fn read(line: &'a str) -> Self {
+        let mut words = Words { rest: line };
+        Row {
+            link: if words.word() == "push" {
+                Link::Push
+            } else {
+                Link::Serve
+            },
+            what: words.word(),
+            first: words.number() as usize,
+            last: words.number() as usize,
+            end: words.word(),
+            written: words.word().parse::<usize>().ok(),
+            held: words.number() as usize,
+        }
     }
 
     /// What is tried by this number.
@@ -76,16 +75,5 @@ impl<'a> Row<'a> {
             _ => trial.bad_write = Some(number),
         }
         trial
-    }
-}
-
-impl Link {
-    /// The link of this word.
-    fn read(word: &str) -> Option<Self> {
-        match word {
-            "serve" => Some(Link::Serve),
-            "push" => Some(Link::Push),
-            _ => None,
-        }
     }
 }

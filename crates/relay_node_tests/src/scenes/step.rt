@@ -15,12 +15,11 @@
 //! - `reply ATTEMPT OCTETS`: as `read`; `awaits ATTEMPT`: what waits for a next hop; `lose ATTEMPT`: it is lost;
 //! - `count`: how many changes there are, and how many places are held;
 //! - `closing`: the lines by which the relay closes a connection by itself.
-use crate::scenes::octets::{octets_of, shown};
-use crate::scenes::setup::{
-    MemoryRelay, accept, begin, count_changes, count_held, end_client, lose, read, read_all, reply,
-};
+use crate::calls::{count_changes, count_held};
+use crate::escape::push_escaped;
+use crate::scenes::setup::{MemoryRelay, accept, begin, end_client, lose, read, read_all, reply};
 use crate::scenes::talk::{Client, client_says, hop_says};
-use relay_loop::{Answered, Closing, Group, Heard, Outbox, Piece, ReplyPiece, closing_line};
+use relay_loop::{Closing, Group, Outbox, Piece, ReplyPiece, closing_line};
 use relay_node::NodeFault;
 use std::alloc::{AllocError, Global};
 use std::test::Fail;
@@ -30,252 +29,241 @@ fn number_in(word: &str) -> usize {
     word.parse::<usize>().unwrap_or(0)
 }
 
-/// Takes a step, and says what came of it.
+/// The number at the front of this text, and what follows it.
+fn numbered(text: &str) -> (usize, &str) {
+    let (number, rest) = text.split_once(' ').unwrap_or((text, ""));
+    (number_in(number), rest)
+}
+
+/// Takes a step, and puts what came of it at the end of the text.
 pub(crate) fn take_step(
     alloc: Global,
     relay: &mut MemoryRelay,
     step: &str,
-) -> Result<String, Fail> {
+    text: &mut String,
+) -> Result<(), Fail> {
     let (word, rest) = step.split_once(' ').unwrap_or((step, ""));
+    let (number, octets) = numbered(rest);
     match word {
-        "accept" => accept_each(alloc, relay, number_in(rest)),
-        "turn" => take_turns(alloc, relay, rest),
-        "group" => hear_group(alloc, relay, rest),
-        "begin" => {
-            let attempt = begin(alloc, relay)?;
-            Ok(format!(in alloc; "{attempt}")?)
-        }
-        "count" => count(alloc, relay),
-        "closing" => closing_lines(alloc, relay),
-        _ => {
-            let (number, octets) = rest.split_once(' ').unwrap_or((rest, ""));
-            let octets = octets_of(alloc, octets)?;
-            take_step_at(alloc, relay, word, number_in(number), octets.as_slice())
-        }
+        "turn" => take_turns(alloc, relay, number, octets, text),
+        "begin" => Ok(tell_number(text, "", begin(alloc, relay)? as u64)?),
+        "count" => count(alloc, relay, text),
+        "say" => say(relay, number, octets.as_bytes(), text),
+        "hop" => say_to_hop(relay, number, octets.as_bytes(), text),
+        "group" => Ok(hear_group(alloc, relay, rest, text)?),
+        "closing" => Ok(closing_lines(alloc, relay, text)?),
+        _ => Ok(take_plain_step(relay, word, number, octets.as_bytes(), text)?),
     }
 }
 
-/// The same of a step of one connection.
-fn take_step_at(
-    alloc: Global,
+/// The same of a step that can fail for want of memory alone.
+fn take_plain_step(
     relay: &mut MemoryRelay,
     word: &str,
     number: usize,
     octets: &[u8],
-) -> Result<String, Fail> {
+    text: &mut String,
+) -> Result<(), AllocError> {
     match word {
-        "say" => say(alloc, relay, number, octets),
-        "read" => Ok(heard_text(alloc, &read(relay, number, octets))?),
-        "waits" => Ok(shown(alloc, relay.to_client(number))?),
-        "end" => Ok(ended_text(alloc, end_client(relay, number))?),
-        "hop" => say_to_hop(alloc, relay, number, octets),
-        "reply" => Ok(answered_text(alloc, &reply(relay, number, octets))?),
-        "awaits" => Ok(shown(alloc, relay.to_hop(number))?),
-        "lose" => Ok(lost_text(alloc, lose(relay, number))?),
-        _ => Err(Fail::new("no step")),
+        "accept" => accept_each(relay, number, text),
+        "read" => match read(relay, number, octets) {
+            Ok(heard) => tell_used(text, heard.used, heard.change, heard.last.as_ref()),
+            Err(fault) => tell_fault(text, fault),
+        },
+        "waits" => push_escaped(text, relay.to_client(number)),
+        "end" => match end_client(relay, number) {
+            Ok(outbox) => push_escaped(text, outbox.as_slice()),
+            Err(fault) => tell_fault(text, fault),
+        },
+        "reply" => match reply(relay, number, octets) {
+            Ok(answered) => tell_used(text, answered.used, answered.change, answered.last.as_ref()),
+            Err(fault) => tell_fault(text, fault),
+        },
+        "awaits" => push_escaped(text, relay.to_hop(number)),
+        "lose" => match lose(relay, number) {
+            Ok(number) => tell_number(text, "change ", number),
+            Err(fault) => tell_fault(text, fault),
+        },
+        _ => text.push_str("no step"),
     }
 }
 
-fn accept_each(alloc: Global, relay: &mut MemoryRelay, count: usize) -> Result<String, Fail> {
-    let mut text = String::new(alloc);
-    for _ in 0..count {
-        if !text.is_empty() {
+fn accept_each(relay: &mut MemoryRelay, count: usize, text: &mut String) -> Result<(), AllocError> {
+    for turn in 0..count {
+        if turn > 0 {
             text.push_str(" ")?;
         }
         match accept(relay) {
-            Ok(session) => write!(text, "{session}")?,
-            Err(fault) => write!(text, "{fault}")?,
+            Ok(session) => tell_number(text, "", session as u64)?,
+            Err(fault) => tell_fault(text, fault)?,
         }
     }
-    Ok(text)
+    Ok(())
 }
 
-fn take_turns(alloc: Global, relay: &mut MemoryRelay, rest: &str) -> Result<String, Fail> {
-    let mut words = rest.splitn(3, ' ');
-    let first = number_in(words.next().unwrap_or(""));
-    let last = number_in(words.next().unwrap_or(""));
-    let said = octets_of(alloc, words.next().unwrap_or(""))?;
+fn take_turns(
+    alloc: Global,
+    relay: &mut MemoryRelay,
+    first: usize,
+    rest: &str,
+    text: &mut String,
+) -> Result<(), Fail> {
+    let (last, said) = numbered(rest);
     let mut clients = Vec::new(alloc);
     for session in first..=last {
-        let octets = Vec::new(alloc);
-        clients.push(Client { session, octets })?;
+        let told = String::new(alloc);
+        clients.push(Client { session, told })?;
     }
-    for octet in said.as_slice() {
-        for client in clients.as_mut_slice() {
-            client_says(relay, client.session, &[*octet], &mut client.octets)?;
+    turn_by_turn(relay, said.as_bytes(), clients.as_mut_slice())?;
+    Ok(tell_each(text, clients.as_slice())?)
+}
+
+/// Each octet is said by each of these clients in turn.
+fn turn_by_turn(relay: &mut MemoryRelay, said: &[u8], clients: &mut [Client]) -> Result<(), Fail> {
+    for octet in said {
+        for client in &mut *clients {
+            client_says(relay, client.session, &[*octet], &mut client.told)?;
         }
     }
-    Ok(told_text(alloc, clients.as_slice())?)
+    Ok(())
 }
 
 /// What each of these clients was told.
-fn told_text(alloc: Global, clients: &[Client]) -> Result<String, AllocError> {
-    let mut text = String::new(alloc);
+fn tell_each(text: &mut String, clients: &[Client]) -> Result<(), AllocError> {
     for client in clients {
         if !text.is_empty() {
             text.push_str(" | ")?;
         }
-        text.push_str(shown(alloc, client.octets.as_slice())?.as_str())?;
+        text.push_str(client.told.as_str())?;
     }
-    Ok(text)
+    Ok(())
 }
 
-/// Whether these are octets of a next hop, of which connection they are, and the octets.
-fn read_part(alloc: Global, part: &str) -> Result<(bool, Client), Fail> {
-    let (is_hop, rest) = match part.split_once(' ') {
-        Some(("hop", rest)) => (true, rest),
-        _ => (false, part),
-    };
-    let (number, octets) = rest.split_once(' ').unwrap_or((rest, ""));
-    let session = number_in(number);
-    let octets = octets_of(alloc, octets)?;
-    Ok((is_hop, Client { session, octets }))
-}
-
-fn hear_group(alloc: Global, relay: &mut MemoryRelay, rest: &str) -> Result<String, Fail> {
-    let mut clients: Vec<Client> = Vec::new(alloc);
-    let mut hops: Vec<Client> = Vec::new(alloc);
-    for part in rest.split(" | ") {
-        let (is_hop, said) = read_part(alloc, part)?;
-        if is_hop {
-            hops.push(said)?;
-        } else {
-            clients.push(said)?;
-        }
-    }
+/// Octets of several clients and next hops are heard at once. What came of each is told, and how many notes there are.
+fn hear_group(
+    alloc: Global,
+    relay: &mut MemoryRelay,
+    rest: &str,
+    text: &mut String,
+) -> Result<(), AllocError> {
     let mut pieces = Vec::new(alloc);
-    for client in clients.as_slice() {
-        pieces.push(Piece {
-            session: client.session,
-            octets: client.octets.as_slice(),
-        })?;
-    }
     let mut replies = Vec::new(alloc);
-    for hop in hops.as_slice() {
-        replies.push(ReplyPiece {
-            attempt: hop.session,
-            octets: hop.octets.as_slice(),
-        })?;
+    for part in rest.split(" | ") {
+        push_part(part, &mut pieces, &mut replies)?;
     }
     match read_all(relay, pieces.as_slice(), replies.as_slice()) {
-        Ok(group) => Ok(group_text(alloc, &group)?),
-        Err(fault) => Ok(format!(in alloc; "{fault}")?),
+        Ok(group) => tell_group(text, &group),
+        Err(fault) => tell_fault(text, fault),
     }
 }
 
-/// What came of each piece of a group, and of each reply, and how many notes there are.
-fn group_text(alloc: Global, group: &Group) -> Result<String, AllocError> {
-    let mut text = String::new(alloc);
+/// Reads a part of a group: octets of a client, or of a next hop.
+fn push_part<'a>(
+    part: &'a str,
+    pieces: &mut Vec<Piece<'a>>,
+    replies: &mut Vec<ReplyPiece<'a>>,
+) -> Result<(), AllocError> {
+    match part.strip_prefix("hop ") {
+        Some(rest) => {
+            let (attempt, octets) = numbered(rest);
+            let octets = octets.as_bytes();
+            replies.push(ReplyPiece { attempt, octets })?;
+        }
+        None => {
+            let (session, octets) = numbered(part);
+            let octets = octets.as_bytes();
+            pieces.push(Piece { session, octets })?;
+        }
+    }
+    Ok(())
+}
+
+fn tell_group(text: &mut String, group: &Group) -> Result<(), AllocError> {
     for answer in group.heard.as_slice() {
-        text.push_str(heard_text(alloc, answer)?.as_str())?;
+        match answer {
+            Ok(heard) => tell_used(text, heard.used, heard.change, heard.last.as_ref())?,
+            Err(fault) => tell_fault(text, *fault)?,
+        }
         text.push_str(" | ")?;
     }
     for answer in group.answered.as_slice() {
-        text.push_str(answered_text(alloc, answer)?.as_str())?;
+        match answer {
+            Ok(answered) => {
+                tell_used(text, answered.used, answered.change, answered.last.as_ref())?
+            }
+            Err(fault) => tell_fault(text, *fault)?,
+        }
         text.push_str(" | ")?;
     }
-    write!(text, "notes {}", group.notes.len())?;
-    Ok(text)
-}
-
-fn heard_text(alloc: Global, answer: &Result<Heard, NodeFault>) -> Result<String, AllocError> {
-    match answer {
-        Ok(heard) => used_text(alloc, heard.used, heard.change, heard.last.as_ref()),
-        Err(fault) => format!(in alloc; "{fault}"),
-    }
-}
-
-fn answered_text(
-    alloc: Global,
-    answer: &Result<Answered, NodeFault>,
-) -> Result<String, AllocError> {
-    match answer {
-        Ok(answered) => used_text(
-            alloc,
-            answered.used,
-            answered.change,
-            answered.last.as_ref(),
-        ),
-        Err(fault) => format!(in alloc; "{fault}"),
-    }
+    tell_number(text, "notes ", group.notes.len() as u64)
 }
 
 /// How many octets were used, the change that was made, if one was, and the last octets where the connection is gone.
-fn used_text(
-    alloc: Global,
+fn tell_used(
+    text: &mut String,
     used: usize,
     change: Option<u64>,
     last: Option<&Outbox>,
-) -> Result<String, AllocError> {
-    let mut text = format!(in alloc; "used {used}")?;
+) -> Result<(), AllocError> {
+    tell_number(text, "used ", used as u64)?;
     if let Some(number) = change {
-        write!(text, ", change {number}")?;
+        tell_number(text, ", change ", number)?;
     }
     if let Some(last) = last {
         text.push_str(", last ")?;
-        text.push_str(shown(alloc, last.as_slice())?.as_str())?;
+        push_escaped(text, last.as_slice())?;
     }
-    Ok(text)
-}
-
-fn ended_text(alloc: Global, answer: Result<Outbox, NodeFault>) -> Result<String, AllocError> {
-    match answer {
-        Ok(outbox) => shown(alloc, outbox.as_slice()),
-        Err(fault) => format!(in alloc; "{fault}"),
-    }
-}
-
-fn lost_text(alloc: Global, answer: Result<u64, NodeFault>) -> Result<String, AllocError> {
-    match answer {
-        Ok(number) => format!(in alloc; "change {number}"),
-        Err(fault) => format!(in alloc; "{fault}"),
-    }
+    Ok(())
 }
 
 fn say(
-    alloc: Global,
     relay: &mut MemoryRelay,
     session: usize,
     octets: &[u8],
-) -> Result<String, Fail> {
-    let mut told = Vec::new(alloc);
-    let closed = client_says(relay, session, octets, &mut told)?;
-    let mut text = shown(alloc, told.as_slice())?;
-    if closed {
+    text: &mut String,
+) -> Result<(), Fail> {
+    if client_says(relay, session, octets, text)? {
         text.push_str(" closed")?;
     }
-    Ok(text)
+    Ok(())
 }
 
 fn say_to_hop(
-    alloc: Global,
     relay: &mut MemoryRelay,
     attempt: usize,
     octets: &[u8],
-) -> Result<String, Fail> {
-    let mut told = Vec::new(alloc);
-    let mut ended = false;
+    text: &mut String,
+) -> Result<(), Fail> {
+    let mut is_ended = false;
     for octet in octets {
-        ended = hop_says(relay, attempt, &[*octet], &mut told)?;
+        is_ended = hop_says(relay, attempt, &[*octet], text)?;
     }
-    let mut text = shown(alloc, told.as_slice())?;
-    if ended {
+    if is_ended {
         text.push_str(" ended")?;
     }
-    Ok(text)
+    Ok(())
 }
 
-fn count(alloc: Global, relay: &MemoryRelay) -> Result<String, Fail> {
-    let changes = count_changes(relay);
-    let held = count_held(alloc, relay)?;
-    Ok(format!(in alloc; "changes {changes}, held {held}")?)
+fn count(alloc: Global, relay: &MemoryRelay, text: &mut String) -> Result<(), Fail> {
+    let held = count_held(alloc, relay.node())?;
+    tell_number(text, "changes ", count_changes(relay.node()))?;
+    Ok(tell_number(text, ", held ", held as u64)?)
 }
 
-fn closing_lines(alloc: Global, relay: &MemoryRelay) -> Result<String, Fail> {
-    let host = &relay.node().config().host;
-    let full = closing_line(alloc, host, Closing::TooMany)?;
-    let late = closing_line(alloc, host, Closing::Timeout)?;
-    let mut text = shown(alloc, full.as_slice())?;
-    text.push_str(shown(alloc, late.as_slice())?.as_str())?;
-    Ok(text)
+fn closing_lines(alloc: Global, relay: &MemoryRelay, text: &mut String) -> Result<(), AllocError> {
+    for closing in [Closing::TooMany, Closing::Timeout] {
+        let line = closing_line(alloc, &relay.node().config().host, closing)?;
+        push_escaped(text, line.as_slice())?;
+    }
+    Ok(())
+}
+
+/// Puts a word and a number at the end of the text.
+fn tell_number(text: &mut String, word: &str, number: u64) -> Result<(), AllocError> {
+    write!(text, "{word}{number}")
+}
+
+/// Puts a fault at the end of the text.
+fn tell_fault(text: &mut String, fault: NodeFault) -> Result<(), AllocError> {
+    write!(text, "{fault}")
 }

@@ -1,7 +1,6 @@
 //! Three messages at once, where memory may run out.
-use crate::scenes::setup::{
-    MemoryRelay, WIDE, accept, count_changes, end_client, read_all, relay_with,
-};
+use crate::calls::count_changes;
+use crate::scenes::setup::{MemoryRelay, WIDE, accept, end_client, read_all, relay_with};
 use crate::scenes::talk::{Client, client_says};
 use relay_loop::{Heard, Piece};
 use relay_node::NodeFault;
@@ -50,7 +49,7 @@ pub(crate) fn three_at_once(alloc: Global) -> Result<Came, Fail> {
             queued = queued.saturating_add(1);
         }
     }
-    if group.notes.len() as u64 != queued || count_changes(&relay) != queued {
+    if group.notes.len() as u64 != queued || count_changes(relay.node()) != queued {
         return Err(Fail::new("the changes are otherwise"));
     }
     Ok(Came::Queued(queued))
@@ -59,9 +58,9 @@ pub(crate) fn three_at_once(alloc: Global) -> Result<Came, Fail> {
 /// A client that has said all of its message but the last line.
 fn client_of(alloc: Global, relay: &mut MemoryRelay) -> Result<Client, Fail> {
     let session = accept(relay)?;
-    let mut octets = Vec::new(alloc);
-    client_says(relay, session, LINES, &mut octets)?;
-    Ok(Client { session, octets })
+    let mut told = String::new(alloc);
+    client_says(relay, session, LINES, &mut told)?;
+    Ok(Client { session, told })
 }
 
 /// The line that ends a client's content.

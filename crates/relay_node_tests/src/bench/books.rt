@@ -1,4 +1,4 @@
-use crate::mail::{AT, accept_of};
+use crate::bench::mail::{AT, accept_of};
 use relay_book::{Book, Change, Outcome, Ruling, Rulings, Verdict, Version, decode_change};
 use relay_octets::Octets;
 use relay_trace::Moment;

@@ -1,4 +1,5 @@
-use crate::disks::files;
+use crate::bench::disks::files;
+use crate::calls::{CLIENT, config_of, first_moment};
 use relay_disk::{Disks, FileDisk};
 use relay_node::Node;
 use relay_routes::Config;
@@ -15,13 +16,7 @@ pub const LATER: u64 = 30_000;
 const BLOCK: usize = 65_536;
 
 /// The limits are those of a configuration that says nothing of them, but for the spool's.
-const CONFIG: &str = "host = \"relay.example\"
-listen = \"127.0.0.1:2525\"
-spool = \"relay.spool\"
-spool_limit = 549755813888
-[routes]
-\"*\" = { name = \"next.example\", at = \"127.0.0.1:2526\" }
-";
+const KEYS: &str = "spool_limit = 549755813888";
 
 /// Makes a node in these files, which are to be empty, and hands it the commands and the content of a message so many
 /// times on one session. The first ten come at the moment 0, and the others later.
@@ -32,14 +27,25 @@ pub fn accept_messages(
     path: &str,
 ) -> Result<String, Fail> {
     let mut node = created(rt, files(rt, path)?)?;
-    let session = greeted(&mut node)?;
-    let mut queued: u64 = 0;
-    for turn in 0..count {
-        let now = if turn < EARLY_MESSAGES { 0 } else { LATER };
-        queued = queued.saturating_add(give(&mut node, session, Moment::new(now)?, transaction)?);
-    }
+    let queued = accept_each(&mut node, count, transaction)?;
     let size = node.size();
     Ok(format!(in rt.alloc(); "accepts: {queued} messages, {size} octets")?)
+}
+
+/// Gives a node the commands and the content so many times, and counts the messages that were queued.
+fn accept_each(node: &mut Node<FileDisk>, count: u64, transaction: &[u8]) -> Result<u64, Fail> {
+    let session = greeted(node)?;
+    let later = Moment::new(LATER)?;
+    let mut queued: u64 = 0;
+    for turn in 0..count {
+        let now = if turn < EARLY_MESSAGES {
+            first_moment()
+        } else {
+            later
+        };
+        queued = queued.saturating_add(give(node, session, now, transaction)?);
+    }
+    Ok(queued)
 }
 
 /// Opens the node in these files, and tells the number of its next change.
@@ -57,7 +63,7 @@ pub fn compact_node(rt: &HostRuntime, path: &str) -> Result<String, Fail> {
 
 /// A node without mail, on disks that are to be empty.
 fn created(rt: &HostRuntime, disks: Disks<FileDisk>) -> Result<Node<FileDisk>, Fail> {
-    match Node::create(rt.alloc(), Config::read(rt.alloc(), CONFIG)?, disks) {
+    match Node::create(rt.alloc(), config(rt)?, disks) {
         Ok(node) => Ok(node),
         Err(not) => Err(Fail::new(not.cause)),
     }
@@ -65,20 +71,20 @@ fn created(rt: &HostRuntime, disks: Disks<FileDisk>) -> Result<Node<FileDisk>, F
 
 /// The node in the files of this path.
 pub fn opened(rt: &HostRuntime, path: &str) -> Result<Node<FileDisk>, Fail> {
-    match Node::open(
-        rt.alloc(),
-        Config::read(rt.alloc(), CONFIG)?,
-        files(rt, path)?,
-    ) {
+    match Node::open(rt.alloc(), config(rt)?, files(rt, path)?) {
         Ok(node) => Ok(node),
         Err(not) => Err(Fail::new(not.cause)),
     }
 }
 
+fn config(rt: &HostRuntime) -> Result<Config, Fail> {
+    config_of(rt.alloc(), KEYS, "* next.example")
+}
+
 /// The number of a session of which the client has said its name.
 fn greeted(node: &mut Node<FileDisk>) -> Result<usize, Fail> {
-    let session = node.connect([127, 0, 0, 1])?.session;
-    give(node, session, Moment::new(0)?, b"HELO x\r\n")?;
+    let session = node.connect(CLIENT)?.session;
+    give(node, session, first_moment(), b"HELO x\r\n")?;
     Ok(session)
 }
 

@@ -1,23 +1,34 @@
-use crate::mail::envelope_of;
+use crate::bench::mail::envelope_of;
 use relay_body::ends_in_line_end;
 use relay_client::{Attempt, MailObject};
 use relay_envelope::Envelope;
-use std::alloc::Global;
+use std::alloc::{AllocError, Global};
 use std::test::Fail;
 
-/// What a server says up to the reply to RCPT.
-const HELLO: [&[u8]; 4] = [
-    b"220 next.example ESMTP\r\n",
-    b"250-next.example\r\n250-PIPELINING\r\n250-CHUNKING\r\n250 DSN\r\n",
-    b"250 sender OK\r\n",
+/// What a server says to an attempt that sends the content by DATA.
+const BY_DATA: [&[u8]; 6] = [
+    GREETING,
+    OFFERS,
+    SENDER_OK,
     b"250 recipient OK\r\n",
+    b"354 end with a line of one period\r\n",
+    b"250 queued as 1\r\n",
 ];
 
-/// What it says to DATA.
-const GO_ON: &[u8] = b"354 end with a line of one period\r\n";
+/// What it says to one that sends it by BDAT.
+const BY_CHUNK: [&[u8]; 5] = [
+    GREETING,
+    OFFERS,
+    SENDER_OK,
+    b"250 recipient OK\r\n",
+    b"250 queued as 1\r\n",
+];
 
-/// What it says to the content.
-const QUEUED: &[u8] = b"250 queued as 1\r\n";
+const GREETING: &[u8] = b"220 next.example ESMTP\r\n";
+
+const OFFERS: &[u8] = b"250-next.example\r\n250-PIPELINING\r\n250-CHUNKING\r\n250 DSN\r\n";
+
+const SENDER_OK: &[u8] = b"250 sender OK\r\n";
 
 /// How many places an attempt that waits has.
 const PLACES: u8 = 100;
@@ -38,26 +49,27 @@ fn hand_on(alloc: Global, envelope: &Envelope, stored_text: &[u8]) -> Result<u64
         envelope,
         stored_text,
     };
+    let replies: &[&[u8]] = if ends_in_line_end(stored_text) {
+        &BY_DATA
+    } else {
+        &BY_CHUNK
+    };
     let mut attempt = attempt_of(alloc, 1)?;
-    let mut octets = 0;
-    for reply in HELLO {
-        octets = written(octets, &mut attempt, &mail, reply)?;
+    let mut octets: u64 = 0;
+    for reply in replies {
+        octets = octets.saturating_add(count_written(&mut attempt, &mail, reply)?);
     }
-    if ends_in_line_end(stored_text) {
-        octets = written(octets, &mut attempt, &mail, GO_ON)?;
-    }
-    written(octets, &mut attempt, &mail, QUEUED)
+    Ok(octets)
 }
 
-/// How many octets are written behind this reply too.
-fn written(
-    octets: u64,
+/// How many octets are written behind this reply.
+fn count_written(
     attempt: &mut Attempt,
     mail: &MailObject<'_>,
     reply: &[u8],
-) -> Result<u64, Fail> {
+) -> Result<u64, AllocError> {
     let driven = attempt.feed(mail, reply)?;
-    Ok(octets.saturating_add(driven.out.len() as u64))
+    Ok(driven.out.len() as u64)
 }
 
 /// An attempt to hand a message on for its first places.
@@ -87,11 +99,11 @@ fn waiting(alloc: Global, envelope: &Envelope) -> Result<Attempt, Fail> {
         stored_text: b"y\r\n",
     };
     let mut attempt = attempt_of(alloc, PLACES)?;
-    for reply in [HELLO[0], HELLO[1], HELLO[2]] {
-        let _driven = attempt.feed(&mail, reply)?;
+    for reply in [GREETING, OFFERS, SENDER_OK] {
+        count_written(&mut attempt, &mail, reply)?;
     }
     for _ in 1..PLACES {
-        let _driven = attempt.feed(&mail, b"450 try again\r\n")?;
+        count_written(&mut attempt, &mail, b"450 try again\r\n")?;
     }
     Ok(attempt)
 }

@@ -1,4 +1,4 @@
-use crate::disks::files;
+use crate::bench::disks::files;
 use relay_spool::{Opened, Spool};
 use std::fs::{File, OpenOptions};
 use std::io;

@@ -1,4 +1,4 @@
-use crate::mail::{AT, accept_of};
+use crate::bench::mail::{AT, accept_of};
 use relay_book::{Book, Ruling, Rulings, Verdict};
 use relay_octets::Octets;
 use relay_report::{Report, report_if_due};

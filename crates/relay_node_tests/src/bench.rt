@@ -1,12 +1,11 @@
 //! One measurement a run: a library call so many times, and a line of what it counted. The time is the driver's to
 //! take (bench/).
 //!
-//!     relay_bench NAME TIMES [FILE] < TEXT
+//!     relay_node_tests bench NAME TIMES [FILE] < TEXT
 //!
-//! FILE is the first file of a spool, and the second one's name is that with `.2` behind it. Most measurements read
-//! a text; the others run on `/dev/null`. The line ends with how much memory the program had at most. Without a word
-//! each measurement but `syncs` runs on a few octets, and what it prints is fixed.
-#![tactic(auto)]
+//! FILE is the first file of a spool, and the second one's name is that with `.2` after it. Most measurements read a
+//! text; the others run on `/dev/null`. The line ends with how much memory the program had at most. Without a name each
+//! measurement but `syncs` runs on a few octets, and what it prints is fixed.
 
 mod attempts;
 mod books;
@@ -19,6 +18,7 @@ mod reports;
 mod spools;
 mod texts;
 
+use crate::word_of;
 use attempts::{hand_texts_on, hold_attempts};
 use books::{decode_record, drain_book, fill_book};
 use disks::forget;
@@ -27,7 +27,6 @@ use nodes::{accept_messages, compact_node, open_node};
 use passing::{ask_for_works, begin_attempts, deliver_messages};
 use reports::make_reports;
 use spools::{append_bodies, open_spool, sync_twice};
-use std::env;
 use std::io::Read;
 use std::test::Fail;
 use texts::write_texts;
@@ -49,14 +48,14 @@ const TRANSACTION: &[u8] =
     b"MAIL FROM:<sender@example.org>\r\nRCPT TO:<somebody@example.org>\r\nDATA\r\n\
 Subject: x\r\n\r\n.\r\n";
 
-/// The spools of the run without a word.
-const SPOOL: &str = "relay_bench_spool";
+/// The spools of the run without a name.
+const SPOOL: &str = "bench_spool";
 
-const NODE: &str = "relay_bench_node";
+const NODE: &str = "bench_node";
 
-const QUEUE: &str = "relay_bench_queue";
+const QUEUE: &str = "bench_queue";
 
-/// What the run without a word measures, on which files and texts, in the order in which each finds what it needs.
+/// What the run without a name measures, on which files and texts, in the order in which each finds what it needs.
 const EACH: [(&str, &str, &[u8]); 18] = [
     ("dots", "", CONTENT),
     ("decode", "", RECORD),
@@ -78,35 +77,24 @@ const EACH: [(&str, &str, &[u8]); 18] = [
     ("begins", QUEUE, NOTHING),
 ];
 
-fn main(rt: HostRuntime) -> Result<(), Fail> {
-    let words: Vec<String> = env::args(&rt)?.collect(rt.alloc())?;
-    match words.get(1) {
-        Some(name) => say_by_words(&rt, name.as_str(), &words.as_slice()[2..]),
-        None => say_all(&rt),
-    }
+/// Runs the measurement that the words name on the standard input, as often as the second word says, and on the files
+/// that the third one names.
+pub fn measure_named(rt: &HostRuntime, words: &[String]) -> Result<(), Fail> {
+    let line = line_of(rt, words)?;
+    let peak = peak_line(rt)?;
+    Ok(println!(rt; "{line}, {peak}")?)
 }
 
-/// Runs the measurement of this name on the standard input, so many times as the first word says, and on the files
-/// that the second one names.
-fn say_by_words(rt: &HostRuntime, name: &str, words: &[String]) -> Result<(), Fail> {
-    let times = match words.first() {
-        Some(word) => word.as_str().parse::<u64>()?,
-        None => 1,
-    };
-    let path = match words.get(1) {
-        Some(word) => word.as_str(),
-        None => "",
-    };
+fn line_of(rt: &HostRuntime, words: &[String]) -> Result<String, Fail> {
+    let times = word_of(words, 1).parse::<u64>()?;
     let mut text: Vec<u8> = Vec::new(rt.alloc());
     rt.stdin().read_to_end(&mut text)?;
-    let line = measure(rt, name, times, text.as_slice(), path)?;
-    let peak = peak_line(rt)?;
-    println!(rt; "{line}, {peak}")?;
-    Ok(())
+    let (name, path) = (word_of(words, 0), word_of(words, 2));
+    measure(rt, name, times, text.as_slice(), path)
 }
 
 /// Runs each measurement three times on a few octets.
-fn say_all(rt: &HostRuntime) -> Result<(), Fail> {
+pub fn measure_each(rt: &HostRuntime) -> Result<(), Fail> {
     // A run that was cut off may have left files.
     forget_each(rt)?;
     for (name, path, text) in EACH {
@@ -116,7 +104,7 @@ fn say_all(rt: &HostRuntime) -> Result<(), Fail> {
     forget_each(rt)
 }
 
-/// Takes away the files of the run without a word.
+/// Takes away the files of the run without a name.
 fn forget_each(rt: &HostRuntime) -> Result<(), Fail> {
     for path in [SPOOL, NODE, QUEUE] {
         forget(rt, path)?;

@@ -1,4 +1,5 @@
-use crate::nodes::{LATER, opened};
+use crate::bench::nodes::{LATER, opened};
+use crate::calls::first_moment;
 use relay_disk::FileDisk;
 use relay_node::{Node, Work};
 use relay_routes::HostName;
@@ -60,7 +61,7 @@ fn begin_and_lose(alloc: Global, node: &mut Node<FileDisk>) -> Result<u64, Fail>
     for work in works.iter() {
         if let Work::Try(message, hop) = work {
             let attempt = start(node, *message, hop, now)?;
-            node.lost(attempt, Moment::new(0)?)?;
+            node.lost(attempt, first_moment())?;
             begun = begun.saturating_add(1);
         }
     }
