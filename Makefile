@@ -1,8 +1,8 @@
-# What a fresh machine with the toolchain needs: `make demo` and `make test`.
+# What a fresh machine with the toolchain needs: `make demo`, `make relayd` and `make test`.
 SHELL := bash
 .SHELLFLAGS := -eo pipefail -c
 
-.PHONY: test demo interop hostile bench load instructions relayd relay_bench
+.PHONY: test demo interop hostile bench load instructions relayd relay_node_tests
 
 # The whole gate: the sample configuration beside its tested copy; then every proof from nothing, the edits that must
 # fail and the tests, so many side by side as tools/lanes.sh says (RT_JOBS, where it is given); then the programs that
@@ -15,6 +15,8 @@ test:
 	RT_JOBS=$$(tools/lanes.sh) rt ci | tee build/gate.log
 	cp crates/relayd/out/relayd build/relayd
 	tests/one_line_at_a_time.sh build/relayd
+	tools/tour.py build/relayd > build/tour.log
+	tools/demo.py > build/demo.log
 	tests/standard_streams.py build/relayd
 	tests/closed_streams.py build/relayd
 	tests/want_of_descriptors.py build/relayd
@@ -47,11 +49,11 @@ test:
 	tests/reports_read_by_python.py crates/relay_book_tests/out/relay_book_tests
 	tail -n 1 build/gate.log
 
-# A first dialogue that isn't proved yet; the proofs, a line a crate; the dialogue of the proved program; and a message
-# from a client over two relays on this machine. Nothing stays but build/ and what the proofs keep in each crate's out/.
+# Compiles the relay without its proofs, and shows a message's way through it, over sockets of this machine. It leaves
+# nothing behind.
 demo:
-	mkdir -p build
-	tools/demo.sh
+	@tools/needs.sh
+	@tools/demo.py
 
 # Hands mail in from other mail programs, and on to them: those of Debian that can be had, each skipped by its name else.
 interop: relayd
@@ -63,8 +65,8 @@ hostile: relayd
 	tests/stops_in_plays.py build/relayd all
 
 # Measures the program and library calls beside `wc` on the same octets (docs/PERFORMANCE.md).
-bench: relayd relay_bench
-	bench/run.sh build/relayd build/relay_bench
+bench: relayd relay_node_tests
+	bench/run.sh build/relayd build/relay_node_tests
 
 # Measures a relay over sockets beside bare syncs, and one that stays up beside the least that a relay does with half a
 # millisecond more for each sync; kills one at thirty moments and one that stays up at a hundred while mail comes in;
@@ -78,16 +80,21 @@ load: relayd
 	DUE=100000 THROUGH=200000 CONTENT=16777216 tests/run_load.py build/relayd
 
 # Counts the instructions of the same with callgrind, which valgrind brings.
-instructions: relayd relay_bench
-	bench/instructions.sh build/relayd build/relay_bench
+instructions: relayd relay_node_tests
+	bench/instructions.sh build/relayd build/relay_node_tests
 
-# Proves and links a program. It runs once, on its stored input.
+# Proves and links the program, a line a crate, and then shows a message's way through it.
 relayd:
-	mkdir -p build
-	tools/prove.py relayd session
-	cp crates/relayd/out/relayd build/relayd
+	@tools/needs.sh
+	@echo "Proves the relay crate by crate, builds it as build/relayd, and sends a message through it: 40 to 50 minutes on"
+	@echo "four processors."
+	@mkdir -p build
+	@tools/prove.py relayd session
+	@cp crates/relayd/out/relayd build/relayd
+	@tools/tour.py build/relayd
 
-relay_bench:
+# Proves and links the program of rows, and runs its measurements once on a few octets.
+relay_node_tests:
 	mkdir -p build
-	tools/prove.py relay_bench
-	cp crates/relay_bench/out/relay_bench build/relay_bench
+	tools/prove.py relay_node_tests bench
+	cp crates/relay_node_tests/out/relay_node_tests build/relay_node_tests

@@ -1,6 +1,7 @@
 #!/usr/bin/env python3
 """Proves the libraries that a program stands on, side by side, and then the program, which it builds and runs once on
-its stored input. A line a crate says how many functions were proved and how long that took.
+its stored input. A line a crate says how many functions were proved, how long that took, and about how long the rest
+takes.
 
     tools/prove.py PROGRAM [WORD ..]
 
@@ -25,6 +26,10 @@ import time
 
 TOP = pathlib.Path(__file__).resolve().parent.parent
 LANES = TOP / "build" / "lanes"
+# The functions and seconds that an estimate begins with, at the pace of docs/GATE.md: the first crates are too small to
+# show another one.
+BEFORE = 100, 160
+FUNCTION = re.compile(r"\bfn \w")
 PROVED = re.compile(r"^logic=proved functions=(\d+)", re.MULTILINE)
 RUNNING = set()
 
@@ -46,26 +51,53 @@ def edges():
 
 
 def closure(below, name):
-    """All that a crate stands on, each behind those that it stands on itself."""
+    """All that a crate stands on, each after those that it stands on itself."""
     found = []
     for it in below[name]:
         found += [one for one in [*closure(below, it), it] if one not in found]
     return found
 
 
-def size_of(name):
-    """The lines of a crate, as a guess of its work."""
-    files = [it for part in ("src", "specs", "proofs") for it in (TOP / "crates" / name / part).rglob("*")]
-    return sum(it.read_bytes().count(b"\n") for it in files if it.is_file())
+def work_of(below, name):
+    """A guess of a crate's work, in functions: each of its own is one, and to read a crate that it stands on costs as
+    much as three. By the minutes in docs/GATE.md that is off by a quarter in the mean."""
+    files = (TOP / "crates" / name / "src").rglob("*.rt")
+    return sum(len(FUNCTION.findall(it.read_text())) for it in files) + 3 * len(closure(below, name))
 
 
-def work_above(below, names):
-    """The most lines of a row of crates that begins with this one, each of which stands on the one before."""
+def longest_rows(below, work):
+    """For each of these crates, in their order, the work of the longest row of them that begins with it, each of which
+    stands on the one before."""
     found = {}
-    for name in reversed(names):
-        above = [found[it] for it in names if name in below[it] and it in found]
-        found[name] = size_of(name) + max(above, default=0)
+    for name in reversed(list(work)):
+        above = [found[it] for it in found if name in below[it]]
+        found[name] = work[name] + max(above, default=0)
     return found
+
+
+class Progress:
+    """Which crates are done, and about how long the others take: by the pace so far, on all lanes, but no less than the
+    longest row of crates that wait for each other."""
+
+    def __init__(self, below, names, lanes):
+        self.below, self.lanes, self.count = below, lanes, len(names)
+        self.left = {name: work_of(below, name) for name in names}
+        self.begun, self.done, self.seconds = {}, *BEFORE
+
+    def begins(self, name):
+        self.begun[name] = time.monotonic()
+
+    def ends(self, name, functions):
+        """Prints the line of a crate that is done."""
+        seconds = time.monotonic() - self.begun.pop(name)
+        self.done, self.seconds = self.done + self.left.pop(name), self.seconds + seconds
+        line = f"[{self.count - len(self.left)}/{self.count}] {name}: {functions}proved in {seconds:.0f} s"
+        print(f"{line}; about {self.seconds_left() / 60:.0f} min left" if self.left else line, flush=True)
+
+    def seconds_left(self):
+        pace, now = self.seconds / self.done, time.monotonic()
+        left = {name: max(0, work - (now - self.begun.get(name, now)) / pace) for name, work in self.left.items()}
+        return pace * max(sum(left.values()) / self.lanes, *longest_rows(self.below, left).values())
 
 
 def link(source, target, parts):
@@ -112,9 +144,8 @@ def bring_back(root):
 
 
 def run(name, place, *words):
-    """Runs rt in a crate's folder; the line that says what came of it."""
-    log, begun = TOP / "build" / f"{name}.log", time.monotonic()
-    stored = place / "stdin"
+    """Runs rt in a crate's folder; how many functions it proved, where it says so."""
+    log, stored = TOP / "build" / f"{name}.log", place / "stdin"
     with open(stored if stored.exists() else os.devnull, "rb") as given, open(log, "wb") as out, \
             subprocess.Popen(["rt", *words], cwd=place, stdin=given, stdout=out, stderr=subprocess.STDOUT) as rt:
         RUNNING.add(rt)
@@ -124,8 +155,7 @@ def run(name, place, *words):
     if rt.returncode:
         raise Failed(f"{name} failed:\n{said}")
     proved = PROVED.findall(said)
-    functions = f"{proved[-1]} functions " if proved else ""
-    return f"{name:16} {functions}proved, {time.monotonic() - begun:.0f} s"
+    return f"{proved[-1]} functions " if proved else ""
 
 
 def prove(below, name, jobs):
@@ -133,24 +163,27 @@ def prove(below, name, jobs):
         return run(name, place, "lib", "--jobs", str(jobs))
 
 
-def prove_all(below, names, lanes):
-    """Proves libraries, each behind those that it stands on. At the first that fails the others are told to end."""
-    above, left, running, done = work_above(below, names), list(names), {}, set()
+def prove_all(below, names, lanes, progress):
+    """Proves libraries, each after those that it stands on. At the first that fails the others are told to end."""
+    rows, left, running, done = longest_rows(below, progress.left), list(names), {}, set()
     with concurrent.futures.ThreadPoolExecutor(lanes) as pool:
         try:
             while left or running:
-                ready = sorted((it for it in left if done.issuperset(below[it])), key=lambda it: -above[it])
+                ready = sorted((it for it in left if done.issuperset(below[it])), key=lambda it: -rows[it])
                 for at, name in enumerate(ready):
                     idle = lanes - sum(jobs for _, jobs in running.values())
                     if idle < 1:
                         break
                     jobs = max(1, idle - (len(ready) - at - 1))
                     left.remove(name)
+                    progress.begins(name)
                     running[pool.submit(prove, below, name, jobs)] = name, jobs
                 ended = concurrent.futures.wait(running, return_when=concurrent.futures.FIRST_COMPLETED).done
                 for it in ended:
-                    done.add(running.pop(it)[0])
-                    print(it.result(), flush=True)
+                    name, _ = running.pop(it)
+                    functions = it.result()
+                    done.add(name)
+                    progress.ends(name, functions)
         except BaseException:
             for it in list(RUNNING):
                 it.terminate()
@@ -164,11 +197,14 @@ def main(program, *words):
         # What a run that was killed has left.
         bring_back(it)
     lanes = int(subprocess.run([TOP / "tools" / "lanes.sh"], stdout=subprocess.PIPE, check=True).stdout)
-    print(f"Proving {program} and what it stands on, {lanes} side by side; where nothing is kept of an earlier run, "
-          "that takes 40 minutes or more.", flush=True)
+    libraries = closure(below, program)
+    progress = Progress(below, [*libraries, program], lanes)
+    print(f"Proving {program} and the {len(libraries)} crates that it stands on, up to {lanes} side by side. What an "
+          "earlier run has proved is kept, and takes seconds.", flush=True)
     try:
-        prove_all(below, closure(below, program), lanes)
-        print(run(program, TOP / "crates" / program, "run", "--jobs", "1", "--", *words), flush=True)
+        prove_all(below, libraries, lanes, progress)
+        progress.begins(program)
+        progress.ends(program, run(program, TOP / "crates" / program, "run", "--jobs", "1", "--", *words))
     except Failed as failed:
         print(failed)
         return 1
