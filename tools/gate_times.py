@@ -1,27 +1,38 @@
 #!/usr/bin/env python3
-"""Says what a gate costs: reads off, while it runs, how long each run of the prover takes, with all processes that it
-starts, and adds that up by crate, edits apart. It goes on until the process of this number has ended, and looks at
-nothing that this process hasn't started.
+"""Measures what a gate costs while it runs, and prints the table of docs/GATE.md when it has ended.
 
-    rt ci & tools/gate_times.py $! [UNIT]
+    RT_JOBS=4 rt ci > build/gate.log & tools/gate_times.py $!
 
-UNIT is how many seconds of a processor one `rt lib` of relay_octets from nothing takes on this machine. What a run takes
-between the last look and its end is missed: half a second at most of each of its processes. Behind a crate's sums stand
-the seconds of its edits, in their order; where there are several, those of the second proof of the crate before them,
-and of the crate as it stands behind them.
+It adds up the processor time of each run of the prover, by crate, with the must-fail edits apart: those are the runs in
+a folder of rt's edits, the check that they begin with and the check after them included. It looks only at processes
+that the given one has started. What a run takes between the last look and its end is missed, half a second at most.
+
+A unit is the processor time of one `rt lib --jobs 1` of relay_octets from nothing. It is taken every ten minutes in the
+place of one lane, whose prover stands still meanwhile, since machines differ by more than two and drift within minutes.
+The unit of the run is the mean of these.
 """
 import os
 import pathlib
 import re
+import resource
+import shutil
+import signal
+import subprocess
 import sys
+import tempfile
 import time
 
+TOP = pathlib.Path(__file__).resolve().parent.parent
 TICKS = os.sysconf("SC_CLK_TCK")
 CRATE = re.compile(r"--crate-name\0([^\0]+)\0")
+# How many seconds pass between two looks, and between two units.
+LOOK, UNIT = 0.5, 600
+# The unit of the machine by which docs/GATE.md says what the whole takes, in seconds.
+GATE_UNIT = 12
 
 
 def fields_of(process):
-    """The fields of a process behind its name: its state first, then its parent."""
+    """The fields of a process that follow its name: its state first, then its parent."""
     return (process / "stat").read_text().rpartition(")")[2].split()
 
 
@@ -37,9 +48,13 @@ def is_below(process, number):
     return process.name == number
 
 
+def processes():
+    return [it for it in pathlib.Path("/proc").iterdir() if it.name.isdigit()]
+
+
 def look(process, number):
-    """Of a run of the prover what names it, its crate, when it began, whether it tries an edit, and its seconds with those
-    of all that it has started and waited for."""
+    """Of a run of the prover what names it, its crate, when it began, whether it tries an edit, and its seconds with
+    those of all that it has started and waited for."""
     crate, fields = crate_of(process), fields_of(process)
     if not crate or crate_of(pathlib.Path("/proc") / fields[1]) or not is_below(process, number):
         return None
@@ -48,14 +63,17 @@ def look(process, number):
 
 
 def look_at_all(found, number):
-    for process in pathlib.Path("/proc").iterdir():
-        if process.name.isdigit():
-            try:
-                seen = look(process, number)
-            except OSError:
-                continue
-            if seen:
-                found[seen[0]] = seen[1:]
+    """Takes note of each run of the prover; the numbers of those that run."""
+    running = []
+    for process in processes():
+        try:
+            seen = look(process, number)
+        except OSError:
+            continue
+        if seen:
+            found[seen[0]] = seen[1:]
+            running.append(process.name)
+    return running
 
 
 def is_running(number):
@@ -65,26 +83,99 @@ def is_running(number):
         return False
 
 
-def tell(found, unit):
+def signal_all(number, what):
+    """Stops, or continues, a process and all that it has started."""
+    for process in processes():
+        try:
+            if is_below(process, number):
+                os.kill(int(process.name), what)
+        except OSError:
+            continue
+
+
+def begin_unit(count):
+    """Begins one unit: the lowest crate under a name of its own, of which nothing is kept."""
+    name, folder = f"relay_unit_{os.getpid()}_{count}", pathlib.Path(tempfile.mkdtemp())
+    crate = folder / "crates" / name
+    for part in ("src", "specs", "proofs"):
+        shutil.copytree(TOP / "crates" / "relay_octets" / part, crate / part)
+    for file in crate.rglob("*.*"):
+        if file.is_file():
+            file.write_text(file.read_text().replace("relay_octets", name))
+    (folder / "crates.txt").write_text(f"{name}: memchr\n")
+    shutil.copy(TOP / "HANDLES", folder)
+    return folder, subprocess.Popen(["rt", "lib", "--jobs", "1"], cwd=crate, stdin=subprocess.DEVNULL,
+                                    stdout=subprocess.DEVNULL, stderr=subprocess.DEVNULL)
+
+
+class Units:
+    """The units of a run, one at a time."""
+
+    def __init__(self):
+        self.taken, self.next, self.unit, self.lane, self.before = [], time.monotonic() + 60, None, None, 0
+
+    def attend(self, running):
+        """Begins a unit where it is time, and ends one that is done."""
+        if self.unit and self.unit[1].poll() is not None:
+            self.end()
+        elif not self.unit and running and self.next <= time.monotonic():
+            self.next = time.monotonic() + UNIT
+            self.lane, self.before = running[0], spent()
+            signal_all(self.lane, signal.SIGSTOP)
+            self.unit = begin_unit(len(self.taken))
+
+    def end(self):
+        folder, unit = self.unit
+        if unit.wait() == 0:
+            self.taken.append(spent() - self.before)
+            print(f"{time.strftime('%H:%M')} a unit: {self.taken[-1]:.1f} seconds", flush=True)
+        signal_all(self.lane, signal.SIGCONT)
+        shutil.rmtree(folder)
+        self.unit = None
+
+
+def spent():
+    """The processor time of the commands that have ended here, in seconds."""
+    used = resource.getrusage(resource.RUSAGE_CHILDREN)
+    return used.ru_utime + used.ru_stime
+
+
+def count_edits(crate):
+    return len(list((TOP / "crates" / crate / "must-fail").glob("*.edit")))
+
+
+def tell(found, units):
+    """Prints the whole and the table: minutes of one processor, units, and the seconds of a crate's edits in the order
+    in which they ran."""
     sums, edits_of = {}, {}
     for crate, _begun, is_edit, seconds in sorted(found.values(), key=lambda it: it[1]):
         sums.setdefault(crate, [0, 0])[is_edit] += seconds
         if is_edit:
             edits_of.setdefault(crate, []).append(f"{seconds:.0f}")
     proofs, edits = (sum(it[at] for it in sums.values()) for at in (0, 1))
-    units = f"; {(proofs + edits) / unit:.0f} units" if unit else ""
-    print(f"whole: {(proofs + edits) / 60:.0f} minutes of one processor, {edits / 60:.0f} of them edits{units}")
+    unit = sum(units) / len(units) if units else 0
+    print(f"whole: {(proofs + edits) / 60:.0f} minutes of one processor, {edits / 60:.0f} of them edits")
+    if unit:
+        whole = (proofs + edits) / unit
+        print(f"{len(units)} units of {min(units):.1f} to {max(units):.1f} seconds, {unit:.1f} in the mean: "
+              f"{whole:.0f} units, {whole * GATE_UNIT / 60:.0f} minutes where a unit takes {GATE_UNIT} seconds")
+    print("| Crate | Minutes | Units | Edits | Minutes of the edits | Units |\n|---|---|---|---|---|---|")
     for crate, (proof, edit) in sorted(sums.items(), key=lambda it: -sum(it[1])):
-        units = f" {proof / unit:4.0f} {edit / unit:4.0f} units" if unit else ""
-        print(f"{crate:20} {proof / 60:5.1f} {edit / 60:5.1f}{units}  {' '.join(edits_of.get(crate, []))}")
+        in_units = [f"{it / unit:.0f}" if unit else "" for it in (proof, edit)]
+        print(f"| {crate} | {proof / 60:.1f} | {in_units[0]} | {count_edits(crate) or ''} | "
+              f"{f'{edit / 60:.1f}' if edit else ''} | {in_units[1] if edit else ''} |")
+    for crate, seconds in sorted(edits_of.items()):
+        print(f"{crate}: {' '.join(seconds)}")
 
 
-def main():
-    number, unit, found = sys.argv[1], float((sys.argv + ["0"])[2]), {}
+def main(number):
+    found, units = {}, Units()
     while is_running(number):
-        look_at_all(found, number)
-        time.sleep(0.5)
-    tell(found, unit)
+        units.attend(look_at_all(found, number))
+        time.sleep(LOOK)
+    if units.unit:
+        units.end()
+    tell(found, units.taken)
 
 
-main()
+main(sys.argv[1])
