@@ -1,5 +1,6 @@
 -- The numbers that stand behind a stem.
-use Rattle.std.specs.Prelude.{◌⊎◌, ℕ, zero, suc, ◌+◌, ◌*◌, ◌-◌, ◌/◌, ◌<◌, ◌^◌, nat_le, nat_lt, ◌&&◌, Bool, ◌==◌, List, [], ◌∷◌, Option, None, Some, Contains, length, ◌≤◌, if◌then◌else◌}
+use Rattle.std.specs.Prelude.{◌⊎◌, ℕ, zero, suc, ◌+◌, ◌*◌, ◌-◌, ◌/◌, ◌<◌, ◌^◌, nat_le, nat_lt, ◌&&◌, Bool, ◌==◌, List}
+use Rattle.std.specs.Prelude.{[], ◌∷◌, Option, None, Some, Contains, length, ◌≤◌, if◌then◌else◌}
 use Rattle.std.specs.List.{flat_map}
 use Rattle.memchr.specs.Find.{OccursAt}
 use Rattle.relay_report.specs.Boundary.{StandsIn, numbered}

@@ -1,11 +1,11 @@
 //! The least number of a boundary that stands in none of three parts.
-ghost use Rattle.std.specs.Prelude.{◌≡◌, ◌++◌, ◌<◌, length, IfOk};
+ghost use Rattle.std.specs.Prelude.{◌≡◌, ◌++◌, ◌<◌, length, codes, decimal, IfOk, OnOk};
 ghost use Rattle.relay_report.specs.Boundary.{IsBoundary, IsLeastFree, boundary_text, stem_of};
 
+use crate::field::push_decimal;
 use crate::marks::least_outside;
 use crate::numbers::collect;
 use crate::parts::Parts;
-use itoa::Buffer;
 use memchr::memmem::Finder;
 use std::alloc::{AllocError, Global};
 
@@ -30,9 +30,7 @@ fn stem_of(alloc: Global, number: u64) -> Result<Vec<u8>, AllocError>
     ensures { IfOk result (λ stem. stem.items ≡ stem_of number) }
 {
     let mut stem = Vec::with_capacity(alloc, USUAL_LEN)?;
-    stem.extend_from_slice(b"--=_relay_")?;
-    stem.extend_from_slice(Buffer::new().format(number).as_bytes())?;
-    stem.extend_from_slice(b"_")?;
+    push_numbered(&mut stem, b"--=_relay_", number)?;
     Ok(stem)
 }
 
@@ -40,11 +38,18 @@ fn boundary_text(alloc: Global, number: u64, least: u64) -> Result<Vec<u8>, Allo
     ensures { IfOk result (λ boundary. boundary.items ≡ boundary_text number least) }
 {
     let mut boundary = Vec::with_capacity(alloc, USUAL_LEN)?;
-    boundary.extend_from_slice(b"=_relay_")?;
-    boundary.extend_from_slice(Buffer::new().format(number).as_bytes())?;
-    boundary.extend_from_slice(b"_")?;
-    boundary.extend_from_slice(Buffer::new().format(least).as_bytes())?;
+    push_numbered(&mut boundary, b"=_relay_", number)?;
+    push_decimal(&mut boundary, least)?;
     Ok(boundary)
+}
+
+/// Adds the front, a number, and `_`.
+fn push_numbered(out: &mut Vec<u8>, front: &[u8], number: u64) -> Result<(), AllocError>
+    ensures { OnOk result (out.new.items ≡ out.old.items ++ (front.now ++ decimal number ++ codes "_")) }
+{
+    out.extend_from_slice(front)?;
+    push_decimal(out, number)?;
+    out.extend_from_slice(b"_")
 }
 
 /// The least number whose numbered stem stands in none of the parts.
@@ -57,6 +62,5 @@ fn boundary_number(alloc: Global, stem: &Finder<'_>, parts: &Parts<'_>) -> Resul
     collect(&mut taken, stem, parts.first)?;
     collect(&mut taken, stem, parts.second)?;
     collect(&mut taken, stem, parts.third)?;
-    let least = least_outside(alloc, taken.as_slice())?;
-    Ok(least)
+    least_outside(alloc, taken.as_slice())
 }

@@ -8,7 +8,6 @@ use relay_octets::Octets;
 use std::alloc::{AllocError, Global};
 
 /// Adds a field.
-#[tactic(auto, unfolding(crate::specs::StatusFields::field))]
 pub(crate) fn push_field(out: &mut Vec<u8>, name: &[u8], body: &[u8]) -> Result<(), AllocError>
     ensures { OnOk result (out.new.items ≡ out.old.items ++ field name.now body.now) }
 {
@@ -19,7 +18,6 @@ pub(crate) fn push_field(out: &mut Vec<u8>, name: &[u8], body: &[u8]) -> Result<
 }
 
 /// Adds a field whose body is a type and a text.
-#[tactic(auto, using(crate::proofs::FieldLemmas::typed_joins))]
 pub(crate) fn push_typed_field(
     out: &mut Vec<u8>,
     name: &[u8],
@@ -30,12 +28,10 @@ pub(crate) fn push_typed_field(
 {
     begin_typed_field(out, name, kind)?;
     out.extend_from_slice(text)?;
-    out.extend_from_slice(b"\r\n")?;
-    Ok(())
+    out.extend_from_slice(b"\r\n")
 }
 
 /// Adds a field up to its body.
-#[tactic(auto, unfolding(crate::specs::StatusFields::field_front))]
 pub(crate) fn begin_field(out: &mut Vec<u8>, name: &[u8]) -> Result<(), AllocError>
     ensures { OnOk result (out.new.items ≡ out.old.items ++ field_front name.now) }
 {
@@ -44,7 +40,6 @@ pub(crate) fn begin_field(out: &mut Vec<u8>, name: &[u8]) -> Result<(), AllocErr
 }
 
 /// Adds a field whose body is a type and a text, up to the text.
-#[tactic(auto, unfolding(crate::specs::StatusFields::typed_front))]
 pub(crate) fn begin_typed_field(
     out: &mut Vec<u8>,
     name: &[u8],

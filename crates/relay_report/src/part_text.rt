@@ -2,7 +2,8 @@
 ghost use Rattle.std.specs.Prelude.{◌≡◌, ◌++◌, IfOk, OnOk};
 ghost use Rattle.std.specs.List.{flat_map, list_any};
 ghost use Rattle.std.specs.Option.{option_copied};
-ghost use Rattle.relay_report.specs.Multipart.{fails_at, fields_of, first_part, is_full, line_of, recipient_line, returned, returns_whole, second_part, title_line};
+ghost use Rattle.relay_report.specs.Multipart.{fails_at, fields_of, first_part, is_full, line_of, recipient_line};
+ghost use Rattle.relay_report.specs.Multipart.{returned, returns_whole, second_part, title_line};
 ghost use Rattle.relay_report.specs.Report.{told_of};
 
 use crate::due::{due_at, fails_at, recipient_at};
@@ -102,9 +103,7 @@ fn push_title(out: &mut Vec<u8>, host: &[u8], number: u64) -> Result<(), AllocEr
     out.extend_from_slice(host)?;
     out.extend_from_slice(b" for message ")?;
     push_decimal(out, number)?;
-    out.extend_from_slice(b".")?;
-    out.extend_from_slice(b"\r\n")?;
-    Ok(())
+    out.extend_from_slice(b".\r\n")
 }
 
 /// Adds a line for each place of which a report is due.

@@ -4,7 +4,8 @@ ghost use Rattle.std.specs.Option.{option_copied};
 ghost use Rattle.relay_octets.specs.Line.{crlf};
 ghost use Rattle.relay_trace.specs.DateTime.{IsDateText};
 ghost use Rattle.relay_report.specs.StatusFields.{field};
-ghost use Rattle.relay_report.specs.Multipart.{body_part, closing_line, header_fields, message_id, multipart_text, part_head, postmaster_at, report_text, report_type, returned_type};
+ghost use Rattle.relay_report.specs.Multipart.{body_part, closing_line, header_fields, message_id, multipart_text};
+ghost use Rattle.relay_report.specs.Multipart.{part_head, postmaster_at, report_text, report_type, returned_type};
 ghost use Rattle.relay_report.specs.Report.{IsDueReport, IsReport, IsUntil, told_of};
 
 use crate::boundary::boundary_for;
@@ -143,7 +144,6 @@ fn joined(
 }
 
 /// Adds the header fields but for the one that names the boundary.
-#[tactic(auto, unfolding(crate::specs::Multipart::header_fields), using(crate::proofs::JoinLemmas::joins_6))]
 fn push_header(out: &mut Vec<u8>, report: &Report<'_>, date: &[u8]) -> Result<(), AllocError>
     ensures { OnOk result (out.new.items ≡ out.old.items ++ header_fields (told_of report.now) date.now) }
 {
@@ -156,18 +156,15 @@ fn push_header(out: &mut Vec<u8>, report: &Report<'_>, date: &[u8]) -> Result<()
     push_field(out, b"Subject", b"Delivery report")?;
     push_field(out, b"Date", date)?;
     push_message_id(out, report.number, report.host)?;
-    push_field(out, b"MIME-Version", b"1.0")?;
-    Ok(())
+    push_field(out, b"MIME-Version", b"1.0")
 }
 
-#[tactic(auto, using(crate::proofs::FieldLemmas::field_joins))]
 fn push_from(out: &mut Vec<u8>, host: &[u8]) -> Result<(), AllocError>
     ensures { OnOk result (out.new.items ≡ out.old.items ++ field (codes "From") (postmaster_at host.now)) }
 {
     begin_field(out, b"From")?;
     push_postmaster(out, host)?;
-    out.extend_from_slice(b"\r\n")?;
-    Ok(())
+    out.extend_from_slice(b"\r\n")
 }
 
 fn push_postmaster(out: &mut Vec<u8>, host: &[u8]) -> Result<(), AllocError>
@@ -175,21 +172,17 @@ fn push_postmaster(out: &mut Vec<u8>, host: &[u8]) -> Result<(), AllocError>
 {
     out.extend_from_slice(b"<postmaster@")?;
     out.extend_from_slice(host)?;
-    out.extend_from_slice(b">")?;
-    Ok(())
+    out.extend_from_slice(b">")
 }
 
-#[tactic(auto, using(crate::proofs::FieldLemmas::field_joins))]
 fn push_message_id(out: &mut Vec<u8>, number: u64, host: &[u8]) -> Result<(), AllocError>
     ensures { OnOk result (out.new.items ≡ out.old.items ++ field (codes "Message-ID") (message_id number host.now)) }
 {
     begin_field(out, b"Message-ID")?;
     push_message_id_text(out, number, host)?;
-    out.extend_from_slice(b"\r\n")?;
-    Ok(())
+    out.extend_from_slice(b"\r\n")
 }
 
-#[tactic(auto, unfolding(crate::specs::Multipart::message_id))]
 fn push_message_id_text(out: &mut Vec<u8>, number: u64, host: &[u8]) -> Result<(), AllocError>
     ensures { OnOk result (out.new.items ≡ out.old.items ++ message_id number host.now) }
 {
@@ -197,8 +190,7 @@ fn push_message_id_text(out: &mut Vec<u8>, number: u64, host: &[u8]) -> Result<(
     push_decimal(out, number)?;
     out.extend_from_slice(b"@")?;
     out.extend_from_slice(host)?;
-    out.extend_from_slice(b">")?;
-    Ok(())
+    out.extend_from_slice(b">")
 }
 
 /// Adds the field that names the boundary.
@@ -207,18 +199,15 @@ fn push_report_type(out: &mut Vec<u8>, boundary: &[u8]) -> Result<(), AllocError
 {
     begin_field(out, b"Content-Type")?;
     push_report_type_text(out, boundary)?;
-    out.extend_from_slice(b"\r\n")?;
-    Ok(())
+    out.extend_from_slice(b"\r\n")
 }
 
-#[tactic(auto, unfolding(crate::specs::Multipart::report_type))]
 fn push_report_type_text(out: &mut Vec<u8>, boundary: &[u8]) -> Result<(), AllocError>
     ensures { OnOk result (out.new.items ≡ out.old.items ++ report_type boundary.now) }
 {
     out.extend_from_slice(b"multipart/report; report-type=delivery-status;\r\n boundary=\"")?;
     out.extend_from_slice(boundary)?;
-    out.extend_from_slice(b"\"")?;
-    Ok(())
+    out.extend_from_slice(b"\"")
 }
 
 /// Adds the three parts between their boundaries.
@@ -236,8 +225,7 @@ fn push_multipart(
     push_body_part(out, boundary, b"text/plain; charset=us-ascii", parts.first)?;
     push_body_part(out, boundary, b"message/delivery-status", parts.second)?;
     push_body_part(out, boundary, returned_type(whole), parts.third)?;
-    push_closing_line(out, boundary)?;
-    Ok(())
+    push_closing_line(out, boundary)
 }
 
 /// The type of what is returned (RFC 3462, section 2).
@@ -252,7 +240,6 @@ fn returned_type(whole: bool) -> &'static [u8]
 }
 
 /// Adds a part behind its head, and the line end that belongs to the next boundary.
-#[tactic(auto, unfolding(crate::specs::Multipart::body_part))]
 fn push_body_part(
     out: &mut Vec<u8>,
     boundary: &[u8],
@@ -274,12 +261,10 @@ fn push_part_head(out: &mut Vec<u8>, boundary: &[u8], kind: &[u8]) -> Result<(),
     out.extend_from_slice(boundary)?;
     out.extend_from_slice(b"\r\n")?;
     push_field(out, b"Content-Type", kind)?;
-    out.extend_from_slice(b"\r\n")?;
-    Ok(())
+    out.extend_from_slice(b"\r\n")
 }
 
 /// Adds the boundary's line behind the last part.
-#[tactic(auto, unfolding(crate::specs::Multipart::closing_line))]
 fn push_closing_line(out: &mut Vec<u8>, boundary: &[u8]) -> Result<(), AllocError>
     ensures { OnOk result (out.new.items ≡ out.old.items ++ closing_line boundary.now) }
 {

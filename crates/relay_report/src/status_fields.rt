@@ -1,7 +1,11 @@
 //! The fields of a delivery status (RFC 3464, sections 2.2 and 2.3).
 ghost use Rattle.std.specs.Prelude.{◌≡◌, ◌++◌, OnOk};
 ghost use Rattle.std.specs.Option.{option_copied};
-ghost use Rattle.relay_report.specs.StatusFields.{action_of, address_in, attempt_fields, diagnostic_code, diagnostic_of, last_attempt_date, message_fields, original_envelope_id, original_recipient, recipient_fields, remote_mta, reply_words, retry_until, status_of, status_of_left, will_retry_until};
+ghost use Rattle.relay_report.specs.StatusFields.{action_of, address_in, attempt_fields, diagnostic_code};
+ghost use Rattle.relay_report.specs.StatusFields.{diagnostic_of, last_attempt_date, message_fields};
+ghost use Rattle.relay_report.specs.StatusFields.{original_envelope_id, original_recipient, recipient_fields};
+ghost use Rattle.relay_report.specs.StatusFields.{remote_mta, reply_words, retry_until, status_of, status_of_left};
+ghost use Rattle.relay_report.specs.StatusFields.{will_retry_until};
 
 use crate::field::{begin_typed_field, plain_of, push_field, push_typed_field};
 use itoa::Buffer;
@@ -33,8 +37,7 @@ pub(crate) fn push_message_fields(
 {
     push_original_envelope_id(alloc, out, envid)?;
     push_typed_field(out, b"Reporting-MTA", b"dns", host)?;
-    push_field(out, b"Arrival-Date", arrival)?;
-    Ok(())
+    push_field(out, b"Arrival-Date", arrival)
 }
 
 fn push_original_envelope_id(
@@ -76,8 +79,7 @@ pub(crate) fn push_recipient_fields(
     )?;
     push_field(out, b"Action", action_of(due))?;
     push_attempt_fields(out, attempt, due, verdict)?;
-    push_will_retry_until(out, attempt.until, due)?;
-    Ok(())
+    push_will_retry_until(out, attempt.until, due)
 }
 
 fn push_original_recipient(
@@ -186,14 +188,12 @@ fn push_diagnostic_code(out: &mut Vec<u8>, verdict: &Verdict) -> Result<(), Allo
     }
 }
 
-#[tactic(auto, using(crate::proofs::FieldLemmas::typed_joins))]
 fn push_diagnostic_of(out: &mut Vec<u8>, code: u16, text: &[u8]) -> Result<(), AllocError>
     ensures { OnOk result (out.new.items ≡ out.old.items ++ diagnostic_of code text.now) }
 {
     begin_typed_field(out, b"Diagnostic-Code", b"smtp")?;
     push_reply_words(out, code, text)?;
-    out.extend_from_slice(b"\r\n")?;
-    Ok(())
+    out.extend_from_slice(b"\r\n")
 }
 
 /// Adds a reply's code, and its text where there is one.

@@ -1,10 +1,14 @@
--- the name, the type and the line's end
-use Rattle.std.proofs.Common.{codes}
+-- the name, the body and the line's end
+use Rattle.std.proofs.Common.{◌++◌, codes, refl}
+use Rattle.relay_octets.specs.Line.{crlf}
 use Rattle.relay_report.specs.Multipart.{report_type}
 use Rattle.relay_report.proofs.FieldLemmas.{field_joins}
+use Rattle.relay_report.proofs.JoinLemmas.{ends_by_octets}
 use Rattle.relay_report.proofs.report.push_report_type.Goals as goal
 
 pub returns : goal.returns
 returns c =
-    field_joins c.args.out.now.items (codes "Content-Type") (report_type c.args.boundary.now) c.begin_field.new.out.items c.push_report_type_text.new.out.items c.extend_from_slice.new.self.items
-    c.in_ok-begin_field.ensures c.in_ok-push_report_type_text.ensures c.in_ok-extend_from_slice.ensures.items
+    ends_by_octets c.extend_from_slice.result c.push_report_type_text.new.out.items crlf c.extend_from_slice.new.self.items _
+    (field_joins c.args.out.now.items (codes "Content-Type") (report_type c.args.boundary.now) c.begin_field.new.out.items c.push_report_type_text.new.out.items (c.push_report_type_text.new.out.items ++ crlf)
+    c.in_ok-begin_field.ensures c.in_ok-push_report_type_text.ensures refl)
+    c.extend_from_slice.ensures.items

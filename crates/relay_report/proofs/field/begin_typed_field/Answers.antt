@@ -1,0 +1,13 @@
+-- the name and the type
+use Rattle.std.proofs.Common.{◌++◌, codes, refl}
+use Rattle.relay_report.specs.StatusFields.{typed_front}
+use Rattle.relay_report.proofs.JoinLemmas.{ends_by_octets, joins_4}
+use Rattle.relay_report.proofs.field.begin_typed_field.Goals as goal
+
+pub returns : goal.returns
+unfolding typed_front
+returns c =
+    ends_by_octets c.extend_from_slice-4.result c.extend_from_slice-3.new.self.items (codes "; ") c.extend_from_slice-4.new.self.items _
+    (joins_4 c.args.out.now.items c.args.name.now (codes ": ") c.args.kind.now (codes "; ") c.extend_from_slice.new.self.items c.extend_from_slice-2.new.self.items c.extend_from_slice-3.new.self.items (c.extend_from_slice-3.new.self.items ++ (codes "; "))
+    c.in_ok-extend_from_slice.ensures.items c.in_ok-extend_from_slice-2.ensures.items c.in_ok-extend_from_slice-3.ensures.items refl)
+    c.extend_from_slice-4.ensures.items

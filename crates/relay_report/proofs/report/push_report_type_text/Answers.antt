@@ -1,0 +1,14 @@
+-- the front of the type, the boundary and its end
+use Rattle.std.proofs.Common.{◌++◌, codes, refl}
+use Rattle.relay_octets.specs.Line.{crlf}
+use Rattle.relay_report.specs.Multipart.{report_type}
+use Rattle.relay_report.proofs.JoinLemmas.{ends_by_octets, joins_3}
+use Rattle.relay_report.proofs.report.push_report_type_text.Goals as goal
+
+pub returns : goal.returns
+unfolding report_type
+returns c =
+    ends_by_octets c.extend_from_slice-3.result c.extend_from_slice-2.new.self.items (codes "\"") c.extend_from_slice-3.new.self.items _
+    (joins_3 c.args.out.now.items (codes "multipart/report; report-type=delivery-status;" ++ crlf ++ codes " boundary=\"") c.args.boundary.now (codes "\"")
+    c.extend_from_slice.new.self.items c.extend_from_slice-2.new.self.items (c.extend_from_slice-2.new.self.items ++ codes "\"") c.in_ok-extend_from_slice.ensures.items c.in_ok-extend_from_slice-2.ensures.items refl)
+    c.extend_from_slice-3.ensures.items
