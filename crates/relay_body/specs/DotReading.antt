@@ -3,7 +3,8 @@ use Rattle.std.specs.Prelude.{◌≡◌, ◌≢◌, ℕ, ◌↔◌, Bool, true, 
 use Rattle.std.specs.Option.{option_map_or}
 use Rattle.relay_octets.specs.Line.{HasNoCrlf, lines_text, ends_in_cr}
 use Rattle.relay_body.specs.declared.dot_reader.Phase.{Phase}
-use Rattle.relay_body.specs.declared.dot_reader.Phase.TheVariants.{LineStart, Period, PeriodCr, Within, WithinCr, Done, Failed}
+use Rattle.relay_body.specs.declared.dot_reader.Phase.TheVariants.{LineStart, Period, PeriodCr, Within, WithinCr, Done}
+use Rattle.relay_body.specs.declared.dot_reader.Phase.TheVariants.{Failed}
 use Rattle.relay_body.specs.declared.dot_reader.DotCut.{DotCut}
 use Rattle.relay_body.specs.declared.dot_reader.DotReader.{DotReader}
 use Rattle.relay_body.specs.DotText.{end_of_data, AreTextLines, without_period, content_of, ReadsDotText}

@@ -1,8 +1,10 @@
 -- Single steps of reading and writing a dot text, for the contracts inside this crate.
-use Rattle.std.specs.Prelude.{◌≡◌, ◌≢◌, ℕ, Bool, true, false, ◌==◌, if◌then◌else◌, List, [], ◌∷◌, ◌++◌, ◌<◌, ◌≤◌, length, take, drop, map}
+use Rattle.std.specs.Prelude.{◌≡◌, ◌≢◌, ℕ, Bool, true, false, ◌==◌, if◌then◌else◌, List, [], ◌∷◌, ◌++◌, ◌<◌, ◌≤◌}
+use Rattle.std.specs.Prelude.{length, take, drop, map}
 use Rattle.relay_octets.specs.Line.{crlf, AreLines, lines_text}
 use Rattle.relay_body.specs.declared.dot_reader.Phase.{Phase}
-use Rattle.relay_body.specs.declared.dot_reader.Phase.TheVariants.{LineStart, Period, PeriodCr, Within, WithinCr, Done, Failed}
+use Rattle.relay_body.specs.declared.dot_reader.Phase.TheVariants.{LineStart, Period, PeriodCr, Within, WithinCr, Done}
+use Rattle.relay_body.specs.declared.dot_reader.Phase.TheVariants.{Failed}
 use Rattle.relay_body.specs.DotText.{ends_in_line_end, with_period}
 
 -- a reader in this phase reads on

@@ -1,5 +1,7 @@
 //! What is true of chunks, whoever reads them.
-ghost use Rattle.relay_body.specs.ChunkText.{ChunksHaveMemory, ChunksWithinLimit, CuttingSaysNothing, EachReaderWasGivenChunks, NoMoreThanItsSize, SizesCutOnce, WholeIsBetween, WholeIsOneMore};
+ghost use Rattle.relay_body.specs.ChunkText.{ChunksHaveMemory, ChunksWithinLimit, CuttingSaysNothing};
+ghost use Rattle.relay_body.specs.ChunkText.{EachReaderWasGivenChunks, NoMoreThanItsSize, SizesCutOnce, WholeIsBetween};
+ghost use Rattle.relay_body.specs.ChunkText.{WholeIsOneMore};
 
 /// A chunk in hand has come whole exactly where its reader stands between chunks.
 pub fn whole_is_between()

@@ -1,5 +1,7 @@
-ghost use Rattle.std.specs.Prelude.{◌≡◌, ◌<◌, ◌≤◌, ◌↔◌, ℕ, List, [], true, length, nat_lt, Ok, IfOk, OnErr, IsErr, IsTrue};
-ghost use Rattle.relay_body.specs.ChunkText.{Chunk, BeginsChunk, FeedsChunk, Gathers, HasChunks, HasNoMemory, IsBetweenChunks, chunk_limit_of, content_of_chunks};
+ghost use Rattle.std.specs.Prelude.{◌≡◌, ◌<◌, ◌≤◌, ◌↔◌, ℕ, List, [], true, length, nat_lt, Ok, IfOk, OnErr, IsErr};
+ghost use Rattle.std.specs.Prelude.{IsTrue};
+ghost use Rattle.relay_body.specs.ChunkText.{Chunk, BeginsChunk, FeedsChunk, Gathers, HasChunks, HasNoMemory};
+ghost use Rattle.relay_body.specs.ChunkText.{IsBetweenChunks, chunk_limit_of, content_of_chunks};
 ghost use Rattle.relay_body.specs.Gathering.{gathered_of};
 
 use crate::gathered::{BodyFault, Gathered, Gathering};

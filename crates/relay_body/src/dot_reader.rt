@@ -1,4 +1,5 @@
-ghost use Rattle.std.specs.Prelude.{◌≡◌, ◌-◌, ◌<◌, ◌≤◌, ◌↔◌, ℕ, List, [], ◌∷◌, true, false, length, slice_index, take, Ok, IfOk, OnOk, OnErr, IsErr, IsTrue, MatchBool};
+ghost use Rattle.std.specs.Prelude.{◌≡◌, ◌-◌, ◌<◌, ◌≤◌, ◌↔◌, ℕ, List, [], ◌∷◌, true, false, length, slice_index, take};
+ghost use Rattle.std.specs.Prelude.{Ok, IfOk, OnOk, OnErr, IsErr, IsTrue, MatchBool};
 ghost use Rattle.relay_body.specs.DotSteps.{IsOpen, RunsOn, phase_behind};
 ghost use Rattle.relay_body.specs.DotText.{ends_in_line_end};
 ghost use Rattle.relay_body.specs.Gathering.{gathered_of};

@@ -1,6 +1,8 @@
 //! What is true of dot texts and of bare line ends, whoever reads or writes them.
 ghost use Rattle.relay_body.specs.BareEnds.{BareEndIsSeen};
-ghost use Rattle.relay_body.specs.DotLaws.{ContentEndsInLineEnd, EachContentIsWritten, HoldsWithinLimit, LineEndIsSeen, NoTextBeginsAnother, NoTextIsEmpty, OneContent, OneText, ReadingHasNoDotText, ReadingIsOpen, SeenIsLineEnd, WrittenIsRead};
+ghost use Rattle.relay_body.specs.DotLaws.{ContentEndsInLineEnd, EachContentIsWritten, HoldsWithinLimit, LineEndIsSeen};
+ghost use Rattle.relay_body.specs.DotLaws.{NoTextBeginsAnother, NoTextIsEmpty, OneContent, OneText};
+ghost use Rattle.relay_body.specs.DotLaws.{ReadingHasNoDotText, ReadingIsOpen, SeenIsLineEnd, WrittenIsRead};
 
 /// A text has one content.
 pub fn one_content()

@@ -1,6 +1,7 @@
 //! The reader and the writer of dot texts once more, octet by octet: slow, and each rule stands in
 //! one place. They keep the contracts of the fast ones, for tests that run both.
-ghost use Rattle.std.specs.Prelude.{◌≡◌, ◌<◌, ◌≤◌, ◌↔◌, ◌++◌, ℕ, List, [], ◌∷◌, true, false, Ok, length, IfOk, OnErr, OnOk, IsErr, IsTrue, MatchBool, if◌then◌else◌};
+ghost use Rattle.std.specs.Prelude.{◌≡◌, ◌<◌, ◌≤◌, ◌↔◌, ◌++◌, ℕ, List, [], ◌∷◌, true, false, Ok, length, IfOk, OnErr};
+ghost use Rattle.std.specs.Prelude.{OnOk, IsErr, IsTrue, MatchBool, if◌then◌else◌};
 ghost use Rattle.relay_body.specs.DotSteps.{IsOpen, StandsForItself};
 ghost use Rattle.relay_body.specs.DotText.{WritesDotText, ends_in_line_end, with_period};
 ghost use Rattle.relay_body.specs.Gathering.{gathered_of};

@@ -14,7 +14,8 @@ use Rattle.relay_course.specs.declared.extensions.Extensions.{Extensions}
 use Rattle.relay_course.specs.declared.reply_kind.ReplyKind.{ReplyKind}
 use Rattle.relay_course.specs.declared.reply_kind.ReplyKind.TheVariants.{Completion, Intermediate, Permanent}
 use Rattle.relay_course.specs.Extensions.{extensions_of, no_extensions}
-use Rattle.relay_course.specs.WrittenLine.{ehlo_line, helo_line, mail_line, rcpt_line_at, data_line, last_chunk, quit_line}
+use Rattle.relay_course.specs.WrittenLine.{ehlo_line, helo_line, mail_line, rcpt_line_at, data_line, last_chunk}
+use Rattle.relay_course.specs.WrittenLine.{quit_line}
 use Rattle.relay_course.specs.VerdictTable.{content_verdict_by, kind_of, refusal, some_accepted, verdicts_of}
 
 -- what an attempt has to do, which never changes: our host's name, the message's envelope and stored text, that text as

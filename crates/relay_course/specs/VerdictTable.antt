@@ -1,6 +1,7 @@
 -- What replies say of places (RFC 5321, sections 4.2.1 and 4.2.4): the kind of a reply, and the verdict that comes of
 -- one.
-use Rattle.std.specs.Prelude.{ℕ, Bool, true, false, ◌==◌, nat_lt, List, [], ◌∷◌, map, take, Option, Some, None, unwrap_or, if◌then◌else◌}
+use Rattle.std.specs.Prelude.{ℕ, Bool, true, false, ◌==◌, nat_lt, List, [], ◌∷◌, map, take, Option, Some, None}
+use Rattle.std.specs.Prelude.{unwrap_or, if◌then◌else◌}
 use Rattle.relay_lines.specs.Reply.{Reply, last_text}
 use Rattle.relay_lines.specs.Word.{shown}
 use Rattle.relay_book.specs.Record.{refusal_limit}

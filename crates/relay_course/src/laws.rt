@@ -1,5 +1,9 @@
 //! What is true of every attempt, whatever the replies.
-ghost use Rattle.relay_course.specs.Laws.{AnsweredAreFirst, AnswersStay, CommandsKeepUp, CommandsStay, CourseIsOne, CourseMayBeLost, EachCommandIsRead, EachCommandWaits, EachReplyAnswers, EndIsEnd, EndWaitsForNothing, RcptsAreInOrder, ReplyLeadsOn, TakenWhereAnswered, VerdictForEachPlace, VerdictsAreOfAHop, VerdictsMayBeStored};
+ghost use Rattle.relay_course.specs.Laws.{AnsweredAreFirst, AnswersStay, CommandsKeepUp, CommandsStay, CourseIsOne};
+ghost use Rattle.relay_course.specs.Laws.{CourseMayBeLost, EachCommandIsRead, EachCommandWaits, EachReplyAnswers};
+ghost use Rattle.relay_course.specs.Laws.{EndIsEnd, EndWaitsForNothing, RcptsAreInOrder, ReplyLeadsOn};
+ghost use Rattle.relay_course.specs.Laws.{TakenWhereAnswered, VerdictForEachPlace, VerdictsAreOfAHop};
+ghost use Rattle.relay_course.specs.Laws.{VerdictsMayBeStored};
 ghost use Rattle.relay_course.specs.RelayLaws.{AllRcptsAnswered, CommandsToARelay, NothingBeforeAllRcpts};
 
 /// A further reply leads on from where the others led.

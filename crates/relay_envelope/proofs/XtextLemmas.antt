@@ -1,9 +1,10 @@
 -- xtext: the first part of a text, and that a text stands for octets exactly where it spells them.
-use Rattle.std.proofs.Common.{◌≡◌, ℕ, ◌<◌, ◌+◌, ◌*◌, ◌/◌, ◌%◌, ◌==◌, ◌&&◌, Bool, true, false, if◌then◌else◌, List, [], ◌∷◌, ◌++◌, map, length, Option, None, Some, refl, sym, ap, subst, ◌∙◌, arith, append-nil}
+use Rattle.std.proofs.Common.{◌≡◌, ℕ, ◌<◌, ◌+◌, ◌*◌, ◌/◌, ◌%◌, ◌==◌, ◌&&◌, Bool, true, false, if◌then◌else◌, List, [], ◌∷◌, ◌++◌, map, length, take, get_or, Option, None, Some, refl, sym, ap, subst, ◌∙◌, arith, append-nil}
 use Rattle.std.specs.List.{flat_map, AllByRecursion}
+use Rattle.std.proofs.lemmas.List.{flat_map_more, take_more}
 use Rattle.std.proofs.lemmas.Bool.{and_parts, and_from, false≢true, eqb-true, cond-true, cond-false}
 use Rattle.std.proofs.lemmas.Bool.Decides.{nat_tests}
-use Rattle.relay_envelope.specs.Xtext.{Part, IsPart, part_text, octet_of, octet_of_digits, octet_of_xchar, onto_octets, joined_octets, is_xchar, is_digit, value_of_digit, decoded, encoded, SpellsXtext, FirstOctet, digit_of, DecodedIsSpelled, EncodedIsDecoded}
+use Rattle.relay_envelope.specs.Xtext.{Part, IsPart, part_text, octet_of, octet_of_digits, octet_of_xchar, onto_octets, joined_octets, is_xchar, is_digit, value_of_digit, decoded, encoded, encoded_octet, SpellsXtext, FirstOctet, digit_of, DecodedIsSpelled, EncodedIsDecoded}
 use Rattle.relay_envelope.specs.Xtext.Part.{Xchar, Hexchar}
 
 -- behind an octet that is no `+`
@@ -171,3 +172,14 @@ unfolding decoded
 encoded_is_decoded [] all = refl
 encoded_is_decoded (octet ∷ octets) all =
     encoded_one octet (encoded octets) octets (is_xchar octet) refl all.0 (encoded_is_decoded octets all.1)
+
+-- one octet more is encoded
+pub encoded_more : (octets text now : List ℕ) (index : ℕ) → index < length octets → text ≡ encoded (take index octets)
+    → now ≡ text ++ encoded_octet (get_or octets index 0) → now ≡ encoded (take (index + 1) octets)
+encoded_more octets text now index within is more =
+    more ∙ ap (λ front. front ++ encoded_octet (get_or octets index 0)) is
+    ∙ flat_map_more encoded_octet [] (take index octets) (get_or octets index 0)
+    ∙ ap encoded (sym (take_more octets index 0 within))
+
+-- the octet of two digits, or digits that stand for none
+pub ruleset decoded_digits = (first_code, no_code, decoded_short)

@@ -1,8 +1,10 @@
 -- A row of parameters, without an order of reading (RFC 5321, section 4.1.2; RFC 3461, section 4).
-use Rattle.std.specs.Prelude.{◌≡◌, ◌≢◌, ◌⊎◌, ℕ, Bool, true, false, List, [], ◌∷◌, ◌++◌, codes, Option, Some, None, Result, Ok, Err, if◌then◌else◌}
+use Rattle.std.specs.Prelude.{◌≡◌, ◌≢◌, ◌⊎◌, ℕ, Bool, true, false, List, [], ◌∷◌, ◌++◌, codes, Option, Some, None}
+use Rattle.std.specs.Prelude.{Result, Ok, Err, if◌then◌else◌}
 use Rattle.std.specs.List.{AllByRecursion, join_with_byte}
 use Rattle.relay_lines.specs.Word.{is_word}
-use Rattle.relay_envelope.specs.Parameters.{MailParameters, RcptParameters, is_envid, is_orcpt, keyword_of, mail_parameters_of, notify_of, rcpt_parameters_of, ret_of, value_of_word}
+use Rattle.relay_envelope.specs.Parameters.{MailParameters, RcptParameters, is_envid, is_orcpt, keyword_of}
+use Rattle.relay_envelope.specs.Parameters.{mail_parameters_of, notify_of, rcpt_parameters_of, ret_of, value_of_word}
 use Rattle.relay_envelope.specs.declared.fault.EnvelopeFault.{EnvelopeFault}
 use Rattle.relay_envelope.specs.declared.fault.EnvelopeFault.TheVariants.{BadPath, BadValue, Repeated, UnknownParameter}
 

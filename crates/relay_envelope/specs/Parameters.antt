@@ -1,5 +1,6 @@
 -- Parameters of MAIL and RCPT (RFC 5321, section 4.1.2; RFC 3461, section 4): RET and ENVID, NOTIFY and ORCPT.
-use Rattle.std.specs.Prelude.{◌≡◌, ℕ, ◌<◌, ◌==◌, nat_lt, nat_le, Bool, true, false, ◌&&◌, ◌||◌, List, [], ◌∷◌, codes, length, Option, Some, None, is_some, option_map, ok_or, Result, Ok, Err, if◌then◌else◌}
+use Rattle.std.specs.Prelude.{◌≡◌, ℕ, ◌<◌, ◌==◌, nat_lt, nat_le, Bool, true, false, ◌&&◌, ◌||◌, List, [], ◌∷◌, codes}
+use Rattle.std.specs.Prelude.{length, Option, Some, None, is_some, option_map, ok_or, Result, Ok, Err, if◌then◌else◌}
 use Rattle.std.specs.List.{after_first, before_first, list_all, slice_split}
 use Rattle.std.specs.Option.{option_and_then, option_copied}
 use Rattle.std.specs.Int.{is_in_range}

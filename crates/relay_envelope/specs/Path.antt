@@ -1,6 +1,7 @@
 -- Paths (RFC 5321, section 4.1.2): the null reverse path, the postmaster's, and mailboxes with or without a source
 -- route.
-use Rattle.std.specs.Prelude.{◌≡◌, ℕ, ◌≤◌, Bool, true, false, List, [], ◌∷◌, ◌++◌, length, Option, Some, None, if◌then◌else◌}
+use Rattle.std.specs.Prelude.{◌≡◌, ℕ, ◌≤◌, Bool, true, false, List, [], ◌∷◌, ◌++◌, length, Option, Some, None}
+use Rattle.std.specs.Prelude.{if◌then◌else◌}
 use Rattle.std.specs.List.{AllPass, after_last, list_any}
 use Rattle.std.specs.Ffi.{without_last}
 use Rattle.relay_lines.specs.Word.{is_space}

@@ -1,5 +1,6 @@
 -- How the code goes through a row, an octet at a time. Only private functions speak of it.
-use Rattle.std.specs.Prelude.{ℕ, suc, ◌+◌, ◌==◌, Bool, true, false, ◌&&◌, List, [], ◌∷◌, Option, Some, None, if◌then◌else◌}
+use Rattle.std.specs.Prelude.{ℕ, suc, ◌+◌, ◌==◌, Bool, true, false, ◌&&◌, List, [], ◌∷◌, Option, Some, None}
+use Rattle.std.specs.Prelude.{if◌then◌else◌}
 use Rattle.std.specs.Option.{option_and_then}
 use Rattle.relay_lines.specs.Word.{is_printable}
 use Rattle.relay_envelope.specs.Row.{is_plain, is_text_octet}

@@ -1,5 +1,6 @@
 //! What is true of envelopes that may be stored, whoever writes and reads them.
-ghost use Rattle.relay_envelope.specs.Envelope.{ReversePathIsForward, MailIsReadAgain, RcptIsReadAgain, ReadMailIsValid, ReadRcptIsValid, MailIsCommandLine, RcptIsCommandLine};
+ghost use Rattle.relay_envelope.specs.Envelope.{ReversePathIsForward, MailIsReadAgain, RcptIsReadAgain};
+ghost use Rattle.relay_envelope.specs.Envelope.{ReadMailIsValid, ReadRcptIsValid, MailIsCommandLine, RcptIsCommandLine};
 
 /// A reverse path that isn't `<>` is a forward path.
 pub fn reverse_path_is_forward()

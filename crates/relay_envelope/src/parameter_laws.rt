@@ -1,5 +1,6 @@
 //! What is true of the parameters of MAIL and RCPT, whoever reads them: nothing here speaks of an order of reading.
-ghost use Rattle.relay_envelope.specs.ParameterRow.{MailRowIsRead, MailRowSaysOne, RcptRowIsRead, RcptRowSaysOne, TextIsRow};
+ghost use Rattle.relay_envelope.specs.ParameterRow.{MailRowIsRead, MailRowSaysOne, RcptRowIsRead, RcptRowSaysOne};
+ghost use Rattle.relay_envelope.specs.ParameterRow.{TextIsRow};
 
 /// Behind a path of MAIL each keyword stands once at most, with the value that is read of it, or the first faulty word
 /// fixes the fault.

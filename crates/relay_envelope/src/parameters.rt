@@ -1,7 +1,10 @@
 //! Parameters of MAIL and RCPT (RFC 3461, section 4). Reading them takes no memory.
 ghost use Rattle.std.specs.Prelude.{◌≡◌};
 ghost use Rattle.std.specs.List.{slice_split};
-ghost use Rattle.relay_envelope.specs.Parameters.{mail_answer, mail_parameters_of, mail_value, notify_of, rcpt_answer, rcpt_parameters_of, rcpt_value, ret_of, with_mail_parameter, with_envid, with_notify, with_orcpt, with_outcome, with_rcpt_parameter, with_ret, is_octet, no_outcomes, with_outcomes};
+ghost use Rattle.relay_envelope.specs.Parameters.{mail_answer, mail_parameters_of, mail_value, notify_of, rcpt_answer};
+ghost use Rattle.relay_envelope.specs.Parameters.{rcpt_parameters_of, rcpt_value, ret_of, with_mail_parameter};
+ghost use Rattle.relay_envelope.specs.Parameters.{with_envid, with_notify, with_orcpt, with_outcome};
+ghost use Rattle.relay_envelope.specs.Parameters.{with_rcpt_parameter, with_ret, is_octet, no_outcomes, with_outcomes};
 
 mod value;
 

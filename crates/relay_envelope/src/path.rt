@@ -5,7 +5,8 @@ ghost use Rattle.std.specs.Option.{option_copied};
 ghost use Rattle.relay_lines.specs.Word.{is_space};
 ghost use Rattle.relay_envelope.specs.Row.{IsRow};
 ghost use Rattle.relay_envelope.specs.Mailbox.{SplitsBehindBracket};
-ghost use Rattle.relay_envelope.specs.Path.{Path as PathText, BeginsWithPath, IsPath, domain_in, domain_of, path_text, stands_apart, value_of};
+ghost use Rattle.relay_envelope.specs.Path.{Path as PathText, BeginsWithPath, IsPath, domain_in, domain_of, path_text};
+ghost use Rattle.relay_envelope.specs.Path.{stands_apart, value_of};
 
 mod brackets;
 mod mailbox;

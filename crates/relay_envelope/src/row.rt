@@ -1,5 +1,6 @@
 //! Rows of plain octets and quoted strings (RFC 5321, section 4.1.2).
-ghost use Rattle.std.specs.Prelude.{◌≡◌, ◌≢◌, ◌≤◌, ◌↔◌, ◌==◌, ◌&&◌, ◌++◌, ◌∷◌, ℕ, List, length, IfSome, IsTrue, MatchOption};
+ghost use Rattle.std.specs.Prelude.{◌≡◌, ◌≢◌, ◌≤◌, ◌↔◌, ◌==◌, ◌&&◌, ◌++◌, ◌∷◌, ℕ, List, length, IfSome, IsTrue};
+ghost use Rattle.std.specs.Prelude.{MatchOption};
 ghost use Rattle.relay_envelope.specs.Row.{IsRow, RowBefore, is_plain as plain, is_text_octet as text_octet};
 ghost use Rattle.relay_envelope.specs.RowScan.{is_outside, place_after, row_len_from};
 

@@ -1,7 +1,8 @@
 //! Whether what came from elsewhere, as octets of a disk, is what may be stored. Nothing here takes memory.
 ghost use Rattle.std.specs.Prelude.{◌≡◌, ◌↔◌, IsTrue};
 ghost use Rattle.std.specs.List.{AllByRecursion};
-ghost use Rattle.relay_envelope.specs.Envelope.{IsEnvelope, IsForwardPath, IsRecipient, IsReversePath, may_be_envid, may_be_notify, may_be_orcpt};
+ghost use Rattle.relay_envelope.specs.Envelope.{IsEnvelope, IsForwardPath, IsRecipient, IsReversePath, may_be_envid};
+ghost use Rattle.relay_envelope.specs.Envelope.{may_be_notify, may_be_orcpt};
 
 use crate::envelope::{Envelope, Orcpt, Recipient};
 use crate::parameters::{Notify, is_envid, is_orcpt};

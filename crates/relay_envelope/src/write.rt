@@ -1,7 +1,8 @@
 //! How MAIL and RCPT are written: keywords in upper case, one space before each, nothing for what was not given.
 ghost use Rattle.std.specs.Prelude.{◌≡◌, ◌++◌, IfOk, OnOk, true, false};
 ghost use Rattle.std.specs.List.{join_with_byte};
-ghost use Rattle.relay_envelope.specs.Envelope.{envid_text, mail_text, notify_text, notify_value, orcpt_text, outcome_words, outcomes_of, rcpt_text, ret_text};
+ghost use Rattle.relay_envelope.specs.Envelope.{envid_text, mail_text, notify_text, notify_value, orcpt_text};
+ghost use Rattle.relay_envelope.specs.Envelope.{outcome_words, outcomes_of, rcpt_text, ret_text};
 
 use crate::envelope::{Envelope, Orcpt, Recipient};
 use crate::parameters::{Notify, Outcomes, Ret};

@@ -1,5 +1,6 @@
 ghost use Rattle.std.specs.Prelude.{◌≡◌, ◌≢◌, ◌<◌, ◌++◌, ◌∷◌, ℕ, List, [], true, OnOk, OnErr, MatchOption};
-ghost use Rattle.relay_envelope.specs.Xtext.{decoded, encoded_octet, octet_of_digits, FirstOctet, is_xchar as xchar, is_digit as hexadecimal, value_of_digit as digit_value, digit_of as digit};
+ghost use Rattle.relay_envelope.specs.Xtext.{decoded, encoded_octet, octet_of_digits, FirstOctet, is_xchar as xchar};
+ghost use Rattle.relay_envelope.specs.Xtext.{is_digit as hexadecimal, value_of_digit as digit_value, digit_of as digit};
 
 use relay_octets::Octets;
 use std::alloc::{AllocError, Global};
@@ -130,7 +131,7 @@ pub(crate) fn first_octet(text: &[u8]) -> Option<(u8, &[u8])>
 }
 
 /// The octet of the two digits behind a `+`, and what follows them.
-#[tactic(auto, using(crate::proofs::XtextLemmas::first_code, crate::proofs::XtextLemmas::no_code, crate::proofs::XtextLemmas::decoded_short))]
+#[tactic(auto, using(crate::proofs::XtextLemmas::decoded_digits))]
 fn behind_plus(digits: &[u8]) -> Option<(u8, &[u8])>
     ensures { MatchOption result
         (decoded (43 ∷ digits.now) ≡ None)

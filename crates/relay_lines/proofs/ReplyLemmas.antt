@@ -1,7 +1,8 @@
 -- What is true of replies, over lists alone.
-use Rattle.std.proofs.Common.{◌≡◌, ℕ, ◌≤◌, length, List, [], ◌∷◌, ◌++◌, refl, sym, ap, ◌∙◌, append_assoc, append-nil, take}
-use Rattle.std.proofs.lemmas.List.{take_all}
+use Rattle.std.proofs.Common.{◌≡◌, ℕ, ◌+◌, ◌<◌, ◌≤◌, length, get_or, List, [], ◌∷◌, ◌++◌, refl, sym, ap, ◌∙◌, append_assoc, append-nil, take}
+use Rattle.std.proofs.lemmas.List.{flat_map_more, take_all, take_more}
 use Rattle.std.specs.List.{flat_map}
+use Rattle.relay_octets.specs.Beginning.{Begins}
 use Rattle.relay_lines.specs.Reply.{middle_line, last_line, lines_of_reply, last_text}
 
 -- the last line stands behind the others
@@ -27,6 +28,21 @@ all_written before now code index middle lines last so_far all split =
     ∙ append_assoc before (flat_map (middle_line code) middle) (last_line code last)
     ∙ ap (λ l. before ++ l)
     (sym (lines_of_reply-append code middle last) ∙ ap (lines_of_reply code) (sym split))
+
+-- one line more is written
+pub line_more : (before now new : List ℕ) (code index : ℕ) (middle : List (List ℕ)) (text : List ℕ) → index < length middle
+    → now ≡ before ++ flat_map (middle_line code) (take index middle) → text ≡ get_or middle index text
+    → new ≡ now ++ middle_line code text → new ≡ before ++ flat_map (middle_line code) (take (index + 1) middle)
+line_more before now new code index middle text within so_far is writes =
+    writes ∙ ap (λ front. front ++ middle_line code text) so_far
+    ∙ flat_map_more (middle_line code) before (take index middle) text
+    ∙ ap (λ next. before ++ flat_map (middle_line code) (take index middle ++ next ∷ [])) is
+    ∙ ap (λ texts. before ++ flat_map (middle_line code) texts) (sym (take_more middle index text within))
+
+-- what begins with the octets and more begins with the octets
+pub begins_more : (old now new text : List ℕ) → now ≡ old ++ text → Begins now new → Begins old new
+begins_more old now new text so_far begins =
+    (text ++ begins.0, begins.1 ∙ ap (λ front. front ++ begins.0) so_far ∙ append_assoc old text begins.0)
 
 -- the last of some lines has the last text
 last_text-append : (middle : List (List ℕ)) (last : List ℕ) → last_text (middle ++ last ∷ []) ≡ last

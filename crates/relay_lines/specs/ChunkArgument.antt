@@ -1,6 +1,7 @@
 -- The argument of BDAT (RFC 3030, section 2): its chunk-size, and LAST at the last chunk of a
 -- message.
-use Rattle.std.specs.Prelude.{◌≡◌, ◌↔◌, ℕ, ◌<◌, ◌≤◌, ◌^◌, ◌==◌, nat_lt, Bool, true, false, IsTrue, ◌&&◌, List, [], ◌++◌, codes, decimal, length, take, Option, Some, None, option_map, if◌then◌else◌}
+use Rattle.std.specs.Prelude.{◌≡◌, ◌↔◌, ℕ, ◌<◌, ◌≤◌, ◌^◌, ◌==◌, nat_lt, Bool, true, false, IsTrue, ◌&&◌, List, [], ◌++◌}
+use Rattle.std.specs.Prelude.{codes, decimal, length, take, Option, Some, None, option_map, if◌then◌else◌}
 use Rattle.std.specs.List.{list_all, AllPass}
 use Rattle.std.specs.Int.{is_in_range}
 use Rattle.std.specs.Char.{is_ascii_digit}

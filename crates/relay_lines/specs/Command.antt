@@ -1,12 +1,15 @@
 -- Command lines (RFC 5321, section 4.1.1): the command that a line, without its CR LF, gives, or
 -- its first fault.
-use Rattle.std.specs.Prelude.{◌≡◌, ◌↔◌, ◌==◌, List, [], ◌∷◌, ◌++◌, ℕ, Bool, true, false, ◌||◌, length, codes, Option, Some, None, option_map, ok_or, find, Result, Ok, Err, if◌then◌else◌}
+use Rattle.std.specs.Prelude.{◌≡◌, ◌↔◌, ◌==◌, List, [], ◌∷◌, ◌++◌, ℕ, Bool, true, false, ◌||◌, length, codes, Option}
+use Rattle.std.specs.Prelude.{Some, None, option_map, ok_or, find, Result, Ok, Err, if◌then◌else◌}
 use Rattle.std.specs.List.{AllPass}
 use Rattle.relay_octets.specs.Line.{HasNoCrlf}
 use Rattle.relay_octets.specs.LetterCase.{IsSameWord}
-use Rattle.relay_lines.specs.Word.{is_printable, is_word, are_printable, without_trailing_blanks, first_word, argument_of, behind_keyword, is_host_word, SplitsLine, BeginsWithKeyword, IsHostWord}
+use Rattle.relay_lines.specs.Word.{is_printable, is_word, are_printable, without_trailing_blanks, first_word}
+use Rattle.relay_lines.specs.Word.{argument_of, behind_keyword, is_host_word, SplitsLine, BeginsWithKeyword, IsHostWord}
 use Rattle.relay_lines.specs.declared.command.LineFault.{LineFault}
-use Rattle.relay_lines.specs.declared.command.LineFault.TheVariants.{Unknown, BadByte, BadArgument, NotOffered, BadChunkSize}
+use Rattle.relay_lines.specs.declared.command.LineFault.TheVariants.{Unknown, BadByte, BadArgument, NotOffered}
+use Rattle.relay_lines.specs.declared.command.LineFault.TheVariants.{BadChunkSize}
 use Rattle.relay_lines.specs.declared.chunk_argument.BdatArgument.{BdatArgument}
 use Rattle.relay_lines.specs.ChunkArgument.{SpellsBdat, bdat_argument_of}
 use Rattle.relay_lines.specs.declared.command.Verb.{Verb}

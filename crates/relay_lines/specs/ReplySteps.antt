@@ -1,5 +1,6 @@
 -- What a reader of replies holds between its calls, and what each step of it makes of a line.
-use Rattle.std.specs.Prelude.{◌≡◌, ◌≢◌, ℕ, ◌<◌, ◌≤◌, Bool, true, false, List, [], ◌∷◌, ◌++◌, length, drop, Option, None, Some}
+use Rattle.std.specs.Prelude.{◌≡◌, ◌≢◌, ℕ, ◌<◌, ◌≤◌, Bool, true, false, List, [], ◌∷◌, ◌++◌, length, drop, Option, None}
+use Rattle.std.specs.Prelude.{Some}
 use Rattle.relay_octets.specs.Line.{HasNoCrlf}
 use Rattle.relay_lines.specs.HeldLine.{Holds, HoldsLine}
 use Rattle.relay_lines.specs.Reply.{Reply, IsCode, SpellsLine, ReadsReply, code_digits, followed_lines}

@@ -1,6 +1,7 @@
 -- Words of a command line (RFC 5321, sections 2.4 and 4.1.1): how a line, without its CR LF, falls
 -- into parts.
-use Rattle.std.specs.Prelude.{◌≡◌, ◌↔◌, ℕ, ◌-◌, ◌≤◌, ◌==◌, nat_lt, Bool, IsTrue, not, ◌&&◌, ◌||◌, ◌⊎◌, List, [], ◌++◌, codes, length, take, drop, slice_index, slice_range, Option, Some, None, if◌then◌else◌}
+use Rattle.std.specs.Prelude.{◌≡◌, ◌↔◌, ℕ, ◌-◌, ◌≤◌, ◌==◌, nat_lt, Bool, IsTrue, not, ◌&&◌, ◌||◌, ◌⊎◌, List, [], ◌++◌}
+use Rattle.std.specs.Prelude.{codes, length, take, drop, slice_index, slice_range, Option, Some, None, if◌then◌else◌}
 use Rattle.std.specs.List.{list_all, position_or_len, prefix_len, suffix_len, AllPass}
 use Rattle.std.specs.Int.{is_in_range}
 use Rattle.std.specs.Char.{is_ascii_alphanumeric}

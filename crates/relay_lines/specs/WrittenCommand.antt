@@ -4,7 +4,8 @@ use Rattle.std.specs.Prelude.{◌≡◌, ℕ, ◌+◌, ◌^◌, ◌<◌, ◌≤�
 use Rattle.std.specs.List.{AllPass, suffix_len}
 use Rattle.relay_octets.specs.Line.{HasNoCrlf}
 use Rattle.relay_lines.specs.Word.{is_blank, is_printable, IsHostWord}
-use Rattle.relay_lines.specs.Command.{Command, Helo, Ehlo, Mail, Rcpt, Data, Bdat, Rset, Noop, Vrfy, Help, Quit, reading_of}
+use Rattle.relay_lines.specs.Command.{Command, Helo, Ehlo, Mail, Rcpt, Data, Bdat, Rset, Noop, Vrfy, Help, Quit}
+use Rattle.relay_lines.specs.Command.{reading_of}
 
 -- SP end-marker behind the size of the last chunk, and behind that of another nothing
 abbrev pub end_marker : Bool → List ℕ

@@ -1,6 +1,7 @@
 //! The argument of BDAT (RFC 3030, section 2).
 ghost use Rattle.std.specs.Prelude.{◌≡◌, ◌↔◌, MatchResult, IsTrue, Ok, Some, None};
-ghost use Rattle.relay_lines.specs.ChunkArgument.{SpellsBdat, are_digits, are_size_digits, bdat_argument_of, begins_with_bdat, chunk_size_of, size_of_digits, BeginsWithBdat};
+ghost use Rattle.relay_lines.specs.ChunkArgument.{SpellsBdat, are_digits, are_size_digits, bdat_argument_of};
+ghost use Rattle.relay_lines.specs.ChunkArgument.{begins_with_bdat, chunk_size_of, size_of_digits, BeginsWithBdat};
 ghost use Rattle.relay_lines.specs.declared.chunk_argument.BdatArgument.{BdatArgument};
 
 use crate::word::{argument_of, behind_keyword, first_word, is_word};

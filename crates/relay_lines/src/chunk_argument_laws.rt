@@ -1,5 +1,6 @@
 //! What is true of the argument of BDAT, whoever reads it.
-ghost use Rattle.relay_lines.specs.ChunkArgument.{BdatArgumentIsOfSpelling, BdatBeginningIsTested, DecimalIsChunkSize, ElevenDigitsAreTooMany, LeadingZeroSaysNothing, OneBdatArgument};
+ghost use Rattle.relay_lines.specs.ChunkArgument.{BdatArgumentIsOfSpelling, BdatBeginningIsTested, DecimalIsChunkSize};
+ghost use Rattle.relay_lines.specs.ChunkArgument.{ElevenDigitsAreTooMany, LeadingZeroSaysNothing, OneBdatArgument};
 
 /// What is read is spelled so, and what is spelled so is read.
 pub fn bdat_argument_is_of_spelling()

@@ -1,10 +1,12 @@
 ghost use Rattle.std.specs.Prelude.{◌≡◌, ◌++◌, OnOk, OnErr};
 ghost use Rattle.relay_octets.specs.Beginning.{Begins};
 ghost use Rattle.relay_octets.specs.Line.{crlf, line_text};
-ghost use Rattle.relay_lines.specs.Command.{verb_of, command_of, reading_of, answer_of, value_of, Bdat};
+ghost use Rattle.relay_lines.specs.Command.{verb_of, command_of, reading_of, reading_of_words, answer_of, value_of};
+ghost use Rattle.relay_lines.specs.Command.{Bdat};
 ghost use Rattle.relay_lines.specs.WrittenCommand.{written_command};
 
 use crate::chunk_argument::{BadChunkSize, BdatArgument};
+use crate::line::push_line;
 use crate::word::{
     are_printable, argument_of, behind_keyword, first_word, is_host_word, is_word,
     without_trailing_blanks,
@@ -63,7 +65,7 @@ pub enum LineFault {
 }
 
 /// What a command line begins with.
-#[derive(Clone, Copy, Debug, PartialEq, Eq)]
+#[derive(Clone, Copy)]
 enum Verb {
     Helo,
     Ehlo,
@@ -124,7 +126,7 @@ impl<'a> Command<'a> {
     /// Spaces and tabs at the end of the line are dropped. The verb is what stands before the first
     /// space, and several spaces may follow it. It and `FROM:` and `TO:` stand in any letter case
     /// (RFC 5321, section 2.4).
-    #[tactic(auto, unfolding(crate::specs::Command::reading_of, crate::specs::Command::reading_of_text, crate::specs::Command::reading_of_words))]
+    #[tactic(auto, unfolding(crate::specs::Command::reading_of, crate::specs::Command::reading_of_text))]
     pub fn parse(line: &'a [u8]) -> Result<Command<'a>, LineFault>
         ensures { answer_of result ≡ reading_of line.now }
     {
@@ -133,8 +135,16 @@ impl<'a> Command<'a> {
         if !are_printable(text) && !is_word(word, b"BDAT") {
             return Err(LineFault::BadByte);
         }
+        Command::of_words(word, argument_of(text))
+    }
+
+    /// What a word says as a verb, with an argument.
+    #[tactic(auto, unfolding(crate::specs::Command::reading_of_words))]
+    fn of_words(word: &[u8], argument: &'a [u8]) -> Result<Command<'a>, LineFault>
+        ensures { answer_of result ≡ reading_of_words word.now argument.now }
+    {
         match verb_of(word) {
-            Some(verb) => Command::of_verb(verb, argument_of(text)),
+            Some(verb) => Command::of_verb(verb, argument),
             None => Err(LineFault::Unknown),
         }
     }
@@ -224,16 +234,4 @@ fn push_bdat(out: &mut Vec<u8>, argument: BdatArgument) -> Result<(), AllocError
     } else {
         push_line(out, b"BDAT ", size, b"")
     }
-}
-
-/// Writes a line in three parts, each of which may be empty, and CR LF.
-fn push_line(out: &mut Vec<u8>, verb: &[u8], argument: &[u8], more: &[u8]) -> Result<(), AllocError>
-    ensures ok { OnOk result (out.new.items ≡ out.old.items
-        ++ line_text (verb.now ++ (argument.now ++ more.now))) }
-    ensures front { Begins out.old.items out.new.items }
-{
-    out.extend_from_slice(verb)?;
-    out.extend_from_slice(argument)?;
-    out.extend_from_slice(more)?;
-    out.extend_from_slice(b"\r\n")
 }

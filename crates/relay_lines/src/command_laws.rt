@@ -1,7 +1,9 @@
 //! What is true of command lines, whoever reads them.
 ghost use Rattle.relay_lines.specs.Word.{AddressLiteralIsTested, HostWordIsTested};
 ghost use Rattle.relay_lines.specs.WrittenCommand.{WrittenCommandIsRead};
-ghost use Rattle.relay_lines.specs.Command.{EveryLineSplits, SplitIsOne, ReadingIsOfWords, ReadingIsOfSpelling, BadByteIsFound, UnknownIsFound, BadArgumentIsFound, NotOfferedIsFound, BadChunkSizeIsFound, LetterCaseIsFree, CommandHasNoCrlf};
+ghost use Rattle.relay_lines.specs.Command.{EveryLineSplits, SplitIsOne, ReadingIsOfWords, ReadingIsOfSpelling};
+ghost use Rattle.relay_lines.specs.Command.{BadByteIsFound, UnknownIsFound, BadArgumentIsFound, NotOfferedIsFound};
+ghost use Rattle.relay_lines.specs.Command.{BadChunkSizeIsFound, LetterCaseIsFree, CommandHasNoCrlf};
 
 /// A line has a word and an argument.
 pub fn every_line_splits()

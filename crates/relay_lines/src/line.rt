@@ -1,6 +1,10 @@
+ghost use Rattle.std.specs.Prelude.{◌≡◌, ◌++◌, OnOk};
+ghost use Rattle.relay_octets.specs.Beginning.{Begins};
+ghost use Rattle.relay_octets.specs.Line.{line_text};
 ghost use Rattle.relay_lines.specs.LineCut.{CutsLine};
 
 use relay_octets::find_crlf;
+use std::alloc::AllocError;
 
 /// What a stream shows of its next line.
 #[derive(Clone, Copy, Debug, PartialEq, Eq)]
@@ -28,4 +32,21 @@ pub fn next_line(octets: &[u8], limit: usize) -> LineCut
         Some(place) => LineCut::Whole(place + 2),
         None => LineCut::TooLong,
     }
+}
+
+/// Writes a line in three parts, each of which may be empty, and CR LF.
+pub(crate) fn push_line(
+    out: &mut Vec<u8>,
+    front: &[u8],
+    text: &[u8],
+    more: &[u8],
+) -> Result<(), AllocError>
+    ensures ok { OnOk result (out.new.items ≡ out.old.items
+        ++ line_text (front.now ++ (text.now ++ more.now))) }
+    ensures front { Begins out.old.items out.new.items }
+{
+    out.extend_from_slice(front)?;
+    out.extend_from_slice(text)?;
+    out.extend_from_slice(more)?;
+    out.extend_from_slice(b"\r\n")
 }

@@ -1,4 +1,5 @@
-ghost use Rattle.std.specs.Prelude.{◌≡◌, ℕ, ◌∷◌, ◌++◌, ◌<◌, ◌≤◌, ◌↔◌, ◌||◌, ◌&&◌, nat_lt, List, [], length, take, MatchOption, IsTrue};
+ghost use Rattle.std.specs.Prelude.{◌≡◌, ℕ, ◌∷◌, ◌++◌, ◌<◌, ◌≤◌, ◌↔◌, ◌||◌, ◌&&◌, nat_lt, List, [], length, take};
+ghost use Rattle.std.specs.Prelude.{MatchOption, IsTrue};
 ghost use Rattle.relay_octets.specs.Line.{begins_with_lf};
 ghost use Rattle.relay_lines.specs.HeldLine.{HeldLine, Holds, HoldsLine, EndsLine, GoesOn};
 

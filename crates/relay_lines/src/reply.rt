@@ -2,8 +2,10 @@ ghost use Rattle.std.specs.Prelude.{◌≡◌, ◌<◌, ◌↔◌, ◌++◌, IsT
 ghost use Rattle.std.specs.List.{AllByRecursion};
 ghost use Rattle.relay_octets.specs.Beginning.{Begins};
 ghost use Rattle.relay_octets.specs.Line.{crlf};
-ghost use Rattle.relay_lines.specs.Reply.{IsReplyLine, code_digits, last_line, lines_of_reply, middle_line, one_line, reply_text};
+ghost use Rattle.relay_lines.specs.Reply.{IsReplyLine, code_digits, last_line, lines_of_reply, middle_line, one_line};
+ghost use Rattle.relay_lines.specs.Reply.{reply_text};
 
+use crate::line::push_line;
 use crate::line_buffer::LINE_LIMIT;
 use relay_octets::{Octets, find_crlf};
 use std::alloc::AllocError;
@@ -145,7 +147,7 @@ pub fn write_middle_line(out: &mut Vec<u8>, code: u16, text: &[u8]) -> Result<()
     ensures err { OnErr result (out.new.items ≡ out.old.items) }
 {
     let start = out.len();
-    let written = push_line(out, code, b"-", text, b"");
+    let written = push_reply_line(out, code, b"-", text, b"");
     if written.is_err() {
         out.truncate(start);
     }
@@ -162,7 +164,7 @@ fn push_lines(out: &mut Vec<u8>, code: u16, lines: &[Octets]) -> Result<(), Allo
         return Ok(());
     };
     for text in middle {
-        push_line(out, code, b"-", text.as_slice(), b"")?;
+        push_reply_line(out, code, b"-", text.as_slice(), b"")?;
     }
     push_last(out, code, last.as_slice(), b"")
 }
@@ -174,14 +176,14 @@ fn push_last(out: &mut Vec<u8>, code: u16, text: &[u8], more: &[u8]) -> Result<(
     ensures front { Begins out.old.items out.new.items }
 {
     if text.is_empty() && more.is_empty() {
-        push_line(out, code, b"", b"", b"")
+        push_reply_line(out, code, b"", b"", b"")
     } else {
-        push_line(out, code, b" ", text, more)
+        push_reply_line(out, code, b" ", text, more)
     }
 }
 
 /// Writes the code, the mark behind it, the text in two parts, and CR LF.
-fn push_line(
+fn push_reply_line(
     out: &mut Vec<u8>,
     code: u16,
     mark: &[u8],
@@ -193,10 +195,18 @@ fn push_line(
         ++ (code_digits code ++ mark.now ++ text.now ++ more.now ++ crlf)) }
     ensures front { Begins out.old.items out.new.items }
 {
-    let digit = |n: u16| b'0' + n as u8;
-    out.extend_from_slice(&[digit(code / 100), digit(code / 10 % 10), digit(code % 10)])?;
-    out.extend_from_slice(mark)?;
-    out.extend_from_slice(text)?;
-    out.extend_from_slice(more)?;
-    out.extend_from_slice(b"\r\n")
+    out.extend_from_slice(&code_digits(code))?;
+    push_line(out, mark, text, more)
+}
+
+/// The code's three digits.
+fn code_digits(code: u16) -> [u8; 3]
+    requires { code < 1000 }
+    ensures { result ≡ code_digits code }
+{
+    [
+        b'0' + (code / 100) as u8,
+        b'0' + (code / 10 % 10) as u8,
+        b'0' + (code % 10) as u8,
+    ]
 }

@@ -1,5 +1,8 @@
 //! What is true of replies, whoever reads or writes them.
-ghost use Rattle.relay_lines.specs.ReplyLaws.{BeginningIsCut, BeginningIsUnfinished, CutGoesOn, CutIsOne, CutStays, FaultIsOne, FaultStays, HeldIsUnfinished, NoReplyBeginsAnother, ReadIsCut, ReplyHasNoFault, UnfinishedHasNoFault, UnfinishedHasNoReply, WrittenIsRead};
+ghost use Rattle.relay_lines.specs.ReplyLaws.{BeginningIsCut, BeginningIsUnfinished, CutGoesOn, CutIsOne, CutStays};
+ghost use Rattle.relay_lines.specs.ReplyLaws.{FaultIsOne, FaultStays, HeldIsUnfinished, NoReplyBeginsAnother};
+ghost use Rattle.relay_lines.specs.ReplyLaws.{ReadIsCut, ReplyHasNoFault, UnfinishedHasNoFault, UnfinishedHasNoReply};
+ghost use Rattle.relay_lines.specs.ReplyLaws.{WrittenIsRead};
 
 /// What is written is read again as the same reply.
 pub fn written_is_read()

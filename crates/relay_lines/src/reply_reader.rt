@@ -1,8 +1,10 @@
-ghost use Rattle.std.specs.Prelude.{◌≡◌, ◌<◌, ◌≤◌, ◌⊎◌, ℕ, List, [], ◌∷◌, ◌++◌, length, take, drop, Err, IfOk, IfErr, OnOk, OnErr, OnSome, MatchOption, IsTrue, true, false};
+ghost use Rattle.std.specs.Prelude.{◌≡◌, ◌<◌, ◌≤◌, ◌⊎◌, ℕ, List, [], ◌∷◌, ◌++◌, length, take, drop, Err, IfOk, IfErr};
+ghost use Rattle.std.specs.Prelude.{OnOk, OnErr, OnSome, MatchOption, IsTrue, true, false};
 ghost use Rattle.relay_octets.specs.Line.{crlf};
 ghost use Rattle.relay_lines.specs.Reply.{Reply as Coded, IsReply, SpellsLine, followed_lines, made_of};
 ghost use Rattle.relay_lines.specs.ReplyReading.{Breaks, HasFault, IsNoReplyLine};
-ghost use Rattle.relay_lines.specs.ReplySteps.{HasFailed, HasRead, GivesLines, HasCode, HasMade, HasNoCode, HoldsEnded, HoldsRest, IsNextLine, KeepsLine};
+ghost use Rattle.relay_lines.specs.ReplySteps.{HasFailed, HasRead, GivesLines, HasCode, HasMade, HasNoCode, HoldsEnded};
+ghost use Rattle.relay_lines.specs.ReplySteps.{HoldsRest, IsNextLine, KeepsLine};
 
 use crate::line_buffer::{LINE_LIMIT, LineBuffer};
 use crate::reply::{REPLY_LINES, Reply};
@@ -57,7 +59,7 @@ pub struct ReplyCut {
 }
 
 /// What stands in front of a line's text.
-#[derive(Clone, Copy, Debug)]
+#[derive(Clone, Copy)]
 struct Front {
     code: u16,
     is_last: bool,

@@ -1,7 +1,10 @@
 //! Words of a command line (RFC 5321, sections 2.4 and 4.1.1), and what is shown of octets.
 ghost use Rattle.std.specs.Prelude.{◌≡◌, ◌≤◌, IfOk, length, map, option_copied};
 ghost use Rattle.std.specs.List.{AllPass};
-ghost use Rattle.relay_lines.specs.Word.{is_printable, shown, is_blank, is_domain_octet, is_literal_octet, are_printable, are_domain_octets, are_literal_octets, without_trailing_blanks, word_len, space_len, first_word, argument_of, is_word, behind_keyword, is_address_literal, is_host_word};
+ghost use Rattle.relay_lines.specs.Word.{is_printable, shown, is_blank, is_domain_octet, is_literal_octet};
+ghost use Rattle.relay_lines.specs.Word.{are_printable, are_domain_octets, are_literal_octets, without_trailing_blanks};
+ghost use Rattle.relay_lines.specs.Word.{word_len, space_len, first_word, argument_of, is_word, behind_keyword};
+ghost use Rattle.relay_lines.specs.Word.{is_address_literal, is_host_word};
 
 use std::alloc::{AllocError, Global};
 

@@ -1,5 +1,6 @@
 -- Two relays that meet: both ends by their histories, each of which has read a beginning of what the other wrote.
-use Rattle.std.specs.Prelude.{◌≡◌, ◌≢◌, ◌⊎◌, ◌<◌, ℕ, nat_le, Bool, true, List, [], ◌∷◌, ◌++◌, length, map, slice_get, option_to_list, if◌then◌else◌, Option, None, Some}
+use Rattle.std.specs.Prelude.{◌≡◌, ◌≢◌, ◌⊎◌, ◌<◌, ℕ, nat_le, Bool, true, List, [], ◌∷◌, ◌++◌, length, map, slice_get}
+use Rattle.std.specs.Prelude.{option_to_list, if◌then◌else◌, Option, None, Some}
 use Rattle.std.specs.List.{AllByRecursion, flat_map}
 use Rattle.relay_octets.specs.Beginning.{Begins}
 use Rattle.relay_lines.specs.Reply.{Reply, IsReply, reply_text}

@@ -1,6 +1,7 @@
 -- What two relays of ours say to each other: the script of an errand at a server, by what its table makes of each
 -- place.
-use Rattle.std.specs.Prelude.{◌≡◌, ℕ, nat_le, Bool, true, List, [], ◌∷◌, ◌++◌, length, if◌then◌else◌, is_some, slice_get, Some, Ok}
+use Rattle.std.specs.Prelude.{◌≡◌, ℕ, nat_le, Bool, true, List, [], ◌∷◌, ◌++◌, length, if◌then◌else◌, is_some}
+use Rattle.std.specs.Prelude.{slice_get, Some, Ok}
 use Rattle.relay_lines.specs.Reply.{Reply}
 use Rattle.relay_body.specs.DotText.{ends_in_line_end}
 use Rattle.relay_envelope.specs.declared.envelope.Envelope.{Envelope}

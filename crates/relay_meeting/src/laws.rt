@@ -1,5 +1,6 @@
 //! What is true of two relays that meet.
-ghost use Rattle.relay_meeting.specs.Joined.{ChildHoldsItsPlaces, OfferHoldsItsPlaces, TwoRelaysEnd, TwoRelaysMeet, WhatRelaysSay};
+ghost use Rattle.relay_meeting.specs.Joined.{ChildHoldsItsPlaces, OfferHoldsItsPlaces, TwoRelaysEnd, TwoRelaysMeet};
+ghost use Rattle.relay_meeting.specs.Joined.{WhatRelaysSay};
 ghost use Rattle.relay_meeting.specs.Meeting.{Meeting};
 ghost use Rattle.relay_meeting.specs.Script.{ClientWrites, EachPlaceIsTried, ScriptIsServers};
 

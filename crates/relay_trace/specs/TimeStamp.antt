@@ -1,6 +1,7 @@
 -- The time stamp line (RFC 5321, section 4.4): a `Received:` field of three lines, put before a
 -- content.
-use Rattle.std.specs.Prelude.{◌≡◌, ℕ, ◌+◌, ◌^◌, ◌<◌, ◌≤◌, List, [], ◌∷◌, ◌++◌, length, take, codes, decimal, slice_index}
+use Rattle.std.specs.Prelude.{◌≡◌, ℕ, ◌+◌, ◌^◌, ◌<◌, ◌≤◌, List, [], ◌∷◌, ◌++◌, length, take, codes, decimal}
+use Rattle.std.specs.Prelude.{slice_index}
 use Rattle.std.specs.List.{All}
 use Rattle.relay_octets.specs.Line.{HasNoCrlf, lines_text}
 use Rattle.relay_trace.specs.DateTime.{IsDateText}

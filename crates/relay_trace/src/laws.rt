@@ -1,8 +1,11 @@
 //! What is true of dates, header sections and time stamp lines, whoever writes them.
-ghost use Rattle.relay_trace.specs.DateTime.{DateTextHas31Octets, DateTextIsOne, DateTextTellsMoment, LastSecondIsShown};
+ghost use Rattle.relay_trace.specs.DateTime.{DateTextHas31Octets, DateTextIsOne, DateTextTellsMoment};
+ghost use Rattle.relay_trace.specs.DateTime.{LastSecondIsShown};
 ghost use Rattle.relay_trace.specs.DateLine.{DateTextHasNoCrlf};
-ghost use Rattle.relay_trace.specs.HeaderSection.{HeaderEndsAtEmptyLine, HeaderEndsWithText, HeaderGoesOn, LinesAreOne, ReceivedIsTested};
-ghost use Rattle.relay_trace.specs.TimeStamp.{PassingAddsOne, PassingKeepsHeader, TimeStampIsOne, TimeStampIsOneField, TimeStampIsShort};
+ghost use Rattle.relay_trace.specs.HeaderSection.{HeaderEndsAtEmptyLine, HeaderEndsWithText, HeaderGoesOn, LinesAreOne};
+ghost use Rattle.relay_trace.specs.HeaderSection.{ReceivedIsTested};
+ghost use Rattle.relay_trace.specs.TimeStamp.{PassingAddsOne, PassingKeepsHeader, TimeStampIsOne, TimeStampIsOneField};
+ghost use Rattle.relay_trace.specs.TimeStamp.{TimeStampIsShort};
 
 /// A moment has one date text.
 pub fn date_text_is_one()

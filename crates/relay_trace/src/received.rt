@@ -1,6 +1,7 @@
 ghost use Rattle.std.specs.Prelude.{◌≡◌, ◌++◌, decimal, IfOk, IfErr, OnOk};
 ghost use Rattle.relay_octets.specs.Line.{line_text};
-ghost use Rattle.relay_trace.specs.TimeStamp.{IsTimeStamp, address_text, by_line, date_line, from_line, protocol_word, stamp_of};
+ghost use Rattle.relay_trace.specs.TimeStamp.{IsTimeStamp, address_text, by_line, date_line, from_line, protocol_word};
+ghost use Rattle.relay_trace.specs.TimeStamp.{stamp_of};
 
 use crate::date::date_octets;
 use crate::moment::{Moment, TraceFault};

@@ -3,7 +3,8 @@ use Rattle.std.specs.Prelude.{ℕ, zero, suc, List}
 use Rattle.relay_disk.specs.Device.{DiskWords}
 use Rattle.relay_book.specs.declared.change.Change.{Change}
 use Rattle.relay_world.specs.Bound.{IsBound}
-use Rattle.relay_world.specs.Crashes.{CrashesAtRest, CrashesCompacting, CrashesGivingUp, CrashesHearing, CrashesLosing, CrashesReading}
+use Rattle.relay_world.specs.Crashes.{CrashesAtRest, CrashesCompacting, CrashesGivingUp, CrashesHearing, CrashesLosing}
+use Rattle.relay_world.specs.Crashes.{CrashesReading}
 use Rattle.relay_world.specs.Once.{Happen, IsTriedOnce}
 use Rattle.relay_world.specs.Stops.{HasCompacted, HasReopened}
 use Rattle.relay_world.specs.World.{World}

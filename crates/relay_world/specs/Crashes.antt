@@ -1,6 +1,7 @@
 -- a stop of a node in a call, as one event: the node is down, its sessions are gone, its attempts dropped, and all its
 -- links are broken. The nodes at their other ends learn of it behind its opening, in events of their own.
-use Rattle.std.specs.Prelude.{◌≡◌, ℕ, nat_eq, Bool, true, false, List, length, map, Option, None, Some, if◌then◌else◌, slice_get}
+use Rattle.std.specs.Prelude.{◌≡◌, ℕ, nat_eq, Bool, true, false, List, length, map, Option, None, Some, if◌then◌else◌}
+use Rattle.std.specs.Prelude.{slice_get}
 use Rattle.relay_disk.specs.Device.{DiskWords}
 use Rattle.relay_disk.specs.declared.disks.Disks.{Disks}
 use Rattle.relay_server.specs.Dialogue.{Said}
@@ -18,7 +19,8 @@ use Rattle.relay_world.specs.Bound.{IsBound}
 use Rattle.relay_world.specs.HangUp.{broken_link, hung_up_attempt, hung_up_link}
 use Rattle.relay_world.specs.Steps.{AttemptOf, IsPut, SessionOf, waiting_down, waiting_up}
 use Rattle.relay_world.specs.Stops.{IsLeftBy}
-use Rattle.relay_world.specs.World.{Down, FromClient, FromLoss, FromNoHop, FromReplies, Host, Origin, Undecided, Up, World}
+use Rattle.relay_world.specs.World.{Down, FromClient, FromLoss, FromNoHop, FromReplies, Host, Origin, Undecided, Up}
+use Rattle.relay_world.specs.World.{World}
 
 -- whether a server end is this node's
 abbrev pub serves_for : ℕ → Option ServerEnd → Bool

@@ -82,7 +82,8 @@ LosingRecordBreaks {D} honest words =
     → Awaits honest words hears.of.before.records changes pending row → left.bodies ≡ row.bodies
     → hears.received.change ≡ None
 
--- And an attempt that has read replies, of a node that awaits changes and whose row has the bodies that it had, goes on.
+-- And an attempt that has read replies, of a node that awaits changes and whose row has the bodies that it had, goes
+-- on.
 abbrev pub LosingOutcomeBreaks : {D : Type 0} → Type 0 → DiskWords D → Type 0
 LosingOutcomeBreaks {D} honest words =
     (at : ℕ) (old new : World D) (node : ℕ) (piece : Piece) (row left : Row) (changes pending : List Change)

@@ -23,7 +23,8 @@ use Rattle.relay_world.specs.Bound.{IsBound}
 use Rattle.relay_world.specs.Crashes.{let_go}
 use Rattle.relay_world.specs.Ledger.{left_lines, report_told}
 use Rattle.relay_node.specs.StagedReplies.{RepliesInto}
-use Rattle.relay_world.specs.Steps.{AttemptOf, DropsAttempt, EndsSession, IsPut, IsPutAt, SessionOf, heard_link, read_link, waiting_down, waiting_up}
+use Rattle.relay_world.specs.Steps.{AttemptOf, DropsAttempt, EndsSession, IsPut, IsPutAt, SessionOf, heard_link}
+use Rattle.relay_world.specs.Steps.{read_link, waiting_down, waiting_up}
 use Rattle.relay_world.specs.Stops.{IsLeftBy, OnlyHostsChange}
 use Rattle.relay_world.specs.World.{Host, Up, World, link_at}
 

@@ -26,8 +26,10 @@ use Rattle.relay_world.specs.HangUp.{HangsUp}
 use Rattle.relay_world.specs.Ledger.{accepts_on}
 use Rattle.relay_world.specs.HopLinks.{AreLinkedToHops}
 use Rattle.relay_world.specs.Passing.{Rules}
-use Rattle.relay_world.specs.Steps.{Breaks, CutsOff, DropsAttempt, EndsSession, HasGivenUp, HasHeard, HasLost, HasOpened, HasRead, HasStarted, HasTicked, HasWritten}
-use Rattle.relay_world.specs.Stops.{HasReopened, HasStopped, StaysDown, StaysUp, StopsGivingUp, StopsHearing, StopsLosing, StopsReading}
+use Rattle.relay_world.specs.Steps.{Breaks, CutsOff, DropsAttempt, EndsSession, HasGivenUp, HasHeard, HasLost}
+use Rattle.relay_world.specs.Steps.{HasOpened, HasRead, HasStarted, HasTicked, HasWritten}
+use Rattle.relay_world.specs.Stops.{HasReopened, HasStopped, StaysDown, StaysUp, StopsGivingUp, StopsHearing}
+use Rattle.relay_world.specs.Stops.{StopsLosing, StopsReading}
 use Rattle.relay_world.specs.World.{Down, FromNoHop, Host, Undecided, Up, World, link_at}
 
 -- an attempt of this fate claims a place: it goes on, or its replies ended it and the place was taken

@@ -1,6 +1,7 @@
 -- What a stop of a node, and its opening, do to two relays and their links. A node that stops in a call leaves one
 -- change undecided, and its next opening tells by its next number whether the change is there.
-use Rattle.std.specs.Prelude.{◌≡◌, ◌≢◌, ◌⊎◌, ℕ, ◌+◌, ◌≤◌, ◌<◌, true, List, [], ◌∷◌, ◌++◌, length, Option, Some, None, slice_get}
+use Rattle.std.specs.Prelude.{◌≡◌, ◌≢◌, ◌⊎◌, ℕ, ◌+◌, ◌≤◌, ◌<◌, true, List, [], ◌∷◌, ◌++◌, length, Option, Some, None}
+use Rattle.std.specs.Prelude.{slice_get}
 use Rattle.relay_disk.specs.Device.{DiskWords}
 use Rattle.relay_disk.specs.declared.disks.Disks.{Disks}
 use Rattle.relay_disk.specs.Disks.{ImagesWithin, seen_of}
@@ -25,7 +26,8 @@ use Rattle.relay_world.specs.declared.link.ServerEnd.{ServerEnd}
 use Rattle.relay_world.specs.Bound.{HasSession, HasSlot, IsBound, StandsAt}
 use Rattle.relay_world.specs.Ledger.{lines_of}
 use Rattle.relay_world.specs.Steps.{AttemptOf, IsPut, IsPutAt, SessionOf, waiting_down, waiting_up}
-use Rattle.relay_world.specs.World.{Down, FromClient, FromLoss, FromNoHop, FromReplies, Host, Origin, Undecided, Up, World, link_at}
+use Rattle.relay_world.specs.World.{Down, FromClient, FromLoss, FromNoHop, FromReplies, Host, Origin, Undecided, Up}
+use Rattle.relay_world.specs.World.{World, link_at}
 
 -- Nothing else of a node goes on when it stops: its sessions on other links and its other attempts end first, in events
 -- of their own that leave the node as it was, and those links break. So an event is of one node and of one link at

@@ -2,8 +2,12 @@
 ghost use Rattle.relay_world.specs.Content.{ContentIsKept};
 ghost use Rattle.relay_world.specs.Custody.{CustodyIsKept};
 ghost use Rattle.relay_world.specs.HangUp.{HangingUpEnds, HangingUpKeeps};
-ghost use Rattle.relay_world.specs.Stops.{DownIsNotRefused, ReopeningKeeps, StayingDownKeeps, StayingUpKeeps, StoppingGivingUpKeeps, StoppingHearingKeeps, StoppingKeeps, StoppingLosingKeeps, StoppingReadingKeeps};
-ghost use Rattle.relay_world.specs.Steps.{BreakingKeeps, CuttingOffKeeps, DroppingKeeps, EndingKeeps, GivingUpKeeps, HearingKeeps, LosingKeeps, OpeningKeeps, ReadingKeeps, StartingKeeps, TickingKeeps, WritingKeeps};
+ghost use Rattle.relay_world.specs.Stops.{DownIsNotRefused, ReopeningKeeps, StayingDownKeeps, StayingUpKeeps};
+ghost use Rattle.relay_world.specs.Stops.{StoppingGivingUpKeeps, StoppingHearingKeeps, StoppingKeeps};
+ghost use Rattle.relay_world.specs.Stops.{StoppingLosingKeeps, StoppingReadingKeeps};
+ghost use Rattle.relay_world.specs.Steps.{BreakingKeeps, CuttingOffKeeps, DroppingKeeps, EndingKeeps, GivingUpKeeps};
+ghost use Rattle.relay_world.specs.Steps.{HearingKeeps, LosingKeeps, OpeningKeeps, ReadingKeeps, StartingKeeps};
+ghost use Rattle.relay_world.specs.Steps.{TickingKeeps, WritingKeeps};
 ghost use Rattle.relay_world.specs.Crashes.{CrashingInHearingKeeps, CrashingInLosingKeeps, CrashingInReadingKeeps};
 ghost use Rattle.relay_world.specs.Groups.{HearingAllKeeps, ReopeningBehindGroupKeeps};
 

@@ -2,9 +2,11 @@
 ghost use Rattle.relay_world.specs.Causes.{LeavingIsCaused};
 ghost use Rattle.relay_world.specs.Chain.{ChainsAreShort};
 ghost use Rattle.relay_world.specs.Copies.{CopiesAreFew};
-ghost use Rattle.relay_world.specs.CrashRuns.{CompactingHappens, CrashingHappens, CrashingKeepsOnce, RestingCrashHappens};
+ghost use Rattle.relay_world.specs.CrashRuns.{CompactingHappens, CrashingHappens, CrashingKeepsOnce};
+ghost use Rattle.relay_world.specs.CrashRuns.{RestingCrashHappens};
 ghost use Rattle.relay_world.specs.Growth.{GrownListsBegin, RunsGrow};
-ghost use Rattle.relay_world.specs.Forbidden.{DroppingBreaks, ForgettingBreaks, LeadingElsewhereBreaks, LosingOutcomeBreaks, LosingRecordBreaks, LosingRowBreaks};
+ghost use Rattle.relay_world.specs.Forbidden.{DroppingBreaks, ForgettingBreaks, LeadingElsewhereBreaks};
+ghost use Rattle.relay_world.specs.Forbidden.{LosingOutcomeBreaks, LosingRecordBreaks, LosingRowBreaks};
 ghost use Rattle.relay_world.specs.Invented.{InventingBreaks};
 ghost use Rattle.relay_world.specs.HopLinks.{HopLinksAtFirst};
 ghost use Rattle.relay_world.specs.Once.{HopLinksAreKept, OnceAtFirst, OnceIsKept, RunsKeepAll};

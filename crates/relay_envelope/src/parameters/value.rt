@@ -1,6 +1,7 @@
 ghost use Rattle.std.specs.Prelude.{◌≡◌};
 ghost use Rattle.std.specs.List.{list_all};
-ghost use Rattle.relay_envelope.specs.Parameters.{address_of, address_type_of, is_address_type, is_envid, is_orcpt, is_original_address, is_readable_xtext, is_type_octet};
+ghost use Rattle.relay_envelope.specs.Parameters.{address_of, address_type_of, is_address_type, is_envid, is_orcpt};
+ghost use Rattle.relay_envelope.specs.Parameters.{is_original_address, is_readable_xtext, is_type_octet};
 
 use crate::part::first_part;
 use crate::xtext::first_octet;

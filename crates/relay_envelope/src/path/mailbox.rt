@@ -1,6 +1,8 @@
-ghost use Rattle.std.specs.Prelude.{◌≡◌, ◌≢◌, ◌<◌, ◌≤◌, ◌↔◌, ◌++◌, ◌∷◌, [], true, false, length, List, ℕ, IsTrue, MatchOption};
+ghost use Rattle.std.specs.Prelude.{◌≡◌, ◌≢◌, ◌<◌, ◌≤◌, ◌↔◌, ◌++◌, ◌∷◌, [], true, false, length, List, ℕ, IsTrue};
+ghost use Rattle.std.specs.Prelude.{MatchOption};
 ghost use Rattle.std.specs.List.{after_last, list_any};
-ghost use Rattle.relay_envelope.specs.Mailbox.{IsDomain, IsDomainName, IsLocalPart, IsMailbox, SplitsAtLast, SplitsRoute, is_at, mailbox_text, stands_in};
+ghost use Rattle.relay_envelope.specs.Mailbox.{IsDomain, IsDomainName, IsLocalPart, IsMailbox, SplitsAtLast};
+ghost use Rattle.relay_envelope.specs.Mailbox.{SplitsRoute, is_at, mailbox_text, stands_in};
 
 use super::brackets::inside_brackets;
 use crate::row::{is_row, row_before};
