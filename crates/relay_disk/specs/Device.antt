@@ -1,5 +1,6 @@
 -- Disks: what a call does to the octets of a disk, and what a stop at any moment may make of it.
-use Rattle.std.specs.Prelude.{◌≡◌, ◌⊎◌, ◌↔◌, ℕ, ◌+◌, ◌-◌, ◌^◌, ◌<◌, ◌≤◌, min, max, List, ◌++◌, length, take, drop, slice_index, Option, Some, Result, OnOk, OnErr, IsErr}
+use Rattle.std.specs.Prelude.{◌≡◌, ◌⊎◌, ◌↔◌, ℕ, ◌+◌, ◌-◌, ◌^◌, ◌<◌, ◌≤◌, min, max, List, ◌++◌, length, take, drop}
+use Rattle.std.specs.Prelude.{slice_index, Option, Some, Result, OnOk, OnErr, IsErr}
 use Rattle.std.specs.Option.{option_map}
 use Rattle.relay_disk.specs.declared.disk.DiskFault.{DiskFault}
 

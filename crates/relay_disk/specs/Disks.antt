@@ -4,7 +4,8 @@ use Rattle.relay_disk.specs.declared.disk.DiskFault.{DiskFault}
 use Rattle.relay_disk.specs.declared.disks.Disks.{Disks}
 use Rattle.relay_disk.specs.declared.disks.Side.{Side}
 use Rattle.relay_disk.specs.declared.disks.Side.TheVariants.{First, Second}
-use Rattle.relay_disk.specs.Device.{DiskWords, Elapses, Only, OnlyFuseChanges, Fails as DiskFails, FailsNot as DiskFailsNot, IsSettled as DiskIsSettled}
+use Rattle.relay_disk.specs.Device.{DiskWords, Elapses, Only, OnlyFuseChanges, Fails as DiskFails}
+use Rattle.relay_disk.specs.Device.{FailsNot as DiskFailsNot, IsSettled as DiskIsSettled}
 
 -- the other side
 abbrev pub turned : Side → Side

@@ -1,7 +1,9 @@
 // A disk as a spool sees it: what a read gives, and what a stop at any moment may leave.
-ghost use Rattle.std.specs.Prelude.{◌≡◌, ◌+◌, ◌≤◌, ℕ, List, length, take, drop, None, Some, IfOk, OnOk, OnErr, MatchResult};
+ghost use Rattle.std.specs.Prelude.{◌≡◌, ◌+◌, ◌≤◌, ℕ, List, length, take, drop, None, Some, IfOk, OnOk, OnErr};
+ghost use Rattle.std.specs.Prelude.{MatchResult};
 ghost use Rattle.std.specs.Result.{result_ok};
-ghost use Rattle.relay_disk.specs.Device.{DiskWords, written, Writes, Cuts, IsSettled, Steps, AddsNoImage, ImagesWithin, FailsNot, CountsFailure, Burns, OnlyFuseChanges, Rises};
+ghost use Rattle.relay_disk.specs.Device.{DiskWords, written, Writes, Cuts, IsSettled, Steps, AddsNoImage};
+ghost use Rattle.relay_disk.specs.Device.{ImagesWithin, FailsNot, CountsFailure, Burns, OnlyFuseChanges, Rises};
 
 use std::alloc::AllocFailed;
 use thiserror::Error;

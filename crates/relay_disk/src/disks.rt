@@ -1,7 +1,8 @@
 // Two disks that are stopped together.
 ghost use Rattle.std.specs.Prelude.{◌≡◌, None, Some, IfOk, MatchResult};
 ghost use Rattle.relay_disk.specs.Device.{OnlyFuseChanges};
-ghost use Rattle.relay_disk.specs.Disks.{AddsNoImage, FailsNot, ImagesWithin, IsSettled, IsTurned, calls_left_of, may_leave_of, seen_of};
+ghost use Rattle.relay_disk.specs.Disks.{AddsNoImage, FailsNot, ImagesWithin, IsSettled, IsTurned, calls_left_of};
+ghost use Rattle.relay_disk.specs.Disks.{may_leave_of, seen_of};
 
 use crate::{Disk, Reboot};
 use std::alloc::AllocFailed;

@@ -7,7 +7,7 @@ use crate::{Disk, DiskFault};
 use std::fs::{File, OpenOptions, TryLockError};
 use std::io;
 use std::os::fd::{AsRawFd, RawFd};
-use std::os::unix::fs::{FileExt, OpenOptionsExt};
+use std::os::unix::fs::{FileExt, MetadataExt, OpenOptionsExt};
 use std::path::Path;
 use std::rt::Files;
 
@@ -28,6 +28,8 @@ pub struct FileDisk {
     file: File,
     failures: u64,
     sync_failed: bool,
+    /// The octet that reads as 0 and as the last of the file, where not all of the file is read.
+    last: Option<usize>,
 }
 
 impl FileDisk {
@@ -76,6 +78,7 @@ impl FileDisk {
             file,
             failures: 0,
             sync_failed: false,
+            last: None,
         })
     }
 
@@ -87,6 +90,22 @@ impl FileDisk {
             Err(TryLockError::WouldBlock) => Ok(false),
             Err(TryLockError::Error(error)) => Err(error),
         }
+    }
+
+    /// Reads the file from now on as it was when the octet at this place was its last, and 0. Where that is a gate of a
+    /// spool, what was appended after it isn't read. Writes are as before.
+    pub fn reads_up_to(&mut self, place: usize)
+        ensures failures { failures_of self.new ≡ failures_of self.old }
+        ensures syncs { sync_failed self.new ≡ sync_failed self.old }
+    {
+        self.last = Some(place);
+    }
+
+    /// Whether both are one file under two names, by hard or symbolic links.
+    pub fn is_same_file(&self, other: &FileDisk) -> io::Result<bool> {
+        let own = self.file.metadata()?;
+        let others = other.file.metadata()?;
+        Ok(own.dev() == others.dev() && own.ino() == others.ino())
     }
 }
 
@@ -122,7 +141,11 @@ impl Disk for FileDisk {
         ensures syncs { sync_failed self.new ≡ sync_failed self.old }
     {
         let size = self.file.metadata().map(|metadata| metadata.len() as usize);
-        counted(&mut self.failures, size)
+        let answer = counted(&mut self.failures, size);
+        match (answer, self.last) {
+            (Ok(size), Some(last)) => Ok(size.min(last.saturating_add(1))),
+            (answer, _) => answer,
+        }
     }
 
     fn read(&mut self, place: usize, into: &mut [u8]) -> Result<(), DiskFault>
@@ -130,6 +153,11 @@ impl Disk for FileDisk {
         ensures syncs { sync_failed self.new ≡ sync_failed self.old }
     {
         let answer = self.file.read_exact_at(into, place as u64);
+        if let Some(last) = self.last {
+            if place <= last && last - place < into.len() {
+                into[last - place] = 0;
+            }
+        }
         counted(&mut self.failures, answer)
     }
 

@@ -1,5 +1,6 @@
 // A disk in memory. It stores its calls, so that what a stop may leave of it is known at each moment.
-ghost use Rattle.std.specs.Prelude.{◌≡◌, ◌⊎◌, ◌↔◌, ◌-◌, ◌<◌, ◌≤◌, true, [], ◌∷◌, length, take, reverse, None, Some, IsErr, OnOk, OnErr};
+ghost use Rattle.std.specs.Prelude.{◌≡◌, ◌⊎◌, ◌↔◌, ◌-◌, ◌<◌, ◌≤◌, true, [], ◌∷◌, length, take, reverse, None, Some};
+ghost use Rattle.std.specs.Prelude.{IsErr, OnOk, OnErr};
 ghost use Rattle.std.specs.Option.{option_map};
 ghost use Rattle.std.specs.Vec.{vec_len, vec_capacity};
 ghost use Rattle.relay_disk.specs.Device.{written};
@@ -209,10 +210,12 @@ fn cut_to(calls: &mut Vec<Call>, image: &mut Vec<u8>, size: usize) -> Result<(),
 }
 
 impl Disk for MemoryDisk {
-    ghost use Rattle.std.specs.Prelude.{◌≡◌, ◌⊎◌, ◌≤◌, ◌+◌, if◌then◌else◌, length, take, drop, Some, is_ok, IfOk, IsErr, OnOk, OnErr};
+    ghost use Rattle.std.specs.Prelude.{◌≡◌, ◌⊎◌, ◌≤◌, ◌+◌, if◌then◌else◌, length, take, drop, Some, is_ok, IfOk};
+    ghost use Rattle.std.specs.Prelude.{IsErr, OnOk, OnErr};
     ghost use Rattle.relay_disk.specs.declared.call.Call.TheVariants.{Write, FailedWrite, Cut, Sync};
     ghost use Rattle.relay_disk.specs.Device.{written, AddsNoImage, CountsFailure, Burns};
-    ghost use Rattle.relay_disk.specs.Memory.{image_of, fuse_of, memory_words, IsBlown, IsFull, TakesMemory, Stores, KeepsAll};
+    ghost use Rattle.relay_disk.specs.Memory.{image_of, fuse_of, memory_words, IsBlown, IsFull, TakesMemory, Stores};
+    ghost use Rattle.relay_disk.specs.Memory.{KeepsAll};
     ghost use Rattle.relay_disk.specs.MemoryLaws.{sees_image, counts_image, leaves_image};
 
     ghost honest = { Unit {0} };

@@ -65,7 +65,8 @@ impl<D: Disk> OnceDisk<D> {
 
 impl<D: Disk> Disk for OnceDisk<D> {
     ghost use Rattle.std.specs.Prelude.{◌≡◌, ◌+◌, ◌≤◌, length, take, drop, IfOk, OnOk, OnErr};
-    ghost use Rattle.relay_disk.specs.Device.{AddsNoImage, CountsFailure, Cuts, IsSettled, OnlyFuseChanges, Steps, Writes, written};
+    ghost use Rattle.relay_disk.specs.Device.{AddsNoImage, CountsFailure, Cuts, IsSettled, OnlyFuseChanges, Steps};
+    ghost use Rattle.relay_disk.specs.Device.{Writes, written};
     ghost use Rattle.relay_disk.specs.Once.{FailsOnce, once_words};
 
     ghost honest = { D.honest };

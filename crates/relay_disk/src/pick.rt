@@ -1,5 +1,6 @@
 // The image that a stop leaves, from the stored calls and the number that picks it.
-ghost use Rattle.std.specs.Prelude.{◌≡◌, ◌<◌, ◌≤◌, ◌^◌, max, true, if◌then◌else◌, length, reverse, slice_index, slice_index_or, IfOk, IfNone, IfSome};
+ghost use Rattle.std.specs.Prelude.{◌≡◌, ◌<◌, ◌≤◌, ◌^◌, max, true, if◌then◌else◌, length, reverse, slice_index};
+ghost use Rattle.std.specs.Prelude.{slice_index_or, IfOk, IfNone, IfSome};
 ghost use Rattle.relay_disk.specs.MayLeave.{seen_after, are_within, synced_after};
 ghost use Rattle.relay_disk.specs.Pick.{is_written, is_changed, reach, changed_octet, octet_at, octet_left, IsPicked};
 
