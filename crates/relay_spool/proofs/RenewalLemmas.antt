@@ -1,10 +1,10 @@
 -- What a stop leaves of a disk that is written anew, and which of two disks is taken then.
-use Rattle.std.proofs.Common.{Result, Ok, Err, OnOk, ◌≡◌, ◌≢◌, ◌⊎◌, ℕ, suc, ◌+◌, ◌<◌, ◌≤◌, min, List, [], ◌∷◌, ◌++◌, length, take, drop, slice_index, refl, sym, subst, ap, ◌∙◌, inl, inr, ⊎_elim, arith, append_assoc, append-nil, length-append, length-take, take_at, take-take, drop_of_length-le, get_or-take}
+use Rattle.std.proofs.Common.{◌≡◌, ◌≢◌, ◌⊎◌, ℕ, suc, ◌<◌, ◌≤◌, min, List, [], ◌∷◌, ◌++◌, length, take, drop, slice_index, refl, sym, subst, ap, ◌∙◌, inl, inr, ⊎_elim, arith, append_assoc, append-nil, length-append, length-take, take_at, take-take, drop_of_length-le, get_or-take}
 use Rattle.std.proofs.lemmas.Bool.{cases_eq}
 use Rattle.relay_disk.specs.Device.{DiskWords, AddsNoImage, IsSettled, Steps, written, Writes, Cuts, WritesLeaveTheRest}
 use Rattle.relay_spool.specs.Image.{signature, IsImageOf}
-use Rattle.relay_spool.specs.Run.{AtEachMoment, Calls, Makes}
-use Rattle.relay_spool.proofs.RunLemmas.{OnlyNow, all_calls_on, calls_on, started, goes_on, joined, weakened}
+use Rattle.relay_spool.specs.Run.{AtEachMoment}
+use Rattle.relay_spool.proofs.RunLemmas.{OnlyNow, started, goes_on, joined, weakened}
 use Rattle.relay_spool.specs.Head.{generation_in, generation_of, HasOpenHead, IsRenewal, HasHeadGate, IsFilled, IsNotOpen, IsClosedOr, IsOldOrNew, renewed}
 use Rattle.relay_spool.proofs.ImageLemmas.{cut_at, zero_is_not_one}
 use Rattle.relay_spool.proofs.LinkLemmas.{take-written, drop-written, length-written}
@@ -157,6 +157,10 @@ module _ {D : Type 0} (words : DiskWords D) where
       stepped old old mid HasClosedGate (Cuts 9) cutting
       (started words old HasClosedGate now (λ image left. subst HasClosedGate (sym (only image left)) has)) steps
 
+  pub cut_short : (old new : D) → OnlyNow words old → IsSettled words old → HasClosedGate (words.seen old) → Steps words (Cuts 9) old new
+      → AtEachMoment words old new IsNotOpen
+  cut_short old new now only has cuts = weakened words old new HasClosedGate IsNotOpen not_open (cut_run old new now only has cuts)
+
   pub fill_run : (old cut new : D) (count : ℕ) → OnlyNow words old → IsSettled words old → HasClosedGate (words.seen old) → Steps words (Cuts 9) old cut
       → Steps words (Writes 9 count) cut new → AtEachMoment words old new IsNotOpen
   fill_run old cut new count now only has cuts writes =
@@ -197,16 +201,3 @@ module _ {D : Type 0} (words : DiskWords D) where
   both_runs old mid new octets one two =
       joined words old mid new (IsOldOrNew (words.seen old) (renewed octets)) (closing_run old mid octets one)
       (weakened words mid new (IsClosedOr (renewed octets)) (IsOldOrNew (words.seen old) (renewed octets)) (λ image is. inr is) two)
-
-  after_ok : {T E : Type 0} (result : Result T E) (first second : ℕ) (old mid new : D) → Calls words first old mid → OnOk result (Calls words second mid new)
-      → OnOk result (Calls words (first + second) old new)
-  after_ok (Ok value) first second old mid new one two = all_calls_on words first second old mid new one two
-  after_ok (Err fault) first second old mid new one two = tt
-
-  -- the calls of a run, behind those of one that made all of its own
-  pub makes_then : {T E : Type 0} (result : Result T E) (first second : ℕ) (old mid new : D) → Calls words first old mid → Makes words second mid new result
-      → Makes words (first + second) old new result
-  makes_then result first second old mid new one two = record {
-    at_most = calls_on words first second old mid new (first, omega arith, one) two.at_most;
-    ok = after_ok result first second old mid new one two.ok;
-  }

@@ -1,5 +1,6 @@
 -- The heads of a spool's disks, and a disk that is written anew with one body.
-use Rattle.std.specs.Prelude.{◌≡◌, ◌≢◌, ◌⊎◌, ℕ, ◌≤◌, List, [], ◌∷◌, ◌++◌, length, take, drop, slice_index, Option, None, Some}
+use Rattle.std.specs.Prelude.{◌≡◌, ◌≢◌, ◌⊎◌, ℕ, ◌≤◌, List, [], ◌∷◌, ◌++◌, length, take, drop, slice_index, Option, None}
+use Rattle.std.specs.Prelude.{Some}
 use Rattle.std.specs.Int.{w64, from_be_bytes}
 use Rattle.relay_spool.specs.declared.taken.HeadGate.{HeadGate}
 use Rattle.relay_spool.specs.declared.taken.HeadGate.TheVariants.{Closed, Open}

@@ -6,7 +6,8 @@ use Rattle.relay_disk.specs.declared.disks.Side.TheVariants.{First, Second}
 use Rattle.relay_disk.specs.Disks.{Images, mine, other, turned}
 use Rattle.relay_spool.specs.declared.taken.Taken.{Taken}
 use Rattle.relay_spool.specs.declared.taken.HeadGate.TheVariants.{Open}
-use Rattle.relay_spool.specs.Image.{IsDamagedAt as IsDiskDamagedAt, IsImageOf as IsDiskImageOf, IsNoSpool as IsDiskNoSpool, Reading, size_of}
+use Rattle.relay_spool.specs.Image.{IsDamagedAt as IsDiskDamagedAt, IsImageOf as IsDiskImageOf}
+use Rattle.relay_spool.specs.Image.{IsNoSpool as IsDiskNoSpool, Reading, size_of}
 use Rattle.relay_spool.specs.Image.Reading.{Bodies, NoSpool, DamagedAt}
 use Rattle.relay_spool.specs.Head.{HasOpenHead, IsGateOf, generation_of}
 

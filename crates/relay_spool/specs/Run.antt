@@ -6,7 +6,8 @@ use Rattle.relay_disk.specs.Device.{DiskWords, EachImage, EachImageSince, Fails,
 use Rattle.relay_spool.specs.declared.fault.SpoolFault.{SpoolFault}
 use Rattle.relay_spool.specs.declared.fault.SpoolFault.TheVariants.{Device, NoMemory, Damaged, Full}
 use Rattle.relay_spool.specs.declared.fault.ReadFault.{ReadFault}
-use Rattle.relay_spool.specs.declared.fault.ReadFault.TheVariants.{Device as ReadDevice, NoMemory as ReadNoMemory, Damaged as ReadDamaged}
+use Rattle.relay_spool.specs.declared.fault.ReadFault.TheVariants.{Device as ReadDevice, NoMemory as ReadNoMemory}
+use Rattle.relay_spool.specs.declared.fault.ReadFault.TheVariants.{Damaged as ReadDamaged}
 use Rattle.relay_spool.specs.Image.{IsDamagedAt, IsImageOf, IsTooLarge}
 
 -- what a reader's fault is answered as

@@ -1,9 +1,11 @@
 // An empty spool on two empty disks.
 ghost use Rattle.std.specs.Prelude.{◌≡◌, ◌≢◌, [], length, OnOk, IfErr, IfOk, MatchBool, MatchResult};
-ghost use Rattle.relay_disk.specs.Device.{CountsFailure as CountsDiskFailure, IsSettled as IsDiskSettled, OnlyFuseChanges};
+ghost use Rattle.relay_disk.specs.Device.{CountsFailure as CountsDiskFailure, IsSettled as IsDiskSettled};
+ghost use Rattle.relay_disk.specs.Device.{OnlyFuseChanges};
 ghost use Rattle.relay_disk.specs.Disks.{CountsFailure, FailsNot, IsSettled, LeavesNothing, no_octets, seen_of};
 ghost use Rattle.relay_spool.specs.Pair.{HasNoBody};
-ghost use Rattle.relay_spool.specs.Run.{AtEachMoment as AtEachDiskMoment, EachOnlyReads, EachStaysShort, IsShort, Makes as DiskMakes};
+ghost use Rattle.relay_spool.specs.Run.{AtEachMoment as AtEachDiskMoment, EachOnlyReads, EachStaysShort, IsShort};
+ghost use Rattle.relay_spool.specs.Run.{Makes as DiskMakes};
 ghost use Rattle.relay_spool.specs.Spool.{AtEachMoment, FailsBy, IsMade, Makes, RefusesToCreate, created};
 
 use crate::SpoolFault;
@@ -71,8 +73,7 @@ fn write_heads<D: Disk>(disks: &mut Disks<D>) -> Result<(), DiskFault>
     ensures calls { Makes D.words 6 disks.old disks.new result }
 {
     write_second(disks)?;
-    write_first(&mut disks.first)?;
-    Ok(())
+    write_first(&mut disks.first)
 }
 
 /// Writes a closed head to an empty second disk, by two calls.
@@ -103,6 +104,5 @@ fn write_first<D: Disk>(disk: &mut D) -> Result<(), DiskFault>
     ensures calls { DiskMakes D.words 4 disk.old disk.new result }
 {
     write_through(disk, 0, &FIRST_DISK)?;
-    open_gate(disk, HEAD_GATE)?;
-    Ok(())
+    open_gate(disk, HEAD_GATE)
 }

@@ -1,8 +1,10 @@
 // A spool's body written anew, on the disk that isn't taken.
-ghost use Rattle.std.specs.Prelude.{◌≡◌, ◌≢◌, ◌+◌, ◌<◌, ◌≤◌, ◌^◌, [], ◌∷◌, ℕ, List, length, slice_index, vec_capacity, Some, IfOk, IsOk, OnOk};
+ghost use Rattle.std.specs.Prelude.{◌≡◌, ◌≢◌, ◌+◌, ◌<◌, ◌≤◌, ◌^◌, [], ◌∷◌, ℕ, List, length, slice_index, vec_capacity};
+ghost use Rattle.std.specs.Prelude.{Some, IfOk, IsOk, OnOk};
 ghost use Rattle.relay_disk.specs.Device.{CountsFailure as CountsDiskFailure, IsSettled};
 ghost use Rattle.relay_disk.specs.Disks.{CountsFailure, other};
-ghost use Rattle.relay_spool.specs.Head.{HasHeadGate, IsClosedOr, IsFilled, IsGateOf, IsNotOpen, IsOldOrNew, IsRenewal, renewal_calls, renewed};
+ghost use Rattle.relay_spool.specs.Head.{HasHeadGate, IsClosedOr, IsFilled, IsGateOf, IsNotOpen, IsOldOrNew, IsRenewal};
+ghost use Rattle.relay_spool.specs.Head.{renewal_calls, renewed};
 ghost use Rattle.relay_spool.specs.Pair.{HasBodies, renewed_taken};
 ghost use Rattle.relay_spool.specs.Run.{AtEachMoment as AtEachDiskMoment, Makes as DiskMakes};
 ghost use Rattle.relay_spool.specs.Spool.{AtEachMoment, IsBeforeOrOne, Makes, Rests};
@@ -94,8 +96,7 @@ fn close_head<D: Disk>(disk: &mut D) -> Result<(), DiskFault>
     ensures calls { DiskMakes D.words 2 disk.old disk.new result }
 {
     writes_leave_the_rest();
-    write_through(disk, HEAD_GATE, &[CLOSED])?;
-    Ok(())
+    write_through(disk, HEAD_GATE, &[CLOSED])
 }
 
 /// Writes a spool behind a closed head gate, and then opens that, by five calls.
@@ -111,8 +112,7 @@ fn write_closed<D: Disk>(disk: &mut D, octets: &[u8]) -> Result<(), DiskFault>
 {
     writes_leave_the_rest();
     fill(disk, octets)?;
-    open_gate(disk, HEAD_GATE)?;
-    Ok(())
+    open_gate(disk, HEAD_GATE)
 }
 
 /// Writes all but the gate, behind a closed one, by three calls.
@@ -128,6 +128,5 @@ fn fill<D: Disk>(disk: &mut D, octets: &[u8]) -> Result<(), DiskFault>
 {
     disk.cut(GENERATION)?;
     disk.write_at(GENERATION, octets)?;
-    disk.sync()?;
-    Ok(())
+    disk.sync()
 }

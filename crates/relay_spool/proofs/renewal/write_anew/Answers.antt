@@ -2,7 +2,8 @@ use Rattle.std.proofs.Common.{Some, sym, subst}
 use Rattle.relay_spool.specs.declared.taken.HeadGate.{HeadGate}
 use Rattle.relay_spool.specs.Head.{renewal_calls}
 use Rattle.relay_spool.specs.Run.{Makes}
-use Rattle.relay_spool.proofs.RenewalLemmas.{both_runs, closing_run, makes_then, renewal_run}
+use Rattle.relay_spool.proofs.RenewalLemmas.{both_runs, closing_run, renewal_run}
+use Rattle.relay_spool.proofs.RunLemmas.{makes_then}
 use Rattle.relay_spool.proofs.renewal.write_anew.Goals as goal
 
 pub returns-in_err-close_head-in-Open-clause-stop : goal.returns-in_err-close_head-in-Open-clause-stop

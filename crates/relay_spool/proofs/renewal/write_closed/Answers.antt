@@ -1,6 +1,5 @@
-use Rattle.std.proofs.Common.{rules}
 use Rattle.relay_spool.proofs.RenewalLemmas.{open_run}
-use Rattle.relay_spool.proofs.RunLemmas.{weakened, calls_on, all_calls_on}
+use Rattle.relay_spool.proofs.RunLemmas.{weakened, makes_then}
 use Rattle.relay_spool.specs.Head.{IsClosedOr, IsNotOpen, renewed}
 use Rattle.std.proofs.Common.{inl}
 use Rattle.relay_spool.proofs.renewal.write_closed.Goals as goal
@@ -9,26 +8,10 @@ pub returns-in_err-fill-clause-stop : goal.returns-in_err-fill-clause-stop
 returns-in_err-fill-clause-stop g c = λ honest only.
     weakened g.D.Disk.words c.args.disk.now c.fill.new.disk IsNotOpen (IsClosedOr (renewed c.args.octets.now)) (λ image closed. inl closed) (c.fill.ensures.stop honest only)
 
-pub returns-in_err-open_gate-clause-stop : goal.returns-in_err-open_gate-clause-stop
-returns-in_err-open_gate-clause-stop g c = λ honest only.
-    open_run g.D.Disk.words c.writes_leave_the_rest.ensures c.args.disk.now c.fill.new.disk c.open_gate.new.disk c.args.octets.now
-    (c.in_ok-fill.ensures.filled honest) (c.fill.ensures.stop honest only) (c.open_gate.ensures.stop honest (c.in_ok-fill.ensures.settled honest))
-
 pub returns-clause-stop : goal.returns-clause-stop
 returns-clause-stop g c = λ honest only.
     open_run g.D.Disk.words c.writes_leave_the_rest.ensures c.args.disk.now c.fill.new.disk c.open_gate.new.disk c.args.octets.now
     (c.in_ok-fill.ensures.filled honest) (c.fill.ensures.stop honest only) (c.open_gate.ensures.stop honest (c.in_ok-fill.ensures.settled honest))
 
-pub returns-in_err-open_gate-clause-calls : goal.returns-in_err-open_gate-clause-calls
-returns-in_err-open_gate-clause-calls g c =
-    record {
-      at_most = calls_on g.D.Disk.words 3 2 c.args.disk.now c.fill.new.disk c.open_gate.new.disk c.fill.ensures.calls.at_most c.open_gate.ensures.calls.at_most;
-      ok = search rules;
-    }
-
 pub returns-clause-calls : goal.returns-clause-calls
-returns-clause-calls g c =
-    record {
-      at_most = calls_on g.D.Disk.words 3 2 c.args.disk.now c.fill.new.disk c.open_gate.new.disk c.fill.ensures.calls.at_most c.open_gate.ensures.calls.at_most;
-      ok = all_calls_on g.D.Disk.words 3 2 c.args.disk.now c.fill.new.disk c.open_gate.new.disk c.in_ok-fill.ensures.calls.ok c.in_ok-open_gate.ensures.calls.ok;
-    }
+returns-clause-calls g c = makes_then g.D.Disk.words c.open_gate.result 3 2 c.args.disk.now c.fill.new.disk c.open_gate.new.disk c.in_ok-fill.ensures.calls.ok c.open_gate.ensures.calls

@@ -1,4 +1,4 @@
-use Rattle.std.proofs.Common.{◌≡◌, ◌+◌, ◌-◌, ◌<◌, ◌≤◌, ℕ, Bool, false, IsTrue, List, [], ◌∷◌, ◌++◌, length, refl, sym, subst, ap, ◌∙◌, arith, rules}
+use Rattle.std.proofs.Common.{◌≡◌, ◌+◌, ◌-◌, ◌<◌, ◌≤◌, ℕ, Bool, false, IsTrue, List, [], ◌∷◌, ◌++◌, length, refl, inl, sym, subst, ap, ◌∙◌, arith, rules}
 use Rattle.std.proofs.lemmas.Bool.{false≢true}
 use Rattle.std.proofs.lemmas.List.Sums.{sum_by-cons}
 use Rattle.relay_spool.specs.Head.{AreAdded}
@@ -6,7 +6,7 @@ use Rattle.relay_spool.specs.Image.{room_of, size_of}
 use Rattle.relay_spool.specs.Pair.{HasBodies}
 use Rattle.relay_spool.specs.Spool.{AtEachMoment, IsBeforeOrWithAll, Rests, Stored, bodies_on}
 use Rattle.relay_spool.proofs.ImageLemmas.{length-added, size_of-append}
-use Rattle.relay_spool.proofs.SpoolLemmas.{rests_found, every_image, sound_of, gate_within}
+use Rattle.relay_spool.proofs.SpoolLemmas.{rests_found, every_image, sound_of, gate_within, still_stop}
 use Rattle.relay_spool.proofs.spool.Spool.append_all.Goals as goal
 
 gate_place : (size : ℕ) (bodies : List (List ℕ)) → 18 ≤ size → size ≡ size_of bodies → size - 1 + 1 ≡ size_of bodies
@@ -16,6 +16,26 @@ grown : (size more : ℕ) (bodies others : List (List ℕ)) → size ≡ size_of
 grown size more bodies others place long =
     let all = size_of-append bodies others in
     omega (arith, all, place, long)
+
+pub returns-then-saturating_sub-room-clause-stop : goal.returns-then-saturating_sub-room-clause-stop
+returns-then-saturating_sub-room-clause-stop g c = λ honest.
+    let words = g.D.Disk.words in
+    let inside = c.self.inside in
+    let before = bodies_on words inside.disk inside.taken in
+    let live = ap (λ (s : Stored g.row.D.Denot). s.live) c.self.view_is ∙ c.requires in
+    subst (λ (s : Stored g.row.D.Denot). AtEachMoment words s.disk s.disk (HasBodies (IsBeforeOrWithAll s.bodies c.args.row))) c.self.view_is
+    (still_stop words inside.disk inside.taken before (IsBeforeOrWithAll before c.args.row) (g.met.D.Disk.only_now honest inside.disk.first) (g.met.D.Disk.only_now honest inside.disk.second)
+    (c.self.invariant.rests honest live) (inl refl))
+
+pub returns-then-is_empty-clause-stop : goal.returns-then-is_empty-clause-stop
+returns-then-is_empty-clause-stop g c = λ honest.
+    let words = g.D.Disk.words in
+    let inside = c.self.inside in
+    let before = bodies_on words inside.disk inside.taken in
+    let live = ap (λ (s : Stored g.row.D.Denot). s.live) c.self.view_is ∙ c.requires in
+    subst (λ (s : Stored g.row.D.Denot). AtEachMoment words s.disk s.disk (HasBodies (IsBeforeOrWithAll s.bodies c.args.row))) c.self.view_is
+    (still_stop words inside.disk inside.taken before (IsBeforeOrWithAll before c.args.row) (g.met.D.Disk.only_now honest inside.disk.first) (g.met.D.Disk.only_now honest inside.disk.second)
+    (c.self.invariant.rests honest live) (inl refl))
 
 pub add_links-requires-clause-gate : goal.add_links-requires-clause-gate
 add_links-requires-clause-gate g c = λ honest.
