@@ -1,6 +1,7 @@
 -- The machine under a session: what each of its stages keeps of the octets that came, and what one
 -- move of it does.
-use Rattle.std.specs.Prelude.{◌≡◌, ◌⊎◌, ◌<◌, ◌≤◌, ◌+◌, ℕ, Bool, true, false, List, [], ◌∷◌, ◌++◌, length, take, None, Ok}
+use Rattle.std.specs.Prelude.{◌≡◌, ◌⊎◌, ◌<◌, ◌≤◌, ◌+◌, ℕ, Bool, true, false, List, [], ◌∷◌, ◌++◌, length, take, None}
+use Rattle.std.specs.Prelude.{Ok}
 use Rattle.relay_octets.specs.Line.{crlf, HasNoCrlf}
 use Rattle.relay_body.specs.DotReading.{IsReading}
 use Rattle.relay_body.specs.ChunkText.{Chunk, IsInChunk, content_of_chunks}

@@ -1,8 +1,17 @@
 -- The text of every reply of the server (RFC 5321, section 4.2.3).
-use Rattle.std.specs.Prelude.{ℕ, List, [], ◌∷◌, ◌++◌, codes, decimal}
+use Rattle.std.specs.Prelude.{◌≡◌, ◌<◌, ℕ, List, [], ◌∷◌, ◌++◌, codes, decimal}
 use Rattle.relay_lines.specs.Reply.{Reply, made_of, one_line}
 use Rattle.relay_server.specs.declared.reply_table.Row.{Row}
-use Rattle.relay_server.specs.declared.reply_table.Row.TheVariants.{Greeting, Hello, Extensions, SenderOk, RecipientOk, TooManyRecipients, NoRoute, BadSequence, NoValidRecipients, StartMailInput, ChunkOk, ContentTooLarge, TooManyReceived, BareLineEnd, Queued, SpoolFull, Done, NotVerified, SeeStandard, Closing, UnknownCommand, BadOctet, LineTooLong, BadArgument, BadPath, BadValue, Repeated, UnknownParameter, NotOffered, BadChunkSize}
+use Rattle.relay_server.specs.declared.reply_table.Text.{Text}
+use Rattle.relay_server.specs.declared.reply_table.Text.TheVariants as text
+use Rattle.relay_server.specs.declared.reply_table.Row.TheVariants.{Greeting, Hello, Extensions, SenderOk, RecipientOk}
+use Rattle.relay_server.specs.declared.reply_table.Row.TheVariants.{TooManyRecipients, NoRoute, BadSequence}
+use Rattle.relay_server.specs.declared.reply_table.Row.TheVariants.{NoValidRecipients, StartMailInput, ChunkOk}
+use Rattle.relay_server.specs.declared.reply_table.Row.TheVariants.{ContentTooLarge, TooManyReceived, BareLineEnd}
+use Rattle.relay_server.specs.declared.reply_table.Row.TheVariants.{Queued, SpoolFull, Done, NotVerified, SeeStandard}
+use Rattle.relay_server.specs.declared.reply_table.Row.TheVariants.{Closing, UnknownCommand, BadOctet, LineTooLong}
+use Rattle.relay_server.specs.declared.reply_table.Row.TheVariants.{BadArgument, BadPath, BadValue, Repeated}
+use Rattle.relay_server.specs.declared.reply_table.Row.TheVariants.{UnknownParameter, NotOffered, BadChunkSize}
 
 -- what each row answers, at a server with this host name
 unfoldable pub reply_of : List ℕ → Row → Reply
@@ -36,3 +45,22 @@ reply_of host Repeated = one_line 501 (codes "parameter given twice")
 reply_of host UnknownParameter = one_line 555 (codes "unknown parameter")
 reply_of host NotOffered = one_line 502 (codes "not implemented")
 reply_of host BadChunkSize = one_line 421 (host ++ codes " bad chunk size, closing")
+
+-- a reply of this text, at a server with this host name
+abbrev pub reply_by : List ℕ → Text → Reply
+reply_by host (text.Line code words) = one_line code words.now
+reply_by host (text.HostLine code words) = one_line code (host ++ words.now)
+reply_by host text.Extensions = reply_of host Extensions
+reply_by host (text.Queued number) = one_line 250 (codes "queued as " ++ decimal number)
+
+-- the code of a text has at most three digits
+abbrev pub HasCode : Text → Type 0
+HasCode (text.Line code words) = code < 1000
+HasCode (text.HostLine code words) = code < 1000
+HasCode text.Extensions = Unit {0}
+HasCode (text.Queued number) = Unit {0}
+
+-- the row is answered by this text
+pub record IsTextOf (row : Row) (its : Text) : Type 0 where
+  pub reply : (host : List ℕ) → reply_of host row ≡ reply_by host its
+  pub code : HasCode its

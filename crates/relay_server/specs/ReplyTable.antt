@@ -1,6 +1,7 @@
 -- The reply table: to each unit and state the row that answers it, and the state behind it, or an
 -- offer (RFC 5321, section 4.3.2; RFC 3030, section 2).
-use Rattle.std.specs.Prelude.{ℕ, Bool, false, List, [], ◌∷◌, ◌++◌, length, nat_le, is_some, if◌then◌else◌, Result, Ok, Err}
+use Rattle.std.specs.Prelude.{ℕ, Bool, false, List, [], ◌∷◌, ◌++◌, length, nat_le, is_some, if◌then◌else◌, Result, Ok}
+use Rattle.std.specs.Prelude.{Err}
 use Rattle.relay_lines.specs.declared.command.LineFault.{LineFault}
 use Rattle.relay_lines.specs.declared.command.LineFault.TheVariants as line
 use Rattle.relay_body.specs.BareEnds.{has_bare_end}
@@ -19,8 +20,10 @@ use Rattle.relay_routes.specs.Routes.{hop_of}
 use Rattle.relay_routes.specs.declared.bare_newlines.BareNewlines.{BareNewlines}
 use Rattle.relay_routes.specs.declared.bare_newlines.BareNewlines.TheVariants.{Pass, Refuse}
 use Rattle.relay_server.specs.Setup.{Setup}
-use Rattle.relay_server.specs.State.{CommandState, Fresh, Greeted, Open, Gathering, Spent, State, Command, Receiving, Closed}
-use Rattle.relay_server.specs.Unit.{Asked, LongLine, Faulty, Hello, Mail, Rcpt, Data, Bdat, Rset, Noop, Vrfy, Help, Quit}
+use Rattle.relay_server.specs.State.{CommandState, Fresh, Greeted, Open, Gathering, Spent, State, Command, Receiving}
+use Rattle.relay_server.specs.State.{Closed}
+use Rattle.relay_server.specs.Unit.{Asked, LongLine, Faulty, Hello, Mail, Rcpt, Data, Bdat, Rset, Noop, Vrfy, Help}
+use Rattle.relay_server.specs.Unit.{Quit}
 
 -- what comes of a unit: a reply, and the state behind it, or an offer, which its answer replies to
 pub data Course : Type 0 where

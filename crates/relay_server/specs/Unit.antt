@@ -1,6 +1,7 @@
 -- Units: what a server reads next, by what it awaits (RFC 5321, sections 2.3.8 and 4.5.2; RFC 2920,
 -- section 3.2; RFC 3030, section 2).
-use Rattle.std.specs.Prelude.{◌≡◌, ◌≢◌, ◌⊎◌, ◌<◌, ◌≤◌, ℕ, nat_le, Bool, List, ◌++◌, length, Result, Ok, Err, if◌then◌else◌}
+use Rattle.std.specs.Prelude.{◌≡◌, ◌≢◌, ◌⊎◌, ◌<◌, ◌≤◌, ℕ, nat_le, Bool, List, ◌++◌, length, Result, Ok, Err}
+use Rattle.std.specs.Prelude.{if◌then◌else◌}
 use Rattle.relay_octets.specs.Line.{crlf, HasNoCrlf}
 use Rattle.relay_body.specs.DotText.{ReadsDotText}
 use Rattle.relay_lines.specs.declared.command.LineFault.{LineFault}

@@ -14,7 +14,8 @@ use Rattle.relay_server.specs.declared.state.CommandState.{CommandState as Held}
 use Rattle.relay_server.specs.declared.state.CommandState.TheVariants as held
 use Rattle.relay_server.specs.declared.state.State.{State as Next}
 use Rattle.relay_server.specs.declared.state.State.TheVariants as next
-use Rattle.relay_server.specs.State.{CommandState, Fresh, Greeted, Open, Gathering, Spent, State, Command, Receiving, Closed}
+use Rattle.relay_server.specs.State.{CommandState, Fresh, Greeted, Open, Gathering, Spent, State, Command, Receiving}
+use Rattle.relay_server.specs.State.{Closed}
 
 -- the content that is kept
 abbrev pub kept_content : Option (List ℕ) → List ℕ

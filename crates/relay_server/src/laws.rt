@@ -1,5 +1,8 @@
 //! What is true of dialogues, whatever session holds them.
-ghost use Rattle.relay_server.specs.DialogueLaws.{NoUnitIsEmpty, NoUnitBeginsAnother, RunsCompose, WhatStandsIsADialogue, RowIsFixed, OutputIsFixed, BeginningsHaveBeginnings, OnlyContentIsOffered, OnlyQueuedIsPositive, RepliesAreWellFormed, OffersMayBeStored};
+ghost use Rattle.relay_server.specs.DialogueLaws.{NoUnitIsEmpty, NoUnitBeginsAnother, RunsCompose};
+ghost use Rattle.relay_server.specs.DialogueLaws.{WhatStandsIsADialogue, RowIsFixed, OutputIsFixed};
+ghost use Rattle.relay_server.specs.DialogueLaws.{BeginningsHaveBeginnings, OnlyContentIsOffered, OnlyQueuedIsPositive};
+ghost use Rattle.relay_server.specs.DialogueLaws.{RepliesAreWellFormed, OffersMayBeStored};
 
 /// No unit is empty.
 pub fn no_unit_is_empty()

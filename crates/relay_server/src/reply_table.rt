@@ -1,7 +1,7 @@
 ghost use Rattle.std.specs.Prelude.{◌≡◌, ◌++◌, codes, decimal, OnOk, OnErr};
 ghost use Rattle.relay_octets.specs.Beginning.{Begins};
 ghost use Rattle.relay_lines.specs.Reply.{one_line, reply_text};
-ghost use Rattle.relay_server.specs.Reply.{reply_of};
+ghost use Rattle.relay_server.specs.Reply.{IsTextOf, reply_of};
 
 use itoa::Buffer;
 use relay_lines::{write_line, write_middle_line};
@@ -72,44 +72,69 @@ pub(crate) enum Row {
     BadChunkSize,
 }
 
+/// What a reply is made of.
+#[derive(Drop)]
+enum Text {
+    /// A line of this code and text.
+    Line(u16, &'static [u8]),
+    /// A line of this code: the name of the host, and this text.
+    HostLine(u16, &'static [u8]),
+    /// The name of the host, and a keyword a line.
+    Extensions,
+    /// A line that tells the number of a message in the queue.
+    Queued(u64),
+}
+
 impl Row {
     /// Writes the reply at the end of `out`. Where memory runs out, nothing is written.
-    #[tactic(auto, unfolding(crate::specs::Reply::reply_of))]
     pub(crate) fn write(self, host: &[u8], out: &mut Vec<u8>) -> Result<(), AllocError>
         ensures ok { OnOk result (out.new.items ≡ out.old.items ++ reply_text (reply_of host.now self)) }
         ensures err { OnErr result (out.new.items ≡ out.old.items) }
     {
+        match self.text() {
+            Text::Line(code, text) => write_line(out, code, text, b""),
+            Text::HostLine(code, text) => write_line(out, code, host, text),
+            Text::Extensions => write_extensions(host, out),
+            Text::Queued(number) => write_queued(number, out),
+        }
+    }
+
+    /// What the reply is made of.
+    #[tactic(auto, unfolding(crate::specs::Reply::reply_of))]
+    fn text(self) -> Text
+        ensures { IsTextOf self result }
+    {
         match self {
-            Row::Greeting => write_line(out, 220, host, b" ESMTP relay ready"),
-            Row::Hello => write_line(out, 250, host, b""),
-            Row::Extensions => write_extensions(host, out),
-            Row::SenderOk => write_line(out, 250, b"sender OK", b""),
-            Row::RecipientOk => write_line(out, 250, b"recipient OK", b""),
-            Row::TooManyRecipients => write_line(out, 452, b"too many recipients", b""),
-            Row::NoRoute => write_line(out, 550, b"no route", b""),
-            Row::BadSequence => write_line(out, 503, b"bad sequence", b""),
-            Row::NoValidRecipients => write_line(out, 554, b"no valid recipients", b""),
-            Row::StartMailInput => write_line(out, 354, b"end with a line of one period", b""),
-            Row::ChunkOk => write_line(out, 250, b"chunk OK", b""),
-            Row::ContentTooLarge => write_line(out, 552, b"content too large", b""),
-            Row::TooManyReceived => write_line(out, 554, b"too many Received fields", b""),
-            Row::BareLineEnd => write_line(out, 554, b"bare line end in content", b""),
-            Row::Queued(number) => write_queued(number, out),
-            Row::SpoolFull => write_line(out, 452, b"spool full", b""),
-            Row::Done => write_line(out, 250, b"OK", b""),
-            Row::NotVerified => write_line(out, 252, b"not verified", b""),
-            Row::SeeStandard => write_line(out, 214, b"see RFC 5321", b""),
-            Row::Closing => write_line(out, 221, host, b" closing"),
-            Row::UnknownCommand => write_line(out, 500, b"unknown command", b""),
-            Row::BadOctet => write_line(out, 500, b"bad octet in line", b""),
-            Row::LineTooLong => write_line(out, 500, b"line too long", b""),
-            Row::BadArgument => write_line(out, 501, b"bad argument", b""),
-            Row::BadPath => write_line(out, 501, b"bad path", b""),
-            Row::BadValue => write_line(out, 501, b"bad parameter value", b""),
-            Row::Repeated => write_line(out, 501, b"parameter given twice", b""),
-            Row::UnknownParameter => write_line(out, 555, b"unknown parameter", b""),
-            Row::NotOffered => write_line(out, 502, b"not implemented", b""),
-            Row::BadChunkSize => write_line(out, 421, host, b" bad chunk size, closing"),
+            Row::Greeting => Text::HostLine(220, b" ESMTP relay ready"),
+            Row::Hello => Text::HostLine(250, b""),
+            Row::Extensions => Text::Extensions,
+            Row::SenderOk => Text::Line(250, b"sender OK"),
+            Row::RecipientOk => Text::Line(250, b"recipient OK"),
+            Row::TooManyRecipients => Text::Line(452, b"too many recipients"),
+            Row::NoRoute => Text::Line(550, b"no route"),
+            Row::BadSequence => Text::Line(503, b"bad sequence"),
+            Row::NoValidRecipients => Text::Line(554, b"no valid recipients"),
+            Row::StartMailInput => Text::Line(354, b"end with a line of one period"),
+            Row::ChunkOk => Text::Line(250, b"chunk OK"),
+            Row::ContentTooLarge => Text::Line(552, b"content too large"),
+            Row::TooManyReceived => Text::Line(554, b"too many Received fields"),
+            Row::BareLineEnd => Text::Line(554, b"bare line end in content"),
+            Row::Queued(number) => Text::Queued(number),
+            Row::SpoolFull => Text::Line(452, b"spool full"),
+            Row::Done => Text::Line(250, b"OK"),
+            Row::NotVerified => Text::Line(252, b"not verified"),
+            Row::SeeStandard => Text::Line(214, b"see RFC 5321"),
+            Row::Closing => Text::HostLine(221, b" closing"),
+            Row::UnknownCommand => Text::Line(500, b"unknown command"),
+            Row::BadOctet => Text::Line(500, b"bad octet in line"),
+            Row::LineTooLong => Text::Line(500, b"line too long"),
+            Row::BadArgument => Text::Line(501, b"bad argument"),
+            Row::BadPath => Text::Line(501, b"bad path"),
+            Row::BadValue => Text::Line(501, b"bad parameter value"),
+            Row::Repeated => Text::Line(501, b"parameter given twice"),
+            Row::UnknownParameter => Text::Line(555, b"unknown parameter"),
+            Row::NotOffered => Text::Line(502, b"not implemented"),
+            Row::BadChunkSize => Text::HostLine(421, b" bad chunk size, closing"),
         }
     }
 }

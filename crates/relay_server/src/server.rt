@@ -5,8 +5,10 @@ ghost use Rattle.relay_body.specs.ChunkText.{Chunk as ChunkText, HasChunks, IsBe
 ghost use Rattle.relay_body.specs.DotReading.{IsReading};
 ghost use Rattle.relay_body.specs.Gathering.{gathered_of};
 ghost use Rattle.relay_server.specs.Dialogue.{row_of_answer};
-ghost use Rattle.relay_server.specs.ReplyTable.{course_of, course_of_chunks, course_of_content, course_of_text, Offers, is_refused_by, unless_refused};
-ghost use Rattle.relay_server.specs.Machine.{EndsBy, EntersBy, GathersChunk, IsGiven, KeepsText, Moves, RefusesChunk, offers_at};
+ghost use Rattle.relay_server.specs.ReplyTable.{course_of, course_of_chunks, course_of_content, course_of_text, Offers};
+ghost use Rattle.relay_server.specs.ReplyTable.{is_refused_by, unless_refused};
+ghost use Rattle.relay_server.specs.Machine.{EndsBy, EntersBy, GathersChunk, IsGiven, KeepsText, Moves, RefusesChunk};
+ghost use Rattle.relay_server.specs.Machine.{offers_at};
 ghost use Rattle.relay_server.specs.Setup.{setup_of};
 ghost use Rattle.relay_server.specs.State as standing;
 ghost use Rattle.relay_server.specs.Unit.{asked_of_long};

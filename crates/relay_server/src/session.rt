@@ -1,9 +1,11 @@
-ghost use Rattle.std.specs.Prelude.{◌≡◌, ℕ, List, [], ◌∷◌, ◌++◌, ◌+◌, ◌≤◌, ◌<◌, length, take, slice_range, true, false, IfOk, OnOk, OnErr, IsErr, MatchOption};
+ghost use Rattle.std.specs.Prelude.{◌≡◌, ℕ, List, [], ◌∷◌, ◌++◌, ◌+◌, ◌≤◌, ◌<◌, length, take, slice_range, true, false};
+ghost use Rattle.std.specs.Prelude.{IfOk, OnOk, OnErr, IsErr, MatchOption};
 ghost use Rattle.relay_octets.specs.Line.{HasNoCrlf, crlf};
 ghost use Rattle.relay_body.specs.DotReading.{IsReading};
 ghost use Rattle.relay_server.specs.Dialogue.{Said, more_said};
 ghost use Rattle.relay_server.specs.Machine.{Advances, GathersChunk, IsGiven, Moves, RefusesChunk, Steps, is_reading};
-ghost use Rattle.relay_server.specs.Session.{Answered, HasFailed, HasOffer, Hears, Stands, UsesPiece, Waits, next_of, offered, offers_since, open_offers};
+ghost use Rattle.relay_server.specs.Session.{Answered, HasFailed, HasOffer, Hears, Stands, UsesPiece, Waits, next_of};
+ghost use Rattle.relay_server.specs.Session.{offered, offers_since, open_offers};
 ghost use Rattle.relay_server.specs.Setup.{Setup, setup_of};
 ghost use Rattle.relay_server.specs.State as standing;
 ghost use Rattle.relay_server.specs.Values.{IsHeld, command_state_of};

@@ -1,5 +1,7 @@
 //! What a session tells its caller, and what may be said of it behind each call.
-ghost use Rattle.relay_server.specs.SessionLaws.{AnsweredIsSettled, ClosedIsADialogue, CloseIsClosed, MoreIsMore, NoneElseIsOpen, OfferIsTold, OffersAreAnswered, OpenIsNew, OpenMayBeStored, PieceGoesOn};
+ghost use Rattle.relay_server.specs.SessionLaws.{AnsweredIsSettled, ClosedIsADialogue, CloseIsClosed, MoreIsMore};
+ghost use Rattle.relay_server.specs.SessionLaws.{NoneElseIsOpen, OfferIsTold, OffersAreAnswered, OpenIsNew};
+ghost use Rattle.relay_server.specs.SessionLaws.{OpenMayBeStored, PieceGoesOn};
 
 /// The caller is told to take an offer exactly where one is open.
 pub fn offer_is_told()

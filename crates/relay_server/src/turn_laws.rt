@@ -1,5 +1,6 @@
 //! What state and unit fix of a turn, whatever session holds it.
-ghost use Rattle.relay_server.specs.TurnLaws.{AskedIsAUnit, ChunkIsAnswered, CourseIsFixed, CourseIsOfAUnit, LineIsAnswered, NoUnitLacksACourse, TextIsAnswered, TurnIsOfItsUnit};
+ghost use Rattle.relay_server.specs.TurnLaws.{AskedIsAUnit, ChunkIsAnswered, CourseIsFixed, CourseIsOfAUnit};
+ghost use Rattle.relay_server.specs.TurnLaws.{LineIsAnswered, NoUnitLacksACourse, TextIsAnswered, TurnIsOfItsUnit};
 
 /// No unit of a state is without a course.
 pub fn no_unit_lacks_a_course()
