@@ -1,5 +1,6 @@
 -- How a conversation keeps up with the course of its attempt, between calls and within one.
-use Rattle.std.specs.Prelude.{◌≡◌, ℕ, Bool, true, false, List, [], ◌∷◌, ◌++◌, drop, map, unwrap_or, Option, Some, None, MatchOption}
+use Rattle.std.specs.Prelude.{◌≡◌, ℕ, Bool, true, false, List, [], ◌∷◌, ◌++◌, drop, map, unwrap_or, Option, Some, None}
+use Rattle.std.specs.Prelude.{MatchOption}
 use Rattle.relay_lines.specs.Reply.{Reply}
 use Rattle.relay_book.specs.declared.change.Verdict.{Verdict}
 use Rattle.relay_course.specs.declared.awaited.Awaited.{Awaited}

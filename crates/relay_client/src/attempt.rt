@@ -1,9 +1,11 @@
-ghost use Rattle.std.specs.Prelude.{◌≡◌, ◌<◌, ◌≤◌, ℕ, List, [], ◌++◌, take, length, Some, None, OnErr, IfOk, MatchBool, true};
+ghost use Rattle.std.specs.Prelude.{◌≡◌, ◌<◌, ◌≤◌, ℕ, List, [], ◌++◌, take, length, Some, None, OnErr, IfOk, MatchBool};
+ghost use Rattle.std.specs.Prelude.{true};
 ghost use Rattle.relay_envelope.specs.declared.envelope.Envelope.{Envelope};
 ghost use Rattle.relay_course.specs.Course.{IsCourse};
 ghost use Rattle.relay_course.specs.Progress.{Errand};
 ghost use Rattle.relay_client.specs.Conversation.{IsErrandOf};
-ghost use Rattle.relay_client.specs.Attempt.{Follows, FollowsOn, HasFailed, KeepsOn, KeepsTo, Turns, places_of, stage_by};
+ghost use Rattle.relay_client.specs.Attempt.{Follows, FollowsOn, HasFailed, KeepsOn, KeepsTo, Turns, places_of};
+ghost use Rattle.relay_client.specs.Attempt.{stage_by};
 ghost use Rattle.relay_course.specs.VerdictTable.{all_later};
 
 use crate::conversation::Conversation;
@@ -31,7 +33,7 @@ struct Step {
 }
 
 /// How far an attempt is.
-#[derive(Clone, Copy, Debug)]
+#[derive(Clone, Copy)]
 enum Stage {
     /// It waits for replies.
     Running,

@@ -2,7 +2,8 @@
 //! part of it may have been written.
 ghost use Rattle.std.specs.Prelude.{◌≡◌, ◌++◌, ℕ, List, OnOk};
 ghost use Rattle.relay_course.specs.Course.{IsSentAs};
-ghost use Rattle.relay_course.specs.WrittenLine.{data_line, ehlo_line, helo_line, last_chunk, mail_line, quit_line, rcpt_line, rcpt_line_at};
+ghost use Rattle.relay_course.specs.WrittenLine.{data_line, ehlo_line, helo_line, last_chunk, mail_line, quit_line};
+ghost use Rattle.relay_course.specs.WrittenLine.{rcpt_line, rcpt_line_at};
 
 use itoa::Buffer;
 use relay_body::{ends_in_line_end, push_dots};
@@ -77,10 +78,10 @@ pub(crate) fn write_rcpt_at(
     ensures { OnOk result (out.new.items ≡ out.old.items ++ rcpt_line_at dsn recipients.now place) }
 {
     if place < recipients.len() {
-        write_rcpt_line(alloc, out, dsn, &recipients[place])?;
-        return Ok(());
+        write_rcpt_line(alloc, out, dsn, &recipients[place])
+    } else {
+        Ok(())
     }
-    Ok(())
 }
 
 /// Writes DATA.
@@ -97,10 +98,10 @@ pub(crate) fn write_dot_text(out: &mut Vec<u8>, text: &[u8]) -> Result<(), Alloc
         → out.new.items ≡ out.old.items ++ dot_text) }
 {
     if ends_in_line_end(text) {
-        push_dots(out, text)?;
-        return Ok(());
+        push_dots(out, text)
+    } else {
+        Ok(())
     }
-    Ok(())
 }
 
 /// Writes the text as the one and last chunk.

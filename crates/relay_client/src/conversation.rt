@@ -1,5 +1,6 @@
 ghost use Rattle.std.specs.Prelude.{◌≡◌, [], map, IfOk, OnOk, None};
-ghost use Rattle.relay_course.specs.Progress.{Errand, Progress, behind_answer, behind_hello, behind_reply, ended_by, with_command};
+ghost use Rattle.relay_course.specs.Progress.{Errand, Progress, behind_answer, behind_hello, behind_reply, ended_by};
+ghost use Rattle.relay_course.specs.Progress.{with_command};
 ghost use Rattle.relay_course.specs.VerdictTable.{all_later, content_verdict_by, kind_of, refusal};
 ghost use Rattle.relay_course.specs.WrittenLine.{ehlo_line, helo_line};
 ghost use Rattle.relay_client.specs.Conversation.{Does, Holds, IsAtGreeting, IsErrandOf, SettlesOne};
@@ -86,8 +87,7 @@ impl Conversation {
             return Ok(None);
         };
         self.settle(waited, &reply)?;
-        let ended = self.behind_answer(mail, waited, &reply, out)?;
-        Ok(ended)
+        self.behind_answer(mail, waited, &reply, out)
     }
 
     /// Keeps what a RCPT's reply says of its place.
@@ -95,10 +95,7 @@ impl Conversation {
         ensures { OnOk result (SettlesOne self.old self.new waited self.old.waits reply.now) }
     {
         match waited {
-            Awaited::Rcpt(_) => {
-                self.settled.push(self.alloc, reply)?;
-                Ok(())
-            }
+            Awaited::Rcpt(_) => self.settled.push(self.alloc, reply),
             Awaited::Greeting => Ok(()),
             Awaited::Ehlo => Ok(()),
             Awaited::Helo => Ok(()),
@@ -183,8 +180,7 @@ impl Conversation {
             self.new ended out.old.items out.new.items) }
     {
         self.extensions = extensions_of(reply);
-        let ended = self.behind_hello(mail, out)?;
-        Ok(ended)
+        self.behind_hello(mail, out)
     }
 
     /// The server is greeted: a text that doesn't end in CR LF needs CHUNKING.
@@ -262,10 +258,8 @@ impl Conversation {
             out.old.items out.new.items) }
     {
         write_quit(out)?;
-        let verdicts = self
-            .settled
-            .verdicts(self.alloc, self.places.as_slice(), last)?;
-        Ok(verdicts)
+        self.settled
+            .verdicts(self.alloc, self.places.as_slice(), last)
     }
 
     /// Later for each place. It fails where memory runs out.

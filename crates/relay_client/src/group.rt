@@ -1,6 +1,7 @@
 //! The commands of a mail transaction, alone or in groups (RFC 5321, section 3.3; RFC 2920, section 3.1).
 ghost use Rattle.std.specs.Prelude.{◌≡◌, ◌<◌, ◌+◌, ℕ, List, ◌∷◌, drop, length, IfOk, OnOk, None, Some};
-ghost use Rattle.relay_course.specs.Progress.{Errand, Progress, behind_rcpts, gone_on, with_command, with_content, with_mail, with_rcpt, with_rcpts};
+ghost use Rattle.relay_course.specs.Progress.{Errand, Progress, behind_rcpts, gone_on, with_command, with_content};
+ghost use Rattle.relay_course.specs.Progress.{with_mail, with_rcpt, with_rcpts};
 ghost use Rattle.relay_course.specs.WrittenLine.{mail_line};
 ghost use Rattle.relay_client.specs.Conversation.{Does, Holds, IsErrandOf};
 
@@ -26,10 +27,10 @@ impl Conversation {
     {
         self.ask_mail_alone(mail, out)?;
         if self.extensions.pipelining {
-            self.ask_rcpts(mail, out)?;
-            return Ok(());
+            self.ask_rcpts(mail, out)
+        } else {
+            Ok(())
         }
-        Ok(())
     }
 
     /// MAIL.

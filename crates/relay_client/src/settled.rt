@@ -12,7 +12,7 @@ use std::alloc::{AllocError, Global};
 use std::marker::Model;
 
 /// What the reply to a RCPT said. It takes four octets: an attempt that waits may hold one for each of 100 places.
-#[derive(Clone, Copy, Debug)]
+#[derive(Clone, Copy)]
 enum Said {
     /// The RCPT was accepted.
     Accepted,

@@ -18,7 +18,7 @@ use std::alloc::{AllocError, Global};
 const STORAGE_EXCEEDED: u16 = 552;
 
 /// What the reply to a RCPT does with its place.
-#[derive(Clone, Copy, Debug)]
+#[derive(Clone, Copy)]
 pub(crate) enum RcptAnswer {
     /// It accepts the place: the reply to the content decides.
     Accepts,
@@ -79,8 +79,7 @@ pub(crate) fn kept_text(alloc: Global, reply: &Reply) -> Result<Vec<u8>, AllocEr
         text.items ≡ map shown (take refusal_limit (last_text reply.now.lines))) }
     ensures short { IfOk result (λ text. length text.items ≤ refusal_limit) }
 {
-    let text = all_shown(alloc, kept_of(reply.last_text()))?;
-    Ok(text)
+    all_shown(alloc, kept_of(reply.last_text()))
 }
 
 /// What is kept of a text.

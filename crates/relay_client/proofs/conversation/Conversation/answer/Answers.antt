@@ -1,11 +1,14 @@
+use Rattle.std.proofs.lemmas.Result.{IfOk-weaker}
 use Rattle.relay_client.proofs.DoesLemmas.{does_answer}
 use Rattle.relay_client.proofs.conversation.Conversation.answer.Goals as goal
 
 pub returns : goal.returns
-returns c = λ errand old h is.
+returns c =
     let s = c.in_ok-settle.ensures in
+    IfOk-weaker c.behind_answer.result _ _
+    (λ ended does errand old h is.
     does_answer errand old c.args.self.now c.settle.new.self c.behind_answer.new.self c.in-Some.waited
-    c.take_first.new.self c.args.reply c.in_ok-ended.ended c.args.out.now.items c.behind_answer.new.out.items
+    c.take_first.new.self c.args.reply ended c.args.out.now.items c.behind_answer.new.out.items
     h c.in-Some.ensures
     (record {
       host_stays = s.host_stays;
@@ -14,4 +17,4 @@ returns c = λ errand old h is.
       asked_stays = s.asked_stays;
       extensions_stay = s.extensions_stay;
       settles = s.settles;
-    }) (λ m hm. c.in_ok-ended.ensures errand m hm is)
+    }) (λ m hm. does errand m hm is)) c.behind_answer.ensures

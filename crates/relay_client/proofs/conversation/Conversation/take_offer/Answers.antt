@@ -1,15 +1,17 @@
 use Rattle.std.proofs.Common.{refl}
+use Rattle.std.proofs.lemmas.Result.{IfOk-weaker}
 use Rattle.relay_course.specs.Progress.{Progress, behind_hello}
 use Rattle.relay_course.specs.Extensions.{extensions_of}
 use Rattle.relay_client.proofs.DoesLemmas.{does_from}
 use Rattle.relay_client.proofs.conversation.Conversation.take_offer.Goals as goal
 
 pub returns : goal.returns
-returns c = λ errand old h is.
+returns c = IfOk-weaker c.behind_hello.result _ _
+    (λ ended does errand old h is.
     let offered : Progress = record old { extensions = extensions_of c.args.reply.now } in
-    does_from errand offered old (behind_hello errand offered) c.behind_hello.new.self c.in_ok-ended.ended
+    does_from errand offered old (behind_hello errand offered) c.behind_hello.new.self ended
     c.args.out.now.items c.behind_hello.new.out.items refl
-    (c.in_ok-ended.ensures errand offered (record {
+    (does errand offered (record {
       host_is = h.host_is;
       places_are = h.places_are;
       waits_are = h.waits_are;
@@ -17,4 +19,4 @@ returns c = λ errand old h is.
       extensions_are = c.extensions_of-self.ensures;
       settled_is = h.settled_is;
       running = h.running;
-    }) is)
+    }) is)) c.behind_hello.ensures
