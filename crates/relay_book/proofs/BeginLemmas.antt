@@ -9,6 +9,8 @@ use Rattle.relay_book.specs.Fields.{BeginsAccept, BeginsWithHop, BeginsWithMail,
 use Rattle.relay_book.specs.Fields.{MayBeRecord, SpellsAccept, SpellsFields, SpellsHead}
 use Rattle.relay_book.specs.Fields.{SpellsOutcome}
 use Rattle.relay_book.proofs.FitLemmas.{reverse_path_fits, written_envid_fits}
+use Rattle.relay_book.proofs.ChangeFieldLemmas.{no_accept}
+use Rattle.relay_book.proofs.AcceptLemmas.{begins_record}
 
 pub has_count : (text : List ℕ) (count : ℕ) (rest : List ℕ) → text ≡ count ∷ rest → 1 ≤ count
     → count ≤ 100 → HasCount text
@@ -92,3 +94,9 @@ pub may_be_outcome : (version : Version) (text fields : List ℕ) → text ≡ o
     → BeginsWithHop fields → MayBeRecord text
 may_be_outcome version text fields is begins =
     record { begins = inr (version, record { fields = fields; text_is = is; begins = begins }) }
+
+-- octets that may begin one
+pub ruleset begun_changes = (may_be_accept, may_be_outcome)
+
+-- a record of an accept, of which the text may be cut off
+pub ruleset accept_records = (no_accept, begins_record, may_be_accept)

@@ -98,3 +98,6 @@ encoding_is_one (Outcome outcome) (Accept other) valid also e =
     absurd (other_kind (outcome_kind outcome.version) (outcome_octets outcome) (accept_octets other) 1 e (kind_within outcome.version).1)
 encoding_is_one (Outcome outcome) (Outcome other) valid also e =
     ap Outcome (outcome_is_one outcome other valid also (kinds_are_one outcome.version other.version (ap first_of e)) (ap (drop 1) e))
+
+-- octets that are no record of a change
+pub ruleset refused_changes = (no_octet, no_kind, no_accept, no_outcome)

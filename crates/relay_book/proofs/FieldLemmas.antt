@@ -90,3 +90,12 @@ fields_are text path octet behind orcpt rest e more path_short orcpt_short = rec
   first_fits = path_short;
   second_fits = orcpt_short;
 }
+
+-- the fields of a recipient, or octets without them
+pub ruleset recipient_fields = (no_path, no_notify, no_orcpt, fields_are)
+
+-- fields of which no recipient is made
+pub ruleset refused_recipients = (none_path, none_notify, none_orcpt)
+
+-- fields that are judged: no recipient, or one
+pub ruleset judged_recipients = (none_without_fields, none_of_fields, spelled)

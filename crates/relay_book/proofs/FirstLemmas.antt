@@ -13,7 +13,8 @@ use Rattle.relay_book.proofs.ChangeFieldLemmas.{encoding_is_one}
 use Rattle.relay_book.proofs.CodeLemmas.{first_of}
 use Rattle.relay_book.proofs.SnapshotLemmas.{kind_of}
 use Rattle.relay_book.proofs.QueueLemmas.{step_is_queue}
-use Rattle.relay_book.proofs.StandLemmas.{fits_is_change, other_kinds}
+use Rattle.relay_book.proofs.StandLemmas.{fits_is_change, other_kinds, first_is_queue}
+use Rattle.relay_book.proofs.PieceLemmas.{kind_in_all}
 
 kind_is_of_snapshot : (octets : List ℕ) (version : Version) → first_of octets ≡ snapshot_kind version → is_of_snapshot octets ≡ true
 kind_is_of_snapshot [] WithoutDelay e = absurd (omega (arith, e))
@@ -75,3 +76,6 @@ pub queue_on_ok : {T E : Type 0} (result : Result T E) (queue : Queue) (change :
     → OnOk result (left ≡ step queue change) → OnOk result (IsQueue queue → IsQueue left)
 queue_on_ok (Ok value) queue change left fits is = next_is_queue queue change left fits is
 queue_on_ok (Err fault) queue change left fits is = tt
+
+-- the first record of a list, a snapshot or a change
+pub ruleset first_records = (snapshot_first, no_snapshot_first, change_first, no_change_first, kind_in_all, first_is_queue)

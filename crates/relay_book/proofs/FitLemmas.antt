@@ -81,3 +81,6 @@ hop_short (octet ∷ octets) valid = valid.few_octets
 
 pub hop_fits : (hop : List ℕ) → MayBeHop hop → length hop < 2 ^ 16
 hop_fits hop valid = let short = hop_short hop valid in omega (arith, short)
+
+-- fields whose lengths fit their octets
+pub ruleset fields_fit = (reverse_path_fits, given_envid_fits, text_fits)

@@ -160,3 +160,12 @@ rise_filter least next (entry ∷ entries) rise = by entry.1 (rise_filter (suc e
     by : (slot : Option Message) → Rise (suc entry.0) next (filter is_there entries) → Rise least next (cond (is_some slot) ((entry.0, slot) ∷ filter is_there entries) (filter is_there entries))
     by None rest = lower least (suc entry.0) next (filter is_there entries) (omega (arith, rise.0)) rest
     by (Some message) rest = (rise.0, rest)
+
+-- a message that is added at the end
+pub ruleset pushed_last = (new_last, live_last, rise_last)
+
+-- entries of which one is ruled, or none
+pub ruleset ruled_entries = (live_absent, live_ruled, rise_set)
+
+-- entries of which those are kept that are queued
+pub ruleset kept_entries = (live_filter, rise_filter)

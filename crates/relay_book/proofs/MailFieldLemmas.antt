@@ -13,3 +13,6 @@ none_ret path ret envid out = record { none = λ envelope valid has. out envelop
 
 pub none_envid : (path : List ℕ) (ret : ℕ) (envid : List ℕ) → ((given : Option (List ℕ)) → may_be_envid given ≡ true → envid ≢ written given) → IsNoMail path ret envid
 none_envid path ret envid out = record { none = λ envelope valid has. out envelope.envid valid.envid has.envid_is }
+
+-- fields of which no sender is made
+pub ruleset refused_mail = (none_path, none_ret, none_envid)

@@ -171,3 +171,12 @@ outcome_is version text message at hop rulings report spelled = spelled.text_is
 
 pub may_be_stored : (outcome : OutcomeFields) → outcome.message < 2 ^ 64 → outcome.at ≤ LAST_SECOND → MayBeHop outcome.hop → AreSome IsRuling outcome.rulings → length outcome.report ≤ 2 ^ 26 → IsOutcome outcome
 may_be_stored outcome message moment hop some report = record { message = message; moment = moment; hop = hop; some = some.some; within = some.within; rulings = some.valid; report = report }
+
+-- the head of an outcome, or octets without one
+pub ruleset outcome_heads = (no_message, no_moment, no_hop, head_is)
+
+-- the fields of an outcome, or octets without them
+pub ruleset outcome_fields = (no_head, no_rulings, no_report, outcome_spelled)
+
+-- fields that are judged: no outcome, or one
+pub ruleset judged_outcomes = (bad_moment, bad_hop, bad_report, is_outcome, outcome_is)

@@ -107,3 +107,6 @@ kind_in_all pieces held = by pieces.front pieces.behind held
     by : (front behind : List ℕ) → (length front < 1 → behind ≡ []) → is_of_snapshot front ≡ is_of_snapshot (front ++ behind)
     by [] behind held = ap is_of_snapshot (sym (held (omega arith)))
     by (octet ∷ front) behind held = refl
+
+-- the head of a snapshot in pieces
+pub ruleset heads_in_pieces = (head_in_all, no_head_in_all, head_behind)

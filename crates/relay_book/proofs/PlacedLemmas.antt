@@ -262,3 +262,18 @@ module _ (version : Version) where
       subst (λ (ps : List Place). ReadsRow version (count + 1) text more ps behind) (sym others_are)
       (subst (λ (rs : List Recipient). ReadsRow version (count + 1) text rs (places ++ place ∷ []) behind) (sym (more_are ∙ ap (λ (r : Recipient). recipients ++ r ∷ []) same))
       (row_more count text recipients places rest given place behind reads valid is))
+
+-- what is said of a delay, in the version that has it and in the one that has not
+pub ruleset said_of_delay = (nothing_said, one_said, none_said)
+
+-- the fields of a place, or octets without them
+pub ruleset place_fields = (no_octet, no_laters, no_delay, no_due, fields_are)
+
+-- fields that are judged: no place, or one
+pub ruleset judged_places = (none_without_fields, none_of_fields, spelled, is_place_by)
+
+-- a recipient and its place, or octets without them
+pub ruleset placed_recipients = (no_recipient, no_place_behind, placed_is)
+
+-- a row of recipients and their places
+pub ruleset placed_rows = (reads_placed, few_places)

@@ -131,3 +131,9 @@ pub no_verdict : (text : List ℕ) (place : ℕ) (behind : List ℕ) → text �
 no_verdict text place behind is out = record {
   none = λ ruling rest valid e. out.none ruling.verdict rest valid.verdict (ap (drop 1) (sym is ∙ e));
 }
+
+-- octets that are no refusal
+pub ruleset malformed_refusals = (none_short, none_of_code, none_without_length, none_cut, none_long, none_bad)
+
+-- octets that are no verdict
+pub ruleset malformed_verdicts = (no_tag, other_tag, no_refusal)

@@ -100,3 +100,9 @@ pub counted_are_one : {A : Type 0} (Valid : A → Type 0) (octets_of : A → Lis
 counted_are_one Valid octets_of code values others x y are also e =
     let first = same_head (length values) (length others) (flat_map octets_of values ++ x) (flat_map octets_of others ++ y) e in
     code_list Valid octets_of code values others x y first.0 are.valid also.valid first.1
+
+-- octets without a counted row
+pub ruleset refused_rows = (no_count, no_such_count, no_counted_row)
+
+-- a counted row, or octets without one
+pub ruleset counted_rows = (no_count, no_such_count, no_counted_row, is_counted)

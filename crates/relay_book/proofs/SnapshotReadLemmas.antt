@@ -293,3 +293,15 @@ module _ (version : Version) where
     text_is = reads.text_is ∙ append-nil (flat_map (entry_octets version) queue.messages) ∙ ap (flat_map (entry_octets version)) (sym are);
   }
   all_read count next text queue (octet ∷ rest) messages reads none are = absurd (omega (arith, none))
+
+-- octets that are no snapshot, and the head of those that may be one
+pub ruleset refused_snapshots = (bad_head, bad_next, bad_entries, may_be)
+
+-- entries of a snapshot, as many as its head counts
+pub ruleset counted_entries = (none_read, too_many_counted)
+
+-- the head of a snapshot, or octets without one
+pub ruleset snapshot_heads = (no_kind, other_kind, no_counts, head_is)
+
+-- the counts in the head of a snapshot, or octets without them
+pub ruleset head_counts = (no_next, no_count, counts_are)

@@ -1,6 +1,7 @@
 -- What a verdict makes of a place, and which report is due (RFC 3461, sections 5.2 and 5.2.4): by the version of the
 -- outcome, reverse path, NOTIFY, what is known of the place, and the verdict.
-use Rattle.std.specs.Prelude.{ℕ, ◌+◌, nat_le, Bool, true, false, not, ◌&&◌, List, Option, Some, None, option_and_then, slice_get, if◌then◌else◌}
+use Rattle.std.specs.Prelude.{ℕ, ◌+◌, nat_le, Bool, true, false, not, ◌&&◌, List, Option, Some, None, option_and_then}
+use Rattle.std.specs.Prelude.{slice_get, if◌then◌else◌}
 use Rattle.relay_envelope.specs.declared.parameters.Notify.{Notify}
 use Rattle.relay_envelope.specs.declared.parameters.Notify.TheVariants.{Never, On}
 use Rattle.relay_book.specs.Record.{is_null}

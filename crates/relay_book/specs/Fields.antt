@@ -9,7 +9,9 @@ use Rattle.relay_book.specs.declared.version.Version.{Version}
 use Rattle.relay_book.specs.declared.change.Accept.{Accept as AcceptFields}
 use Rattle.relay_book.specs.declared.change.Outcome.{Outcome as OutcomeFields}
 use Rattle.relay_book.specs.declared.change.Ruling.{Ruling}
-use Rattle.relay_book.specs.Record.{IsAccept, IsOutcome, IsRefusal, IsRuling, accept_octets, counted, notify_number, octets_2, octets_8, outcome_kind, outcome_octets, recipient_octets, ret_number, ruling_octets, sized_2, sized_4, written}
+use Rattle.relay_book.specs.Record.{IsAccept, IsOutcome, IsRefusal, IsRuling, accept_octets, counted, notify_number}
+use Rattle.relay_book.specs.Record.{octets_2, octets_8, outcome_kind, outcome_octets, recipient_octets, ret_number}
+use Rattle.relay_book.specs.Record.{ruling_octets, sized_2, sized_4, written}
 
 -- a text behind its length, an octet, and a text behind its length
 pub record SpellsFields (text first : List ℕ) (number : ℕ) (second rest : List ℕ) : Type 0 where

@@ -1,6 +1,7 @@
 -- Custody of each recipient (RFC 5321, section 6.1), by the list of changes. A change's number is its place
 -- in the list, from 1.
-use Rattle.std.specs.Prelude.{◌≡◌, ◌≢◌, ◌⊎◌, ◌↔◌, ℕ, zero, suc, ◌<◌, List, [], ◌∷◌, ◌++◌, length, slice_get, Option, None, Some, if◌then◌else◌}
+use Rattle.std.specs.Prelude.{◌≡◌, ◌≢◌, ◌⊎◌, ◌↔◌, ℕ, zero, suc, ◌<◌, List, [], ◌∷◌, ◌++◌, length, slice_get, Option}
+use Rattle.std.specs.Prelude.{None, Some, if◌then◌else◌}
 use Rattle.std.specs.Option.{option_and_then, option_map_or}
 use Rattle.std.specs.List.{Contains}
 use Rattle.relay_book.specs.declared.change.Accept.{Accept as AcceptFields}
@@ -16,7 +17,8 @@ use Rattle.relay_book.specs.declared.fate.PlaceStep.TheVariants as made
 use Rattle.relay_book.specs.declared.version.Version.{Version}
 use Rattle.relay_book.specs.declared.due_report.DueReport.{DueReport}
 use Rattle.relay_book.specs.DueReport.{fate_of, way_of}
-use Rattle.relay_book.specs.Queue.{Queue, report_of, FitsQueue, Fitting, due_report_at, queue_of, held_of, message_of, tells_delay}
+use Rattle.relay_book.specs.Queue.{Queue, report_of, FitsQueue, Fitting, due_report_at, queue_of, held_of, message_of}
+use Rattle.relay_book.specs.Queue.{tells_delay}
 use Rattle.relay_book.specs.Record.{IsAccept}
 use Rattle.relay_book.specs.declared.message.Message.{Message}
 

@@ -10,7 +10,8 @@ use Rattle.relay_book.specs.declared.message.Place.{Place}
 use Rattle.relay_book.specs.declared.message.Message.{Message}
 use Rattle.relay_book.specs.Book.{Rise}
 use Rattle.relay_book.specs.Queue.{Queue, is_held, last_number}
-use Rattle.relay_book.specs.Record.{IsAccept, counted, octets_4, octets_8, recipient_octets, ret_number, sized_2, sized_4, worth, written}
+use Rattle.relay_book.specs.Record.{IsAccept, counted, octets_4, octets_8, recipient_octets, ret_number, sized_2}
+use Rattle.relay_book.specs.Record.{sized_4, worth, written}
 
 -- whether a place was reported as delayed, in one octet; the first version says nothing
 abbrev pub delay_octets : Version → ℕ → List ℕ

@@ -1,5 +1,6 @@
 -- The fields of snapshots, one after another, and what no valid value begins. (Readers cut them; others judge them.)
-use Rattle.std.specs.Prelude.{◌≡◌, ◌≢◌, ◌==◌, ◌||◌, Bool, false, ℕ, suc, ◌+◌, ◌≤◌, ◌<◌, ◌^◌, List, [], ◌∷◌, ◌++◌, length}
+use Rattle.std.specs.Prelude.{◌≡◌, ◌≢◌, ◌==◌, ◌||◌, Bool, false, ℕ, suc, ◌+◌, ◌≤◌, ◌<◌, ◌^◌, List, [], ◌∷◌, ◌++◌}
+use Rattle.std.specs.Prelude.{length}
 use Rattle.std.specs.List.{flat_map, zip}
 use Rattle.relay_envelope.specs.declared.envelope.Recipient.{Recipient}
 use Rattle.relay_envelope.specs.Envelope.{IsRecipient}
@@ -12,7 +13,8 @@ use Rattle.relay_book.specs.Book.{Rise}
 use Rattle.relay_book.specs.Fields.{AreSome, AreSoMany}
 use Rattle.relay_book.specs.Queue.{Queue}
 use Rattle.relay_book.specs.Record.{counted, octets_4, octets_8, sized_2, sized_4, worth, written}
-use Rattle.relay_book.specs.Snapshot.{IsPlace, IsPlaceBy, IsQueuedBy, delay_octets, entry_octets, placed_octets, snapshot_kind}
+use Rattle.relay_book.specs.Snapshot.{IsPlace, IsPlaceBy, IsQueuedBy, delay_octets, entry_octets, placed_octets}
+use Rattle.relay_book.specs.Snapshot.{snapshot_kind}
 
 -- no text behind a length of four octets begins these octets
 pub record HasNoLong (text : List ℕ) : Type 0 where

@@ -1,10 +1,12 @@
 //! The queue of a node, in memory.
-ghost use Rattle.std.specs.Prelude.{◌≡◌, ◌<◌, ◌≤◌, ◌+◌, ◌^◌, ◌++◌, ℕ, [], ◌∷◌, false, true, IfOk, IsErrOf, IsTrue, ◌↔◌, OnErr, OnOk};
+ghost use Rattle.std.specs.Prelude.{◌≡◌, ◌<◌, ◌≤◌, ◌+◌, ◌^◌, ◌++◌, ℕ, [], ◌∷◌, false, true, IfOk, IsErrOf, IsTrue, ◌↔◌};
+ghost use Rattle.std.specs.Prelude.{OnErr, OnOk};
 ghost use Rattle.std.specs.List.{Contains, flat_map, list_any};
 ghost use Rattle.std.specs.Option.{option_copied, option_map_or};
 ghost use Rattle.relay_book.specs.Book.{AllTold, AreTold, IsTold, Rise, is_held_until, marks_at};
 ghost use Rattle.relay_book.specs.Marks.{place_steps};
-ghost use Rattle.relay_book.specs.Queue.{FitsQueue, due_of, empty_queue, held_of, is_due_at, last_number, message_of, ruled, step};
+ghost use Rattle.relay_book.specs.Queue.{FitsQueue, due_of, empty_queue, held_of, is_due_at, last_number, message_of};
+ghost use Rattle.relay_book.specs.Queue.{ruled, step};
 ghost use Rattle.relay_book.specs.Ready.{IsReady, entry_of, message_in};
 ghost use Rattle.relay_book.specs.Record.{IsAccept};
 
@@ -320,7 +322,7 @@ impl Book {
     }
 
     /// Puts a message behind the others. It takes no memory.
-    #[tactic(auto, using(crate::proofs::LiveLemmas::new_last, crate::proofs::LiveLemmas::live_last, crate::proofs::LiveLemmas::rise_last, crate::proofs::ToldLemmas::all_told_last))]
+    #[tactic(auto, using(crate::proofs::LiveLemmas::pushed_last, crate::proofs::ToldLemmas::all_told_last))]
     fn push(&mut self, message: Message)
         requires room { 0 < self.old.room }
         requires few { self.old.queue.next ≤ last_number }
@@ -344,7 +346,7 @@ impl Book {
     }
 
     /// Rules on a message. What has ended leaves its entry empty.
-    #[tactic(auto, using(crate::proofs::LiveLemmas::live_absent, crate::proofs::LiveLemmas::live_ruled, crate::proofs::LiveLemmas::rise_set, crate::proofs::ToldLemmas::all_told_as))]
+    #[tactic(auto, using(crate::proofs::LiveLemmas::ruled_entries, crate::proofs::ToldLemmas::all_told_as))]
     fn rule(&mut self, outcome: &Outcome)
         requires { AllTold self.old.told (ruled outcome.now self.old.queue.messages) }
         ensures next { self.new.queue.next ≡ self.old.queue.next }
@@ -358,7 +360,7 @@ impl Book {
     }
 
     /// Clears away the entries that have ended.
-    #[tactic(auto, using(crate::proofs::LiveLemmas::live_filter, crate::proofs::LiveLemmas::rise_filter, crate::proofs::ToldLemmas::all_told_as))]
+    #[tactic(auto, using(crate::proofs::LiveLemmas::kept_entries, crate::proofs::ToldLemmas::all_told_as))]
     fn compact(&mut self)
         ensures queue { self.new.queue ≡ self.old.queue }
         ensures room { self.old.room ≤ self.new.room }

@@ -2,7 +2,8 @@
 ghost use Rattle.relay_book.specs.DelayLaw.{DelayIsTold, FoldDelays};
 ghost use Rattle.relay_book.specs.DueLaw.{FoldDue, QueueListsDue, QueueTellsDue};
 ghost use Rattle.relay_book.specs.HeldLaw.{FoldFinds, QueuedIsHeld};
-ghost use Rattle.relay_book.specs.Marks.{ExactlyOne, FoldHolds, FoldKnows, LeavingIsListed, MessageStays, OneMoreHolds, QueueLeaves, QueuedMayBeStored, ReportMayBeStored, StepsLeave};
+ghost use Rattle.relay_book.specs.Marks.{ExactlyOne, FoldHolds, FoldKnows, LeavingIsListed, MessageStays, OneMoreHolds};
+ghost use Rattle.relay_book.specs.Marks.{QueueLeaves, QueuedMayBeStored, ReportMayBeStored, StepsLeave};
 
 /// The queue of a list of changes holds exactly what is held.
 pub fn fold_holds()

@@ -2,8 +2,11 @@
 ghost use Rattle.std.specs.Prelude.{◌≡◌, ◌≢◌, ◌<◌, ◌^◌, length, MatchOption, ◌∷◌, IfOk, IfSome, IsErrOf, IsTrue, ◌↔◌};
 ghost use Rattle.relay_envelope.specs.Envelope.{IsRecipient, IsReversePath, may_be_envid, envelope_from};
 ghost use Rattle.relay_envelope.specs.Mail.{mail_value};
-ghost use Rattle.relay_book.specs.Record.{IsAccept, IsChange, IsNoRecord, IsOutcome, MayBeHop, accept_octets, encode, outcome_kind, outcome_octets, sized_4, text_limit};
-ghost use Rattle.relay_book.specs.Fields.{BeginsAccept, BeginsRecord, BeginsWithHop, BeginsWithMail, HasNoHead, IsNoSized, MayBeRecord, SpellsHead, SpellsAccept, SpellsNoAccept, SpellsNoOutcome, SpellsOutcome};
+ghost use Rattle.relay_book.specs.Record.{IsAccept, IsChange, IsNoRecord, IsOutcome, MayBeHop, accept_octets, encode};
+ghost use Rattle.relay_book.specs.Record.{outcome_kind, outcome_octets, sized_4, text_limit};
+ghost use Rattle.relay_book.specs.Fields.{BeginsAccept, BeginsRecord, BeginsWithHop, BeginsWithMail, HasNoHead};
+ghost use Rattle.relay_book.specs.Fields.{IsNoSized, MayBeRecord, SpellsHead, SpellsAccept, SpellsNoAccept};
+ghost use Rattle.relay_book.specs.Fields.{SpellsNoOutcome, SpellsOutcome};
 
 mod entry;
 mod mail;
@@ -32,7 +35,7 @@ use tail::behind;
 /// the recipients or the verdicts: what stands before them, and how many they are, is read first, and
 /// octets that spell no such fields are refused however little memory there is. What is behind, and
 /// whether the fields are valid, may be left unjudged where memory runs out.
-#[tactic(auto, using(crate::proofs::ChangeFieldLemmas::no_octet, crate::proofs::ChangeFieldLemmas::no_kind, crate::proofs::ChangeFieldLemmas::no_accept, crate::proofs::ChangeFieldLemmas::no_outcome, crate::proofs::BeginLemmas::may_be_accept, crate::proofs::BeginLemmas::may_be_outcome))]
+#[tactic(auto, using(crate::proofs::ChangeFieldLemmas::refused_changes, crate::proofs::BeginLemmas::begun_changes))]
 pub fn decode_change(alloc: Global, text: &[u8]) -> Result<Change, BookFault>
     ensures change { IfOk result (λ change. IsChange change × (text.now ≡ encode change)) }
     ensures bad { IsErrOf result BookFault.BadRecord → IsNoRecord text.now }
@@ -81,7 +84,7 @@ pub fn decode_record(alloc: Global, octets: Vec<u8>) -> Result<Change, BookFault
 }
 
 /// What the record of an accept says before its stored text, and none for another record.
-#[tactic(auto, using(crate::proofs::ChangeFieldLemmas::no_accept, crate::proofs::AcceptLemmas::begins_record, crate::proofs::BeginLemmas::may_be_accept))]
+#[tactic(auto, using(crate::proofs::BeginLemmas::accept_records))]
 fn head_of(alloc: Global, octets: &[u8]) -> Result<Option<AcceptHead>, BookFault>
     ensures accept { IfOk result (λ found. IfSome found
         (λ parts. BeginsRecord octets.now parts.0 parts.1 parts.2)) }
@@ -116,7 +119,7 @@ fn read_last(text: &[u8]) -> Option<&[u8]>
 type AcceptFields<'a> = (u64, &'a [u8], u8, &'a [u8], Recipients, &'a [u8]);
 
 /// Cuts an accept into its fields.
-#[tactic(auto, using(crate::proofs::AcceptLemmas::no_moment, crate::proofs::AcceptLemmas::no_mail_fields, crate::proofs::AcceptLemmas::no_recipients, crate::proofs::AcceptLemmas::no_stored_text, crate::proofs::AcceptLemmas::accept_spelled, crate::proofs::BeginLemmas::begins_with_mail))]
+#[tactic(auto, using(crate::proofs::AcceptLemmas::accept_fields, crate::proofs::BeginLemmas::begins_with_mail))]
 fn split_accept(alloc: Global, text: &[u8]) -> Result<AcceptFields<'_>, BookFault>
     ensures fields { IfOk result (λ parts.
         SpellsAccept text.now parts.0 parts.1.now parts.2 parts.3.now parts.4 parts.5.now) }
@@ -140,7 +143,7 @@ fn split_accept(alloc: Global, text: &[u8]) -> Result<AcceptFields<'_>, BookFaul
 type AcceptHead = (Moment, Envelope, usize);
 
 /// What the accept says before its stored text that the text spells.
-#[tactic(auto, using(crate::proofs::AcceptLemmas::bad_mail, crate::proofs::AcceptLemmas::bad_moment, crate::proofs::AcceptLemmas::bad_text, crate::proofs::AcceptLemmas::begins_accept, crate::proofs::AcceptLemmas::stored_within, crate::proofs::BeginLemmas::spelled_with_mail))]
+#[tactic(auto, using(crate::proofs::AcceptLemmas::accept_heads, crate::proofs::BeginLemmas::spelled_with_mail))]
 fn read_accept_head(alloc: Global, text: &[u8]) -> Result<AcceptHead, BookFault>
     ensures accept { IfOk result (λ parts. BeginsAccept text.now parts.0 parts.1 parts.2) }
     ensures bad { IsErrOf result BookFault.BadRecord → SpellsNoAccept text.now }
@@ -163,7 +166,7 @@ fn read_accept_head(alloc: Global, text: &[u8]) -> Result<AcceptHead, BookFault>
 }
 
 /// The accept that the text spells.
-#[tactic(auto, using(crate::proofs::AcceptLemmas::begun_is_accept, crate::proofs::AcceptLemmas::begun_is_text, crate::proofs::BeginLemmas::begun_with_mail))]
+#[tactic(auto, using(crate::proofs::AcceptLemmas::begun_accepts, crate::proofs::BeginLemmas::begun_with_mail))]
 fn read_accept(alloc: Global, text: &[u8]) -> Result<Accept, BookFault>
     ensures accept { IfOk result (λ accept. IsAccept accept × (text.now ≡ accept_octets accept)) }
     ensures bad { IsErrOf result BookFault.BadRecord → SpellsNoAccept text.now }
@@ -181,7 +184,7 @@ fn read_accept(alloc: Global, text: &[u8]) -> Result<Accept, BookFault>
 type OutcomeFields<'a> = (u64, u64, &'a [u8], Rulings, &'a [u8]);
 
 /// An outcome's message, its moment and its hop, and what follows them.
-#[tactic(auto, using(crate::proofs::OutcomeLemmas::no_message, crate::proofs::OutcomeLemmas::no_moment, crate::proofs::OutcomeLemmas::no_hop, crate::proofs::OutcomeLemmas::head_is))]
+#[tactic(auto, using(crate::proofs::OutcomeLemmas::outcome_heads))]
 fn read_head(text: &[u8]) -> Option<(u64, u64, &[u8], &[u8])>
     ensures { MatchOption result (HasNoHead text.now)
         (λ parts. SpellsHead text.now parts.0 parts.1 parts.2.now parts.3.now) }
@@ -193,7 +196,7 @@ fn read_head(text: &[u8]) -> Option<(u64, u64, &[u8], &[u8])>
 }
 
 /// Cuts an outcome into its fields.
-#[tactic(auto, using(crate::proofs::OutcomeLemmas::no_head, crate::proofs::OutcomeLemmas::no_rulings, crate::proofs::OutcomeLemmas::no_report, crate::proofs::OutcomeLemmas::outcome_spelled, crate::proofs::BeginLemmas::begins_with_hop))]
+#[tactic(auto, using(crate::proofs::OutcomeLemmas::outcome_fields, crate::proofs::BeginLemmas::begins_with_hop))]
 fn split_outcome(alloc: Global, text: &[u8]) -> Result<OutcomeFields<'_>, BookFault>
     ensures fields { IfOk result (λ parts.
         SpellsOutcome text.now parts.0 parts.1 parts.2.now parts.3 parts.4.now) }
@@ -211,7 +214,7 @@ fn split_outcome(alloc: Global, text: &[u8]) -> Result<OutcomeFields<'_>, BookFa
 }
 
 /// The outcome of a version that the text spells.
-#[tactic(auto, using(crate::proofs::OutcomeLemmas::bad_moment, crate::proofs::OutcomeLemmas::bad_hop, crate::proofs::OutcomeLemmas::bad_report, crate::proofs::OutcomeLemmas::is_outcome, crate::proofs::OutcomeLemmas::outcome_is, crate::proofs::BeginLemmas::spelled_with_hop))]
+#[tactic(auto, using(crate::proofs::OutcomeLemmas::judged_outcomes, crate::proofs::BeginLemmas::spelled_with_hop))]
 fn read_outcome(alloc: Global, version: Version, text: &[u8]) -> Result<Outcome, BookFault>
     ensures outcome { IfOk result (λ outcome. IsOutcome outcome × (text.now ≡ outcome_octets outcome)) }
     ensures version { IfOk result (λ outcome. outcome.version ≡ version) }

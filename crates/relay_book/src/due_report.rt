@@ -1,5 +1,6 @@
 ghost use Rattle.std.specs.Prelude.{◌≡◌};
-ghost use Rattle.relay_book.specs.DueReport.{due_for, due_report_of, report_of_delay, report_of_fate, reports_delay, wants_delay, wants_failure, wants_success};
+ghost use Rattle.relay_book.specs.DueReport.{due_for, due_report_of, report_of_delay, report_of_fate, reports_delay};
+ghost use Rattle.relay_book.specs.DueReport.{wants_delay, wants_failure, wants_success};
 
 use crate::change::{Accept, Verdict};
 use crate::fate::{Fate, fate_of};

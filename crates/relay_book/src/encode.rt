@@ -2,7 +2,9 @@
 ghost use Rattle.std.specs.Prelude.{◌≡◌, ◌++◌, ◌∷◌, ◌<◌, ◌≤◌, ◌^◌, length, OnOk, IfOk};
 ghost use Rattle.std.specs.List.{flat_map, AllByRecursion, zip};
 ghost use Rattle.relay_envelope.specs.Envelope.{IsEnvelope, IsRecipient};
-ghost use Rattle.relay_book.specs.Record.{IsAccept, IsChange, IsOutcome, IsRuling, IsVerdict, accept_octets, counted, encode, notify_number, octets_8, outcome_kind, outcome_octets, recipient_octets, ret_number, ruling_octets, verdict_octets};
+ghost use Rattle.relay_book.specs.Record.{IsAccept, IsChange, IsOutcome, IsRuling, IsVerdict, accept_octets, counted};
+ghost use Rattle.relay_book.specs.Record.{encode, notify_number, octets_8, outcome_kind, outcome_octets};
+ghost use Rattle.relay_book.specs.Record.{recipient_octets, ret_number, ruling_octets, verdict_octets};
 ghost use Rattle.relay_book.specs.declared.version.Version.TheVariants.{WithDelay};
 ghost use Rattle.relay_book.specs.Snapshot.{IsQueued, entry_octets, place_octets, placed_octets};
 
@@ -33,7 +35,7 @@ pub fn encode_change(alloc: Global, change: &Change) -> Result<Vec<u8>, AllocErr
 }
 
 /// Adds the fields of an accept.
-#[tactic(auto, using(crate::proofs::FitLemmas::reverse_path_fits, crate::proofs::FitLemmas::given_envid_fits, crate::proofs::FitLemmas::text_fits))]
+#[tactic(auto, using(crate::proofs::FitLemmas::fields_fit))]
 fn push_accept(out: &mut Vec<u8>, accept: &Accept) -> Result<(), AllocError>
     requires { IsAccept accept.now }
     ensures { OnOk result (out.new.items ≡ out.old.items ++ accept_octets accept.now) }
@@ -168,7 +170,7 @@ fn push_verdict(out: &mut Vec<u8>, verdict: &Verdict) -> Result<(), AllocError>
 
 /// Adds a message that is queued, by the second version: its number, and the fields of its accept, each recipient
 /// followed by its place.
-#[tactic(auto, using(crate::proofs::FitLemmas::reverse_path_fits, crate::proofs::FitLemmas::given_envid_fits, crate::proofs::FitLemmas::text_fits), unfolding(crate::specs::Snapshot::entry_octets))]
+#[tactic(auto, using(crate::proofs::FitLemmas::fields_fit), unfolding(crate::specs::Snapshot::entry_octets))]
 pub(crate) fn push_entry(
     out: &mut Vec<u8>,
     number: u64,

@@ -1,7 +1,8 @@
 ghost use Rattle.std.specs.Prelude.{◌≡◌, ◌<◌, ◌≤◌, length, slice_get, slice_set, IfOk};
 ghost use Rattle.std.specs.List.{list_any};
 ghost use Rattle.relay_book.specs.Book.{is_held_until};
-ghost use Rattle.relay_book.specs.Queue.{due_report_at, is_held, message_after, place_ruled, places_after, places_ruled};
+ghost use Rattle.relay_book.specs.Queue.{due_report_at, is_held, message_after, place_ruled, places_after};
+ghost use Rattle.relay_book.specs.Queue.{places_ruled};
 
 use crate::change::{Accept, Outcome, Ruling, Verdict};
 use crate::due_report::{DueReport, due_for};

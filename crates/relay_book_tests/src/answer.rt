@@ -2,8 +2,8 @@
 use crate::fault::RowsFault;
 use crate::hex::octets_of;
 use crate::number::number_in;
-use crate::octets::{fits, values_that_fit};
-use crate::snapshot::{book_of, cuts_text, snapshot_text, word};
+use crate::octets::{fits, push_values};
+use crate::snapshot::{book_of, push_cuts, push_snapshot, push_word};
 use relay_book::{Book, BookFault, decode_change, encode_change};
 use relay_trace::Moment;
 use std::alloc::{AllocError, Global};
@@ -33,90 +33,102 @@ impl Subject {
         }
     }
 
-    /// What comes of a row: a word, places as `NUMBER.PLACE`, or values of an octet.
-    pub fn answer(&mut self, alloc: Global, row: &str) -> Result<String, RowsFault> {
-        if let Some(text) = row.strip_prefix("apply ") {
-            applied(alloc, &mut self.book, text)
-        } else if let Some(text) = row.strip_prefix("decode ") {
-            decoded(alloc, text)
-        } else if let Some(text) = row.strip_prefix("record ") {
-            self.take(alloc, text)
-        } else if let Some(text) = row.strip_prefix("octet ") {
-            let place = usize::try_from(number_in(text)?).unwrap_or(usize::MAX);
-            values_that_fit(alloc, &mut self.book, self.record.as_slice(), place)
-        } else if let Some(text) = row.strip_prefix("due ") {
-            due(alloc, &self.book, text)
-        } else if let Some(text) = row.strip_prefix("snapshot ") {
-            snapshot_text(alloc, text)
-        } else if let Some(text) = row.strip_prefix("read ") {
-            self.read(alloc, text)
-        } else if let Some(text) = row.strip_prefix("cut ") {
-            cuts_text(alloc, text)
-        } else {
-            let places = self.book.held(alloc)?;
-            Ok(places_text(alloc, places.as_slice())?)
+    /// Tells what comes of a row: a word, places as `NUMBER.PLACE`, or values of an octet.
+    pub fn answer(&mut self, alloc: Global, row: &str, text: &mut String) -> Result<(), RowsFault> {
+        let (word, rest) = row.split_once(' ').unwrap_or((row, ""));
+        match word {
+            "held" => push_places(text, self.book.held(alloc)?.as_slice()),
+            "due" => {
+                let places = self.book.due(alloc, moment_in(rest)?)?;
+                push_places(text, places.as_slice())
+            }
+            "octet" => {
+                let place = usize::try_from(number_in(rest)?).unwrap_or(usize::MAX);
+                push_values(alloc, text, &mut self.book, self.record.as_slice(), place)
+            }
+            "snapshot" => push_snapshot(alloc, text, rest),
+            _ => {
+                let octets = octets_of(alloc, rest)?;
+                self.answer_on(alloc, word, octets.as_slice(), text)
+            }
+        }
+    }
+
+    /// The same of a row about these octets.
+    fn answer_on(
+        &mut self,
+        alloc: Global,
+        word: &str,
+        octets: &[u8],
+        text: &mut String,
+    ) -> Result<(), RowsFault> {
+        match word {
+            "apply" => match applied(alloc, &mut self.book, octets) {
+                Ok(()) => Ok(text.push_str("applied")?),
+                Err(fault) => push_word(text, fault),
+            },
+            "decode" => match is_written_again(alloc, octets) {
+                Ok(true) => Ok(write!(text, "a record of {}", octets.len())?),
+                Ok(false) => Ok(text.push_str("another record")?),
+                Err(fault) => push_word(text, fault),
+            },
+            "record" => self.take(alloc, octets, text),
+            "read" => self.read(alloc, octets, text),
+            "cut" => push_cuts(alloc, text, octets),
+            _ => Err(RowsFault::Row),
         }
     }
 
     /// Takes a record in hand.
-    fn take(&mut self, alloc: Global, text: &str) -> Result<String, RowsFault> {
-        self.record = octets_of(alloc, text)?;
-        if fits(alloc, &mut self.book, self.record.as_slice())? {
-            Ok(format!(in alloc; "fits")?)
+    fn take(&mut self, alloc: Global, octets: &[u8], text: &mut String) -> Result<(), RowsFault> {
+        self.record.clear();
+        self.record.extend_from_slice(octets)?;
+        if fits(alloc, &mut self.book, octets)? {
+            Ok(text.push_str("fits")?)
         } else {
-            word(alloc, BookFault::BadRecord)
+            push_word(text, BookFault::BadRecord)
         }
     }
 
     /// Reads a snapshot: the book that comes of it is the one that the next rows are about.
-    fn read(&mut self, alloc: Global, text: &str) -> Result<String, RowsFault> {
-        let octets = octets_of(alloc, text)?;
-        match book_of(alloc, octets.as_slice()) {
-            Err(fault) => word(alloc, fault),
+    fn read(&mut self, alloc: Global, octets: &[u8], text: &mut String) -> Result<(), RowsFault> {
+        match book_of(alloc, octets) {
+            Err(fault) => push_word(text, fault),
             Ok((book, same)) => {
                 self.book = book;
-                Ok(read_text(alloc, octets.len(), same)?)
+                Ok(push_read(text, octets.len(), same)?)
             }
         }
     }
 }
 
-fn read_text(alloc: Global, len: usize, same: bool) -> Result<String, AllocError> {
+fn push_read(text: &mut String, len: usize, same: bool) -> Result<(), AllocError> {
     if same {
-        format!(in alloc; "a snapshot of {len}")
+        write!(text, "a snapshot of {len}")
     } else {
-        format!(in alloc; "another snapshot")
+        text.push_str("another snapshot")
+    }
+}
+
+/// The moment of so many seconds.
+fn moment_in(text: &str) -> Result<Moment, RowsFault> {
+    match Moment::new(number_in(text)?) {
+        Ok(moment) => Ok(moment),
+        Err(_) => Err(RowsFault::Row),
     }
 }
 
 /// Reads a record and applies its change. Where memory runs out it does so once more, since the book is to be
 /// as it was.
-fn applied(alloc: Global, book: &mut Book, text: &str) -> Result<String, RowsFault> {
-    let record = octets_of(alloc, text)?;
-    let first = read_into(alloc, book, record.as_slice());
-    let last = match first {
-        Err(BookFault::NoMemory) => read_into(alloc, book, record.as_slice()),
-        Err(BookFault::BadRecord) => first,
-        Ok(()) => first,
-    };
-    match last {
-        Err(fault) => word(alloc, fault),
-        Ok(()) => Ok(format!(in alloc; "applied")?),
+fn applied(alloc: Global, book: &mut Book, record: &[u8]) -> Result<(), BookFault> {
+    match read_into(alloc, book, record) {
+        Err(BookFault::NoMemory) => read_into(alloc, book, record),
+        first => first,
     }
 }
 
 fn read_into(alloc: Global, book: &mut Book, record: &[u8]) -> Result<(), BookFault> {
     book.apply(alloc, decode_change(alloc, record)?)
-}
-
-/// Reads a record and writes its change again.
-fn decoded(alloc: Global, text: &str) -> Result<String, RowsFault> {
-    let record = octets_of(alloc, text)?;
-    match is_written_again(alloc, record.as_slice()) {
-        Err(fault) => word(alloc, fault),
-        Ok(true) => Ok(format!(in alloc; "a record of {}", record.len())?),
-        Ok(false) => Ok(format!(in alloc; "another record")?),
-    }
 }
 
 /// Whether the change of a record is written as that record.
@@ -125,20 +137,11 @@ fn is_written_again(alloc: Global, record: &[u8]) -> Result<bool, BookFault> {
     Ok(encode_change(alloc, &change)?.as_slice() == record)
 }
 
-/// The places that are due at a moment.
-fn due(alloc: Global, book: &Book, text: &str) -> Result<String, RowsFault> {
-    let Ok(now) = Moment::new(number_in(text)?) else {
-        return Err(RowsFault::Row);
-    };
-    let places = book.due(alloc, now)?;
-    Ok(places_text(alloc, places.as_slice())?)
-}
-
-/// Places with the numbers of their messages.
-fn places_text(alloc: Global, places: &[(u64, u8)]) -> Result<String, AllocError> {
-    let mut text = format!(in alloc; "{} places", places.len())?;
+/// Tells places with the numbers of their messages.
+fn push_places(text: &mut String, places: &[(u64, u8)]) -> Result<(), RowsFault> {
+    write!(text, "{} places", places.len())?;
     for (number, place) in places {
-        text.push_str(format!(in alloc; " {number}.{place}")?.as_str())?;
+        write!(text, " {number}.{place}")?;
     }
-    Ok(text)
+    Ok(())
 }

@@ -14,16 +14,27 @@ mod row;
 mod steps;
 
 use files::{
-    a_file_is_locked_by_one_disk_at_a_time, a_file_keeps_what_was_written,
-    a_new_file_is_its_owners_alone, a_path_in_no_folder_is_refused,
+    is_its_owners_alone, is_locked_by_one_disk_at_a_time, is_refused_in_no_folder,
+    keeps_what_was_written,
 };
 use relay_disk::DiskFault;
 use relay_spool::SpoolFault;
-use row::difference_of;
+use row::Row;
 use std::fs;
-use std::io::{self, Print, Read};
+use std::io::Read;
 use std::test::Fail;
 use steps::take_steps;
+
+/// The faults of a spool.
+const FAULTS: [SpoolFault; 7] = [
+    SpoolFault::Device,
+    SpoolFault::NotASpool,
+    SpoolFault::Damaged(17),
+    SpoolFault::NoMemory,
+    SpoolFault::NotEmpty,
+    SpoolFault::Full,
+    SpoolFault::NoSecond,
+];
 
 /// Shows the rows of disks and spools.
 pub fn show_disks(rt: &HostRuntime) -> Result<(), Fail> {
@@ -44,20 +55,23 @@ pub fn take_given_steps(rt: &HostRuntime, path: &str) -> Result<(), Fail> {
 
 /// Plays each row. A line that begins with `#` says what the next rows show, and stands as it is.
 fn play_rows(rt: &HostRuntime, rows: &str) -> Result<(), Fail> {
+    let mut came = String::new(rt.alloc());
     for line in rows.lines() {
-        if line.starts_with("#") {
-            println!(rt; "{line}")?;
-        } else {
-            play_row(rt, line)?;
-        }
+        play_row(rt, line, &mut came)?;
     }
     Ok(())
 }
 
 /// Plays a row, and prints a line for it.
-fn play_row(rt: &HostRuntime, line: &str) -> Result<(), Fail> {
-    match difference_of(rt.alloc(), line)? {
-        Some(difference) => println!(rt; "{line}: {difference}")?,
+fn play_row(rt: &HostRuntime, line: &str, came: &mut String) -> Result<(), Fail> {
+    if line.starts_with("#") {
+        return Ok(println!(rt; "{line}")?);
+    }
+    let Some(row) = Row::read(line) else {
+        return Err(Fail::new("no row"));
+    };
+    match row.difference(rt.alloc(), came)? {
+        Some(number) => println!(rt; "{line}: by {number} it is {came}")?,
         None => println!(rt; "{line}: as written down")?,
     }
     Ok(())
@@ -65,32 +79,30 @@ fn play_row(rt: &HostRuntime, line: &str) -> Result<(), Fail> {
 
 /// Prints a line for each row of a real file.
 fn show_files(rt: &HostRuntime) -> Result<(), Fail> {
-    let holds = a_file_keeps_what_was_written(rt)?;
-    say(rt, "a file keeps what was written", holds)?;
-    let holds = a_new_file_is_its_owners_alone(rt)?;
-    say(rt, "a new file is its owner's alone", holds)?;
-    let holds = a_file_is_locked_by_one_disk_at_a_time(rt)?;
-    say(rt, "a file is locked by one disk at a time", holds)?;
-    let holds = a_path_in_no_folder_is_refused(rt);
-    say(rt, "a path in no folder is refused", holds)?;
+    let rows = [
+        ("a file keeps what was written", keeps_what_was_written(rt)?),
+        ("a new file is its owner's alone", is_its_owners_alone(rt)?),
+        (
+            "a file is locked by one disk at a time",
+            is_locked_by_one_disk_at_a_time(rt)?,
+        ),
+        (
+            "a path in no folder is refused",
+            is_refused_in_no_folder(rt),
+        ),
+    ];
+    for (row, holds) in rows {
+        let end = if holds { "so it is" } else { "it is otherwise" };
+        println!(rt; "{row}: {end}")?;
+    }
     Ok(())
-}
-
-/// Prints the line of a row of a file.
-fn say(rt: &impl Print, row: &str, holds: bool) -> io::Result<()> {
-    let end = if holds { "so it is" } else { "it is otherwise" };
-    println!(rt; "{row}: {end}")
 }
 
 /// Prints the text of each fault.
 fn show_faults(rt: &HostRuntime) -> Result<(), Fail> {
     println!(rt; "fault of a disk: {}", DiskFault::Device)?;
-    println!(rt; "fault: {}", SpoolFault::Device)?;
-    println!(rt; "fault: {}", SpoolFault::NotASpool)?;
-    println!(rt; "fault: {}", SpoolFault::Damaged(17))?;
-    println!(rt; "fault: {}", SpoolFault::NoMemory)?;
-    println!(rt; "fault: {}", SpoolFault::NotEmpty)?;
-    println!(rt; "fault: {}", SpoolFault::Full)?;
-    println!(rt; "fault: {}", SpoolFault::NoSecond)?;
+    for fault in FAULTS {
+        println!(rt; "fault: {fault}")?;
+    }
     Ok(())
 }

@@ -1,3 +1,4 @@
+use relay_book::BookFault;
 use std::alloc::AllocError;
 use std::io::{Error, ErrorKind};
 
@@ -34,6 +35,15 @@ impl From<Error> for RowsFault {
         match error.kind() {
             ErrorKind::OutOfMemory => RowsFault::NoMemory,
             _ => RowsFault::Stream,
+        }
+    }
+}
+
+impl From<BookFault> for RowsFault {
+    fn from(fault: BookFault) -> Self {
+        match fault {
+            BookFault::BadRecord => RowsFault::Row,
+            BookFault::NoMemory => RowsFault::NoMemory,
         }
     }
 }

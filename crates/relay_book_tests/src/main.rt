@@ -17,7 +17,7 @@ mod snapshot;
 use answer::Subject;
 use disks::{show_disks, take_given_steps};
 use fault::RowsFault;
-use report::answer_of_report;
+use report::push_report_row;
 use std::test::Fail;
 use std::{env, fs};
 
@@ -77,9 +77,9 @@ fn show_lines(rt: &HostRuntime, rows: &str) -> Result<(), RowsFault> {
 
 /// Prints a row, and what comes of it.
 fn show_row(rt: &HostRuntime, subject: &mut Subject, row: &str) -> Result<(), RowsFault> {
-    let answer = subject.answer(rt.alloc(), row)?;
-    println!(rt; "{row} => {}", answer.as_str())?;
-    Ok(())
+    let mut text = String::new(rt.alloc());
+    subject.answer(rt.alloc(), row, &mut text)?;
+    Ok(println!(rt; "{row} => {text}")?)
 }
 
 fn show_reports(rt: &HostRuntime, rows: &str) -> Result<(), RowsFault> {
@@ -93,10 +93,9 @@ fn show_reports(rt: &HostRuntime, rows: &str) -> Result<(), RowsFault> {
 /// it is.
 fn show_report(rt: &HostRuntime, row: &str) -> Result<(), RowsFault> {
     if row.starts_with("#") {
-        println!(rt; "{row}")?;
-        return Ok(());
+        return Ok(println!(rt; "{row}")?);
     }
-    let answer = answer_of_report(rt.alloc(), row)?;
-    println!(rt; "{}", answer.as_str())?;
-    Ok(())
+    let mut text = String::new(rt.alloc());
+    push_report_row(rt.alloc(), &mut text, row)?;
+    Ok(println!(rt; "{text}")?)
 }

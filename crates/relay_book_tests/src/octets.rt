@@ -2,7 +2,7 @@
 use crate::fault::RowsFault;
 use crate::snapshot::is_snapshot;
 use relay_book::{Book, BookFault, Change, decode_change};
-use std::alloc::Global;
+use std::alloc::{AllocError, Global};
 
 /// Whether the octets are a snapshot, or the record of a change that fits the book, which stays as it is.
 pub fn fits(alloc: Global, book: &mut Book, record: &[u8]) -> Result<bool, RowsFault> {
@@ -24,23 +24,8 @@ fn is_prepared(alloc: Global, book: &mut Book, change: Change) -> Result<bool, R
     }
 }
 
-/// The values of an octet by which a record fits the book: runs of them, in hexadecimal.
-pub fn values_that_fit(
-    alloc: Global,
-    book: &mut Book,
-    record: &[u8],
-    place: usize,
-) -> Result<String, RowsFault> {
-    let mut text = String::new(alloc);
-    push_values(alloc, &mut text, book, record, place)?;
-    if text.is_empty() {
-        text.push_str("none")?;
-    }
-    Ok(text)
-}
-
-/// Adds the runs of values of an octet by which a record fits the book.
-fn push_values(
+/// Tells the values of an octet by which a record fits the book: runs of them, in hexadecimal.
+pub fn push_values(
     alloc: Global,
     text: &mut String,
     book: &mut Book,
@@ -48,35 +33,51 @@ fn push_values(
     place: usize,
 ) -> Result<(), RowsFault> {
     let mut changed = record.to_vec(alloc)?;
-    let mut run: Option<(u8, u8)> = None;
-    for value in 0..=u8::MAX {
-        if let Some(octet) = changed.as_mut_slice().get_mut(place) {
-            *octet = value;
-        }
-        let fits = fits(alloc, book, changed.as_slice())?;
-        if !fits {
-            push_run(alloc, text, run)?;
-        }
-        run = match (fits, run) {
-            (true, Some((first, _))) => Some((first, value)),
-            (true, None) => Some((value, value)),
-            (false, _) => None,
-        };
-    }
-    push_run(alloc, text, run)
-}
-
-/// Adds a run of values, its first and its last.
-fn push_run(alloc: Global, text: &mut String, run: Option<(u8, u8)>) -> Result<(), RowsFault> {
-    let Some((first, last)) = run else {
-        return Ok(());
-    };
-    if !text.is_empty() {
-        text.push_str(" ")?;
-    }
-    text.push_str(format!(in alloc; "{first:02x}")?.as_str())?;
-    if first < last {
-        text.push_str(format!(in alloc; "-{last:02x}")?.as_str())?;
+    let before = text.len();
+    push_runs(alloc, text, book, changed.as_mut_slice(), place)?;
+    if text.len() == before {
+        text.push_str("none")?;
     }
     Ok(())
+}
+
+/// The same, and nothing where there is no such value. The octet is left at its last value.
+fn push_runs(
+    alloc: Global,
+    text: &mut String,
+    book: &mut Book,
+    record: &mut [u8],
+    place: usize,
+) -> Result<(), RowsFault> {
+    let mut run: Option<(u8, u8)> = None;
+    let mut between = "";
+    for value in 0..=u8::MAX {
+        if let Some(octet) = record.get_mut(place) {
+            *octet = value;
+        }
+        run = match (fits(alloc, book, record)?, run) {
+            (true, Some((first, _))) => Some((first, value)),
+            (true, None) => Some((value, value)),
+            (false, Some(run)) => {
+                push_run(text, between, run)?;
+                between = " ";
+                None
+            }
+            (false, None) => None,
+        };
+    }
+    match run {
+        Some(run) => Ok(push_run(text, between, run)?),
+        None => Ok(()),
+    }
+}
+
+/// Tells a run of values, its first and its last.
+fn push_run(text: &mut String, between: &str, run: (u8, u8)) -> Result<(), AllocError> {
+    let (first, last) = run;
+    if first < last {
+        write!(text, "{between}{first:02x}-{last:02x}")
+    } else {
+        write!(text, "{between}{first:02x}")
+    }
 }

@@ -8,15 +8,16 @@ use std::alloc::{AllocError, Global};
 /// How many octets a piece of a snapshot has.
 const PIECE: usize = 7;
 
-/// The snapshot of the queue that the records of a row leave, one or two.
-pub fn snapshot_text(alloc: Global, row: &str) -> Result<String, RowsFault> {
+/// Tells the snapshot of the queue that the records of a row leave, one or two: how many octets it has, and each in
+/// hexadecimal.
+pub fn push_snapshot(alloc: Global, text: &mut String, row: &str) -> Result<(), RowsFault> {
     let octets = match row.split_once(' ') {
         Some((first, second)) => of_two(alloc, octets_of(alloc, first)?, octets_of(alloc, second)?),
         None => of_one(alloc, octets_of(alloc, row)?),
     };
     match octets {
-        Ok(octets) => Ok(hex_text(alloc, octets.as_slice())?),
-        Err(fault) => word(alloc, fault),
+        Ok(octets) => Ok(push_hex(text, octets.as_slice())?),
+        Err(fault) => push_word(text, fault),
     }
 }
 
@@ -31,13 +32,12 @@ fn of_two(alloc: Global, first: Vec<u8>, second: Vec<u8>) -> Result<Vec<u8>, Boo
     Ok(book.encode_snapshot(alloc, 0)?)
 }
 
-/// How many octets there are, and each in hexadecimal.
-fn hex_text(alloc: Global, octets: &[u8]) -> Result<String, AllocError> {
-    let mut text = format!(in alloc; "{} octets ", octets.len())?;
+fn push_hex(text: &mut String, octets: &[u8]) -> Result<(), AllocError> {
+    write!(text, "{} octets ", octets.len())?;
     for octet in octets {
-        text.push_str(format!(in alloc; "{octet:02x}")?.as_str())?;
+        write!(text, "{octet:02x}")?;
     }
-    Ok(text)
+    Ok(())
 }
 
 /// The octets in pieces of so many, so that what stands before the messages and each message stand in several.
@@ -66,23 +66,21 @@ pub fn is_snapshot(alloc: Global, octets: &[u8]) -> Result<bool, RowsFault> {
     }
 }
 
-/// At how many of its octets a snapshot is refused when it is cut there.
-pub fn cuts_text(alloc: Global, row: &str) -> Result<String, RowsFault> {
-    let snapshot = octets_of(alloc, row)?;
-    let octets = snapshot.as_slice();
+/// Tells at how many of its octets a snapshot is refused when it is cut there.
+pub fn push_cuts(alloc: Global, text: &mut String, octets: &[u8]) -> Result<(), RowsFault> {
     let mut refused: usize = 0;
     for len in 0..octets.len() {
         if !is_snapshot(alloc, &octets[..len])? {
             refused = refused.saturating_add(1);
         }
     }
-    Ok(format!(in alloc; "refused at {refused} of {}", octets.len())?)
+    Ok(write!(text, "refused at {refused} of {}", octets.len())?)
 }
 
-/// A fault in a word; want of memory ends the program.
-pub fn word(alloc: Global, fault: BookFault) -> Result<String, RowsFault> {
+/// Tells a fault in a word; want of memory ends the program.
+pub fn push_word(text: &mut String, fault: BookFault) -> Result<(), RowsFault> {
     match fault {
-        BookFault::BadRecord => Ok(format!(in alloc; "BadRecord")?),
+        BookFault::BadRecord => Ok(text.push_str("BadRecord")?),
         BookFault::NoMemory => Err(RowsFault::NoMemory),
     }
 }

@@ -81,3 +81,6 @@ pub texts_around : {A : Type 0} (rows : List InPieces) (s t u : IntoIter InPiece
 texts_around rows s t u given row is yielded next =
     ap (map text_of) (sym is ∙ taken_front s given t yielded ∙ ap (λ rest. given ++ rest) next)
     ∙ map-append text_of given (row ∷ into_iter_items u)
+
+-- a body that is read as the first one or as one of the others, or refused
+pub ruleset read_by_place = (first_at, next_at, none_first, none_next)

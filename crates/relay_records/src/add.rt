@@ -1,5 +1,6 @@
 //! The one way by which a change comes into records.
-ghost use Rattle.std.specs.Prelude.{◌≡◌, ◌↔◌, ◌⊎◌, ◌+◌, ◌<◌, ◌≤◌, ◌^◌, ◌≢◌, List, false, length, Err, Some, IfErr, IfOk, IsErrOf, IsTrue, MatchResult, OnOk};
+ghost use Rattle.std.specs.Prelude.{◌≡◌, ◌↔◌, ◌⊎◌, ◌+◌, ◌<◌, ◌≤◌, ◌^◌, ◌≢◌, List, false, length, Err, Some, IfErr};
+ghost use Rattle.std.specs.Prelude.{IfOk, IsErrOf, IsTrue, MatchResult, OnOk};
 ghost use Rattle.relay_disk.specs.Disks.{Fails};
 ghost use Rattle.relay_spool.specs.Pair.{HasBodies};
 ghost use Rattle.relay_spool.specs.Spool.{AtEachMoment, IsAppended, IsBeforeOrWith};

@@ -1,5 +1,6 @@
 //! The bodies of records made one: the snapshot of their queue.
-ghost use Rattle.std.specs.Prelude.{◌≡◌, ◌≢◌, ◌⊎◌, ◌↔◌, ◌+◌, ◌-◌, ◌^◌, min, List, None, Err, length, IfErr, OnOk, IsTrue};
+ghost use Rattle.std.specs.Prelude.{◌≡◌, ◌≢◌, ◌⊎◌, ◌↔◌, ◌+◌, ◌-◌, ◌^◌, min, List, None, Err, length, IfErr, OnOk};
+ghost use Rattle.std.specs.Prelude.{IsTrue};
 ghost use Rattle.relay_spool.specs.Pair.{HasBodies, IsTooMuch};
 ghost use Rattle.relay_spool.specs.Spool.{AtEachMoment};
 ghost use Rattle.relay_book.specs.declared.change.Change.{Change};

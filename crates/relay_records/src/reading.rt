@@ -15,7 +15,7 @@ use std::alloc::Global;
 
 /// The book that a body leaves behind so many others, which left this book. It fails with `BadRecord` exactly where it
 /// leaves none, and where memory runs out.
-#[tactic(auto, using(crate::proofs::ReadLemmas::first_at, crate::proofs::ReadLemmas::next_at, crate::proofs::ReadLemmas::none_first, crate::proofs::ReadLemmas::none_next))]
+#[tactic(auto, using(crate::proofs::ReadLemmas::read_by_place))]
 fn read_body(alloc: Global, mut book: Book, before: usize, body: Pieces) -> Result<Book, BookFault>
     ensures reads { IfOk result (λ left. ReadsAt before book.queue (text_of body) left.queue) }
     ensures bad { IsErrOf result BookFault.BadRecord → ReadsNoneAt before book.queue (text_of body) }

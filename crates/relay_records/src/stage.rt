@@ -1,12 +1,14 @@
 //! Changes that come into records together: each into the queue, one by one, and then all into the spool.
-ghost use Rattle.std.specs.Prelude.{◌≡◌, ◌↔◌, ◌⊎◌, ◌+◌, ◌<◌, ◌≤◌, ◌^◌, ◌∷◌, [], ◌++◌, List, length, Err, IfErr, IfOk, IsTrue, MatchResult, OnOk};
+ghost use Rattle.std.specs.Prelude.{◌≡◌, ◌↔◌, ◌⊎◌, ◌+◌, ◌<◌, ◌≤◌, ◌^◌, ◌∷◌, [], ◌++◌, List, length, Err, IfErr, IfOk};
+ghost use Rattle.std.specs.Prelude.{IsTrue, MatchResult, OnOk};
 ghost use Rattle.relay_spool.specs.Image.{room_of};
 ghost use Rattle.relay_spool.specs.Pair.{HasBodies};
 ghost use Rattle.relay_spool.specs.Spool.{AtEachMoment};
 ghost use Rattle.relay_book.specs.declared.change.Change.{Change};
 ghost use Rattle.relay_book.specs.Queue.{FitsQueue};
 ghost use Rattle.relay_book.specs.Record.{encode};
-ghost use Rattle.relay_records.specs.Staged.{Awaits, CutsAll, GrowsAll, RefusesToSettle, RefusesToStage, Settles, Stages, StandsForOrWithAll};
+ghost use Rattle.relay_records.specs.Staged.{Awaits, CutsAll, GrowsAll, RefusesToSettle, RefusesToStage, Settles};
+ghost use Rattle.relay_records.specs.Staged.{Stages, StandsForOrWithAll};
 
 use crate::add::ready_of;
 use crate::fault::NodeFault;

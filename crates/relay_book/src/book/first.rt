@@ -14,7 +14,7 @@ use std::alloc::Global;
 impl Book {
     /// The book that a first body leaves: of the queue of which it is the snapshot, or of the one change that it
     /// records. It fails with `BadRecord` exactly where it is neither, and where memory runs out.
-    #[tactic(auto, using(crate::proofs::FirstLemmas::snapshot_first, crate::proofs::FirstLemmas::no_snapshot_first, crate::proofs::FirstLemmas::change_first, crate::proofs::FirstLemmas::no_change_first, crate::proofs::PieceLemmas::kind_in_all, crate::proofs::StandLemmas::first_is_queue))]
+    #[tactic(auto, using(crate::proofs::FirstLemmas::first_records))]
     pub fn read_first(alloc: Global, mut body: Pieces) -> Result<Self, BookFault>
         ensures reads { IfOk result (λ book. ReadsFirst (text_of body) book.queue) }
         ensures queue { IfOk result (λ book. IsQueue book.queue) }

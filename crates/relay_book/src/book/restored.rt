@@ -11,8 +11,7 @@ impl Book {
     pub(super) fn make_room(&mut self, count: usize) -> Result<(), AllocError>
         ensures { self.new.queue ≡ self.old.queue }
     {
-        self.messages.reserve(count)?;
-        Ok(())
+        self.messages.reserve(count)
     }
 
     /// Lets numbers go by, up to one that isn't below the next. It takes no memory.

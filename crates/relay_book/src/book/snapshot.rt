@@ -1,13 +1,16 @@
 //! The snapshot of a book's queue, written and read back.
-ghost use Rattle.std.specs.Prelude.{◌≡◌, ◌≢◌, ◌≤◌, ◌<◌, ◌+◌, ◌-◌, ◌^◌, ◌++◌, length, min, IfOk, OnOk, IsErrOf, MatchOption};
+ghost use Rattle.std.specs.Prelude.{◌≡◌, ◌≢◌, ◌≤◌, ◌<◌, ◌+◌, ◌-◌, ◌^◌, ◌++◌, length, min, IfOk, OnOk, IsErrOf};
+ghost use Rattle.std.specs.Prelude.{MatchOption};
 ghost use Rattle.std.specs.List.{AllByRecursion, flat_map};
 ghost use Rattle.relay_pieces.specs.Pieces.{text_of};
 ghost use Rattle.relay_book.specs.Book.{if_there, live};
 ghost use Rattle.relay_book.specs.Queue.{empty_queue, last_number};
 ghost use Rattle.relay_book.specs.declared.version.Version.TheVariants.{WithDelay};
-ghost use Rattle.relay_book.specs.Snapshot.{IsNoSnapshot, IsQueue, IsQueued, IsSnapshotOf, entry_octets, snapshot, snapshot_kind};
+ghost use Rattle.relay_book.specs.Snapshot.{IsNoSnapshot, IsQueue, IsQueued, IsSnapshotOf, entry_octets, snapshot};
+ghost use Rattle.relay_book.specs.Snapshot.{snapshot_kind};
 ghost use Rattle.relay_book.specs.declared.version.Version.{Version as AnyVersion};
-ghost use Rattle.relay_book.specs.SnapshotFields.{AreEntries, HasNoEntries, HoldsHead, MayBeSnapshot, SpellsCounts, SpellsNoCounts, SpellsNoSnapshot, SpellsSnapshot, entries_length};
+ghost use Rattle.relay_book.specs.SnapshotFields.{AreEntries, HasNoEntries, HoldsHead, MayBeSnapshot, SpellsCounts};
+ghost use Rattle.relay_book.specs.SnapshotFields.{SpellsNoCounts, SpellsNoSnapshot, SpellsSnapshot, entries_length};
 
 use crate::book::Book;
 use crate::decode::next_entry;
@@ -47,7 +50,7 @@ impl Book {
     /// The book of the queue of which these octets are the snapshot, with one copy of each text; their pieces are
     /// freed as they are read. It fails with `BadRecord` exactly where they are no snapshot of a queue, and where
     /// memory runs out; where what stands before the messages can be read at once, memory is wanted only behind it.
-    #[tactic(auto, using(crate::proofs::SnapshotReadLemmas::bad_head, crate::proofs::SnapshotReadLemmas::bad_next, crate::proofs::SnapshotReadLemmas::bad_entries, crate::proofs::SnapshotReadLemmas::may_be))]
+    #[tactic(auto, using(crate::proofs::SnapshotReadLemmas::refused_snapshots))]
     pub fn decode_snapshot(alloc: Global, mut octets: Pieces) -> Result<Self, BookFault>
         ensures snapshot { IfOk result (λ book. IsSnapshotOf (text_of octets) book.queue) }
         ensures bad { IsErrOf result BookFault.BadRecord → IsNoSnapshot (text_of octets) }
@@ -64,7 +67,7 @@ impl Book {
 
     /// Reads so many messages into an empty book, and takes this next number; the whole text is these messages. Memory
     /// is asked for no more messages than may stand in the text.
-    #[tactic(auto, using(crate::proofs::SnapshotReadLemmas::none_read, crate::proofs::SnapshotReadLemmas::too_many_counted))]
+    #[tactic(auto, using(crate::proofs::SnapshotReadLemmas::counted_entries))]
     fn read_entries(
         &mut self,
         alloc: Global,
@@ -99,7 +102,7 @@ impl Book {
 }
 
 /// The version of a snapshot, the next number and the count of messages, which are let go.
-#[tactic(auto, using(crate::proofs::PieceLemmas::head_in_all, crate::proofs::PieceLemmas::no_head_in_all, crate::proofs::PieceLemmas::head_behind))]
+#[tactic(auto, using(crate::proofs::PieceLemmas::heads_in_pieces))]
 fn next_head(octets: &mut Pieces) -> Result<(Version, u64, u32), BookFault>
     ensures head { IfOk result (λ parts.
         SpellsSnapshot parts.0 (text_of octets.old) parts.1 parts.2 (text_of octets.new)) }
@@ -117,7 +120,7 @@ fn next_head(octets: &mut Pieces) -> Result<(Version, u64, u32), BookFault>
 }
 
 /// The version of a snapshot, by its first octet, the next number, the count of messages, and what follows them.
-#[tactic(auto, using(crate::proofs::SnapshotReadLemmas::no_kind, crate::proofs::SnapshotReadLemmas::other_kind, crate::proofs::SnapshotReadLemmas::no_counts, crate::proofs::SnapshotReadLemmas::head_is))]
+#[tactic(auto, using(crate::proofs::SnapshotReadLemmas::snapshot_heads))]
 fn read_head(octets: &[u8]) -> Option<(Version, u64, u32, &[u8])>
     ensures { MatchOption result (SpellsNoSnapshot octets.now)
         (λ parts. SpellsSnapshot parts.0 octets.now parts.1 parts.2 parts.3.now) }
@@ -142,7 +145,7 @@ fn version_of(kind: u8) -> Option<Version>
 }
 
 /// The next number, the count of messages, and what follows them.
-#[tactic(auto, using(crate::proofs::SnapshotReadLemmas::no_next, crate::proofs::SnapshotReadLemmas::no_count, crate::proofs::SnapshotReadLemmas::counts_are))]
+#[tactic(auto, using(crate::proofs::SnapshotReadLemmas::head_counts))]
 fn read_counts(text: &[u8]) -> Option<(u64, u32, &[u8])>
     ensures { MatchOption result (SpellsNoCounts text.now)
         (λ parts. SpellsCounts text.now parts.0 parts.1 parts.2.now) }

@@ -35,7 +35,7 @@ type EntryFields<'a> = (
 );
 
 /// Cuts a message into its fields.
-#[tactic(auto, using(crate::proofs::EntryFieldLemmas::no_number, crate::proofs::EntryFieldLemmas::no_moment, crate::proofs::EntryFieldLemmas::no_mail_fields, crate::proofs::EntryFieldLemmas::no_placed, crate::proofs::EntryFieldLemmas::no_stored_text, crate::proofs::EntryFieldLemmas::entry_spelled))]
+#[tactic(auto, using(crate::proofs::EntryFieldLemmas::entry_fields))]
 fn split_entry(alloc: Global, version: Version, text: &[u8]) -> Result<EntryFields<'_>, BookFault>
     ensures fields { IfOk result (λ parts. SpellsEntry
         version text.now parts.0 parts.1 parts.2.now parts.3 parts.4.now parts.5 parts.6 parts.7.now parts.8.now) }
@@ -68,7 +68,7 @@ fn split_entry(alloc: Global, version: Version, text: &[u8]) -> Result<EntryFiel
 }
 
 /// A message, with a copy of its stored text, and what follows it.
-#[tactic(auto, using(crate::proofs::EntryFieldLemmas::bad_mail, crate::proofs::EntryFieldLemmas::bad_moment, crate::proofs::EntryFieldLemmas::bad_text, crate::proofs::EntryFieldLemmas::bad_places))]
+#[tactic(auto, using(crate::proofs::EntryFieldLemmas::refused_entries))]
 fn read_entry(alloc: Global, version: Version, text: &[u8]) -> Result<(Message, &[u8]), BookFault>
     ensures entry { IfOk result (λ parts. IsQueuedBy version (numbered parts.0)
         × (text.now ≡ entry_octets version (numbered parts.0) ++ parts.1.now)) }

@@ -52,7 +52,7 @@ fn envid_of(text: &[u8]) -> Option<Option<&[u8]>>
 }
 
 /// What MAIL said, by the fields of a record.
-#[tactic(auto, using(crate::proofs::MailFieldLemmas::none_path, crate::proofs::MailFieldLemmas::none_ret, crate::proofs::MailFieldLemmas::none_envid))]
+#[tactic(auto, using(crate::proofs::MailFieldLemmas::refused_mail))]
 pub(super) fn mail_of<'a>(path: &'a [u8], ret: u8, envid: &'a [u8]) -> Option<Mail<'a>>
     ensures { MatchOption result
         (IsNoMail path.now ret envid.now)

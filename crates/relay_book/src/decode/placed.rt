@@ -7,7 +7,8 @@ ghost use Rattle.relay_book.specs.Fields.{HasNoCounted, HasNoRow, HasNone};
 ghost use Rattle.relay_book.specs.Queue.{held_place};
 ghost use Rattle.relay_book.specs.Record.{recipient_octets};
 ghost use Rattle.relay_book.specs.Snapshot.{IsPlace, IsPlaceBy, place_octets, placed_octets};
-ghost use Rattle.relay_book.specs.SnapshotFields.{HasNoDelay, HasNoPlaceFields, HasPlaceFields, IsNoPlace, IsPlacedBy, ReadsPlaced, ReadsRow, SpellsDelay, SpellsPlace};
+ghost use Rattle.relay_book.specs.SnapshotFields.{HasNoDelay, HasNoPlaceFields, HasPlaceFields, IsNoPlace, IsPlacedBy};
+ghost use Rattle.relay_book.specs.SnapshotFields.{ReadsPlaced, ReadsRow, SpellsDelay, SpellsPlace};
 
 use super::recipient::read_recipient;
 use crate::fault::BookFault;
@@ -72,7 +73,7 @@ fn waiting_place(laters: u8, delayed: bool, due: u64) -> Place
 }
 
 /// Whether a place was reported as delayed, and what follows it: the first version says nothing, which counts as 0.
-#[tactic(auto, using(crate::proofs::PlacedLemmas::nothing_said, crate::proofs::PlacedLemmas::one_said, crate::proofs::PlacedLemmas::none_said))]
+#[tactic(auto, using(crate::proofs::PlacedLemmas::said_of_delay))]
 fn split_delay(version: Version, text: &[u8]) -> Option<(u8, &[u8])>
     ensures { MatchOption result (HasNoDelay version text.now)
         (λ parts. SpellsDelay version text.now parts.0 parts.1.now) }
@@ -87,7 +88,7 @@ fn split_delay(version: Version, text: &[u8]) -> Option<(u8, &[u8])>
 }
 
 /// The fields of a place, and what follows them.
-#[tactic(auto, using(crate::proofs::PlacedLemmas::no_octet, crate::proofs::PlacedLemmas::no_laters, crate::proofs::PlacedLemmas::no_delay, crate::proofs::PlacedLemmas::no_due, crate::proofs::PlacedLemmas::fields_are))]
+#[tactic(auto, using(crate::proofs::PlacedLemmas::place_fields))]
 fn split_place(version: Version, text: &[u8]) -> Option<(u8, u8, u8, u64, &[u8])>
     ensures { MatchOption result (HasNoPlaceFields version text.now)
         (λ parts. SpellsPlace version text.now parts.0 parts.1 parts.2 parts.3 parts.4.now) }
@@ -102,7 +103,7 @@ fn split_place(version: Version, text: &[u8]) -> Option<(u8, u8, u8, u64, &[u8])
 }
 
 /// A place, and what follows it.
-#[tactic(auto, using(crate::proofs::PlacedLemmas::none_without_fields, crate::proofs::PlacedLemmas::none_of_fields, crate::proofs::PlacedLemmas::spelled, crate::proofs::PlacedLemmas::is_place_by))]
+#[tactic(auto, using(crate::proofs::PlacedLemmas::judged_places))]
 fn read_place(version: Version, text: &[u8]) -> Option<(Place, &[u8])>
     ensures { MatchOption result (HasNone (IsPlaceBy version) (place_octets version) text.now)
         (λ parts. IsPlaceBy version parts.0 × (text.now ≡ place_octets version parts.0 ++ parts.1.now)) }
@@ -113,7 +114,7 @@ fn read_place(version: Version, text: &[u8]) -> Option<(Place, &[u8])>
 }
 
 /// A recipient and its place, and what follows them.
-#[tactic(auto, using(crate::proofs::PlacedLemmas::no_recipient, crate::proofs::PlacedLemmas::no_place_behind, crate::proofs::PlacedLemmas::placed_is))]
+#[tactic(auto, using(crate::proofs::PlacedLemmas::placed_recipients))]
 fn read_one(version: Version, text: &[u8]) -> Option<(Rcpt<'_>, Place, &[u8])>
     ensures { MatchOption result (HasNone (IsPlacedBy version) (placed_octets version) text.now)
         (λ parts. IsPlacedBy version (recipient_from (rcpt_value parts.0), parts.1)
@@ -162,7 +163,7 @@ fn read_row(
 }
 
 /// 1 to 100 recipients and their places behind their count, and what follows them.
-#[tactic(auto, using(crate::proofs::RowLemmas::no_count, crate::proofs::RowLemmas::no_such_count, crate::proofs::RowLemmas::no_counted_row, crate::proofs::PlacedLemmas::reads_placed, crate::proofs::PlacedLemmas::few_places))]
+#[tactic(auto, using(crate::proofs::RowLemmas::refused_rows, crate::proofs::PlacedLemmas::placed_rows))]
 pub(super) fn read_placed(
     alloc: Global,
     version: Version,

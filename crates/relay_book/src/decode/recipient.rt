@@ -4,11 +4,13 @@ ghost use Rattle.std.specs.List.{flat_map};
 ghost use Rattle.std.specs.Option.{option_copied};
 ghost use Rattle.relay_envelope.specs.declared.envelope.Recipient.{Recipient};
 ghost use Rattle.relay_envelope.specs.declared.parameters.Notify.{Notify as AnyNotify};
-ghost use Rattle.relay_envelope.specs.Envelope.{IsRecipient, may_be_notify, may_be_orcpt, IsWrittenPath, recipient_from};
+ghost use Rattle.relay_envelope.specs.Envelope.{IsRecipient, may_be_notify, may_be_orcpt, IsWrittenPath};
+ghost use Rattle.relay_envelope.specs.Envelope.{recipient_from};
 ghost use Rattle.relay_envelope.specs.Path.{is_forward, path_text, value_of};
 ghost use Rattle.relay_envelope.specs.Mail.{rcpt_value};
 ghost use Rattle.relay_book.specs.Record.{counted, notify_number, recipient_octets, written};
-ghost use Rattle.relay_book.specs.Fields.{SpellsFields, HasFields, HasNoFields, AreSoMany, AreSome, HasCount, HasNoCounted, HasNoRow, HasNone, IsNoRecipient};
+ghost use Rattle.relay_book.specs.Fields.{SpellsFields, HasFields, HasNoFields, AreSoMany, AreSome, HasCount};
+ghost use Rattle.relay_book.specs.Fields.{HasNoCounted, HasNoRow, HasNone, IsNoRecipient};
 
 use crate::fault::BookFault;
 use crate::field::read_sized_2;
@@ -76,7 +78,7 @@ fn orcpt_of(text: &[u8]) -> Option<Option<&[u8]>>
 
 /// A text behind its length, an octet, a text behind its length, and what follows them: what MAIL says, or a
 /// recipient.
-#[tactic(auto, using(crate::proofs::FieldLemmas::no_path, crate::proofs::FieldLemmas::no_notify, crate::proofs::FieldLemmas::no_orcpt, crate::proofs::FieldLemmas::fields_are))]
+#[tactic(auto, using(crate::proofs::FieldLemmas::recipient_fields))]
 pub(crate) fn read_fields(text: &[u8]) -> Option<(&[u8], u8, &[u8], &[u8])>
     ensures { MatchOption result
         (HasNoFields text.now)
@@ -89,7 +91,7 @@ pub(crate) fn read_fields(text: &[u8]) -> Option<(&[u8], u8, &[u8], &[u8])>
 }
 
 /// The recipient of these fields.
-#[tactic(auto, using(crate::proofs::FieldLemmas::none_path, crate::proofs::FieldLemmas::none_notify, crate::proofs::FieldLemmas::none_orcpt))]
+#[tactic(auto, using(crate::proofs::FieldLemmas::refused_recipients))]
 fn recipient_of<'a>(path: &'a [u8], number: u8, orcpt: &'a [u8]) -> Option<Rcpt<'a>>
     ensures { MatchOption result
         (IsNoRecipient path.now number orcpt.now)
@@ -107,7 +109,7 @@ fn recipient_of<'a>(path: &'a [u8], number: u8, orcpt: &'a [u8]) -> Option<Rcpt<
 }
 
 /// A recipient, and what follows it.
-#[tactic(auto, using(crate::proofs::FieldLemmas::none_without_fields, crate::proofs::FieldLemmas::none_of_fields, crate::proofs::FieldLemmas::spelled))]
+#[tactic(auto, using(crate::proofs::FieldLemmas::judged_recipients))]
 pub(super) fn read_recipient(text: &[u8]) -> Option<(Rcpt<'_>, &[u8])>
     ensures { MatchOption result
         (HasNone IsRecipient recipient_octets text.now)
@@ -141,7 +143,7 @@ fn read_row(alloc: Global, count: u8, text: &[u8]) -> Result<(Recipients, &[u8])
 }
 
 /// 1 to 100 recipients behind their count, and what follows them.
-#[tactic(auto, using(crate::proofs::RowLemmas::no_count, crate::proofs::RowLemmas::no_such_count, crate::proofs::RowLemmas::no_counted_row, crate::proofs::RowLemmas::is_counted, crate::proofs::BeginLemmas::has_count))]
+#[tactic(auto, using(crate::proofs::RowLemmas::counted_rows, crate::proofs::BeginLemmas::has_count))]
 pub(crate) fn read_recipients(alloc: Global, text: &[u8]) -> Result<(Recipients, &[u8]), BookFault>
     ensures counted { IfOk result (λ parts. AreSome IsRecipient parts.0
         × (text.now ≡ counted recipient_octets parts.0 ++ parts.1.now)) }

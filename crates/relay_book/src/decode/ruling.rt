@@ -3,7 +3,8 @@ ghost use Rattle.std.specs.Prelude.{◌≡◌, ◌++◌, ◌∷◌, MatchOption,
 ghost use Rattle.std.specs.List.{flat_map, AllPass};
 ghost use Rattle.std.specs.Int.{is_in_range};
 ghost use Rattle.relay_book.specs.Record.{IsRefusal, IsRuling, IsVerdict, counted, ruling_octets, verdict_octets};
-ghost use Rattle.relay_book.specs.Fields.{AreSoMany, AreSome, HasCount, HasNoCounted, HasNoRefusal, HasNoRow, HasNone, refusal_octets};
+ghost use Rattle.relay_book.specs.Fields.{AreSoMany, AreSome, HasCount, HasNoCounted, HasNoRefusal, HasNoRow, HasNone};
+ghost use Rattle.relay_book.specs.Fields.{refusal_octets};
 
 use crate::change::{Ruling, Rulings, Verdict};
 use crate::fault::BookFault;
@@ -13,7 +14,7 @@ use relay_octets::Octets;
 use std::alloc::Global;
 
 /// A refusal's code and its text, and what follows them.
-#[tactic(auto, using(crate::proofs::RefusalLemmas::none_short, crate::proofs::RefusalLemmas::none_of_code, crate::proofs::RefusalLemmas::none_without_length, crate::proofs::RefusalLemmas::none_cut, crate::proofs::RefusalLemmas::none_long, crate::proofs::RefusalLemmas::none_bad))]
+#[tactic(auto, using(crate::proofs::RefusalLemmas::malformed_refusals))]
 fn read_refusal(text: &[u8]) -> Option<(u16, &[u8], &[u8])>
     ensures { MatchOption result (HasNoRefusal text.now)
         (λ parts. IsRefusal parts.0 parts.1.now
@@ -36,7 +37,7 @@ fn read_refusal(text: &[u8]) -> Option<(u16, &[u8], &[u8])>
 }
 
 /// A verdict, and what follows it.
-#[tactic(auto, using(crate::proofs::RefusalLemmas::no_tag, crate::proofs::RefusalLemmas::other_tag, crate::proofs::RefusalLemmas::no_refusal))]
+#[tactic(auto, using(crate::proofs::RefusalLemmas::malformed_verdicts))]
 fn read_verdict(alloc: Global, text: &[u8]) -> Result<(Verdict, &[u8]), BookFault>
     ensures verdict { IfOk result (λ parts.
         IsVerdict parts.0 × (text.now ≡ verdict_octets parts.0 ++ parts.1.now)) }
@@ -111,7 +112,7 @@ fn read_row(alloc: Global, count: u8, text: &[u8]) -> Result<(Rulings, &[u8]), B
 }
 
 /// 1 to 100 verdicts behind their count, and what follows them.
-#[tactic(auto, using(crate::proofs::RowLemmas::no_count, crate::proofs::RowLemmas::no_such_count, crate::proofs::RowLemmas::no_counted_row, crate::proofs::RowLemmas::is_counted, crate::proofs::BeginLemmas::has_count))]
+#[tactic(auto, using(crate::proofs::RowLemmas::counted_rows, crate::proofs::BeginLemmas::has_count))]
 pub(crate) fn read_rulings(alloc: Global, text: &[u8]) -> Result<(Rulings, &[u8]), BookFault>
     ensures counted { IfOk result (λ parts. AreSome IsRuling parts.0
         × (text.now ≡ counted ruling_octets parts.0 ++ parts.1.now)) }

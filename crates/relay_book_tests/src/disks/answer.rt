@@ -1,39 +1,38 @@
-//! What a step answers, as rows write it.
+//! What a step answers, as rows write it, at the end of a text.
 use relay_disk::DiskFault;
 use relay_spool::SpoolFault;
-use std::alloc::{AllocError, Global};
+use std::alloc::AllocError;
 
-/// What a call of a disk gave, or its fault.
-pub fn of_call<T: Drop>(alloc: Global, answer: Result<T, DiskFault>) -> Result<String, AllocError> {
+/// What a call of a disk gave.
+pub fn tell_call(text: &mut String, answer: Result<(), DiskFault>) -> Result<(), AllocError> {
     match answer {
-        Ok(_) => word(alloc, "ok"),
-        Err(fault) => format!(in alloc; "{fault}"),
+        Ok(()) => text.push_str("ok"),
+        Err(fault) => write!(text, "{fault}"),
     }
 }
 
 /// A size, or the fault of the call that asked for it.
-pub fn of_size(alloc: Global, size: Result<usize, DiskFault>) -> Result<String, AllocError> {
+pub fn tell_size(text: &mut String, size: Result<usize, DiskFault>) -> Result<(), AllocError> {
     match size {
-        Ok(size) => format!(in alloc; "{size}"),
-        Err(fault) => format!(in alloc; "{fault}"),
+        Ok(size) => tell_number(text, size as u64),
+        Err(fault) => tell_call(text, Err(fault)),
     }
 }
 
-/// The fault of a spool.
-pub fn of_fault(alloc: Global, fault: SpoolFault) -> Result<String, AllocError> {
-    format!(in alloc; "{fault}")
+/// What a call of a spool gave.
+pub fn tell_answer(text: &mut String, answer: Result<(), SpoolFault>) -> Result<(), AllocError> {
+    match answer {
+        Ok(()) => text.push_str("ok"),
+        Err(fault) => write!(text, "{fault}"),
+    }
 }
 
 /// Whether it is so.
-pub fn of_question(alloc: Global, is_so: bool) -> Result<String, AllocError> {
-    word(alloc, if is_so { "yes" } else { "no" })
+pub fn tell_whether(text: &mut String, is_so: bool) -> Result<(), AllocError> {
+    text.push_str(if is_so { "yes" } else { "no" })
 }
 
 /// A number.
-pub fn of_number(alloc: Global, number: u64) -> Result<String, AllocError> {
-    format!(in alloc; "{number}")
-}
-
-pub fn word(alloc: Global, word: &str) -> Result<String, AllocError> {
-    String::from_str(alloc, word)
+pub fn tell_number(text: &mut String, number: u64) -> Result<(), AllocError> {
+    write!(text, "{number}")
 }

@@ -5,7 +5,7 @@
 //! - of two disks `fuse CALLS`, and `first STEP` and `second STEP` for a step of one of them;
 //! - of a spool `size`, `live`, `fuse CALLS`, `append OCTETS` and `compact OCTETS`; `body INDEX OCTETS` asks whether
 //!   that is the body with which the spool was opened.
-use crate::disks::answer::{of_call, of_fault, of_number, of_question, of_size, word};
+use crate::disks::answer::{tell_answer, tell_call, tell_number, tell_size, tell_whether};
 use crate::disks::calls::{append, compact};
 use crate::disks::held::Mounted;
 use crate::disks::octets::octets_of;
@@ -23,35 +23,34 @@ pub fn number_of(text: &str, number: u64) -> u64 {
     }
 }
 
-/// What a disk answers to a step.
+/// Tells what a disk answers to a step.
 pub fn ask_disk(
     alloc: Global,
     disk: &mut MemoryDisk,
     name: &str,
     text: &str,
     number: u64,
-) -> Result<String, AllocError> {
+    came: &mut String,
+) -> Result<(), AllocError> {
     let (place, octets) = text.split_once(' ').unwrap_or((text, "-"));
     let place = number_of(place, number);
     match name {
-        "size" => of_size(alloc, disk.size()),
-        "sync" => of_call(alloc, disk.sync()),
-        "failures" => of_number(alloc, disk.failures()),
+        "size" => tell_size(came, disk.size()),
+        "sync" => tell_call(came, disk.sync()),
+        "failures" => tell_number(came, disk.failures()),
         "fuse" => {
             disk.fuse(place);
-            word(alloc, "ok")
+            came.push_str("ok")
         }
         "image" => {
             let image = octets_of(alloc, text)?;
-            of_question(alloc, disk.image() == image.as_slice())
+            tell_whether(came, disk.image() == image.as_slice())
         }
-        _ => call_at(
-            alloc,
-            disk,
-            name,
-            usize::try_from(place).unwrap_or(0),
-            octets,
-        ),
+        _ => {
+            let octets = octets_of(alloc, octets)?;
+            let place = usize::try_from(place).unwrap_or(0);
+            call_at(alloc, disk, name, place, octets.as_slice(), came)
+        }
     }
 }
 
@@ -61,119 +60,118 @@ fn call_at(
     disk: &mut MemoryDisk,
     name: &str,
     place: usize,
-    octets: &str,
-) -> Result<String, AllocError> {
-    let octets = octets_of(alloc, octets)?;
-    match name {
-        "write" => write(alloc, disk, place, octets.as_slice()),
-        "read" => read(alloc, disk, place, octets.as_slice()),
-        "cut" => cut(alloc, disk, place),
-        _ => word(alloc, "no step"),
-    }
-}
-
-fn write(
-    alloc: Global,
-    disk: &mut MemoryDisk,
-    place: usize,
     octets: &[u8],
-) -> Result<String, AllocError> {
+    came: &mut String,
+) -> Result<(), AllocError> {
     if disk.image().len() < place {
-        return word(alloc, "no place");
+        return came.push_str("no place");
     }
-    of_call(alloc, disk.write_at(place, octets))
+    match name {
+        "write" => tell_call(came, disk.write_at(place, octets)),
+        "read" => read(alloc, disk, place, octets, came),
+        "cut" => tell_call(came, disk.cut(place)),
+        _ => came.push_str("no step"),
+    }
 }
 
-fn cut(alloc: Global, disk: &mut MemoryDisk, size: usize) -> Result<String, AllocError> {
-    if disk.image().len() < size {
-        return word(alloc, "no place");
-    }
-    of_call(alloc, disk.cut(size))
-}
-
-/// Whether these octets are read.
+/// Tells whether these octets are read, at a place within the disk.
 fn read(
     alloc: Global,
     disk: &mut MemoryDisk,
     place: usize,
     octets: &[u8],
-) -> Result<String, AllocError> {
-    let size = disk.image().len();
-    if size < place || size - place < octets.len() {
-        return word(alloc, "no place");
-    }
+    came: &mut String,
+) -> Result<(), AllocError> {
     let mut into = octets.to_vec(alloc)?;
     for octet in into.as_mut_slice() {
         *octet = octet.wrapping_add(1);
     }
-    match disk.read(place, into.as_mut_slice()) {
-        Ok(()) => of_question(alloc, into.as_slice() == octets),
-        Err(fault) => of_call(alloc, Err::<(), DiskFault>(fault)),
+    match read_into(disk, place, into.as_mut_slice()) {
+        Some(Ok(())) => tell_whether(came, into.as_slice() == octets),
+        Some(Err(fault)) => tell_call(came, Err(fault)),
+        None => came.push_str("no place"),
     }
 }
 
-/// What two disks answer to a step.
+/// Reads octets. It answers nothing where they pass the end.
+fn read_into(
+    disk: &mut MemoryDisk,
+    place: usize,
+    into: &mut [u8],
+) -> Option<Result<(), DiskFault>> {
+    let size = disk.image().len();
+    if size < place || size - place < into.len() {
+        return None;
+    }
+    Some(disk.read(place, into))
+}
+
+/// Tells what two disks answer to a step.
 pub fn ask_disks(
     alloc: Global,
     disks: &mut Disks<MemoryDisk>,
     name: &str,
     text: &str,
     number: u64,
-) -> Result<String, AllocError> {
+    came: &mut String,
+) -> Result<(), AllocError> {
     let (step, rest) = text.split_once(' ').unwrap_or((text, ""));
     match name {
         "fuse" => {
             disks.fuse(number_of(text, number));
-            word(alloc, "ok")
+            came.push_str("ok")
         }
-        "first" => ask_disk(alloc, &mut disks.first, step, rest, number),
-        "second" => ask_disk(alloc, &mut disks.second, step, rest, number),
-        _ => word(alloc, "no step"),
+        "first" => ask_disk(alloc, &mut disks.first, step, rest, number, came),
+        "second" => ask_disk(alloc, &mut disks.second, step, rest, number, came),
+        _ => came.push_str("no step"),
     }
 }
 
-/// What a spool answers to a step.
+/// Tells what a spool answers to a step.
 pub fn ask_spool(
     alloc: Global,
     mounted: &mut Mounted,
     name: &str,
     text: &str,
-) -> Result<String, AllocError> {
+    came: &mut String,
+) -> Result<(), AllocError> {
+    let spool = &mut mounted.spool;
     match name {
-        "size" => of_number(alloc, mounted.spool.size() as u64),
-        "live" => of_question(alloc, mounted.spool.is_live()),
+        "size" => tell_number(came, spool.size() as u64),
+        "live" => tell_whether(came, spool.is_live()),
         "fuse" => {
-            mounted.spool.fuse(number_of(text, 0));
-            word(alloc, "ok")
+            spool.fuse(number_of(text, 0));
+            came.push_str("ok")
         }
         "append" => {
             let body = octets_of(alloc, text)?;
-            answered(alloc, append(&mut mounted.spool, body.as_slice()))
+            tell_unless_spent(came, append(spool, body.as_slice()))
         }
-        "compact" => {
-            let body = octets_of(alloc, text)?;
-            answered(alloc, compact(&mut mounted.spool, body))
+        "compact" => tell_unless_spent(came, compact(spool, octets_of(alloc, text)?)),
+        "body" => {
+            let is_so = is_body(alloc, mounted.bodies.as_slice(), text)?;
+            tell_whether(came, is_so)
         }
-        "body" => is_body(alloc, mounted.bodies.as_slice(), text),
-        _ => word(alloc, "no step"),
+        _ => came.push_str("no step"),
     }
 }
 
-fn answered(alloc: Global, answer: Option<Result<(), SpoolFault>>) -> Result<String, AllocError> {
+fn tell_unless_spent(
+    came: &mut String,
+    answer: Option<Result<(), SpoolFault>>,
+) -> Result<(), AllocError> {
     match answer {
-        Some(Ok(())) => word(alloc, "ok"),
-        Some(Err(fault)) => of_fault(alloc, fault),
-        None => word(alloc, "spent"),
+        Some(answer) => tell_answer(came, answer),
+        None => came.push_str("spent"),
     }
 }
 
 /// Whether the body of this index has these octets.
-fn is_body(alloc: Global, bodies: &[Pieces], text: &str) -> Result<String, AllocError> {
+fn is_body(alloc: Global, bodies: &[Pieces], text: &str) -> Result<bool, AllocError> {
     let (index, octets) = text.split_once(' ').unwrap_or((text, "-"));
     let octets = octets_of(alloc, octets)?;
-    let is_so = match bodies.get(index.parse::<usize>().unwrap_or(0)) {
+    Ok(match bodies.get(index.parse::<usize>().unwrap_or(0)) {
         Some(body) => body.len() == octets.len() && body.front() == octets.as_slice(),
         None => false,
-    };
-    of_question(alloc, is_so)
+    })
 }

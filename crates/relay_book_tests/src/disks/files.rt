@@ -4,7 +4,7 @@ use std::fs;
 use std::os::unix::fs::PermissionsExt;
 use std::test::Fail;
 
-pub fn a_file_keeps_what_was_written(rt: &HostRuntime) -> Result<bool, Fail> {
+pub fn keeps_what_was_written(rt: &HostRuntime) -> Result<bool, Fail> {
     let path = "relay_disk_test_file";
     let _ = fs::remove_file(rt, path);
     let mut disk = FileDisk::open(rt, path)?;
@@ -35,7 +35,7 @@ fn finds(disk: &mut FileDisk) -> bool {
         && disk.failures() == 1
 }
 
-pub fn a_new_file_is_its_owners_alone(rt: &HostRuntime) -> Result<bool, Fail> {
+pub fn is_its_owners_alone(rt: &HostRuntime) -> Result<bool, Fail> {
     let path = "relay_disk_test_mode";
     let _ = fs::remove_file(rt, path);
     let _disk = FileDisk::open(rt, path)?;
@@ -50,7 +50,7 @@ fn locks(disk: &FileDisk) -> Option<bool> {
 }
 
 /// The second of two disks gets the file where the first, which may lock it twice, is dropped.
-pub fn a_file_is_locked_by_one_disk_at_a_time(rt: &HostRuntime) -> Result<bool, Fail> {
+pub fn is_locked_by_one_disk_at_a_time(rt: &HostRuntime) -> Result<bool, Fail> {
     let path = "relay_disk_test_lock";
     let (second, is_held) = {
         let first = FileDisk::open(rt, path)?;
@@ -64,6 +64,6 @@ pub fn a_file_is_locked_by_one_disk_at_a_time(rt: &HostRuntime) -> Result<bool, 
     Ok(is_held && is_free)
 }
 
-pub fn a_path_in_no_folder_is_refused(rt: &HostRuntime) -> bool {
+pub fn is_refused_in_no_folder(rt: &HostRuntime) -> bool {
     FileDisk::open(rt, "no_such_folder/file").is_err()
 }

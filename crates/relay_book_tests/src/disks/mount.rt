@@ -9,7 +9,7 @@
 //! - `bodiless`: nothing of the disks in hand, which answers whether they hold no spool, or one without a body;
 //! - `once CALLS CALL`: nothing of the disks in hand, of which one call fails in a call of a spool (once.rt);
 //! - `unmount`: the disks of the spool.
-use crate::disks::answer::{of_fault, of_question, word};
+use crate::disks::answer::{tell_answer, tell_whether};
 use crate::disks::device::{ask_disk, ask_disks, ask_spool, number_of};
 use crate::disks::held::{Held, Mounted};
 use crate::disks::octets::octets_of;
@@ -18,84 +18,104 @@ use relay_disk::{Disks, MemoryDisk, Reboot};
 use relay_pieces::Pieces;
 use relay_spool::{Opened, Refused, Spool, SpoolFault};
 use std::alloc::{AllocError, Global};
+use std::mem;
 use std::test::Fail;
 
-/// Takes a step, and says what it answers.
+/// Takes a step, and tells what it answers.
 pub fn take_step(
     alloc: Global,
-    held: Held,
+    held: &mut Held,
     step: &str,
     number: u64,
-) -> Result<(Held, String), Fail> {
+    came: &mut String,
+) -> Result<(), Fail> {
     let (name, text) = step.split_once(' ').unwrap_or((step, ""));
-    match held {
-        Held::Nothing => Ok((new_disk(alloc, text)?, word(alloc, "ok")?)),
-        Held::Disk(disk) => take_step_on_disk(alloc, disk, name, text, number),
-        Held::Disks(disks) => take_step_on_disks(alloc, disks, name, text, number),
-        Held::Spool(mounted) => take_step_on_spool(alloc, mounted, name, text),
+    match name {
+        "disk" | "with" | "exchanged" | "anew" | "stop" | "unmount" => {
+            *held = turned(alloc, mem::replace(held, Held::Nothing), name, text, number)?;
+            Ok(came.push_str("ok")?)
+        }
+        "create" | "open" | "bodiless" | "once" => {
+            *held = match mem::replace(held, Held::Nothing) {
+                Held::Disks(disks) => mounted(alloc, disks, name, text, number, came)?,
+                _ => return Err(Fail::new("no disks")),
+            };
+            Ok(())
+        }
+        _ => Ok(ask(alloc, held, name, text, number, came)?),
     }
 }
 
-fn new_disk(alloc: Global, text: &str) -> Result<Held, AllocError> {
-    let image = octets_of(alloc, text)?;
-    Ok(Held::Disk(MemoryDisk::with_image(alloc, image.as_slice())?))
+/// Tells what the thing in hand answers to a step that leaves it there.
+fn ask(
+    alloc: Global,
+    held: &mut Held,
+    name: &str,
+    text: &str,
+    number: u64,
+    came: &mut String,
+) -> Result<(), AllocError> {
+    match held {
+        Held::Nothing => came.push_str("no step"),
+        Held::Disk(disk) => ask_disk(alloc, disk, name, text, number, came),
+        Held::Disks(disks) => ask_disks(alloc, disks, name, text, number, came),
+        Held::Spool(mounted) => ask_spool(alloc, mounted, name, text, came),
+    }
 }
 
-fn take_step_on_disk(
+/// What becomes of the thing in hand by a step that answers nothing.
+fn turned(alloc: Global, held: Held, name: &str, text: &str, number: u64) -> Result<Held, Fail> {
+    match held {
+        Held::Nothing => Ok(Held::Disk(disk_of(alloc, text)?)),
+        Held::Disk(disk) => turned_disk(alloc, disk, name, text, number),
+        Held::Disks(disks) => turned_disks(alloc, disks, name, text, number),
+        Held::Spool(Mounted { spool, bodies: _ }) => Ok(Held::Disks(spool.into_disk())),
+    }
+}
+
+/// A disk with the image that a text writes.
+fn disk_of(alloc: Global, text: &str) -> Result<MemoryDisk, AllocError> {
+    let image = octets_of(alloc, text)?;
+    MemoryDisk::with_image(alloc, image.as_slice())
+}
+
+fn turned_disk(
     alloc: Global,
     disk: MemoryDisk,
     name: &str,
     text: &str,
     number: u64,
-) -> Result<(Held, String), Fail> {
+) -> Result<Held, Fail> {
     match name {
-        "with" => Ok((paired(alloc, disk, text)?, word(alloc, "ok")?)),
-        "anew" => Ok((Held::Disk(again(alloc, &disk)?), word(alloc, "ok")?)),
-        "stop" => Ok((stopped(disk, number_of(text, number))?, word(alloc, "ok")?)),
-        _ => {
-            let mut disk = disk;
-            let answer = ask_disk(alloc, &mut disk, name, text, number)?;
-            Ok((Held::Disk(disk), answer))
+        "with" => {
+            let second = disk_of(alloc, text)?;
+            Ok(Held::Disks(Disks {
+                first: disk,
+                second,
+            }))
         }
+        "stop" => match disk.after_stop(number_of(text, number)) {
+            Ok(stopped) => Ok(Held::Disk(stopped)),
+            Err(_) => Err(Fail::new("no memory")),
+        },
+        _ => Ok(Held::Disk(again(alloc, &disk)?)),
     }
 }
 
-fn paired(alloc: Global, first: MemoryDisk, text: &str) -> Result<Held, AllocError> {
-    let image = octets_of(alloc, text)?;
-    let second = MemoryDisk::with_image(alloc, image.as_slice())?;
-    Ok(Held::Disks(Disks { first, second }))
-}
-
-fn take_step_on_disks(
+fn turned_disks(
     alloc: Global,
     disks: Disks<MemoryDisk>,
     name: &str,
     text: &str,
     number: u64,
-) -> Result<(Held, String), Fail> {
+) -> Result<Held, Fail> {
     match name {
-        "exchanged" => Ok((exchanged(disks), word(alloc, "ok")?)),
-        "anew" => Ok((both_again(alloc, &disks)?, word(alloc, "ok")?)),
-        "stop" => Ok((
-            both_stopped(disks, number_of(text, number))?,
-            word(alloc, "ok")?,
-        )),
-        "create" => created(alloc, disks),
-        "open" => opened(alloc, disks),
-        "bodiless" => Ok((
-            Held::Nothing,
-            of_question(alloc, is_bodiless(alloc, disks))?,
-        )),
-        "once" => {
-            let (calls, call) = text.split_once(' ').unwrap_or((text, ""));
-            let answer = fail_once(alloc, disks, number_of(calls, number), call)?;
-            Ok((Held::Nothing, answer))
-        }
-        _ => {
-            let mut disks = disks;
-            let answer = ask_disks(alloc, &mut disks, name, text, number)?;
-            Ok((Held::Disks(disks), answer))
-        }
+        "exchanged" => Ok(exchanged(disks)),
+        "stop" => match disks.after_stop(number_of(text, number)) {
+            Ok(stopped) => Ok(Held::Disks(stopped)),
+            Err(_) => Err(Fail::new("no memory")),
+        },
+        _ => Ok(both_again(alloc, &disks)?),
     }
 }
 
@@ -113,37 +133,45 @@ fn again(alloc: Global, disk: &MemoryDisk) -> Result<MemoryDisk, AllocError> {
 
 fn both_again(alloc: Global, disks: &Disks<MemoryDisk>) -> Result<Held, AllocError> {
     let first = again(alloc, &disks.first)?;
-    Ok(Held::Disks(Disks {
-        first,
-        second: again(alloc, &disks.second)?,
-    }))
+    let second = again(alloc, &disks.second)?;
+    Ok(Held::Disks(Disks { first, second }))
 }
 
-fn stopped(disk: MemoryDisk, pick: u64) -> Result<Held, Fail> {
-    match disk.after_stop(pick) {
-        Ok(stopped) => Ok(Held::Disk(stopped)),
-        Err(_) => Err(Fail::new("no memory")),
+/// What a call of a spool leaves of two disks. It tells what that answers.
+fn mounted(
+    alloc: Global,
+    disks: Disks<MemoryDisk>,
+    name: &str,
+    text: &str,
+    number: u64,
+    came: &mut String,
+) -> Result<Held, AllocError> {
+    match name {
+        "create" => created(alloc, disks, came),
+        "open" => opened(alloc, disks, came),
+        "bodiless" => {
+            tell_whether(came, is_bodiless(alloc, disks))?;
+            Ok(Held::Nothing)
+        }
+        _ => {
+            let (calls, call) = text.split_once(' ').unwrap_or((text, ""));
+            fail_once(alloc, disks, number_of(calls, number), call, came)?;
+            Ok(Held::Nothing)
+        }
     }
 }
 
-fn both_stopped(disks: Disks<MemoryDisk>, pick: u64) -> Result<Held, Fail> {
-    match disks.after_stop(pick) {
-        Ok(stopped) => Ok(Held::Disks(stopped)),
-        Err(_) => Err(Fail::new("no memory")),
-    }
-}
-
-fn created(alloc: Global, disks: Disks<MemoryDisk>) -> Result<(Held, String), Fail> {
+fn created(alloc: Global, disks: Disks<MemoryDisk>, came: &mut String) -> Result<Held, AllocError> {
     match Spool::create(alloc, disks) {
-        Ok(spool) => mounted(alloc, spool, Vec::new(alloc)),
-        Err(refused) => refuse(alloc, refused),
+        Ok(spool) => hold(spool, Vec::new(alloc), came),
+        Err(refused) => refuse(refused, came),
     }
 }
 
-fn opened(alloc: Global, disks: Disks<MemoryDisk>) -> Result<(Held, String), Fail> {
+fn opened(alloc: Global, disks: Disks<MemoryDisk>, came: &mut String) -> Result<Held, AllocError> {
     match Spool::open(alloc, disks) {
-        Ok(Opened { spool, bodies }) => mounted(alloc, spool, bodies),
-        Err(refused) => refuse(alloc, refused),
+        Ok(Opened { spool, bodies }) => hold(spool, bodies, came),
+        Err(refused) => refuse(refused, came),
     }
 }
 
@@ -155,38 +183,17 @@ fn is_bodiless(alloc: Global, disks: Disks<MemoryDisk>) -> bool {
     }
 }
 
-fn mounted(
-    alloc: Global,
+fn hold(
     spool: Spool<MemoryDisk>,
     bodies: Vec<Pieces>,
-) -> Result<(Held, String), Fail> {
-    let answer = format!(in alloc; "{} in {}", bodies.len(), spool.size())?;
-    Ok((Held::Spool(Mounted { spool, bodies }), answer))
+    came: &mut String,
+) -> Result<Held, AllocError> {
+    write!(came, "{} in {}", bodies.len(), spool.size())?;
+    Ok(Held::Spool(Mounted { spool, bodies }))
 }
 
-fn refuse(alloc: Global, refused: Refused<MemoryDisk>) -> Result<(Held, String), Fail> {
+fn refuse(refused: Refused<MemoryDisk>, came: &mut String) -> Result<Held, AllocError> {
     let Refused { fault, disk } = refused;
-    Ok((Held::Disks(disk), of_fault(alloc, fault)?))
-}
-
-fn take_step_on_spool(
-    alloc: Global,
-    mounted: Mounted,
-    name: &str,
-    text: &str,
-) -> Result<(Held, String), Fail> {
-    if name == "unmount" {
-        return Ok((unmounted(mounted), word(alloc, "ok")?));
-    }
-    let mut mounted = mounted;
-    let answer = ask_spool(alloc, &mut mounted, name, text)?;
-    Ok((Held::Spool(mounted), answer))
-}
-
-fn unmounted(mounted: Mounted) -> Held {
-    let Mounted {
-        spool,
-        bodies: _bodies,
-    } = mounted;
-    Held::Disks(spool.into_disk())
+    tell_answer(came, Err(fault))?;
+    Ok(Held::Disks(disk))
 }

@@ -2,7 +2,7 @@
 //! many and goes on. `create` and `open` are the calls, and `append OCTETS` and `compact OCTETS`, which `open` goes
 //! before. It answers what the call answers, and how many bodies the same disks open to behind that, or the fault of
 //! that opening.
-use crate::disks::answer::of_fault;
+use crate::disks::answer::tell_answer;
 use crate::disks::calls::{append, compact};
 use crate::disks::octets::octets_of;
 use relay_disk::{Disks, MemoryDisk, OnceDisk};
@@ -12,21 +12,23 @@ use std::alloc::{AllocError, Global};
 /// Two disks of which one call fails.
 type FailingDisks = Disks<OnceDisk<MemoryDisk>>;
 
-/// Takes the step, and says what it answers.
+/// Takes the step, and tells what it answers.
 pub fn fail_once(
     alloc: Global,
     disks: Disks<MemoryDisk>,
     calls: u64,
     call: &str,
-) -> Result<String, AllocError> {
-    let (disks, answer) = take(alloc, failing(disks, calls), call)?;
-    let mut text = match answer {
-        Ok(()) => String::from_str(alloc, "ok")?,
-        Err(fault) => of_fault(alloc, fault)?,
-    };
-    text.push_str(": ")?;
-    text.push_str(opened_again(alloc, bare(disks))?.as_str())?;
-    Ok(text)
+    came: &mut String,
+) -> Result<(), AllocError> {
+    let (name, octets) = call.split_once(' ').unwrap_or((call, "-"));
+    let octets = octets_of(alloc, octets)?;
+    let (disks, answer) = take(alloc, failing(disks, calls), name, octets);
+    let opened = count_bodies(alloc, bare(disks));
+    tell_answer(came, answer)?;
+    match opened {
+        Ok(count) => write!(came, ": {count} bodies"),
+        Err(fault) => write!(came, ": {fault}"),
+    }
 }
 
 fn failing(disks: Disks<MemoryDisk>, calls: u64) -> FailingDisks {
@@ -46,10 +48,10 @@ fn bare(disks: FailingDisks) -> Disks<MemoryDisk> {
 }
 
 /// How many bodies the disks open to.
-fn opened_again(alloc: Global, disks: Disks<MemoryDisk>) -> Result<String, AllocError> {
+fn count_bodies(alloc: Global, disks: Disks<MemoryDisk>) -> Result<usize, SpoolFault> {
     match Spool::open(alloc, disks) {
-        Ok(opened) => format!(in alloc; "{} bodies", opened.bodies.len()),
-        Err(refused) => of_fault(alloc, refused.fault),
+        Ok(opened) => Ok(opened.bodies.len()),
+        Err(refused) => Err(refused.fault),
     }
 }
 
@@ -57,43 +59,31 @@ fn opened_again(alloc: Global, disks: Disks<MemoryDisk>) -> Result<String, Alloc
 fn take(
     alloc: Global,
     disks: FailingDisks,
-    call: &str,
-) -> Result<(FailingDisks, Result<(), SpoolFault>), AllocError> {
-    let (name, octets) = call.split_once(' ').unwrap_or((call, "-"));
-    let mounted = match name {
-        "create" => create(alloc, disks),
-        _ => open(alloc, disks),
-    };
-    let octets = octets_of(alloc, octets)?;
-    match mounted {
-        Err((disks, fault)) => Ok((disks, Err(fault))),
-        Ok(mut spool) => {
-            let answer = match name {
-                "append" => append(&mut spool, octets.as_slice()),
-                "compact" => compact(&mut spool, octets),
-                _ => Some(Ok(())),
-            };
-            Ok((spool.into_disk(), answer.unwrap_or(Err(SpoolFault::Full))))
-        }
+    name: &str,
+    octets: Vec<u8>,
+) -> (FailingDisks, Result<(), SpoolFault>) {
+    if name == "create" {
+        return match Spool::create(alloc, disks) {
+            Ok(spool) => (spool.into_disk(), Ok(())),
+            Err(refused) => (refused.disk, Err(refused.fault)),
+        };
     }
-}
-
-fn create(
-    alloc: Global,
-    disks: FailingDisks,
-) -> Result<Spool<OnceDisk<MemoryDisk>>, (FailingDisks, SpoolFault)> {
-    match Spool::create(alloc, disks) {
-        Ok(spool) => Ok(spool),
-        Err(refused) => Err((refused.disk, refused.fault)),
-    }
-}
-
-fn open(
-    alloc: Global,
-    disks: FailingDisks,
-) -> Result<Spool<OnceDisk<MemoryDisk>>, (FailingDisks, SpoolFault)> {
     match Spool::open(alloc, disks) {
-        Ok(Opened { spool, bodies: _ }) => Ok(spool),
-        Err(refused) => Err((refused.disk, refused.fault)),
+        Ok(Opened { spool, bodies: _ }) => call_open(spool, name, octets),
+        Err(refused) => (refused.disk, Err(refused.fault)),
     }
+}
+
+fn call_open(
+    spool: Spool<OnceDisk<MemoryDisk>>,
+    name: &str,
+    octets: Vec<u8>,
+) -> (FailingDisks, Result<(), SpoolFault>) {
+    let mut spool = spool;
+    let answer = match name {
+        "append" => append(&mut spool, octets.as_slice()),
+        "compact" => compact(&mut spool, octets),
+        _ => Some(Ok(())),
+    };
+    (spool.into_disk(), answer.unwrap_or(Err(SpoolFault::Full)))
 }

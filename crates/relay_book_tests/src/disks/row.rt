@@ -1,66 +1,54 @@
-//! A row: the first and the last number by which it is played, steps between ` ; `, and behind ` => ` as many
-//! answers between ` ; `. Where the word `N` stands in a step, it is the number.
 use crate::disks::held::Held;
 use crate::disks::mount::take_step;
-use std::alloc::{AllocError, Global};
+use std::alloc::Global;
 use std::test::Fail;
 
-/// How a row comes otherwise than it is written down, where it does.
-pub fn difference_of(alloc: Global, line: &str) -> Result<Option<String>, Fail> {
-    let Some((given, answers)) = line.split_once(" => ") else {
-        return Ok(Some(String::from_str(alloc, "no row")?));
-    };
-    let mut words = given.splitn(3, ' ');
-    let first = number_in(words.next());
-    let last = number_in(words.next());
-    let (Some(first), Some(last), Some(steps)) = (first, last, words.next()) else {
-        return Ok(Some(String::from_str(alloc, "no row")?));
-    };
-    for number in first..=last {
-        if let Some(difference) = difference_at(alloc, steps, answers, number)? {
-            return Ok(Some(difference));
+/// A row: the first and the last number by which it is played, steps between ` ; `, and behind ` => ` as many
+/// answers between ` ; `. Where the word `N` stands in a step, it is the number.
+#[derive(Clone, Copy)]
+pub struct Row<'a> {
+    first: u64,
+    last: u64,
+    steps: &'a str,
+    answers: &'a str,
+}
+
+impl<'a> Row<'a> {
+    /// Reads a row.
+    pub fn read(line: &'a str) -> Option<Self> {
+        let (given, answers) = line.split_once(" => ")?;
+        let (first, rest) = given.split_once(' ')?;
+        let (last, steps) = rest.split_once(' ')?;
+        Some(Row {
+            first: first.parse::<u64>().ok()?,
+            last: last.parse::<u64>().ok()?,
+            steps,
+            answers,
+        })
+    }
+
+    /// The first number by which the row comes otherwise than it is written down, where there is one. What came by it
+    /// is put in the place of the text.
+    pub fn difference(self, alloc: Global, came: &mut String) -> Result<Option<u64>, Fail> {
+        for number in self.first..=self.last {
+            came.clear();
+            play(alloc, self.steps, number, came)?;
+            if came.as_str() != self.answers {
+                return Ok(Some(number));
+            }
         }
+        Ok(None)
     }
-    Ok(None)
 }
 
-fn number_in(word: Option<&str>) -> Option<u64> {
-    word?.parse::<u64>().ok()
-}
-
-/// How these steps come otherwise by this number.
-fn difference_at(
-    alloc: Global,
-    steps: &str,
-    answers: &str,
-    number: u64,
-) -> Result<Option<String>, Fail> {
-    let came = play(alloc, steps, number)?;
-    if came.as_str() == answers {
-        return Ok(None);
-    }
-    Ok(Some(said(alloc, came.as_str(), number)?))
-}
-
-fn said(alloc: Global, came: &str, number: u64) -> Result<String, AllocError> {
-    format!(in alloc; "by {number} it is {came}")
-}
-
-/// What steps answer, one after another.
-fn play(alloc: Global, steps: &str, number: u64) -> Result<String, Fail> {
+/// Tells what steps answer, one after another, in a text that is empty.
+fn play(alloc: Global, steps: &str, number: u64, came: &mut String) -> Result<(), Fail> {
     let mut held = Held::Nothing;
-    let mut came = String::new(alloc);
     for step in steps.split(" ; ") {
-        let (next, answer) = take_step(alloc, held, step, number)?;
-        held = next;
-        push_answer(&mut came, answer.as_str())?;
+        if !came.is_empty() {
+            came.push_str(" ; ")?;
+        }
+        take_step(alloc, &mut held, step, number, came)?;
     }
-    Ok(came)
-}
-
-fn push_answer(came: &mut String, answer: &str) -> Result<(), AllocError> {
-    if !came.is_empty() {
-        came.push_str(" ; ")?;
-    }
-    came.push_str(answer)
+    Ok(())
 }

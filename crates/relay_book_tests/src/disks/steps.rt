@@ -11,9 +11,11 @@
 //! - `compact TEXT`: puts this one body in place of all.
 use crate::disks::calls::{append, append_all, compact};
 use relay_disk::{Disk, Disks, FileDisk};
-use relay_spool::{BodyRow, Opened, Refused, Spool};
+use relay_pieces::Pieces;
+use relay_spool::{BodyRow, Opened, Refused, Spool, SpoolFault};
+use std::alloc::AllocError;
 use std::test::Fail;
-use std::{fs, str};
+use std::{fs, mem, str};
 
 /// What a step leaves to the next one.
 #[derive(Drop)]
@@ -27,61 +29,79 @@ enum Held {
 pub fn take_steps(rt: &HostRuntime, path: &str, lines: &str) -> Result<(), Fail> {
     let mut held = Held::Nothing;
     for line in lines.lines() {
-        held = take_step(rt, path, held, line)?;
+        take_step(rt, path, &mut held, line)?;
     }
     Ok(())
 }
 
 /// Takes the step of this line.
-fn take_step(rt: &HostRuntime, path: &str, held: Held, line: &str) -> Result<Held, Fail> {
+fn take_step(rt: &HostRuntime, path: &str, held: &mut Held, line: &str) -> Result<(), Fail> {
     let (step, text) = line.split_once(' ').unwrap_or((line, ""));
-    if step == "remove" {
-        let second = second_of(rt, path)?;
-        let _ = fs::remove_file(rt, path);
-        let _ = fs::remove_file(rt, second.as_str());
-        Ok(Held::Nothing)
-    } else if step == "create" {
-        create(rt, open_files(rt, path)?)
-    } else if step == "open" {
-        open(rt, open_files(rt, path)?)
-    } else if step == "again" {
-        match held {
-            Held::Nothing => Err(Fail::new("there is no disk")),
-            Held::Disks(disks) => open(rt, disks),
-            Held::Spool(spool) => open(rt, spool.into_disk()),
+    match step {
+        "remove" => {
+            remove(rt, path)?;
+            *held = Held::Nothing;
         }
-    } else {
-        match held {
-            Held::Spool(spool) => change(rt, spool, step, text),
-            Held::Nothing | Held::Disks(_) => Err(Fail::new("there is no spool")),
-        }
+        "create" => *held = create(rt, open_files(rt, path)?)?,
+        "open" => *held = open(rt, open_files(rt, path)?)?,
+        "again" => *held = open_again(rt, mem::replace(held, Held::Nothing))?,
+        _ => change(rt, held, step, text)?,
+    }
+    Ok(())
+}
+
+fn remove(rt: &HostRuntime, path: &str) -> Result<(), Fail> {
+    let second = second_of(rt, path)?;
+    let _ = fs::remove_file(rt, path);
+    let _ = fs::remove_file(rt, second.as_str());
+    Ok(())
+}
+
+/// Opens the spool on the disks that are held.
+fn open_again(rt: &HostRuntime, held: Held) -> Result<Held, Fail> {
+    match held {
+        Held::Nothing => Err(Fail::new("there is no disk")),
+        Held::Disks(disks) => open(rt, disks),
+        Held::Spool(spool) => open(rt, spool.into_disk()),
     }
 }
 
-/// Takes a step on a spool.
-fn change(rt: &HostRuntime, spool: Spool<FileDisk>, step: &str, text: &str) -> Result<Held, Fail> {
-    let mut spool = spool;
-    let answer = match step {
-        "append" => append(&mut spool, text.as_bytes()),
-        "append_all" => append_all(&mut spool, row_of(rt, text)?),
-        "compact" => compact(&mut spool, Vec::from_slice(rt.alloc(), text.as_bytes())?),
-        _ => {
-            return Err(Fail::new(
-                "the steps are: remove, create, open, again, append TEXT, append_all TEXT .., compact TEXT",
-            ));
-        }
+/// Takes a step on the spool that is held, and says what came of it.
+fn change(rt: &HostRuntime, held: &mut Held, step: &str, text: &str) -> Result<(), Fail> {
+    let Held::Spool(spool) = held else {
+        return Err(Fail::new("there is no spool"));
     };
-    match answer {
+    match call(rt, spool, step, text)? {
         Some(Ok(())) => println!(rt; "{step}: {} octets", spool.size())?,
         Some(Err(fault)) => println!(rt; "{step} refused: {fault}")?,
         None => println!(rt; "spent")?,
     }
-    Ok(Held::Spool(spool))
+    Ok(())
+}
+
+/// What a call of a spool answers; nothing where it is spent.
+fn call(
+    rt: &HostRuntime,
+    spool: &mut Spool<FileDisk>,
+    step: &str,
+    text: &str,
+) -> Result<Option<Result<(), SpoolFault>>, Fail> {
+    match step {
+        "append" => Ok(append(spool, text.as_bytes())),
+        "append_all" => Ok(append_all(spool, row_of(rt, text)?)),
+        "compact" => {
+            let body = Vec::from_slice(rt.alloc(), text.as_bytes())?;
+            Ok(compact(spool, body))
+        }
+        _ => Err(Fail::new(
+            "the steps are: remove, create, open, again, append TEXT, append_all TEXT .., compact TEXT",
+        )),
+    }
 }
 
 /// The name of the second file.
-fn second_of(rt: &HostRuntime, path: &str) -> Result<String, Fail> {
-    Ok(format!(in rt.alloc(); "{path}.2")?)
+fn second_of(rt: &HostRuntime, path: &str) -> Result<String, AllocError> {
+    format!(in rt.alloc(); "{path}.2")
 }
 
 fn open_files(rt: &HostRuntime, path: &str) -> Result<Disks<FileDisk>, Fail> {
@@ -106,27 +126,20 @@ fn create(rt: &HostRuntime, disks: Disks<FileDisk>) -> Result<Held, Fail> {
 fn open(rt: &HostRuntime, disks: Disks<FileDisk>) -> Result<Held, Fail> {
     match Spool::open(rt.alloc(), disks) {
         Ok(Opened { spool, bodies }) => {
-            let mut line = format!(in rt.alloc();
-                "opened, {} bodies, {} octets",
-                bodies.len(),
-                spool.size()
-            )?;
-            for body in bodies.iter() {
-                push_body(&mut line, body.front())?;
-            }
-            println!(rt; "{line}")?;
+            say_opened(rt, spool.size(), bodies.as_slice())?;
             Ok(Held::Spool(spool))
         }
         Err(refused) => refuse(rt, refused),
     }
 }
 
-/// Puts a body behind what stands in the line.
-fn push_body(line: &mut String, body: &[u8]) -> Result<(), Fail> {
-    line.push_str(" (")?;
-    line.push_str(str::from_utf8(body)?)?;
-    line.push_str(")")?;
-    Ok(())
+/// Prints how many bodies and octets a spool has, and each body.
+fn say_opened(rt: &HostRuntime, size: usize, bodies: &[Pieces]) -> Result<(), Fail> {
+    print!(rt; "opened, {} bodies, {size} octets", bodies.len())?;
+    for body in bodies {
+        print!(rt; " ({})", str::from_utf8(body.front())?)?;
+    }
+    Ok(println!(rt;)?)
 }
 
 /// The bodies of a row, which are the words of this text.
