@@ -1,6 +1,7 @@
 -- Where the places of a message go (RFC 5321, section 5.1): the hop of a place is that of its recipient's path as it is
 -- stored.
-use Rattle.std.specs.Prelude.{ℕ, suc, ◌==◌, Bool, true, false, not, ◌&&◌, List, [], ◌∷◌, ◌++◌, map, slice_get, bytes_eq, Option, None, is_some, if◌then◌else◌}
+use Rattle.std.specs.Prelude.{ℕ, suc, ◌==◌, Bool, true, false, not, ◌&&◌, List, [], ◌∷◌, ◌++◌, map, slice_get, bytes_eq}
+use Rattle.std.specs.Prelude.{Option, None, is_some, if◌then◌else◌}
 use Rattle.std.specs.List.{filter, filter_map}
 use Rattle.std.specs.Option.{option_and_then, option_map, option_map_or}
 use Rattle.relay_envelope.specs.declared.envelope.Recipient.{Recipient}

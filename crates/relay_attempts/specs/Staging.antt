@@ -1,6 +1,7 @@
 -- What replies to attempts do to records that await changes, where the outcomes of several attempts come into the spool
 -- together: each is staged with the report that is due of it, in one change (RFC 3461, section 5.2).
-use Rattle.std.specs.Prelude.{◌≡◌, ◌≢◌, ◌≤◌, ℕ, ◌+◌, ◌<◌, ◌^◌, false, List, [], ◌∷◌, ◌++◌, length, take, Option, None, Some}
+use Rattle.std.specs.Prelude.{◌≡◌, ◌≢◌, ◌≤◌, ℕ, ◌+◌, ◌<◌, ◌^◌, false, List, [], ◌∷◌, ◌++◌, length, take, Option, None}
+use Rattle.std.specs.Prelude.{Some}
 use Rattle.relay_disk.specs.Device.{DiskWords}
 use Rattle.relay_slots.specs.Slots.{slot_at}
 use Rattle.relay_spool.specs.Image.{room_of}

@@ -2,7 +2,8 @@
 ghost use Rattle.std.specs.Prelude.{◌≡◌, ◌≤◌, IfOk, length};
 ghost use Rattle.std.specs.Option.{option_copied};
 ghost use Rattle.relay_book.specs.Queue.{is_due_at};
-ghost use Rattle.relay_attempts.specs.Hops.{due_places_in, goes_to, hop_name, hop_of_place, is_any, is_due_for, is_stranded, stranded_places};
+ghost use Rattle.relay_attempts.specs.Hops.{due_places_in, goes_to, hop_name, hop_of_place, is_any, is_due_for};
+ghost use Rattle.relay_attempts.specs.Hops.{is_stranded, stranded_places};
 
 use relay_book::{Message, Place};
 use relay_envelope::{PathBuf, Recipients};

@@ -5,7 +5,8 @@ ghost use Rattle.relay_envelope.specs.HostName.{IsHostName};
 ghost use Rattle.relay_attempts.specs.Staging.{GrowsRowBy, RefusesToStageOutcome, StagesOutcome};
 ghost use Rattle.relay_records.specs.Records.{Keeps};
 ghost use Rattle.relay_records.specs.Staged.{Awaits};
-ghost use Rattle.relay_attempts.specs.AddedOutcome.{AddsOutcome, CutsOutcome, GrowsBy, IsReported, MayCome, RefusesOutcome, reported_as};
+ghost use Rattle.relay_attempts.specs.AddedOutcome.{AddsOutcome, CutsOutcome, GrowsBy, IsReported, MayCome};
+ghost use Rattle.relay_attempts.specs.AddedOutcome.{RefusesOutcome, reported_as};
 
 use relay_book::{Change, Outcome, encode_change};
 use relay_disk::Disk;

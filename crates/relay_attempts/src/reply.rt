@@ -1,9 +1,11 @@
 //! Replies to attempts, and connections that are lost.
 ghost use Rattle.std.specs.Prelude.{◌≡◌, List, Err, IfErr, IfOk, length};
 ghost use Rattle.relay_attempts.specs.Attempts.{Serves};
-ghost use Rattle.relay_attempts.specs.Reply.{CutsReply, HasHeard, HasNoRoomAtEnd, RefusesToHear, Replies, TellsAt, Told};
+ghost use Rattle.relay_attempts.specs.Reply.{CutsReply, HasHeard, HasNoRoomAtEnd, RefusesToHear, Replies, TellsAt};
+ghost use Rattle.relay_attempts.specs.Reply.{Told};
 ghost use Rattle.relay_attempts.specs.Reply.{CutsLoss, EndsBy, HasNoRoomAtLoss, IsLost};
-ghost use Rattle.relay_attempts.specs.Staging.{HasHeardBehind, HasNoRoomAtEndBehind, RefusesToHearBehind, RepliesBehind};
+ghost use Rattle.relay_attempts.specs.Staging.{HasHeardBehind, HasNoRoomAtEndBehind, RefusesToHearBehind};
+ghost use Rattle.relay_attempts.specs.Staging.{RepliesBehind};
 ghost use Rattle.relay_book.specs.declared.change.Change.{Change};
 ghost use Rattle.relay_records.specs.Records.{Keeps};
 ghost use Rattle.relay_records.specs.Staged.{Awaits};

@@ -7,9 +7,11 @@ use Rattle.relay_routes.specs.declared.hop.Hop.{Hop}
 use Rattle.relay_routes.specs.declared.fault.ConfigFault.{ConfigFault}
 use Rattle.relay_routes.specs.declared.fault.ConfigFault.TheVariants.{BadValue, NoMemory}
 use Rattle.relay_routes.specs.declared.fault.RouteFault.{RouteFault}
-use Rattle.relay_routes.specs.declared.fault.RouteFault.TheVariants.{BadDomain, Repeated, SecondPlace, NoMemory as OutOfMemory}
+use Rattle.relay_routes.specs.declared.fault.RouteFault.TheVariants.{BadDomain, Repeated, SecondPlace}
+use Rattle.relay_routes.specs.declared.fault.RouteFault.TheVariants.{NoMemory as OutOfMemory}
 use Rattle.relay_routes.specs.declared.key.Key.{Key}
-use Rattle.relay_routes.specs.declared.key.Key.TheVariants.{Host, Listen, Spool, MaxContent, SpoolLimit, BareNewlines, Routes}
+use Rattle.relay_routes.specs.declared.key.Key.TheVariants.{Host, Listen, Spool, MaxContent, SpoolLimit, BareNewlines}
+use Rattle.relay_routes.specs.declared.key.Key.TheVariants.{Routes}
 
 -- each key as a document has it
 abbrev pub key_text : Key → List ℕ

@@ -1,11 +1,13 @@
 //! The values of a configuration's document.
-ghost use Rattle.std.specs.Prelude.{◌≡◌, ◌⊎◌, ℕ, None, Some, Ok, Err, IfOk, IfErr, List, MatchOption, MatchResult, option_map, option_and_then};
+ghost use Rattle.std.specs.Prelude.{◌≡◌, ◌⊎◌, ℕ, None, Some, Ok, Err, IfOk, IfErr, List, MatchOption, MatchResult};
+ghost use Rattle.std.specs.Prelude.{option_map, option_and_then};
 ghost use Rattle.toml.specs.Data.{as_str, get_member};
 ghost use Rattle.toml.specs.View.{table_view, view};
 ghost use Rattle.relay_routes.specs.Value.{GivesSize};
 ghost use Rattle.relay_routes.specs.Document.{AreRoutes, GivesHop, fault_of_routes, value_of};
 ghost use Rattle.relay_routes.specs.Routes.{AllAgree, Route};
-ghost use Rattle.relay_routes.specs.Config.{ReadsBareNewlines, ReadsHost, ReadsListen, ReadsMaxContent, ReadsOptional, ReadsRoutes, ReadsSpool, ReadsSpoolLimit};
+ghost use Rattle.relay_routes.specs.Config.{ReadsBareNewlines, ReadsHost, ReadsListen, ReadsMaxContent, ReadsOptional};
+ghost use Rattle.relay_routes.specs.Config.{ReadsRoutes, ReadsSpool, ReadsSpoolLimit};
 ghost use Rattle.relay_routes.specs.declared.hop.Hop.{Hop};
 
 use crate::address::read_address;

@@ -1,6 +1,9 @@
-ghost use Rattle.std.specs.Prelude.{◌≡◌, ◌≢◌, ◌↔◌, ◌≤◌, ◌<◌, [], None, Some, IsTrue, IsErrOf, IsSome, IfErr, OnOk, OnErr, MatchBool, length, option_copied};
+ghost use Rattle.std.specs.Prelude.{◌≡◌, ◌≢◌, ◌↔◌, ◌≤◌, ◌<◌, [], None, Some, IsTrue, IsErrOf, IsSome, IfErr, OnOk};
+ghost use Rattle.std.specs.Prelude.{OnErr, MatchBool, length, option_copied};
 ghost use Rattle.relay_envelope.specs.Path.{value_of};
-ghost use Rattle.relay_routes.specs.Routes.{AllAgree, HasNoOtherPlace, HasOtherPlace, IsRouteDomain, MayBeAdded, RefusesRoute, entry_of, hop_at, hop_for, hop_of, place_of, with_lowered, with_route};
+ghost use Rattle.relay_routes.specs.Routes.{AllAgree, HasNoOtherPlace, HasOtherPlace, IsRouteDomain, MayBeAdded};
+ghost use Rattle.relay_routes.specs.Routes.{RefusesRoute, entry_of, hop_at, hop_for, hop_of, place_of, with_lowered};
+ghost use Rattle.relay_routes.specs.Routes.{with_route};
 
 use crate::fault::RouteFault;
 use crate::hop::Hop;
