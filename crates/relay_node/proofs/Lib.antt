@@ -5,6 +5,7 @@ mod ReceiveLemmas
 mod HeardBehindLemmas
 mod QueuedLemmas
 mod NodeLemmas
+mod SeatLemmas
 mod StageLemmas
 mod AttemptLemmas
 mod CompactionLemmas

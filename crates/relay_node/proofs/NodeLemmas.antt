@@ -1,6 +1,6 @@
 -- The sessions of a node with what was said on them, and a call on one of them.
 use Rattle.std.proofs.Common.{◌≡◌, ◌↔◌, ℕ, ◌<◌, zero, suc, Bool, true, false, List, [], ◌∷◌, length, Option, None, Some, refl, sym, ap, ◌∙◌, subst}
-use Rattle.std.specs.Prelude.{slice_set}
+use Rattle.std.specs.Prelude.{if◌then◌else◌, slice_set}
 use Rattle.std.proofs.lemmas.List.{get_or-set_same}
 use Rattle.relay_disk.specs.Device.{DiskWords}
 use Rattle.relay_routes.specs.declared.config.Config.{Config}
@@ -16,7 +16,7 @@ use Rattle.relay_records.specs.Records.{Kept}
 use Rattle.relay_attempts.specs.declared.runs.Run.{Run}
 use Rattle.relay_node.specs.declared.receive.Received.{Received}
 use Rattle.relay_node.specs.declared.seat.Seat.{Seat}
-use Rattle.relay_node.specs.Node.{SessionGoesOn, HasClosed, HasHistory, HaveHistories, Hears, IsOpen, Receives, SessionHasSaid, SeatHasSaid, NodeState}
+use Rattle.relay_node.specs.Node.{CutsTalk, SessionGoesOn, HasClosed, HasHistory, HaveHistories, Hears, IsOpen, Receives, SessionHasSaid, SeatHasSaid, NodeState}
 use Rattle.relay_slots.specs.Slots.{AreFree, slot_at}
 use Rattle.relay_slots.proofs.Theorems.{taken_is_none}
 
@@ -156,3 +156,16 @@ module _ {D : Type 0} (honest : Type 0) (words : DiskWords D) (config : Config) 
     is_open = λ going. absurd (not_closed (sym is_last ∙ going));
     talks = heard.talks;
   }
+
+  -- the session was put back, unless it has closed
+  pub receives_by : (close : Bool) → received.close ≡ close → (mid all : List (Option Seat)) → mid ≡ slice_set old number None → number < length mid → all ≡ (if close then mid else slice_set mid number (Some new))
+      → Receives honest words config changes peer at number said piece (standing_of config old runs before) (standing_of config all more after) received
+  receives_by true close_is mid all rest within put = receives_last all close_is (put ∙ rest)
+  receives_by false close_is mid all rest within put = receives_on mid all close_is within put
+
+-- what a stop cut short was the session's
+pub cuts_there : {D : Type 0} (honest : Type 0) (words : DiskWords D) (config : Config) (changes : List Change) (peer : List ℕ) (at number : ℕ) (said : Said) (piece : List ℕ) (old : List (Option Seat)) (taken : Seat) (before after : Kept D)
+    → SeatHasSaid config old number peer said → Some taken ≡ slot_at old number
+    → (SessionHasSaid (setup_of_config config) taken.session.value said → CutsTalk honest words config changes taken.peer at said piece before after) → CutsTalk honest words config changes peer at said piece before after
+cuts_there honest words config changes peer at number said piece old taken before after is was cuts =
+    subst (λ p. CutsTalk honest words config changes p at said piece before after) (peer_of_taken config peer number said old taken is was) (cuts (taken_says config peer number said old taken is was))

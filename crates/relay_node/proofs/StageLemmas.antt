@@ -1,6 +1,6 @@
 -- A session is taken out, heard behind a row, and put back.
-use Rattle.std.proofs.Common.{◌≡◌, ◌<◌, ℕ, true, false, List, length, Option, None, Some, sym, ◌∙◌, subst}
-use Rattle.std.specs.Prelude.{slice_set}
+use Rattle.std.proofs.Common.{◌≡◌, ◌<◌, ℕ, Bool, true, false, List, length, Option, None, Some, sym, ◌∙◌, subst}
+use Rattle.std.specs.Prelude.{if◌then◌else◌, slice_set}
 use Rattle.relay_disk.specs.Device.{DiskWords}
 use Rattle.relay_slots.specs.Slots.{slot_at}
 use Rattle.relay_routes.specs.declared.config.Config.{Config}
@@ -76,3 +76,9 @@ module _ {D : Type 0} (honest : Type 0) (words : DiskWords D) (config : Config) 
           talks = h.talks;
         };
   }
+
+  -- the session was put back, unless it has closed
+  pub receives_behind_by : (close : Bool) → received.close ≡ close → (mid all : List (Option Seat)) → mid ≡ slice_set old number None → number < length mid → all ≡ (if close then mid else slice_set mid number (Some new))
+      → ReceivesBehind honest words config changes pending at number piece (standing_of config old runs before) row (standing_of config all more after) left received
+  receives_behind_by true close_is mid all rest within put = receives_behind_last all close_is (put ∙ rest)
+  receives_behind_by false close_is mid all rest within put = receives_behind_on mid all close_is within put

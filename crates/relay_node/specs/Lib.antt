@@ -3,6 +3,7 @@ pub mod Room
 pub mod Queued
 pub mod Listening
 pub mod Node
+pub mod Seats
 pub mod Speaking
 pub mod Admission
 pub mod Staging

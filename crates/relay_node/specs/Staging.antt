@@ -1,6 +1,7 @@
 -- What a node does with offers of sessions that stand outside of it, where their changes come into the records
 -- together.
-use Rattle.std.specs.Prelude.{◌≡◌, ◌≢◌, ◌↔◌, ◌⊎◌, ℕ, ◌+◌, ◌≤◌, ◌<◌, ◌^◌, true, false, List, [], ◌∷◌, ◌++◌, length, take, Option, None, Some, Result, Err, IfErr}
+use Rattle.std.specs.Prelude.{◌≡◌, ◌≢◌, ◌↔◌, ◌⊎◌, ℕ, ◌+◌, ◌≤◌, ◌<◌, ◌^◌, true, false, List, [], ◌∷◌, ◌++◌, length, take}
+use Rattle.std.specs.Prelude.{Option, None, Some, Result, Err, IfErr}
 use Rattle.std.specs.List.{AllByRecursion}
 use Rattle.relay_disk.specs.Device.{DiskWords}
 use Rattle.relay_routes.specs.declared.config.Config.{Config}
@@ -23,7 +24,8 @@ use Rattle.relay_records.specs.declared.noted.Noted.{Noted}
 use Rattle.relay_node.specs.Acceptance.{Acceptance, acceptance_by}
 use Rattle.relay_node.specs.Admission.{TakesAnswer}
 use Rattle.relay_node.specs.declared.receive.Received.{Received}
-use Rattle.relay_node.specs.Node.{HasHistory, IsGone, IsOpen, NodeState, SeatHasSaid, SessionGoesOn, SessionHasSaid, TakesIn}
+use Rattle.relay_node.specs.Node.{HasHistory, IsGone, IsOpen, NodeState, SeatHasSaid, SessionGoesOn, SessionHasSaid}
+use Rattle.relay_node.specs.Node.{TakesIn}
 use Rattle.relay_node.specs.Room.{AnswersMore, EndsWithOffer, HasRoom, Overfills, refusals}
 
 -- The words below are of a call at a moment, for a client at this address, of a node that keeps these changes and

@@ -5,7 +5,8 @@ ghost use Rattle.relay_book.specs.declared.change.Change.{Change};
 ghost use Rattle.relay_book.specs.Marks.{Held};
 ghost use Rattle.relay_book.specs.Queue.{held_of};
 ghost use Rattle.relay_disk.specs.Disks.{AddsNoImage, FailsNot, LeavesNothing, calls_left_of, no_octets, seen_of};
-ghost use Rattle.relay_node.specs.Node.{Connects, CutsTalk, IsFused, IsIdle, Receives, RefusesAt, SeatHasSaid, UsesOctets};
+ghost use Rattle.relay_node.specs.Node.{Connects, CutsTalk, IsFused, IsIdle, Receives, RefusesAt, SeatHasSaid};
+ghost use Rattle.relay_node.specs.Node.{UsesOctets};
 ghost use Rattle.relay_node.specs.Node.{RefusesToConnect, RefusesToEnd, RefusesToMake, RefusesToReceive};
 ghost use Rattle.relay_node.specs.Room.{ComesToOffer};
 ghost use Rattle.relay_slots.specs.Slots.{IsFull, OthersStay, slot_at};
@@ -19,7 +20,7 @@ ghost use Rattle.relay_spool.specs.Spool.{AtEachMoment, OnlyReads};
 
 use crate::attempts::note;
 use crate::receive::{Received, hear};
-use crate::seat::Seat;
+use crate::seat::{Seat, put_back, take_seat};
 use relay_attempts::Attempts;
 use relay_disk::{Disk, Disks, Reboot};
 use relay_records::{Cause, HeldPlace, NodeFault, NotOpened, Noted, Records};
@@ -275,14 +276,7 @@ impl<D: Disk> Node<D> {
         ensures refused { RefusesAt self.old self.new (slot_at self.old.seats session ≡ None)
             (RefusesToReceive D.words session self.old self.new) result }
     {
-        if !self.records.is_live() {
-            return Err(NodeFault::Stopped);
-        }
-        let Some(seat) = self.seats.take(session) else {
-            return Err(NodeFault::Unknown);
-        };
-        let mut seat = seat;
-        self.attempts.reserve()?;
+        let mut seat = take_seat(&mut self.seats, &mut self.attempts, &self.records, session)?;
         self.records.numbers_rise();
         let received = hear(
             self.alloc,
@@ -293,10 +287,7 @@ impl<D: Disk> Node<D> {
             now,
         )?;
         note(&mut self.attempts, &self.config, &self.records, &received);
-        if received.close {
-            return Ok(received);
-        }
-        self.seats.put(session, seat);
+        put_back(&mut self.seats, session, seat, received.close);
         Ok(received)
     }
 

@@ -14,7 +14,7 @@ use crate::attempts::note;
 use crate::intake::Intake;
 use crate::node::Node;
 use crate::receive::Received;
-use crate::seat::Seat;
+use crate::seat::{Seat, put_back, take_seat};
 use crate::speak::Spoken;
 use relay_disk::Disk;
 use relay_records::list_laws::awaited_are_numbered;
@@ -51,14 +51,7 @@ impl<D: Disk> Node<D> {
             (RefusesToReceiveInto session self.old self.new row.old row.new) result }
         ensures row { OnErr result (row.new ≡ row.old) }
     {
-        if !self.records.is_live() {
-            return Err(NodeFault::Stopped);
-        }
-        let Some(seat) = self.seats.take(session) else {
-            return Err(NodeFault::Unknown);
-        };
-        let mut seat = seat;
-        self.attempts.reserve()?;
+        let mut seat = take_seat(&mut self.seats, &mut self.attempts, &self.records, session)?;
         self.records.numbers_rise();
         let received = hear_into(
             self.alloc,
@@ -70,10 +63,7 @@ impl<D: Disk> Node<D> {
             now,
         )?;
         note(&mut self.attempts, &self.config, &self.records, &received);
-        if received.close {
-            return Ok(received);
-        }
-        self.seats.put(session, seat);
+        put_back(&mut self.seats, session, seat, received.close);
         Ok(received)
     }
 }

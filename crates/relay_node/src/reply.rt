@@ -1,6 +1,7 @@
 //! What next hops answer to attempts, and connections that are lost.
 ghost use Rattle.std.specs.Prelude.{◌≡◌, None, List, length, Err, IfOk};
-ghost use Rattle.relay_attempts.specs.Reply.{CutsLoss, CutsReply, EndsBy, HasNoRoomAtEnd, HasNoRoomAtLoss, IsLost, Told};
+ghost use Rattle.relay_attempts.specs.Reply.{CutsLoss, CutsReply, EndsBy, HasNoRoomAtEnd, HasNoRoomAtLoss, IsLost};
+ghost use Rattle.relay_attempts.specs.Reply.{Told};
 ghost use Rattle.relay_book.specs.declared.change.Change.{Change};
 ghost use Rattle.relay_node.specs.Attempts.{RefusesToReply, Replies, Tells, UsesReply};
 ghost use Rattle.relay_node.specs.Node.{RefusesAt};
