@@ -1,4 +1,5 @@
--- Why a run ends with status 1: what the faults of the crates below are to a run, and which errors are the system's own.
+-- Why a run ends with status 1: what the faults of the crates below are to a run, and which errors are the system's
+-- own.
 use Rattle.std.specs.Prelude.{◌≡◌, ◌⊎◌, ℤ, pos, Option, Some}
 use Rattle.relay_spool.specs.declared.fault.SpoolFault.{SpoolFault}
 use Rattle.relay_spool.specs.declared.fault.SpoolFault.TheVariants as spool_fault
@@ -12,7 +13,8 @@ use Rattle.relay_records.specs.declared.fault.NodeFault.TheVariants as node_faul
 use Rattle.relay_links.specs.declared.fault.LinkFault.{LinkFault}
 use Rattle.relay_links.specs.declared.fault.LinkFault.TheVariants as link_fault
 use Rattle.relay_files.specs.declared.fault.Fault.{Fault}
-use Rattle.relay_files.specs.declared.fault.Fault.TheVariants.{Config, Limit as BadLimit, NotASpool, Damaged, NotEmpty, Full}
+use Rattle.relay_files.specs.declared.fault.Fault.TheVariants.{Config, Limit as BadLimit, NotASpool, Damaged, NotEmpty}
+use Rattle.relay_files.specs.declared.fault.Fault.TheVariants.{Full}
 use Rattle.relay_files.specs.declared.fault.Fault.TheVariants.{NoSecond, BadRecord, Device, NoMemory, Input, Output}
 
 -- want of memory is one fault, wherever it comes
@@ -58,8 +60,8 @@ fault_of_link link_fault.NoMemory = NoMemory
 fault_of_link link_fault.Full = Full
 fault_of_link link_fault.Device = Device
 
--- Linux's errors of a socket that couldn't be had here: this process has no descriptor left (EMFILE), the system has none
--- (ENFILE), or there is no memory (ENOMEM) or no room (ENOBUFS) for its buffers
+-- Linux's errors of a socket that couldn't be had here: this process has no descriptor left (EMFILE), the system has
+-- none (ENFILE), or there is no memory (ENOMEM) or no room (ENOBUFS) for its buffers
 abbrev pub IsWantOfSockets : Option ℤ → Type 0
 IsWantOfSockets code =
     (code ≡ Some (pos 24)) ⊎ (code ≡ Some (pos 23)) ⊎ (code ≡ Some (pos 12)) ⊎ (code ≡ Some (pos 105))

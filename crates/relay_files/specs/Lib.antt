@@ -1,2 +1,1 @@
-pub mod Compacting
 pub mod Fault

@@ -8,7 +8,7 @@ mod line_writer;
 mod listing;
 mod settings;
 
-pub use compacting::{compact, is_worth_it};
+pub use compacting::compact;
 pub use fault::{Fault, is_want_of_sockets};
 pub use line_writer::gathering;
 pub use listing::{init, list};

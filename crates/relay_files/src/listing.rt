@@ -3,7 +3,8 @@ use crate::fault::Fault;
 use crate::line_writer::gathering;
 use crate::settings::{configuration, spool_files, spool_files_to_read};
 use relay_disk::{Disk, DiskFault, Disks, FileDisk};
-use relay_node::Node;
+use relay_node::{Cause, Node, NotOpened};
+use relay_spool::SpoolFault;
 use std::alloc::Global;
 use std::fs::File;
 use std::io::{self, Write};
@@ -19,7 +20,7 @@ pub fn init<F: Files<File = File>>(alloc: Global, files: &F, path: &str) -> Resu
     }
 }
 
-/// How often `list` opens a spool that grows while it is read.
+/// How often `list` opens a spool that is written anew while it is read.
 const OPENINGS: u32 = 1_000;
 
 /// Writes a line for each recipient that the spool holds, in order: the number of its message, its
@@ -49,9 +50,9 @@ struct Sight {
     head: Result<[u8; HEAD_SIZE], DiskFault>,
 }
 
-/// The node of the spool that the configuration names; none where a file of it has another head than before, or where
-/// the spool is refused and a file has another size. A process that serves adds to the files beside this one, and what
-/// it adds then may pass the end that a file had before; or it has written the spool anew meanwhile.
+/// The node of the spool that the configuration names; none where a file of it has another head than before, since a
+/// process that serves has written the spool anew meanwhile. Such a process also appends: what it appends while the
+/// spool is read may pass the end that the file had, and then the spool is read as it was before that.
 fn open_unless_it_changed<F: Files<File = File>>(
     alloc: Global,
     files: &F,
@@ -61,22 +62,54 @@ fn open_unless_it_changed<F: Files<File = File>>(
     let mut disks = spool_files_to_read(alloc, files, &config)?;
     let sights = sights_of(&mut disks);
     match Node::open(alloc, config, disks) {
-        Ok(node) => {
-            let mut disks = spool_files_to_read(alloc, files, node.config())?;
-            if have_heads_of(&sights_of(&mut disks), &sights) {
-                Ok(Some(node))
-            } else {
-                Ok(None)
-            }
-        }
-        Err(refused) => {
-            let mut disks = refused.disk;
+        Ok(node) => unless_changed(alloc, files, node, &sights),
+        Err(NotOpened { cause, disk }) => {
+            let mut disks = disk;
             if sights_of(&mut disks) == sights {
-                Err(Fault::from(refused.cause))
-            } else {
-                Ok(None)
+                return Err(Fault::from(cause));
+            }
+            match cause {
+                Cause::Spool(SpoolFault::Damaged(gate)) => {
+                    open_up_to(alloc, files, path, disks, gate, &sights)
+                }
+                _ => Ok(None),
             }
         }
+    }
+}
+
+/// The node of the spool as it was when the gate at this place was closed, which a process that serves has opened
+/// since; none where that process has written the spool anew.
+fn open_up_to<F: Files<File = File>>(
+    alloc: Global,
+    files: &F,
+    path: &str,
+    disks: Disks<FileDisk>,
+    gate: usize,
+    sights: &[Sight; 2],
+) -> Result<Option<Node<FileDisk>>, Fault> {
+    let config = configuration(alloc, files, path)?;
+    let mut disks = disks;
+    disks.first.reads_up_to(gate);
+    disks.second.reads_up_to(gate);
+    match Node::open(alloc, config, disks) {
+        Ok(node) => unless_changed(alloc, files, node, sights),
+        Err(_refused) => Ok(None),
+    }
+}
+
+/// The node, unless a file of its spool has another head than before.
+fn unless_changed<F: Files<File = File>>(
+    alloc: Global,
+    files: &F,
+    node: Node<FileDisk>,
+    before: &[Sight; 2],
+) -> Result<Option<Node<FileDisk>>, Fault> {
+    let mut disks = spool_files_to_read(alloc, files, node.config())?;
+    if have_heads_of(&sights_of(&mut disks), before) {
+        Ok(Some(node))
+    } else {
+        Ok(None)
     }
 }
 

@@ -25,8 +25,8 @@ pub fn configuration<F: Files<File = File>>(
     Ok(Config::read(alloc, text.as_str())?)
 }
 
-/// The configuration in the file at this path, twice over one reading, so that both are what one text says: a node keeps
-/// one for itself. Faults are looked for in that order.
+/// The configuration in the file at this path, twice over one reading, so that both are what one text says: a node
+/// keeps one for itself. Faults are looked for in that order.
 pub fn configurations<F: Files<File = File>>(
     alloc: Global,
     files: &F,
@@ -56,17 +56,23 @@ fn text_of<F: Files<File = File>>(alloc: Global, files: &F, path: &str) -> io::R
     io::read_to_string(alloc, File::open(files, path)?)
 }
 
-/// The two files of the spool that the configuration names. The second has the first's name, and `.2` behind it.
+/// The two files of the spool that the configuration names. The second has the first's name followed by `.2`. One file
+/// under both names can't be a spool, so that is as if the second couldn't be opened.
 pub(crate) fn spool_files<F: Files<File = File>>(
     alloc: Global,
     files: &F,
     config: &Config,
 ) -> Result<Disks<FileDisk>, Fault> {
     let second = second_name(alloc, config)?;
-    Ok(Disks {
+    let disks = Disks {
         first: unless_device(FileDisk::open(files, config.spool.as_str()))?,
         second: unless_device(FileDisk::open(files, second.as_str()))?,
-    })
+    };
+    match disks.first.is_same_file(&disks.second) {
+        Ok(false) => Ok(disks),
+        Ok(true) => Err(Fault::Device),
+        Err(error) => Err(Fault::of_device(&error)),
+    }
 }
 
 /// Those files, for reading alone. The first has to be there. Where the second isn't, the first stands for both: of two

@@ -17,10 +17,11 @@ most_of SessionsPerClient = 64
 most_of AttemptsPerHop = 64
 most_of ClientTimeout = 3600
 
--- profile: what each is where nothing is said; a client is waited for five minutes (RFC 5321, 4.5.3.2.7)
+-- profile: what each is where nothing is said: Postfix opens 20 connections to one server, and takes 50 of one client;
+-- a client is waited for five minutes (RFC 5321, 4.5.3.2.7)
 abbrev pub default_of : Limit → ℕ
-default_of SessionsPerClient = 16
-default_of AttemptsPerHop = 4
+default_of SessionsPerClient = 32
+default_of AttemptsPerHop = 20
 default_of ClientTimeout = 300
 
 -- what a document has at a key

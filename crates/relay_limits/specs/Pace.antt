@@ -1,5 +1,6 @@
 -- When one more connection to a next hop may be begun, and how long a next hop is left alone.
-use Rattle.std.specs.Prelude.{◌≡◌, ℕ, ◌<◌, ◌+◌, ◌-◌, ◌*◌, ◌^◌, min, nat_lt, Bool, true, false, Option, None, Some, if◌then◌else◌}
+use Rattle.std.specs.Prelude.{◌≡◌, ℕ, ◌<◌, ◌+◌, ◌-◌, ◌*◌, ◌^◌, min, nat_lt, true, false, Option, None, Some}
+use Rattle.std.specs.Prelude.{if◌then◌else◌}
 use Rattle.relay_limits.specs.declared.pace.Hold.{Hold}
 use Rattle.relay_limits.specs.declared.pace.Pace.{Pace}
 
@@ -18,28 +19,36 @@ abbrev pub hold_end : ℕ → Option Hold → Option ℕ
 hold_end tick None = None
 hold_end tick (Some hold) = if nat_lt tick hold.until then Some hold.until else None
 
--- Fewer connections stand than the most, or none where the next hop has said nothing yet, and it isn't left alone.
+-- Fewer connections stand than the most and than the next hop takes, or none where it has said nothing yet, and it
+-- isn't left alone.
 pub record MayBegin (most tick : ℕ) (pace : Pace) : Type 0 where
-  pub fewer : pace.has_answered ≡ true → pace.running < most
+  pub fewer : pace.has_answered ≡ true → pace.running < min most pace.limit
   pub one : pace.has_answered ≡ false → pace.running ≡ 0
   pub alone : IsHeld pace.hold tick → ⊥
 
--- nothing is known of the next hop
+-- nothing is known of the next hop: no limit either
 abbrev pub unknown_pace : Pace
-unknown_pace = record { running = 0; has_answered = false; hold = None }
+unknown_pace = record { running = 0; limit = 2 ^ 64 - 1; has_answered = false; hold = None }
 
--- so many connections stand
+-- this number of connections stand
 abbrev pub with_running : ℕ → Pace → Pace
-with_running running pace = record { running = running; has_answered = pace.has_answered; hold = pace.hold }
+with_running running pace =
+    record { running = running; limit = pace.limit; has_answered = pace.has_answered; hold = pace.hold }
+
+-- the next hop takes this number of connections at a time
+abbrev pub with_limit : ℕ → Pace → Pace
+with_limit limit pace =
+    record { running = pace.running; limit = limit; has_answered = pace.has_answered; hold = pace.hold }
 
 -- the next hop has said something
 abbrev pub answered_pace : Pace → Pace
-answered_pace pace = record { running = pace.running; has_answered = true; hold = None }
+answered_pace pace = record { running = pace.running; limit = pace.limit; has_answered = true; hold = None }
 
 -- it is left alone from this tick on, or up to the last that there is
 abbrev pub held_from : ℕ → Pace → Pace
 held_from tick pace = record {
   running = pace.running;
+  limit = pace.limit;
   has_answered = false;
   hold = Some (record {
     until = min (tick + next_hold pace.hold * 1000) (2 ^ 64 - 1);

@@ -1,11 +1,13 @@
-//! What bounds a relay that serves many clients at once: how many sessions and attempts it has, how long it waits, and
-//! when a next hop is left alone.
+//! What bounds a relay that serves many clients at once: how many sessions and attempts it has, how long it waits, when
+//! a next hop is left alone, and when its spool is compacted.
 #![tactic(auto)]
 
+mod compacting;
 mod limit;
 mod limits;
 mod pace;
 
+pub use compacting::is_worth_compacting;
 pub use limit::Limit;
 pub use limits::Limits;
 pub use pace::Pace;

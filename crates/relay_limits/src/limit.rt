@@ -41,8 +41,8 @@ impl Limit {
         ensures default { result ≡ default_of self }
     {
         match self {
-            Limit::SessionsPerClient => 16,
-            Limit::AttemptsPerHop => 4,
+            Limit::SessionsPerClient => 32,
+            Limit::AttemptsPerHop => 20,
             Limit::ClientTimeout => 300,
         }
     }

@@ -18,7 +18,7 @@ pub struct Limits {
 
 impl Limits {
     /// The limits that a document says, or the first of them, in the order of [`Limit`], whose value is no integer from
-    /// 1 to its most. Where they are missing, `sessions_per_client` is 16, `attempts_per_hop` 4 and `client_timeout`
+    /// 1 to its most. Where they are missing, `sessions_per_client` is 32, `attempts_per_hop` 20 and `client_timeout`
     /// 300; other keys are ignored. It takes no memory.
     pub fn of_document(document: &toml::Table) -> Result<Limits, Limit>
         ensures ok { IfOk result (Says (table_view document.now)) }

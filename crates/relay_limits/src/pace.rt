@@ -1,5 +1,6 @@
-ghost use Rattle.std.specs.Prelude.{◌≡◌, ◌↔◌, ◌+◌, ◌-◌, ◌^◌, min, IsTrue};
-ghost use Rattle.relay_limits.specs.Pace.{IsHeld, MayBegin, answered_pace, held_from, hold_end, next_hold, unknown_pace, with_running};
+ghost use Rattle.std.specs.Prelude.{◌≡◌, ◌↔◌, ◌<◌, ◌+◌, ◌-◌, ◌^◌, max, min, IsTrue};
+ghost use Rattle.relay_limits.specs.Pace.{IsHeld, MayBegin, answered_pace, held_from, hold_end, next_hold};
+ghost use Rattle.relay_limits.specs.Pace.{unknown_pace, with_limit, with_running};
 
 /// How many seconds a next hop that can't be reached is left alone the first time. Behind each further attempt it is
 /// twice as long, up to the longest.
@@ -17,11 +18,13 @@ struct Hold {
     seconds: u64,
 }
 
-/// How many connections to a next hop stand, and whether it is left alone. A tick is a millisecond of a clock that
-/// goes on alone.
+/// How many connections to a next hop stand, how many it takes, and whether it is left alone. A tick is a millisecond
+/// of a monotonic clock.
 #[derive(Debug, Drop)]
 pub struct Pace {
     running: usize,
+    /// The most connections that the next hop takes at a time, as far as is known.
+    limit: usize,
     /// The next hop has said something since it was left alone last, or since the relay began.
     has_answered: bool,
     hold: Option<Hold>,
@@ -34,19 +37,52 @@ impl Pace {
     {
         Pace {
             running: 0,
+            limit: usize::MAX,
             has_answered: false,
             hold: None,
         }
     }
 
-    /// Whether one more connection may be begun: fewer than `most` stand, and the next hop isn't left alone. Before it
-    /// has said something one alone is made, so that one that can't be reached, or is silent, takes no more of those
-    /// that there may be.
+    /// Whether one more connection may be begun: fewer stand than `most` and than the next hop takes, and the next hop
+    /// isn't left alone. Until it has said something only one is made, so that a next hop that can't be reached, or is
+    /// silent, takes no more of those that there may be.
     pub fn may_begin(&self, most: usize, tick: u64) -> bool
         ensures { IsTrue result ↔ MayBegin most tick self.now }
     {
-        let most_now = if self.has_answered { most } else { 1 };
+        let most_now = if self.has_answered {
+            most.min(self.limit)
+        } else {
+            1
+        };
         self.running < most_now && !self.is_held(tick)
+    }
+
+    /// Whether more than one connection to the next hop stands.
+    pub fn is_shared(&self) -> bool
+        ensures { IsTrue result ↔ (1 < self.now.running) }
+    {
+        1 < self.running
+    }
+
+    /// Whether the next hop has said something since it was left alone last, or since the relay began.
+    pub fn has_answered(&self) -> bool
+        ensures { result ≡ self.now.has_answered }
+    {
+        self.has_answered
+    }
+
+    /// Lowers the limit to the connections that stand, 1 at least: the next hop has refused one more.
+    pub fn lower_limit(&mut self)
+        ensures { self.new ≡ with_limit (max self.old.running 1) self.old }
+    {
+        self.limit = self.running.max(1);
+    }
+
+    /// Raises the limit by one: an attempt has ended well, so the next hop may take one more.
+    pub fn raise_limit(&mut self)
+        ensures { self.new ≡ with_limit (min (self.old.limit + 1) (2 ^ 64 - 1)) self.old }
+    {
+        self.limit = self.limit.saturating_add(1);
     }
 
     /// A connection is made.

@@ -1,4 +1,4 @@
--- When a spool is written anew without being asked to.
+-- When a spool is compacted without being asked to: written anew, as small as what it holds.
 use Rattle.std.specs.Prelude.{◌≡◌, ◌⊎◌, ℕ, ◌+◌, ◌*◌, ◌/◌, ◌^◌, ◌<◌, ◌≤◌, min, Bool, true}
 
 -- A spool of this size, which would take so many octets if it were written anew, passes the lesser of 16 MiB and half
