@@ -1,6 +1,7 @@
 -- Why an event is refused before a node is called: the first that holds, in this order: there is no such link; the end
 -- isn't theirs; the node is down; there is nothing to do.
-use Rattle.std.specs.Prelude.{ℕ, zero, suc, Bool, false, not, List, [], ◌∷◌, bytes_eq, Option, None, Some, if◌then◌else◌, slice_get}
+use Rattle.std.specs.Prelude.{ℕ, zero, suc, Bool, false, not, List, [], ◌∷◌, bytes_eq, Option, None, Some}
+use Rattle.std.specs.Prelude.{if◌then◌else◌, slice_get}
 use Rattle.std.specs.Option.{is_some}
 use Rattle.relay_attempts.specs.declared.work.Work.{Work}
 use Rattle.relay_attempts.specs.declared.work.Work.TheVariants.{NoRoute, Try}

@@ -1,5 +1,6 @@
 -- What a node does first, and what its calls for that make of relays.
-use Rattle.std.specs.Prelude.{◌≡◌, ◌⊎◌, ◌<◌, ◌≤◌, ℕ, ◌+◌, List, [], ◌∷◌, ◌++◌, length, Result, Ok, Err, Some, slice_get, slice_set, vec_capacity, vec_len}
+use Rattle.std.specs.Prelude.{◌≡◌, ◌⊎◌, ◌<◌, ◌≤◌, ℕ, ◌+◌, List, [], ◌∷◌, ◌++◌, length, Result, Ok, Err, Some, slice_get}
+use Rattle.std.specs.Prelude.{slice_set, vec_capacity, vec_len}
 use Rattle.std.specs.Global.{Vec}
 use Rattle.relay_disk.specs.Device.{DiskWords}
 use Rattle.relay_slots.specs.Slots.{IsFull}
@@ -16,7 +17,8 @@ use Rattle.relay_hosts.specs.declared.work.GivenUp.{GivenUp}
 use Rattle.relay_events.specs.Relays.{free_lines}
 use Rattle.relay_hosts.specs.Room.{lines_left, lines_to_come}
 use Rattle.relay_events.specs.Told.{running_of}
-use Rattle.relay_hosts.specs.Work.{BeginsAttempt, GivesUpOrNot, GivesUpUnlessFull, HasChanges, LacksRoom, attempts_in, works_in}
+use Rattle.relay_hosts.specs.Work.{BeginsAttempt, GivesUpOrNot, GivesUpUnlessFull, HasChanges, LacksRoom, attempts_in}
+use Rattle.relay_hosts.specs.Work.{works_in}
 
 -- this is the first work of a node, at the moment of the clock
 pub record IsFirstWork {D : Type 0} (world : World D) (node : ℕ) (work : Work) : Type 0 where

@@ -1,5 +1,6 @@
 -- What an event does to relays, and what is seen of it.
-use Rattle.std.specs.Prelude.{◌≡◌, ◌⊎◌, ◌<◌, ℕ, zero, suc, Bool, true, false, List, [], ◌∷◌, length, None, Some, Result, Ok, Err, slice_get}
+use Rattle.std.specs.Prelude.{◌≡◌, ◌⊎◌, ◌<◌, ℕ, zero, suc, Bool, true, false, List, [], ◌∷◌, length, None, Some, Result}
+use Rattle.std.specs.Prelude.{Ok, Err, slice_get}
 use Rattle.std.specs.Option.{is_some}
 use Rattle.std.specs.Global.{Vec}
 use Rattle.relay_disk.specs.Device.{DiskWords}
@@ -7,8 +8,10 @@ use Rattle.relay_disk.specs.Disks.{calls_left_of}
 use Rattle.relay_slots.specs.Slots.{IsFull}
 use Rattle.relay_world.specs.declared.attempt.Attempt.{Attempt}
 use Rattle.relay_world.specs.declared.link.Link.{Link}
-use Rattle.relay_world.specs.Crashes.{CrashesAtRest, CrashesCompacting, CrashesGivingUp, CrashesHearing, CrashesReading, serves_for}
-use Rattle.relay_world.specs.Steps.{Breaks, DropsAttempt, EndsSession, HasGivenUp, HasHeard, HasLost, HasOpened, HasRead, HasStarted, HasTicked, HasWritten}
+use Rattle.relay_world.specs.Crashes.{CrashesAtRest, CrashesCompacting, CrashesGivingUp, CrashesHearing, CrashesReading}
+use Rattle.relay_world.specs.Crashes.{serves_for}
+use Rattle.relay_world.specs.Steps.{Breaks, DropsAttempt, EndsSession, HasGivenUp, HasHeard, HasLost, HasOpened}
+use Rattle.relay_world.specs.Steps.{HasRead, HasStarted, HasTicked, HasWritten}
 use Rattle.relay_world.specs.Stops.{HasArmed, HasCompacted, StaysDown}
 use Rattle.relay_world.specs.World.{Host, World}
 use Rattle.relay_events.specs.declared.event.Event.{Event}

@@ -12,6 +12,7 @@ use crate::fault::PairFault;
 use crate::relays::Relays;
 use crate::seen::Seen;
 use relay_disk::{Disk, Reboot};
+use relay_hosts::links::break_off;
 use relay_world::passing::runs_keep_all;
 
 impl<D: Reboot + Drop> Relays<D> {
@@ -42,6 +43,6 @@ impl<D: Disk> Relays<D> {
         ensures world { Breaks (world_of self.old) (world_of self.new) number }
         ensures ledger { self.new.ledger ≡ self.old.ledger }
     {
-        self.links[number - 1].broken = true;
+        break_off(&mut self.links[number - 1]);
     }
 }

@@ -1,5 +1,6 @@
 //! What waits at the client end of a link is carried to the attempt there.
-ghost use Rattle.std.specs.Prelude.{◌≡◌, ◌+◌, ◌<◌, ◌≤◌, ℕ, None, Some, true, false, length, slice_get, vec_capacity, vec_len};
+ghost use Rattle.std.specs.Prelude.{◌≡◌, ◌+◌, ◌<◌, ◌≤◌, ℕ, None, Some, true, false, length, slice_get, vec_capacity};
+ghost use Rattle.std.specs.Prelude.{vec_len};
 ghost use Rattle.relay_world.specs.Steps.{waiting_down};
 ghost use Rattle.relay_world.specs.declared.attempt.Attempt.{Attempt as AttemptOf};
 ghost use Rattle.relay_events.specs.Act.{did_of};

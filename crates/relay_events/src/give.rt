@@ -5,7 +5,8 @@ ghost use Rattle.relay_attempts.specs.declared.work.Work.TheVariants.{NoRoute, T
 ghost use Rattle.relay_world.specs.World.{Host as HostOf};
 ghost use Rattle.relay_events.specs.BreakOff.{BreaksBehind, IsLink};
 ghost use Rattle.relay_events.specs.FirstFault.{unless_up};
-ghost use Rattle.relay_events.specs.Give.{HasBegunOrNot, HasBegunThere, HasRoomForWork, IsCalledToGiveUp, IsFirstWork, IsListOfStops};
+ghost use Rattle.relay_events.specs.Give.{HasBegunOrNot, HasBegunThere, HasRoomForWork, IsCalledToGiveUp, IsFirstWork};
+ghost use Rattle.relay_events.specs.Give.{IsListOfStops};
 ghost use Rattle.relay_hosts.specs.Named.{IsFirstNamed, NoneIsNamed};
 ghost use Rattle.relay_events.specs.Happened.{HasHappened};
 ghost use Rattle.relay_events.specs.Relays.{AreBound, AreInOrder, free_lines, world_of};

@@ -6,7 +6,8 @@ ghost use Rattle.relay_world.specs.World.{FromClient, FromNoHop};
 ghost use Rattle.relay_hosts.specs.Links.{is_running};
 ghost use Rattle.relay_hosts.specs.Host.{origin_in};
 ghost use Rattle.relay_events.specs.Relays.{AreBound, free_lines, world_of};
-ghost use Rattle.relay_events.specs.Restart.{CrashesAt, FindsBy, FindsChange, HasMoreDown, HasMoreUp, IsCutShortAt, IsDownAt, IsReadyToCrash, MayBeFound, OpensAt, Restarts};
+ghost use Rattle.relay_events.specs.Restart.{CrashesAt, FindsBy, FindsChange, HasMoreDown, HasMoreUp, IsCutShortAt};
+ghost use Rattle.relay_events.specs.Restart.{IsDownAt, IsReadyToCrash, MayBeFound, OpensAt, Restarts};
 ghost use Rattle.relay_hosts.specs.Room.{HasRoom};
 ghost use Rattle.relay_events.specs.Told.{IsOpened, ends_of, running_of};
 

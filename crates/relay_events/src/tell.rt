@@ -8,16 +8,18 @@ ghost use Rattle.relay_events.specs.ClientEnd.{EndsBy, HasAttemptAt, IsCalledToL
 ghost use Rattle.relay_events.specs.Happened.{HasHappened};
 ghost use Rattle.relay_events.specs.Relays.{AreBound, free_lines, world_of};
 ghost use Rattle.relay_hosts.specs.Room.{HasRoom};
-ghost use Rattle.relay_events.specs.Told.{AreToldTo, HearsAt, IsFirstUntold, IsToldOfBreaks, TellsSome, TriesAt, ends_of, running_of};
+ghost use Rattle.relay_events.specs.Told.{AreToldTo, HearsAt, IsFirstUntold, IsToldOfBreaks, TellsSome, TriesAt};
+ghost use Rattle.relay_events.specs.Told.{ends_of, running_of};
 
 use crate::client_end::ClientEnd;
 use crate::relays::Relays;
 use relay_disk::{Disk, Reboot};
+use relay_hosts::heard::close_server;
 use relay_hosts::links::{hears_on, is_untold};
 use relay_hosts::{Origin, Recorded, ToldLoss};
 use relay_node::NodeFault;
+use relay_world::Fate;
 use relay_world::passing::{crashing_happens, runs_keep_all};
-use relay_world::{Fate, ServerEnd};
 use std::alloc::AllocError;
 
 /// What became of an attempt whose node was told that its connection is lost.
@@ -118,13 +120,8 @@ impl<D: Reboot + Drop> Relays<D> {
             unreachable!()
         };
         let node = end.node;
-        let peer = end.peer;
         self.hosts[node].end(session);
-        self.links[number - 1].server = Some(ServerEnd {
-            node,
-            peer,
-            session: None,
-        });
+        close_server(&mut self.links[number - 1], true);
     }
 
     /// The node of the attempt at the client end of a link is told of its loss.

@@ -1,5 +1,6 @@
 -- One link and its ends: whether it is whole, what goes on at an end, what waits there, and who is to be told.
-use Rattle.std.specs.Prelude.{◌≡◌, ℕ, Bool, true, false, not, List, [], ◌∷◌, drop, Option, None, Some, if◌then◌else◌, slice_get}
+use Rattle.std.specs.Prelude.{◌≡◌, ℕ, Bool, true, false, not, List, [], ◌∷◌, drop, Option, None, Some, if◌then◌else◌}
+use Rattle.std.specs.Prelude.{slice_get}
 use Rattle.std.specs.Option.{is_none, is_some}
 use Rattle.relay_world.specs.declared.attempt.Attempt.{Attempt}
 use Rattle.relay_world.specs.declared.attempt.Fate.{Fate}

@@ -1,7 +1,8 @@
 //! The calls of a node that may make a change, each with the note of the change.
 ghost use Rattle.std.specs.Prelude.{◌≡◌, ◌<◌, ◌≤◌, ◌+◌, true, vec_capacity, vec_len};
 ghost use Rattle.std.specs.Option.{is_some};
-ghost use Rattle.relay_hosts.specs.Call.{HearsOrNot, IsToldLoss, KnowsAttempt, KnowsSession, ReadsOrNot, TakesNote, is_stop};
+ghost use Rattle.relay_hosts.specs.Call.{HearsOrNot, IsToldLoss, KnowsAttempt, KnowsSession, ReadsOrNot, TakesNote};
+ghost use Rattle.relay_hosts.specs.Call.{is_stop};
 ghost use Rattle.relay_hosts.specs.Host.{OwesWithin, host_of, notes_of};
 
 use crate::recorded::Recorded;

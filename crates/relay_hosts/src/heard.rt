@@ -1,10 +1,11 @@
 //! What a node that has heard octets makes of their link and of the ledger.
-ghost use Rattle.std.specs.Prelude.{◌≡◌, ◌+◌, ◌++◌, ◌<◌, ◌≤◌, false, OnErr, OnOk, drop, length, take, vec_capacity, vec_len};
+ghost use Rattle.std.specs.Prelude.{◌≡◌, ◌+◌, ◌++◌, ◌<◌, ◌≤◌, false, OnErr, OnOk, drop, length, take, vec_capacity};
+ghost use Rattle.std.specs.Prelude.{vec_len};
 ghost use Rattle.std.specs.Option.{option_map};
 ghost use Rattle.relay_world.specs.HangUp.{broken_link};
 ghost use Rattle.relay_hosts.specs.Heard.{accept_lines, cut_off, end_after, heard_on};
 
-use crate::links::read_up;
+use crate::links::{break_off, read_up};
 use crate::recorded::Recorded;
 use relay_node::Received;
 use relay_world::{Line, Link, ServerEnd};
@@ -50,11 +51,11 @@ pub fn cut_off(link: &mut Link)
     ensures { link.new ≡ cut_off link.old }
 {
     close_server(link, true);
-    link.broken = true;
+    break_off(link);
 }
 
-/// The server end of a link closes, or not.
-fn close_server(link: &mut Link, close: bool)
+/// The server end of a link closes, or not: its session is over then.
+pub fn close_server(link: &mut Link, close: bool)
     ensures { link.new ≡ record link.old { server = option_map (end_after close) link.old.server } }
 {
     if let Some(end) = &mut link.server {

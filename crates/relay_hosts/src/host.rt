@@ -1,11 +1,13 @@
 //! A node that runs beside others, and is up or down.
-ghost use Rattle.std.specs.Prelude.{◌≡◌, ◌↔◌, ◌≤◌, ℕ, List, [], ◌∷◌, false, true, None, IfErr, IfOk, vec_capacity, vec_len};
+ghost use Rattle.std.specs.Prelude.{◌≡◌, ◌↔◌, ◌≤◌, ℕ, List, [], ◌∷◌, false, true, None, IfErr, IfOk, vec_capacity};
+ghost use Rattle.std.specs.Prelude.{vec_len};
 ghost use Rattle.std.specs.List.{Contains};
 ghost use Rattle.relay_book.specs.declared.change.Change.{Change};
 ghost use Rattle.relay_book.specs.Marks.{Held};
 ghost use Rattle.relay_disk.specs.Disks.{ImagesWithin};
 ghost use Rattle.relay_hosts.specs.Call.{HasAttempt, HasSession, HearsOrNot, IsToldLoss, LosesSession, ReadsOrNot};
-ghost use Rattle.relay_hosts.specs.Crash.{CrashesInCall, StateCrashes, StateStops, IsCutShort, OpensOrNot, StaysSo, StopsAtRest, WasCutShort, is_up_now};
+ghost use Rattle.relay_hosts.specs.Crash.{CrashesInCall, StateCrashes, StateStops, IsCutShort, OpensOrNot, StaysSo};
+ghost use Rattle.relay_hosts.specs.Crash.{StopsAtRest, WasCutShort, is_up_now};
 ghost use Rattle.relay_hosts.specs.Compact.{KnowsNow, RewritesOrNot};
 ghost use Rattle.relay_hosts.specs.Host.{OwesWithin, count_some, holds_up, host_in, notes_to_come};
 ghost use Rattle.relay_hosts.specs.StopNow.{DownStops, StateStopsAgain, IsArmed};

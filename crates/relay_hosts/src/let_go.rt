@@ -1,8 +1,9 @@
 //! A node that stops lets go of its ends: its sessions are gone, its attempts dropped, and the links broken.
 ghost use Rattle.std.specs.Prelude.{◌≡◌, map, slice_get};
 ghost use Rattle.relay_world.specs.Crashes.{has_end_of, is_tried_for, let_go_link, serves_for, tries_for};
-ghost use Rattle.relay_world.specs.HangUp.{broken_link, dropped, hung_up_attempt, hung_up_end, hung_up_link};
+ghost use Rattle.relay_world.specs.HangUp.{dropped, hung_up_attempt, hung_up_end, hung_up_link};
 
+use crate::links::break_off;
 use relay_world::{Attempt, Fate, Link, ServerEnd};
 
 /// Breaks each link of which a node has an end, and ends its session there.
@@ -22,13 +23,6 @@ fn let_go_one(link: &mut Link, attempts: &[Attempt], node: usize)
         hang_up_link(link, node);
         break_off(link);
     }
-}
-
-/// Breaks a link.
-fn break_off(link: &mut Link)
-    ensures { link.new ≡ broken_link link.old }
-{
-    link.broken = true;
 }
 
 /// Whether a node has an end of a link.

@@ -1,7 +1,9 @@
-//! One link, and what its ends say.
+//! One link, what its ends say, and how it changes.
 ghost use Rattle.std.specs.Prelude.{◌≡◌, ◌+◌, ◌<◌, ◌≤◌, suc, None, Some, drop, length, MatchOption};
+ghost use Rattle.relay_world.specs.HangUp.{broken_link};
 ghost use Rattle.relay_world.specs.World.{link_at};
-ghost use Rattle.relay_hosts.specs.Links.{client_closed, client_idles, has_outside, hears_on, is_nil, is_running, is_untold, runs_there, server_closed, server_idles, tries_on, whole_link};
+ghost use Rattle.relay_hosts.specs.Links.{client_closed, client_idles, has_outside, hears_on, is_nil, is_running};
+ghost use Rattle.relay_hosts.specs.Links.{is_untold, runs_there, server_closed, server_idles, tries_on, whole_link};
 ghost use Rattle.relay_world.specs.Crashes.{serves_for, tries_for};
 
 use relay_world::{Attempt, Fate, Link, ServerEnd};
@@ -164,4 +166,11 @@ pub fn read_down(link: &mut Link, used: usize)
     // no more is read than was written, so the sum fits
     let _written = link.down.len();
     link.down_read += used;
+}
+
+/// Breaks a link. What was written on it, and what was read of that, stays.
+pub fn break_off(link: &mut Link)
+    ensures { link.new ≡ broken_link link.old }
+{
+    link.broken = true;
 }

@@ -2,7 +2,8 @@
 ghost use Rattle.std.specs.Prelude.{◌≡◌, ◌↔◌, IfErr, IfOk, IsTrue, slice_get, vec_capacity, vec_len};
 ghost use Rattle.relay_slots.specs.Slots.{IsFull};
 ghost use Rattle.relay_hosts.specs.Host.{OwesWithin, host_of, notes_of};
-ghost use Rattle.relay_hosts.specs.Work.{BeginsOrNot, BeginsUnlessFull, GivesUpOrNot, GivesUpUnlessFull, HasChanges, KnowsChanges, OpensOrRefuses, attempts_in, works_in};
+ghost use Rattle.relay_hosts.specs.Work.{BeginsOrNot, BeginsUnlessFull, GivesUpOrNot, GivesUpUnlessFull, HasChanges};
+ghost use Rattle.relay_hosts.specs.Work.{KnowsChanges, OpensOrRefuses, attempts_in, works_in};
 
 use crate::calls::{is_stop, take_note};
 use crate::host::{Host, HostState};

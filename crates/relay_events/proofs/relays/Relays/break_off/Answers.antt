@@ -1,6 +1,7 @@
-use Rattle.std.proofs.Common.{◌≡◌, ◌-◌, true, length, ap, arith, rules}
+use Rattle.std.proofs.Common.{◌≡◌, ◌-◌, length, ap, ◌∙◌, arith, rules}
 use Rattle.std.specs.Prelude.{slice_index_or, vec_len}
 use Rattle.relay_world.specs.declared.link.Link.{Link}
+use Rattle.relay_world.specs.HangUp.{broken_link}
 use Rattle.relay_events.specs.Relays.{world_of}
 use Rattle.relay_events.proofs.BreakLemmas.{breaks_there}
 use Rattle.relay_events.proofs.PlaceLemmas.{link_same, link_there, number_positive}
@@ -24,5 +25,5 @@ returns-clause-world g c =
     let read = c.index_mut.result.now in
     let at : read ≡ slice_index_or old.links (c.args.number - 1) read = search rules in
     let same = link_same old.links c.args.number c.requires.link read c.requires.link_is at in
-    breaks_there old c.args.number c.requires.link (record read { broken = true }) c.requires.link_is
-    (ap (λ (l : Link). let off : Link = record l { broken = true } in off) same)
+    breaks_there old c.args.number c.requires.link c.break_off.new.link c.requires.link_is
+    (c.break_off.ensures ∙ ap (λ (l : Link). broken_link l) same)

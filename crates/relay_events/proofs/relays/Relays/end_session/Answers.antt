@@ -1,13 +1,23 @@
-use Rattle.std.proofs.Common.{◌≡◌, ◌-◌, length, subst, sym, ap, ◌∙◌, arith, rules}
+use Rattle.std.proofs.Common.{◌≡◌, ◌-◌, true, Option, length, subst, sym, ap, ◌∙◌, arith, rules}
 use Rattle.std.specs.Prelude.{None, Some, slice_get, slice_index_or, vec_len}
+use Rattle.std.specs.Option.{option_map}
 use Rattle.relay_world.specs.declared.link.Link.{Link}
+use Rattle.relay_world.specs.declared.link.ServerEnd.{ServerEnd}
 use Rattle.relay_hosts.specs.Call.{HasSession}
+use Rattle.relay_hosts.specs.Heard.{end_after}
 use Rattle.relay_events.specs.Relays.{free_lines, world_of}
 use Rattle.relay_hosts.specs.Links.{hears_on}
 use Rattle.relay_events.proofs.EndLemmas.{ended_fewer, ended_room, has_ended, no_server, no_session, serves_there}
 use Rattle.relay_events.proofs.PlaceLemmas.{link_same, value_same}
 use Rattle.relay_events.proofs.TellLemmas.{get_within}
 use Rattle.relay_events.proofs.relays.Relays.end_session.Goals as goal
+
+-- a link whose server end has closed, and one with the server end that was closed
+abbrev closed : Link → Link
+closed link = record link { server = option_map (end_after true) link.server }
+
+abbrev closed_at : Link → Option ServerEnd → Link
+closed_at link server = record link { server = option_map (end_after true) server }
 
 pub unreachable-requires : goal.unreachable-requires
 unreachable-requires g c =
@@ -64,9 +74,9 @@ returns g c =
     let read = c.index_mut-2.result.now in
     let read_at : read ≡ slice_index_or links (c.args.number - 1) read = search rules in
     let read_same = link_same links c.args.number there.link read there.link_is read_at in
-    let moved : Link = record read { server = Some (record end { session = None }) } in
+    let moved = c.close_server.new.link in
     let moved_is : moved ≡ record there.link { server = Some (record end { session = None }) } =
-    ap (λ (l : Link). record l { server = Some (record end { session = None }) }) read_same in
+    c.close_server.ensures ∙ ap (λ (l : Link). closed l) read_same ∙ ap (λ s. closed_at there.link s) serves in
     record {
       told = has_ended old c.args.number there.link there.link_is end serves session c.in-Some-session.is
           c.index_mut.result.now c.end.new.self was_at c.end.ensures moved moved_is;
