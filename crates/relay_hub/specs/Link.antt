@@ -1,5 +1,6 @@
 -- What a link of a thread has done: a dialogue, and a receipt for each offer that was queued.
-use Rattle.std.specs.Prelude.{◌≡◌, ◌≢◌, ◌⊎◌, ℕ, suc, Option, List, [], ◌∷◌, ◌++◌, length, Bool, true, false, Result, MatchResult}
+use Rattle.std.specs.Prelude.{◌≡◌, ◌≢◌, ◌⊎◌, ℕ, suc, Option, List, [], ◌∷◌, ◌++◌, length, Bool, true, false, Result}
+use Rattle.std.specs.Prelude.{MatchResult}
 use Rattle.std.specs.Io.KnownBytes.{Appends, Consumes, IsAtEnd}
 use Rattle.relay_routes.specs.declared.config.Config.{Config}
 use Rattle.relay_server.specs.declared.offer.Answer.{Answer}

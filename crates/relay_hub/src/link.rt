@@ -1,10 +1,12 @@
 //! A link of a thread: its session is the thread's own, and the node is locked for each offer alone.
-ghost use Rattle.std.specs.Prelude.{◌≡◌, ◌≤◌, ◌<◌, [], ℕ, List, Option, drop, length, true, false, IfErr, IfOk, OnOk, MatchResult};
+ghost use Rattle.std.specs.Prelude.{◌≡◌, ◌≤◌, ◌<◌, [], ℕ, List, Option, drop, length, true, false, IfErr, IfOk, OnOk};
+ghost use Rattle.std.specs.Prelude.{MatchResult};
 ghost use Rattle.relay_server.specs.Session.{HasOffer, IsClosed, offered, open_offers};
 ghost use Rattle.relay_node.specs.Acceptance.{IsStorable};
 ghost use Rattle.relay_node.specs.Node.{HasHistory};
 ghost use Rattle.relay_hub.specs.Admission.{Notes};
-ghost use Rattle.relay_hub.specs.Link.{HasBegun, HasEnded, HasGone, HasSaid, IsRefusal, IsStanding, LinkStart, link_start};
+ghost use Rattle.relay_hub.specs.Link.{HasBegun, HasEnded, HasGone, HasSaid, IsRefusal, IsStanding, LinkStart};
+ghost use Rattle.relay_hub.specs.Link.{link_start};
 
 use crate::hub::Hub;
 use crate::opening::Opening;

@@ -1,5 +1,6 @@
 -- What a link over a reader and a writer has done: a dialogue, and a change of the node for each offer that was queued.
-use Rattle.std.specs.Prelude.{◌≡◌, ◌⊎◌, ◌<◌, ◌^◌, ℕ, Option, Some, List, [], ◌∷◌, ◌++◌, length, Bool, true, false, Result, MatchResult}
+use Rattle.std.specs.Prelude.{◌≡◌, ◌⊎◌, ◌<◌, ◌^◌, ℕ, Option, Some, List, [], ◌∷◌, ◌++◌, length, Bool, true, false}
+use Rattle.std.specs.Prelude.{Result, MatchResult}
 use Rattle.std.specs.Io.KnownBytes.{Appends, Consumes, IsAtEnd}
 use Rattle.relay_disk.specs.Device.{DiskWords}
 use Rattle.relay_routes.specs.declared.config.Config.{Config}

@@ -1,5 +1,6 @@
 -- What a call on several pieces and replies leaves of a next hop that mail was handed to.
-use Rattle.std.specs.Prelude.{◌≡◌, ◌⊎◌, ℕ, ◌+◌, ◌==◌, false, List, [], ◌∷◌, ◌++◌, length, take, None, Some, Result, Ok, Err, if◌then◌else◌}
+use Rattle.std.specs.Prelude.{◌≡◌, ◌⊎◌, ℕ, ◌+◌, ◌==◌, false, List, [], ◌∷◌, ◌++◌, length, take, None, Some, Result, Ok}
+use Rattle.std.specs.Prelude.{Err, if◌then◌else◌}
 use Rattle.std.specs.Result.{IsErr}
 use Rattle.relay_disk.specs.Device.{DiskWords}
 use Rattle.relay_slots.specs.Slots.{slot_at}

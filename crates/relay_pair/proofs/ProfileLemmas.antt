@@ -97,3 +97,6 @@ one_profile_more count configs config each is node other at =
           subst (λ (c : Config). IsProfile (host_of node) (address_of node) (routes_among count node) c) same
           (subst (λ n. IsProfile (host_of n) (address_of n) (routes_among count n) config) (sym last) is)
     ]
+
+-- three routes to one host, whose name is spelled in lower case
+pub ruleset three_routes = (is_host_name, host_in_lower_case, three_more)

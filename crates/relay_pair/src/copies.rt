@@ -1,7 +1,8 @@
 //! How many copies of a message reach a recipient by the attempts of a node.
 ghost use Rattle.std.specs.Prelude.{◌≡◌, ◌==◌, ◌&&◌, ◌≤◌, [], ◌∷◌, length, slice_get, Some, IfOk};
 ghost use Rattle.relay_course.specs.VerdictTable.{is_accepted};
-ghost use Rattle.relay_pair.specs.Copied.{AreReplies, CountsBy, CountsCopies, accepts_place, behind_mail, is_greeted_again, is_no_memory};
+ghost use Rattle.relay_pair.specs.Copied.{AreReplies, CountsBy, CountsCopies, accepts_place, behind_mail};
+ghost use Rattle.relay_pair.specs.Copied.{is_greeted_again, is_no_memory};
 ghost use Rattle.relay_events.specs.Relays.{AreBound, world_of};
 ghost use Rattle.relay_world.specs.Ledger.{accepts_on};
 

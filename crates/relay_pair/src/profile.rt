@@ -1,7 +1,9 @@
 //! The configurations of the relays of a play: of the two that a pair begins with, and of any number of them.
 ghost use Rattle.std.specs.Prelude.{◌≡◌, ◌<◌, ◌≤◌, [], ◌∷◌, ◌++◌, codes, IfOk, OnOk};
 ghost use Rattle.relay_envelope.specs.HostName.{IsHostName};
-ghost use Rattle.relay_pair.specs.Profiles.{AreProfiles, IsProfile, address_of, first_routes, host_of, mail_at, node_behind, route_to, route_to_node, routes_among, routes_of_the_rest, routes_to_others, second_routes};
+ghost use Rattle.relay_pair.specs.Profiles.{AreProfiles, IsProfile, address_of, first_routes, host_of, mail_at};
+ghost use Rattle.relay_pair.specs.Profiles.{node_behind, route_to, route_to_node, routes_among, routes_of_the_rest};
+ghost use Rattle.relay_pair.specs.Profiles.{routes_to_others, second_routes};
 ghost use Rattle.relay_routes.specs.Routes.{in_lower_case, with_route};
 
 use relay_routes::{BareNewlines, Config, Hop, HostName, SpoolPath, Table};
@@ -109,7 +111,7 @@ fn add_node(alloc: Global, routes: &mut Table, node: usize) -> Result<(), AllocE
 }
 
 /// Adds the routes of a node of so many that don't go to the others by their hosts.
-#[tactic(auto, using(crate::proofs::ProfileLemmas::is_host_name, crate::proofs::ProfileLemmas::host_in_lower_case, crate::proofs::ProfileLemmas::three_more))]
+#[tactic(auto, using(crate::proofs::ProfileLemmas::three_routes))]
 fn add_rest(alloc: Global, routes: &mut Table, count: usize, node: usize) -> Result<(), AllocError>
     requires node { node < count }
     requires count { count ≤ 16 }

@@ -1,5 +1,6 @@
 -- What the links of a round have come to.
-use Rattle.std.specs.Prelude.{◌≡◌, ◌+◌, ◌≤◌, ℕ, Bool, true, false, List, [], ◌∷◌, length, Option, None, Some, Result, vec_len, vec_capacity}
+use Rattle.std.specs.Prelude.{◌≡◌, ◌+◌, ◌≤◌, ℕ, Bool, true, false, List, [], ◌∷◌, length, Option, None, Some, Result}
+use Rattle.std.specs.Prelude.{vec_len, vec_capacity}
 use Rattle.relay_routes.specs.declared.config.Config.{Config}
 use Rattle.relay_disk.specs.Device.{DiskWords}
 use Rattle.relay_server.specs.declared.offer.Answer.{Answer}
