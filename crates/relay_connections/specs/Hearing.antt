@@ -1,6 +1,7 @@
--- What the sessions of clients hear at a turn: each all octets that were read of its own connection, and none of them
--- twice.
-use Rattle.std.specs.Prelude.{◌≡◌, ℕ, zero, suc, ◌+◌, ◌%◌, Bool, false, List, [], ◌∷◌, Option, None, Some, All, Box, length, map}
+-- What the sessions of clients hear at a turn: each the first lines that were read of its own connection, and none of
+-- them twice.
+use Rattle.std.specs.Prelude.{◌≡◌, ℕ, zero, suc, ◌+◌, ◌%◌, Bool, false, List, [], ◌∷◌, Option, None, Some, All, Box}
+use Rattle.std.specs.Prelude.{length, map}
 use Rattle.std.specs.Global.{Global}
 use Rattle.std.specs.List.{filter}
 use Rattle.relay_disk.specs.File.{file_words}
@@ -14,6 +15,7 @@ use Rattle.relay_loop.specs.declared.replying.ReplyPiece.{ReplyPiece}
 use Rattle.relay_loop.specs.Groups.{ReadsAll}
 use Rattle.relay_loop.specs.Relay.{RelayState}
 use Rattle.relay_connections.specs.Channel.{unread_of}
+use Rattle.relay_connections.specs.Share.{share_of}
 use Rattle.relay_connections.specs.declared.client.Client.{Client}
 use Rattle.relay_connections.specs.declared.hearing.Hearing.{Hearing}
 
@@ -35,11 +37,11 @@ turned slots number (suc count) = number % slots ∷ turned slots (number + 1) c
 abbrev pub hearing_from : List (Option (Box Client Global)) → ℕ → List ℕ
 hearing_from clients first = filter (hears_at clients) (turned (length clients) first (length clients))
 
--- a piece is all that was read of its own session's client, and isn't used yet
+-- a piece is the first lines of what was read of its own session's client and isn't used yet
 pub record IsOwn (clients : List (Option (Box Client Global))) (piece : Piece) : Type 0 where
   pub client : Box Client Global
   pub there : slot_at clients piece.session ≡ Some client
-  pub octets : piece.octets.now ≡ unread_of client.value.channel
+  pub octets : piece.octets.now ≡ share_of (unread_of client.value.channel)
 
 abbrev pub session_of : Piece → ℕ
 session_of piece = piece.session

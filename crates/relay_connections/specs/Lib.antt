@@ -3,4 +3,5 @@ pub mod Channel
 pub mod Sessions
 pub mod Readiness
 pub mod Room
+pub mod Share
 pub mod Hearing

@@ -1,5 +1,5 @@
--- Connections of clients that were left in mid-read: nobody tells of their octets any more, so nothing may be waited for
--- before these are used.
+-- Connections of clients that were left in mid-read: nobody tells of their octets any more, so nothing may be waited
+-- for before these are used.
 use Rattle.std.specs.Prelude.{◌≡◌, ◌≢◌, ℕ, List, [], Option, Some, Box}
 use Rattle.std.specs.Global.{Global}
 use Rattle.relay_slots.specs.Slots.{slot_at}

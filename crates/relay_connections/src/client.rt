@@ -16,6 +16,9 @@ use std::net::SocketAddrV4;
 /// How many seconds a session may last without mail that is accepted.
 const SESSION_SECONDS: u64 = 30 * 60;
 
+/// How many seconds a client may be idle while few places are left for others, if no mail of it was accepted.
+const CROWDED_SECONDS: u64 = 10;
+
 /// How many octets of a text or a chunk are waited for as long as for a command line.
 const PART_SIZE: usize = 65_536;
 
@@ -39,6 +42,11 @@ pub(crate) struct Client {
     /// to none and have a line end, since they are of a text or a chunk, and by each write of which it takes something:
     /// so a command line has to stand whole within the timeout of its first octet.
     idle_deadline: u64,
+    /// The tick at which it is cut off while few places are left, unless mail of it was accepted or it has begun to say
+    /// something. It is set anew with the deadline before.
+    crowded_deadline: u64,
+    /// Mail of it was accepted.
+    has_accepted: bool,
     /// The tick at which it is cut off, unless mail of it is accepted before.
     session_deadline: u64,
 }
@@ -53,6 +61,8 @@ impl Drop for Client {
             unanswered: _,
             has_line_end: _,
             idle_deadline: _,
+            crowded_deadline: _,
+            has_accepted: _,
             session_deadline: _,
         } = self;
     }
@@ -88,6 +98,8 @@ impl Client {
             unanswered: 0,
             has_line_end: false,
             idle_deadline: now.behind(timeout),
+            crowded_deadline: now.behind(CROWDED_SECONDS),
+            has_accepted: false,
             session_deadline: now.behind(SESSION_SECONDS),
         }
     }
@@ -101,14 +113,29 @@ impl Client {
             unanswered: _,
             has_line_end: _,
             idle_deadline: _,
+            crowded_deadline: _,
+            has_accepted: _,
             session_deadline: _,
         } = self;
         channel
     }
 
-    /// The tick at which it is cut off as things stand.
-    pub(crate) fn deadline(&self) -> u64 {
-        self.idle_deadline.min(self.session_deadline)
+    /// The tick at which it is cut off as things stand, while few places are left for others or not.
+    pub(crate) fn deadline(&self, is_crowded: bool) -> u64 {
+        let deadline = self.idle_deadline.min(self.session_deadline);
+        if is_crowded && !self.has_accepted && self.unanswered == 0 {
+            deadline.min(self.crowded_deadline)
+        } else {
+            deadline
+        }
+    }
+
+    /// It may be idle for as long as at its beginning from now on.
+    fn wait_anew(&mut self, timeout: u64, now: &Now)
+        ensures { self.new.channel ≡ self.old.channel }
+    {
+        self.idle_deadline = now.behind(timeout);
+        self.crowded_deadline = now.behind(CROWDED_SECONDS);
     }
 
     /// Writes what waits for it as far as that goes at once.
@@ -125,7 +152,7 @@ impl Client {
                 return;
             }
             relay.wrote_to_client(session, count);
-            self.idle_deadline = now.behind(timeout);
+            self.wait_anew(timeout, now);
         }
     }
 
@@ -152,7 +179,7 @@ impl Client {
         } else {
             let count = relay.to_client(session).len();
             relay.wrote_to_client(session, count);
-            self.idle_deadline = now.behind(timeout);
+            self.wait_anew(timeout, now);
         }
     }
 
@@ -204,11 +231,11 @@ impl Client {
         self.unanswered = self.unanswered.saturating_add(piece.len());
         self.has_line_end = has_line_end || (self.has_line_end && !is_first);
         if is_first {
-            self.idle_deadline = now.behind(timeout);
+            self.wait_anew(timeout, now);
         } else if self.unanswered >= PART_SIZE && self.has_line_end {
             self.unanswered = 1;
             self.has_line_end = false;
-            self.idle_deadline = now.behind(timeout);
+            self.wait_anew(timeout, now);
         }
     }
 
@@ -243,6 +270,7 @@ impl Client {
         }
         if let Some(number) = change {
             self.session_deadline = now.behind(SESSION_SECONDS);
+            self.has_accepted = true;
             tell_accepted(relay, self.peer, number, log);
         }
         let replies = match &last {

@@ -41,9 +41,14 @@ pub struct Clients {
     most: usize,
     /// How many seconds one may be idle.
     timeout: u64,
+    /// Few places are left: one that only holds its own has less time.
+    is_crowded: bool,
     /// Which is served first at the next turn.
     first: usize,
 }
+
+/// While more clients than these stand, one that is idle and has brought no mail is cut off early.
+const CROWD: usize = 48;
 
 // Written out, so that what drops them calls this, and doesn't look into each.
 impl Drop for Clients {
@@ -53,6 +58,7 @@ impl Drop for Clients {
             clients: _clients,
             most: _,
             timeout: _,
+            is_crowded: _,
             first: _,
         } = self;
     }
@@ -68,6 +74,7 @@ impl Clients {
             clients: Table::new(alloc)?,
             most: usize::from(limits.sessions_per_client),
             timeout: u64::from(limits.client_timeout),
+            is_crowded: false,
             first: 0,
         })
     }
@@ -167,6 +174,7 @@ impl Clients {
             was_full: false,
             closed: false,
         };
+        self.is_crowded = CROWD < self.clients.count();
         let mut hears = false;
         let count = self.clients.standing().len();
         for step in 0..count {
@@ -330,7 +338,7 @@ impl Clients {
         ensures fault { IfErr result (λ fault. fault ≡ NodeFault.Stopped) }
     {
         let next = match next {
-            Next::Stays if client.deadline() <= now.tick => {
+            Next::Stays if client.deadline(self.is_crowded) <= now.tick => {
                 log.cut_off(client.peer);
                 if client.channel.is_holding() {
                     // It takes nothing.
@@ -373,7 +381,7 @@ impl Clients {
         let mut next = otherwise;
         for slot in self.clients.standing() {
             if let Some(client) = slot {
-                next = next.min(client.deadline());
+                next = next.min(client.deadline(self.is_crowded));
             }
         }
         next

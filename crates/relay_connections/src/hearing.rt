@@ -1,11 +1,12 @@
-//! What the sessions of clients hear at a turn, all in one call with the replies of next hops: the octets that were
-//! read of their own connections.
+//! What the sessions of clients hear at a turn, all in one call with the replies of next hops: the first lines that
+//! were read of their own connections.
 ghost use Rattle.std.specs.Prelude.{◌≡◌, ◌<◌, All, IfErr, IfOk, IfSome, MatchOption, None, Some, map};
 ghost use Rattle.relay_slots.specs.Slots.{slot_at};
 ghost use Rattle.relay_connections.specs.Hearing.{HearOwn, IsOwn, hearing_from, session_of};
 
 use crate::client::Client;
 use crate::clocks::Now;
+use crate::share::share;
 use relay_disk::FileDisk;
 use relay_loop::{Answered, Group, Heard, Piece, Relay, ReplyPiece};
 use relay_node::{NodeFault, Noted};
@@ -71,7 +72,7 @@ pub(crate) fn hear_all(
     }
 }
 
-/// What was read of each client whose session has something to hear, the first of them first.
+/// The first lines of each client whose session has something to hear, the first of them first.
 fn pieces_of(
     alloc: Global,
     clients: &[Option<Box<Client>>],
@@ -88,7 +89,7 @@ fn pieces_of(
             if client.hears {
                 pieces.push(Piece {
                     session: number,
-                    octets: client.channel.piece(),
+                    octets: share(client.channel.piece()),
                 })?;
             }
         }

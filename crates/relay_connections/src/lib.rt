@@ -10,6 +10,7 @@ mod clocks;
 mod hearing;
 mod held;
 mod leaving;
+mod share;
 mod table;
 
 pub use channel::{Channel, End, Readiness};

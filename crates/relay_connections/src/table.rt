@@ -1,5 +1,6 @@
 //! Connections by number, of which those that stand are found without a walk over all that may.
-ghost use Rattle.std.specs.Prelude.{◌≡◌, ◌≤◌, ◌<◌, ◌+◌, ◌-◌, ◌%◌, ◌^◌, ℕ, None, Some, IfOk, MatchOption, is_some, length};
+ghost use Rattle.std.specs.Prelude.{◌≡◌, ◌≤◌, ◌<◌, ◌+◌, ◌-◌, ◌%◌, ◌^◌, ℕ, None, Some, IfOk, MatchOption, is_some};
+ghost use Rattle.std.specs.Prelude.{length};
 ghost use Rattle.std.specs.Prelude.{min, slice_set};
 ghost use Rattle.relay_slots.specs.Slots.{AreFree, HasPlaces, IsFull, IsLeastFree, slot_at};
 ghost use Rattle.relay_slots.specs.declared.slots.TheConstants.{SLOT_COUNT};
