@@ -1,6 +1,6 @@
 //! The line of the log for a client's connection.
-ghost use Rattle.std.specs.Prelude.{◌≡◌, ◌≢◌, ◌⊎◌, ◌<◌, ℕ, None, IfSome};
-ghost use Rattle.relay_records.specs.HeldPlace.{waiting_at};
+ghost use Rattle.std.specs.Prelude.{◌≡◌, length, option_map};
+ghost use Rattle.relay_book.specs.Queue.{message_of};
 
 use relay_disk::Disk;
 use relay_node::Node;
@@ -8,9 +8,6 @@ use std::alloc::Global;
 use std::fmt::Display;
 use std::io::{self, Write};
 use std::net::SocketAddrV4;
-
-/// The most recipients of a message.
-const RECIPIENT_LIMIT: u8 = 100;
 
 /// The messages that the node has taken on a connection.
 #[derive(Clone, Copy, Debug)]
@@ -101,7 +98,7 @@ fn write_message<D: Disk>(text: &mut Vec<u8>, node: &Node<D>, number: u64) -> io
 }
 
 /// Writes how many recipients a message has, where that is known.
-fn write_recipients(text: &mut Vec<u8>, recipients: Option<u8>) -> io::Result<()> {
+fn write_recipients(text: &mut Vec<u8>, recipients: Option<usize>) -> io::Result<()> {
     match recipients {
         Some(1) => write!(text, " for 1 recipient"),
         Some(count) => write!(text, " for {count} recipients"),
@@ -109,20 +106,11 @@ fn write_recipients(text: &mut Vec<u8>, recipients: Option<u8>) -> io::Result<()
     }
 }
 
-/// How many places of a message are held from the first on: all of them, where no attempt was made yet. A
-/// node that has stopped doesn't tell.
-fn recipients<D: Disk>(node: &Node<D>, number: u64) -> Option<u8>
-    ensures held { IfSome result (λ count. (place : ℕ) → place < count
-        → waiting_at node.now.records.queue number place ≢ None) }
-    ensures all { IfSome result (λ count. (count ≡ RECIPIENT_LIMIT)
-        ⊎ (waiting_at node.now.records.queue number count ≡ None)) }
+/// How many recipients a message has, as long as it is queued.
+fn recipients<D: Disk>(node: &Node<D>, number: u64) -> Option<usize>
+    ensures { result ≡ option_map (λ message. length message.accept.envelope.recipients)
+        (message_of node.now.records.queue.messages number) }
 {
-    for place in 0..RECIPIENT_LIMIT {
-        match node.place(number, place) {
-            Ok(Some(_)) => {}
-            Ok(None) => return Some(place),
-            Err(_) => return None,
-        }
-    }
-    Some(RECIPIENT_LIMIT)
+    let message = node.message(number)?;
+    Some(message.accept.envelope.recipients.len())
 }

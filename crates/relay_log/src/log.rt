@@ -2,8 +2,8 @@
 use crate::attempt_line::{Attempt, attempt_text};
 use crate::client_line::{Connection, client_text, unserved_text};
 use crate::run_line::{
-    accepted_text, cut_off_text, device_failed_text, held_off_text, opened_again_text,
-    refused_text, spool_full_text,
+    accepted_text, awaits_address_text, cut_off_text, device_failed_text, held_off_text,
+    opened_again_text, refused_text, spool_full_text,
 };
 use crate::stamp::write_stamp;
 use relay_book::Message;
@@ -117,6 +117,13 @@ impl<'a, E: Write> Log<'a, E> {
     pub fn spool_full(&mut self) {
         if self.speaks {
             self.say(spool_full_text(self.alloc));
+        }
+    }
+
+    /// Says that the configured address isn't there yet, and for how many seconds it is waited for.
+    pub fn awaits_address(&mut self, at: SocketAddrV4, seconds: u64) {
+        if self.speaks {
+            self.say(awaits_address_text(self.alloc, at, seconds));
         }
     }
 

@@ -78,6 +78,20 @@ pub(crate) fn held_off_text(alloc: Global, at: SocketAddrV4, seconds: u64) -> io
     Ok(text)
 }
 
+/// Says that the configured address isn't there yet.
+pub(crate) fn awaits_address_text(
+    alloc: Global,
+    at: SocketAddrV4,
+    seconds: u64,
+) -> io::Result<Vec<u8>> {
+    let mut text = Vec::new(alloc);
+    write!(
+        text,
+        "relayd: listen {at}: this machine has no such address yet: tried again for {seconds} s"
+    )?;
+    Ok(text)
+}
+
 /// Says that mail is refused for now.
 pub(crate) fn spool_full_text(alloc: Global) -> io::Result<Vec<u8>> {
     let mut text = Vec::new(alloc);

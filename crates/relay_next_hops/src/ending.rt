@@ -22,12 +22,26 @@ pub(crate) fn conclude(
     log: &mut Log<'_, Vec<u8>>,
 ) -> Result<(), Fault> {
     let (channel, errand) = ended;
-    lanes.ended(errand.aim.lane);
+    let lane = errand.aim.lane;
+    let is_shared = lanes.is_shared(lane);
+    lanes.ended(lane);
     match course {
         Course::Stays => Ok(()),
         Course::Ended(outbox, noted) => {
+            if errand.is_welcome {
+                lanes.ended_well(lane);
+            }
             tell(errand, "ended", None, noted, now, log);
             leaving.take(registry, channel, outbox, now);
+            Ok(())
+        }
+        Course::TurnedAway => {
+            lanes.turn_away(lane, errand.into_task());
+            Ok(())
+        }
+        // Refused, or closed without a greeting, while others stand: the next hop takes no more of them.
+        Course::Lost(Loss::Refused | Loss::Cut) if is_shared && errand.attempt.is_none() => {
+            lanes.turn_away(lane, errand.into_task());
             Ok(())
         }
         Course::Lost(loss) => lose(relay, lanes, errand, loss, now, log),

@@ -3,6 +3,7 @@ ghost use Rattle.std.specs.Prelude.{◌≡◌, ◌≢◌, ℕ, [], Some, true};
 ghost use Rattle.relay_loop.specs.Outboxes.{unwritten_at};
 ghost use Rattle.relay_connections.specs.Channel.{unread_of};
 
+use crate::lane::Task;
 use crate::phase::Phase;
 use relay_connections::{Channel, End, Now};
 use relay_disk::FileDisk;
@@ -42,7 +43,7 @@ impl Aim {
     }
 }
 
-/// The connection to a next hop for a message, which is being made, or has the attempt of a number.
+/// The connection to a next hop for a message. It has an attempt of the node once the next hop has begun to greet.
 pub(crate) struct Hop {
     pub(crate) channel: Channel,
     pub(crate) aim: Aim,
@@ -51,6 +52,8 @@ pub(crate) struct Hop {
     pub(crate) attempt: Option<usize>,
     /// The next hop has said something.
     pub(crate) has_spoken: bool,
+    /// The first octet of its greeting, where that was read: the class of its reply (RFC 5321, 4.2.1).
+    greeting: Option<u8>,
     /// Octets were read that its attempt hasn't heard yet, and may hear.
     hears: bool,
     /// What it puts off, for the log.
@@ -73,6 +76,7 @@ impl Drop for Hop {
             name: _name,
             attempt: _,
             has_spoken: _,
+            greeting: _,
             hears: _,
             replies: _replies,
             phase: _,
@@ -91,6 +95,8 @@ pub(crate) struct Errand {
     pub(crate) attempt: Option<usize>,
     /// The next hop has said something.
     pub(crate) has_spoken: bool,
+    /// The next hop has greeted by 2yz.
+    pub(crate) is_welcome: bool,
     /// The last that the next hop put off.
     pub(crate) deferral: Option<Deferral>,
 }
@@ -104,12 +110,19 @@ impl Drop for Errand {
             name: _name,
             attempt: _,
             has_spoken: _,
+            is_welcome: _,
             deferral: _deferral,
         } = self;
     }
 }
 
 impl Errand {
+    /// The message, and the name of its next hop.
+    pub(crate) fn into_task(self) -> Task {
+        let (message, hop, _deferral) = self.into_told();
+        Task { message, hop }
+    }
+
     /// What is told of it: the message, the next hop, and what that put off last.
     pub(crate) fn into_told(self) -> (u64, HostName, Option<Deferral>) {
         let Errand {
@@ -118,6 +131,7 @@ impl Errand {
             name,
             attempt: _,
             has_spoken: _,
+            is_welcome: _,
             deferral,
         } = self;
         (message, name, deferral)
@@ -133,6 +147,8 @@ pub(crate) enum Course {
     Ended(Outbox, Option<Noted>),
     /// It is lost.
     Lost(Loss),
+    /// The next hop serves other connections, and takes no more of them. Its attempt hasn't begun.
+    TurnedAway,
     /// The message isn't due there any more, or there is no memory or no number to say what has come of it.
     Void,
 }
@@ -155,6 +171,7 @@ impl Hop {
             name,
             attempt: None,
             has_spoken: false,
+            greeting: None,
             hears: false,
             replies: Replies::new(alloc, tells),
             phase: Phase::Connecting,
@@ -172,6 +189,7 @@ impl Hop {
             name,
             attempt,
             has_spoken,
+            greeting,
             hears: _,
             replies,
             phase: _,
@@ -184,6 +202,7 @@ impl Hop {
             name,
             attempt,
             has_spoken,
+            is_welcome: greeting == Some(b'2'),
             deferral: replies.into_deferral(),
         };
         (channel, errand)
@@ -202,16 +221,19 @@ impl Hop {
         self.idle_deadline.min(self.answer_deadline)
     }
 
-    /// Does one thing more: makes the connection, writes what waits, or reads what its attempt may hear then.
+    /// Does one thing more: makes the connection, awaits the greeting, writes what waits, or reads what its attempt may
+    /// hear then. It is shared where other connections to the next hop stand.
     pub(crate) fn attend(
         &mut self,
         relay: &mut Relay<FileDisk>,
+        is_shared: bool,
         now: &Now,
     ) -> Result<Course, Fault> {
         self.hears = false;
         let course = match self.attempt {
             Some(attempt) => self.exchange(relay, attempt, now),
-            None => self.connect(relay, now)?,
+            None if self.phase == Phase::Connecting => self.connect(now),
+            None => self.await_greeting(relay, is_shared, now)?,
         };
         if self.hears {
             return Ok(course);
@@ -239,33 +261,61 @@ impl Hop {
     {
         match self.attempt {
             Some(attempt) => self.channel.is_ready(!relay.to_hop(attempt).is_empty()),
-            None => self.channel.may_write(),
+            None if self.phase == Phase::Connecting => self.channel.may_write(),
+            None => self.channel.is_ready(false),
         }
     }
 
-    /// Begins the attempt, where the connection has come about.
-    fn connect(&mut self, relay: &mut Relay<FileDisk>, now: &Now) -> Result<Course, Fault> {
+    /// Waits for the greeting, once the connection has come about.
+    fn connect(&mut self, now: &Now) -> Course {
         if !self.channel.may_write() {
-            return Ok(Course::Stays);
+            return Course::Stays;
         }
         match self.channel.has_connected() {
-            Ok(true) => self.begin(relay, now),
+            Ok(true) => {
+                self.phase = Phase::Command;
+                self.idle_deadline = now.behind(self.phase.seconds(false));
+                self.answer_deadline = now.behind(ANSWER_SECONDS);
+                Course::Stays
+            }
             Ok(false) => {
                 self.channel.awaits_writing();
-                Ok(Course::Stays)
+                Course::Stays
             }
-            Err(error) => Ok(Course::Lost(Loss::of_connecting(&error))),
+            Err(error) => Course::Lost(Loss::of_connecting(&error)),
         }
     }
 
-    /// Begins the attempt.
+    /// Begins the attempt once the next hop has begun to greet. A next hop that greets by 4yz, as 421 for too many
+    /// connections, while it serves others puts no message off for that.
+    fn await_greeting(
+        &mut self,
+        relay: &mut Relay<FileDisk>,
+        is_shared: bool,
+        now: &Now,
+    ) -> Result<Course, Fault> {
+        if !self.channel.fill() {
+            return Ok(match self.channel.end() {
+                Some(_) => Course::Lost(Loss::Cut),
+                None => Course::Stays,
+            });
+        }
+        self.has_spoken = true;
+        self.greeting = self.channel.piece().first().copied();
+        if is_shared && self.greeting == Some(b'4') {
+            return Ok(Course::TurnedAway);
+        }
+        self.begin(relay, now)
+    }
+
+    /// Begins the attempt, which may hear what was read.
     fn begin(&mut self, relay: &mut Relay<FileDisk>, now: &Now) -> Result<Course, Fault> {
         match relay.start(self.message, &self.name, now.moment) {
             Ok(started) => {
                 self.attempt = Some(started.attempt);
-                self.phase = Phase::Command;
                 self.wait_on(relay, started.attempt, now);
-                self.answer_deadline = now.behind(ANSWER_SECONDS);
+                self.replies.hear(self.channel.piece());
+                self.hears = true;
                 Ok(Course::Stays)
             }
             Err(NodeFault::Stopped) => Err(Fault::Device),

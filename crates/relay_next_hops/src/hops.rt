@@ -90,6 +90,14 @@ impl Hops {
         false
     }
 
+    /// How many connections stand to next hops that haven't said anything yet.
+    pub(crate) fn count_unanswered(&self, lanes: &Lanes) -> usize {
+        let standing = self.hops.standing().iter().flatten();
+        standing
+            .filter(|hop| !lanes.has_answered(hop.aim.lane))
+            .count()
+    }
+
     /// Closes all connections.
     pub(crate) fn clear(&mut self) {
         for number in 0..SLOT_COUNT {
@@ -175,7 +183,8 @@ impl Hops {
         };
         let mut hop = taken;
         let had_spoken = hop.has_spoken;
-        let course = hop.attend(relay, now)?;
+        let is_shared = lanes.is_shared(hop.aim.lane);
+        let course = hop.attend(relay, is_shared, now)?;
         if hop.has_spoken && !had_spoken {
             lanes.answered(hop.aim.lane);
         }

@@ -199,6 +199,38 @@ impl Lanes {
         }
     }
 
+    /// Whether several connections of a lane stand.
+    pub(crate) fn is_shared(&self, number: usize) -> bool {
+        match self.lanes.get(number) {
+            Some(lane) => lane.pace.is_shared(),
+            None => false,
+        }
+    }
+
+    /// Whether the next hop of a lane has said something since it was left alone last.
+    pub(crate) fn has_answered(&self, number: usize) -> bool {
+        match self.lanes.get(number) {
+            Some(lane) => lane.pace.has_answered(),
+            None => false,
+        }
+    }
+
+    /// The next hop of a lane takes no more connections than those that stand: the task of one that it refused is the
+    /// lane's next again.
+    pub(crate) fn turn_away(&mut self, number: usize, task: Task) {
+        if let Some(lane) = self.lanes.get_mut(number) {
+            lane.pace.lower_limit();
+            lane.put_back(task);
+        }
+    }
+
+    /// An attempt of a lane has ended well: its next hop may take one more connection.
+    pub(crate) fn ended_well(&mut self, number: usize) {
+        if let Some(lane) = self.lanes.get_mut(number) {
+            lane.pace.raise_limit();
+        }
+    }
+
     /// Whether the place of a lane is left alone.
     pub(crate) fn is_held(&self, number: usize, now: &Now) -> bool {
         match self.lanes.get(number) {

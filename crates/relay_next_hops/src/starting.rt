@@ -24,6 +24,9 @@ const WANT_PAUSE: u64 = 1_000;
 /// How many seconds a message may be due at a place that is left alone, before it counts as lost without a connection.
 const OVERDUE_SECONDS: u64 = 4 * 60 * 60;
 
+/// The most connections to next hops that haven't said anything yet, so that those that answer always find room.
+const MOST_UNANSWERED: usize = 48;
+
 /// When connections may be begun.
 #[derive(Clone, Copy, Debug)]
 pub(crate) struct Starts {
@@ -118,6 +121,9 @@ fn start_lane<N: Net>(
         let Some(number) = hops.free() else {
             return Ok(Begun::IsFull);
         };
+        if !lanes.has_answered(lane) && MOST_UNANSWERED <= hops.count_unanswered(lanes) {
+            return Ok(Begun::GoesOn);
+        }
         let Some((task, at)) = lanes.next(lane, now) else {
             return Ok(Begun::GoesOn);
         };
@@ -197,6 +203,7 @@ fn errand_of(task: Task, aim: Aim) -> Errand {
         name,
         attempt: None,
         has_spoken: false,
+        is_welcome: false,
         deferral: None,
     }
 }
