@@ -1,8 +1,7 @@
 ghost use Rattle.std.specs.Prelude.{IfOk};
 
-use crate::door::Door;
 use crate::shell::Shell;
-use crate::start::{kept_file, locked_relay, say_ready, settings};
+use crate::start::{kept_file, locked_relay, open_door, say_ready, settings};
 use crate::turns::serve;
 use mio::{Events, Poll};
 use relay_files::Fault;
@@ -19,7 +18,8 @@ const EVENT_COUNT: usize = 3 * SLOT_COUNT + 1;
 
 /// Serves clients and hands on what they bring, up to 64 sessions and 64 attempts side by side, in one thread. It
 /// returns only with a fault, and a stop at any moment is as safe as at any other. Faults are looked for in this order
-/// before it begins: the configuration file, its content, its limits, the spool, the listener. Then a line
+/// before it begins: the configuration file, its content, its limits, the spool, the listener, whose address is waited
+/// for a minute where this machine hasn't got it yet. Then a line
 /// `ready HOST ADDRESS` goes to `writer`, and unless it is `quiet` a line for each thing that was done to `errors`,
 /// with the moment in front of it.
 ///
@@ -46,9 +46,7 @@ pub fn run<
     let Ok(poll) = Poll::new(rt) else {
         return Err(Fault::Socket);
     };
-    let Ok(door) = Door::open(alloc, rt, poll.registry(), at) else {
-        return Err(Fault::Socket);
-    };
+    let door = open_door(alloc, rt, poll.registry(), at, quiet, errors)?;
     let shell = Shell::new(alloc, relay, door, spares, &limits)?;
     let events = Events::with_capacity(alloc, EVENT_COUNT)?;
     say_ready(alloc, &shell.relay, at, writer)?;

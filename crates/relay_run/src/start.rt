@@ -1,14 +1,23 @@
 //! What a relay begins with.
+use crate::door::Door;
+use mio::Registry;
 use relay_disk::FileDisk;
 use relay_files::{Fault, configuration_text, locked_node};
 use relay_limits::Limits;
+use relay_log::Log;
 use relay_loop::Relay;
 use relay_routes::{Config, ConfigFault};
+use relay_trace::clock_moment;
 use std::alloc::Global;
 use std::fs::File;
-use std::io::{self, Write};
-use std::net::SocketAddrV4;
-use std::rt::Files;
+use std::io::{self, ErrorKind, Write};
+use std::net::{Net, SocketAddrV4};
+use std::rt::{Clock, Files};
+use std::time::Duration;
+
+/// How many seconds an address is waited for that this machine hasn't got yet, as while it boots. It is tried once in
+/// each.
+const ADDRESS_SECONDS: u64 = 60;
 
 /// The configuration and the limits in the file at this path. Faults are looked for in this order: the file, the
 /// configuration, the limits.
@@ -51,6 +60,31 @@ pub(crate) fn locked_relay<F: Files<File = File>>(
         Ok(relay) => Ok(relay),
         Err(_node) => Err(Fault::NoMemory),
     }
+}
+
+/// The listener at the configured place. A line of the log says that its address is waited for.
+pub(crate) fn open_door<R: Clock + Net, E: Write>(
+    alloc: Global,
+    rt: &R,
+    registry: &Registry,
+    at: SocketAddrV4,
+    quiet: bool,
+    errors: &mut E,
+) -> Result<Door, Fault> {
+    for second in 0..ADDRESS_SECONDS {
+        match Door::open(alloc, rt, registry, at) {
+            Ok(door) => return Ok(door),
+            Err(error) if error.kind() == ErrorKind::AddrNotAvailable => {
+                if second == 0 {
+                    let mut log = Log::stamped(alloc, errors, !quiet, clock_moment(rt));
+                    log.awaits_address(at, ADDRESS_SECONDS);
+                }
+                rt.sleep(Duration::from_secs(1));
+            }
+            Err(_) => return Err(Fault::Socket),
+        }
+    }
+    Err(Fault::Socket)
 }
 
 /// Says by a line that clients may come: `ready HOST ADDRESS`.

@@ -4,7 +4,8 @@ ghost use Rattle.std.specs.Prelude.{◌≤◌};
 
 use relay_connections::Now;
 use relay_disk::FileDisk;
-use relay_files::{Fault, is_worth_it};
+use relay_files::Fault;
+use relay_limits::is_worth_compacting;
 use relay_log::Log;
 use relay_loop::Relay;
 use relay_node::NodeFault;
@@ -14,6 +15,10 @@ const PAUSE: u64 = 1_000;
 
 /// How many seconds the spool isn't written anew behind a failure of its device, since that takes room.
 const FAILURE_PAUSE: u64 = 600;
+
+/// While there is something else to do, a spool of which more octets than this would be left isn't compacted, since
+/// others wait for some 3 ms for each MiB of them, unless mail is refused for it.
+const MOST_LEFT: usize = 32 * 1024 * 1024;
 
 /// How many seconds it isn't told again that the spool is full.
 const TELLING_SECONDS: u64 = 60;
@@ -90,8 +95,8 @@ impl Tidying {
         }
     }
 
-    /// Writes the spool anew where that is due and worth it. A spool without a second file, one that holds too much,
-    /// and want of memory leave it as it is.
+    /// Compacts the spool where that is due and worth it, and costs others no more than they may wait for. A spool
+    /// without a second file, one that holds too much, and want of memory leave it as it is.
     pub(crate) fn tidy(
         &mut self,
         relay: &mut Relay<FileDisk>,
@@ -108,7 +113,12 @@ impl Tidying {
         self.next = now.tick.saturating_add(PAUSE);
         let node = relay.node();
         let limit = node.config().spool_limit;
-        if !is_worth_it(node.size(), node.compacted_size(), limit, was_full) {
+        let left = node.compacted_size();
+        if !is_worth_compacting(node.size(), left, limit, was_full) {
+            return Ok(());
+        }
+        if MOST_LEFT < left && !is_quiet && !was_full {
+            self.has_shrunk = true;
             return Ok(());
         }
         match relay.compact() {

@@ -4,7 +4,7 @@ use Rattle.relay_disk.specs.Device.{DiskWords}
 use Rattle.relay_book.specs.Snapshot.{snapshot}
 use Rattle.relay_records.specs.Records.{Compacts}
 use Rattle.relay_files.specs.declared.fault.Fault.{Fault}
-use Rattle.relay_files.specs.Compacting.{IsWorthIt}
+use Rattle.relay_limits.specs.Compacting.{IsWorthIt}
 use Rattle.relay_node.specs.Node.{NodeState}
 
 -- It is worth it to write a node's spool anew.

@@ -6,13 +6,14 @@ ghost use Rattle.relay_records.specs.Records.{Halted, Keeps};
 ghost use Rattle.relay_service.specs.Compacting.{Shrinks};
 
 use relay_disk::FileDisk;
-use relay_files::{Fault, is_worth_it};
+use relay_files::Fault;
+use relay_limits::is_worth_compacting;
 use relay_log::Log;
 use relay_node::{Node, NodeFault};
 use std::io::Write;
 
-/// Writes the spool anew where that is worth it, as `is_worth_it` says. A spool without a second file, one that holds
-/// too much, and want of memory leave it as it is.
+/// Writes the spool anew where that is worth it, as `is_worth_compacting` says. A spool without a second file, one that
+/// holds too much, and want of memory leave it as it is.
 pub(crate) fn compact_behind<E: Write>(
     node: &mut Node<FileDisk>,
     was_full: bool,
@@ -24,7 +25,7 @@ pub(crate) fn compact_behind<E: Write>(
     ensures shrinks { Shrinks file_words node.old node.new was_full result }
 {
     let limit = node.config().spool_limit;
-    if !is_worth_it(node.size(), node.compacted_size(), limit, was_full) {
+    if !is_worth_compacting(node.size(), node.compacted_size(), limit, was_full) {
         return Ok(());
     }
     match node.compact() {
