@@ -8,7 +8,8 @@ use Rattle.relay_world.specs.World.{World}
 use Rattle.relay_script.specs.declared.event.Event.{Event as Said}
 use Rattle.relay_script.specs.declared.event.Event.TheVariants as said
 use Rattle.relay_script.specs.declared.event.ScriptLine.{ScriptLine}
-use Rattle.relay_script.specs.declared.event.ScriptLine.TheVariants.{Skipped, Nodes, Event as Happens, Ledger, Marks, Copies, Lost}
+use Rattle.relay_script.specs.declared.event.ScriptLine.TheVariants.{Skipped, Nodes, Event as Happens, Ledger, Marks}
+use Rattle.relay_script.specs.declared.event.ScriptLine.TheVariants.{Copies, Lost}
 use Rattle.relay_script.specs.Line.{Spells}
 use Rattle.relay_events.specs.declared.event.Event.{Event}
 use Rattle.relay_events.specs.declared.event.Event.TheVariants.{Connect, Send, Carry, Break, Tick, Give, Compact, Stop}
@@ -128,5 +129,6 @@ module _ (honest : Type 0) (words : DiskWords MemoryDisk) where
 
   -- a read gave octets, whose lines were played; where the script has ended, its last line was too
   abbrev pub PlaysBlock : Option (List ℕ) → Option (List ℕ) → PlayState → List ℕ → List ℕ → PlayState → Bool → Type 0
-  PlaysBlock old new first front begun now false = IsRead old new (λ octets. HasPlayed first (front ++ octets) begun now)
+  PlaysBlock old new first front begun now false =
+      IsRead old new (λ octets. HasPlayed first (front ++ octets) begun now)
   PlaysBlock old new first front begun now true = IsRead old new (λ octets. PlaysAll first (front ++ octets) now)

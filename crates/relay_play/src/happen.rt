@@ -12,8 +12,8 @@ use std::io;
 /// An event happens to the relays. What is seen of it, or why it was refused, is added as a line, or a line for each
 /// node that has stopped. It fails where memory runs out.
 pub(crate) fn happen(pair: &mut Pair<MemoryDisk>, said: Said, out: &mut Vec<u8>) -> io::Result<()>
-    ensures { (answer : Result Seen PairFault) × Steps ⟦<MemoryDisk as Disk>⟧.honest ⟦<MemoryDisk as Disk>⟧.words pair.old
-        (event_in said) pair.new answer }
+    ensures { (answer : Result Seen PairFault) × Steps ⟦<MemoryDisk as Disk>⟧.honest ⟦<MemoryDisk as Disk>⟧.words
+        pair.old (event_in said) pair.new answer }
 {
     let event = event_of(said);
     match pair.step(&event) {

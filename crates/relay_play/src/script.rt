@@ -2,7 +2,8 @@
 ghost use Rattle.std.specs.Prelude.{◌≡◌, ◌<◌, ◌++◌, ◌∷◌, [], IfOk, IsTrue, List, MatchOption, OnOk, length, ℕ};
 ghost use Rattle.std.specs.Io.KnownBytes.{IsAtEnd};
 ghost use Rattle.relay_play.specs.declared.state.PlayState.{PlayState as State};
-ghost use Rattle.relay_play.specs.Script.{HasNoLineFeed, HasPlayed, IsPlayed, IsReadTo, PlaysAll, PlaysBlock, PlaysLine};
+ghost use Rattle.relay_play.specs.Script.{HasNoLineFeed, HasPlayed, IsPlayed, IsReadTo, PlaysAll, PlaysBlock};
+ghost use Rattle.relay_play.specs.Script.{PlaysLine};
 
 use crate::fault::PlayFault;
 use crate::state::PlayState;

@@ -1,9 +1,11 @@
 -- What comes of a row: its first word says what is done with the rest.
-use Rattle.std.specs.Prelude.{◌≡◌, ◌≢◌, ◌↔◌, ℕ, Bool, true, false, IsTrue, List, ◌++◌, codes, Option, Some, None, Result, Ok, Err}
+use Rattle.std.specs.Prelude.{◌≡◌, ◌≢◌, ◌↔◌, ℕ, Bool, true, false, IsTrue, List, ◌++◌, codes, Option, Some, None}
+use Rattle.std.specs.Prelude.{Result, Ok, Err}
 use Rattle.relay_envelope.specs.Xtext.{decoded, encoded}
 use Rattle.relay_envelope.specs.HostName.{IsHostName}
 use Rattle.relay_envelope.specs.Mail.{Mail, Rcpt, ReadsMail, ReadsRcpt}
-use Rattle.relay_envelope.specs.Envelope.{IsForwardPath, IsReversePath, envelope_from, mail_text, rcpt_text, recipient_from}
+use Rattle.relay_envelope.specs.Envelope.{IsForwardPath, IsReversePath, envelope_from, mail_text, rcpt_text}
+use Rattle.relay_envelope.specs.Envelope.{recipient_from}
 use Rattle.relay_envelope.specs.declared.fault.EnvelopeFault.{EnvelopeFault}
 use Rattle.relay_envelope.specs.declared.fault.EnvelopeFault.TheVariants.{BadPath, BadValue, Repeated, UnknownParameter}
 

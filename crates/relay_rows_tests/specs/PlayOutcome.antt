@@ -1,5 +1,6 @@
 -- What comes of a row, whatever the pieces that its octets come in.
-use Rattle.std.specs.Prelude.{◌≡◌, ◌≢◌, ◌⊎◌, ℕ, ◌+◌, nat_lt, Bool, true, false, List, [], ◌∷◌, ◌++◌, codes, decimal, length, take, Result, Ok, Err, if◌then◌else◌}
+use Rattle.std.specs.Prelude.{◌≡◌, ◌≢◌, ◌⊎◌, ℕ, ◌+◌, nat_lt, Bool, true, false, List, [], ◌∷◌, ◌++◌, codes, decimal}
+use Rattle.std.specs.Prelude.{length, take, Result, Ok, Err, if◌then◌else◌}
 use Rattle.relay_octets.specs.Line.{HasNoCrlf, ReadsLine, line_text}
 use Rattle.relay_lines.specs.LineCut.{CutsLine}
 use Rattle.relay_lines.specs.HeldLine.{HeldLine}
@@ -10,7 +11,8 @@ use Rattle.relay_lines.specs.WrittenCommand.{written_command}
 use Rattle.relay_lines.specs.Reply.{Reply, IsReply, made_of, one_line, reply_text, written_replies}
 use Rattle.relay_lines.specs.ReplyReading.{CutsReplies, HasFault, IsUnfinished}
 use Rattle.relay_lines.specs.declared.command.LineFault.{LineFault}
-use Rattle.relay_lines.specs.declared.command.LineFault.TheVariants.{Unknown, BadByte, BadArgument, NotOffered, BadChunkSize}
+use Rattle.relay_lines.specs.declared.command.LineFault.TheVariants.{Unknown, BadByte, BadArgument, NotOffered}
+use Rattle.relay_lines.specs.declared.command.LineFault.TheVariants.{BadChunkSize}
 use Rattle.relay_lines.specs.declared.line.LineCut.{LineCut}
 use Rattle.relay_lines.specs.declared.line.LineCut.TheVariants.{Whole, TooLong, More}
 use Rattle.relay_lines.specs.declared.reply_reader.ReplyFault.{ReplyFault}

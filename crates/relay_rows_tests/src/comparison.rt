@@ -5,7 +5,7 @@ use crate::verdict::is_text;
 use relay_octets::Octets;
 use std::fmt::{self, Display, Formatter};
 
-/// What a row came to.
+/// What a row, a dialogue or an attempt came to.
 #[derive(Clone, Copy)]
 pub enum Verdict {
     /// Each cutting gave what is written down.
@@ -19,9 +19,9 @@ pub enum Verdict {
 impl Display for Verdict {
     fn fmt<W: fmt::Write>(&self, f: &mut Formatter<W>) -> fmt::Result {
         match self {
-            Verdict::Equal => write!(f, "as written down, cut at every octet"),
+            Verdict::Equal => f.write_str("as written down, cut at every octet"),
             Verdict::DiffersAt(place) => write!(f, "differs, cut behind {place} octets"),
-            Verdict::DiffersOctetByOctet => write!(f, "differs, octet by octet"),
+            Verdict::DiffersOctetByOctet => f.write_str("differs, octet by octet"),
         }
     }
 }

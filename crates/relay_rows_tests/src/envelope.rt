@@ -2,7 +2,8 @@
 //! encoded, and a text is said to be a path or a host's name, or not.
 ghost use Rattle.std.specs.Prelude.{◌≡◌, IfOk};
 ghost use Rattle.relay_envelope.specs.Xtext.{decoded as decoded_octets};
-ghost use Rattle.relay_rows_tests.specs.Outcome.{IsAnswer, IsDecision, IsMailOutcome, IsOutcome, IsRcptOutcome, decision_text, decoding_outcome, word_of};
+ghost use Rattle.relay_rows_tests.specs.Outcome.{IsAnswer, IsDecision, IsMailOutcome, IsOutcome, IsRcptOutcome};
+ghost use Rattle.relay_rows_tests.specs.Outcome.{decision_text, decoding_outcome, word_of};
 
 use relay_envelope::{
     Envelope, EnvelopeFault, Recipient, Xtext, XtextFault, is_forward_path, is_host_name,

@@ -30,7 +30,8 @@ fn first_octet(text: &[u8]) -> Option<(u8, &[u8])>
     }
 }
 
-fn escaped(letter: u8) -> u8
+/// The octet that a letter behind a backslash stands for.
+pub fn escaped(letter: u8) -> u8
     ensures { result ≡ escaped letter }
 {
     match letter {

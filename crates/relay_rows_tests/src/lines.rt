@@ -9,6 +9,21 @@ use std::alloc::{AllocError, Global};
 use std::test::Fail;
 use std::{fs, mem};
 
+const LINE_FAULTS: [LineFault; 5] = [
+    LineFault::Unknown,
+    LineFault::BadByte,
+    LineFault::BadArgument,
+    LineFault::NotOffered,
+    LineFault::BadChunkSize,
+];
+
+const REPLY_FAULTS: [ReplyFault; 4] = [
+    ReplyFault::BadLine,
+    ReplyFault::MixedCodes,
+    ReplyFault::TooLong,
+    ReplyFault::NoMemory,
+];
+
 /// Plays each row of lines and of bodies, and says what comes of what no row shows.
 pub fn show_lines(rt: &HostRuntime) -> Result<(), Fail> {
     let alloc = rt.alloc();
@@ -50,24 +65,19 @@ fn show_body(rt: &HostRuntime, alloc: Global, line: &str) -> Result<(), Fail> {
 
 /// Says the text of each fault.
 fn say_texts(rt: &HostRuntime) -> Result<(), Fail> {
-    println!(rt; "fault: {}", LineFault::Unknown)?;
-    println!(rt; "fault: {}", LineFault::BadByte)?;
-    println!(rt; "fault: {}", LineFault::BadArgument)?;
-    println!(rt; "fault: {}", LineFault::NotOffered)?;
-    println!(rt; "fault: {}", LineFault::BadChunkSize)?;
-    println!(rt; "fault: {}", ReplyFault::BadLine)?;
-    println!(rt; "fault: {}", ReplyFault::MixedCodes)?;
-    println!(rt; "fault: {}", ReplyFault::TooLong)?;
-    println!(rt; "fault: {}", ReplyFault::NoMemory)?;
-    println!(rt; "fault: {}", BodyFault::NoMemory)?;
-    Ok(())
+    for fault in LINE_FAULTS {
+        println!(rt; "fault: {fault}")?;
+    }
+    for fault in REPLY_FAULTS {
+        println!(rt; "fault: {fault}")?;
+    }
+    Ok(println!(rt; "fault: {}", BodyFault::NoMemory)?)
 }
 
 /// Says what comes of the calls that no row makes.
 fn say_calls(rt: &HostRuntime, alloc: Global) -> Result<(), Fail> {
     println!(rt; "octets: {}", handle_octets(alloc)?)?;
-    println!(rt; "a line of 10,000,000 octets: {}", hold_long_line())?;
-    Ok(())
+    Ok(println!(rt; "a line of 10,000,000 octets: {}", hold_long_line())?)
 }
 
 /// Each call on octets, once.

@@ -34,11 +34,11 @@ mod verdict;
 use line::line_of;
 use lines::show_lines;
 use meeting::show_meetings;
-use routes::outcome_of_routes;
-use script::{outcome_of_script, say_nodes};
+use routes::tell_routes;
+use script::{say_nodes, tell_script};
 use std::test::Fail;
 use std::{fs, str};
-use trace::outcome_of_trace;
+use trace::tell_trace;
 
 /// What the rows of a file are about.
 #[derive(Clone, Copy)]
@@ -78,39 +78,39 @@ fn show_envelopes(rt: &HostRuntime) -> Result<(), Fail> {
 /// Prints the line of a row of envelopes.
 fn show_envelope(rt: &HostRuntime, row: &str, wanted: &str) -> Result<(), Fail> {
     let line = line_of(rt.alloc(), row, wanted)?;
-    println!(rt; "{}", str::from_utf8(line.as_slice())?)?;
-    Ok(())
+    Ok(println!(rt; "{}", str::from_utf8(line.as_slice())?)?)
 }
 
 /// Prints each row of a file and what comes of it.
 fn show_rows(rt: &HostRuntime, name: &str, subject: Subject) -> Result<(), Fail> {
     let rows = fs::read_to_string(rt, name)?;
+    let mut outcome = String::new(rt.alloc());
     for row in rows.as_str().lines() {
-        show_row(rt, subject, row)?;
+        outcome.clear();
+        show_row(rt, subject, row, &mut outcome)?;
     }
     Ok(())
 }
 
 /// Prints a row and what comes of it; a line that is no row stands as it is.
-fn show_row(rt: &HostRuntime, subject: Subject, row: &str) -> Result<(), Fail> {
+fn show_row(
+    rt: &HostRuntime,
+    subject: Subject,
+    row: &str,
+    outcome: &mut String,
+) -> Result<(), Fail> {
     let Some((given, wanted)) = row.split_once(" => ") else {
-        println!(rt; "{row}")?;
-        return Ok(());
+        return Ok(println!(rt; "{row}")?);
     };
-    let outcome = outcome_of_row(rt, subject, given)?;
-    if outcome.as_str() == wanted {
-        println!(rt; "{given} => {outcome}")?;
-    } else {
-        println!(rt; "{given} => {outcome}, and not {wanted}")?;
-    }
-    Ok(())
-}
-
-/// What comes of what a row gives.
-fn outcome_of_row(rt: &HostRuntime, subject: Subject, given: &str) -> Result<String, Fail> {
     match subject {
-        Subject::Routes => outcome_of_routes(rt, rt.alloc(), given),
-        Subject::Trace => outcome_of_trace(rt.alloc(), given),
-        Subject::Script => outcome_of_script(rt.alloc(), given),
+        Subject::Routes => tell_routes(rt, outcome, given)?,
+        Subject::Trace => tell_trace(rt.alloc(), outcome, given)?,
+        Subject::Script => tell_script(rt.alloc(), outcome, given)?,
     }
+    let (word, other) = if outcome.as_str() == wanted {
+        ("", "")
+    } else {
+        (", and not ", wanted)
+    };
+    Ok(println!(rt; "{given} => {outcome}{word}{other}")?)
 }

@@ -1,7 +1,8 @@
 //! What comes of replies that are made and written, or read.
 ghost use Rattle.std.specs.Prelude.{◌≡◌, ◌≢◌, ◌<◌, ◌≤◌, ◌++◌, codes, length, take, IfOk, IfErr, OnOk, OnErr};
 ghost use Rattle.relay_lines.specs.ReplySteps.{HasFailed};
-ghost use Rattle.relay_rows_tests.specs.PlayOutcome.{IsLastLineOutcome, IsRepliesOutcome, IsReplyOutcome, reply_fault_word};
+ghost use Rattle.relay_rows_tests.specs.PlayOutcome.{IsLastLineOutcome, IsRepliesOutcome, IsReplyOutcome};
+ghost use Rattle.relay_rows_tests.specs.PlayOutcome.{reply_fault_word};
 ghost use Rattle.relay_rows_tests.specs.Steps.{FindsFault, ReadsSome};
 
 use crate::pieces::next_piece;

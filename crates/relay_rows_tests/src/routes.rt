@@ -6,21 +6,17 @@ use std::alloc::{AllocError, Global};
 use std::test::Fail;
 use std::{fs, str};
 
-/// What comes of the lines, of the file, or of the file and the path that a row gives.
-pub fn outcome_of_routes(rt: &HostRuntime, alloc: Global, given: &str) -> Result<String, Fail> {
-    if let Some(lines) = given.strip_prefix("TEXT ") {
-        return outcome_of(alloc, document_of(alloc, lines)?.as_str());
-    }
-    if let Some(name) = given.strip_prefix("FILE ") {
-        return outcome_of(alloc, fs::read_to_string(rt, name)?.as_str());
-    }
-    match given.split_once(" ") {
-        Some((name, path)) => hop_of(
-            alloc,
-            fs::read_to_string(rt, name)?.as_str(),
-            path.as_bytes(),
-        ),
-        None => Ok(String::from_str(alloc, "no row")?),
+/// Tells what comes of the lines, of the file, or of the file and the path that a row gives.
+pub fn tell_routes(rt: &HostRuntime, text: &mut String, given: &str) -> Result<(), Fail> {
+    let alloc = rt.alloc();
+    let (word, rest) = given.split_once(' ').unwrap_or((given, ""));
+    match word {
+        "TEXT" => tell_config(alloc, text, document_of(alloc, rest)?.as_str()),
+        "FILE" => tell_config(alloc, text, fs::read_to_string(rt, rest)?.as_str()),
+        name => {
+            let document = fs::read_to_string(rt, name)?;
+            tell_hop_of(alloc, text, document.as_str(), rest.as_bytes())
+        }
     }
 }
 
@@ -43,43 +39,40 @@ fn words_of(rule: BareNewlines) -> &'static str {
 }
 
 /// What a configuration says: its values without the routes, and whether it refuses bare line ends, or its fault.
-fn outcome_of(alloc: Global, text: &str) -> Result<String, Fail> {
-    match Config::read(alloc, text) {
+fn tell_config(alloc: Global, text: &mut String, document: &str) -> Result<(), Fail> {
+    match Config::read(alloc, document) {
         Ok(config) => {
             let rule = words_of(config.bare_newlines);
             let host = text_of(&config.host)?;
             let (listen, spool) = (config.listen, config.spool.as_str());
             let (content, limit) = (config.max_content, config.spool_limit);
-            Ok(format!(in alloc; "{host} {listen} {spool} {content} {limit}{rule}")?)
+            Ok(write!(text, "{host} {listen} {spool} {content} {limit}{rule}")?)
         }
-        Err(fault) => Ok(format!(in alloc; "{fault}")?),
+        Err(fault) => Ok(write!(text, "{fault}")?),
     }
 }
 
 /// The hop of a path by a configuration, and that of the path as it is stored where that is another.
-fn hop_of(alloc: Global, text: &str, path: &[u8]) -> Result<String, Fail> {
-    match Config::read(alloc, text) {
-        Ok(config) => hop_by(alloc, &config.routes, path),
-        Err(fault) => Ok(format!(in alloc; "{fault}")?),
+fn tell_hop_of(alloc: Global, text: &mut String, document: &str, path: &[u8]) -> Result<(), Fail> {
+    match (Config::read(alloc, document), Path::read(path)) {
+        (Ok(config), Some(path)) => tell_both_hops(alloc, text, &config.routes, path),
+        (Ok(_), None) => Ok(text.push_str("no path")?),
+        (Err(fault), _) => Ok(write!(text, "{fault}")?),
     }
 }
 
-/// The same by these routes.
-fn hop_by(alloc: Global, routes: &Table, path: &[u8]) -> Result<String, Fail> {
-    match Path::read(path) {
-        Some(path) => both_hops(alloc, routes, path),
-        None => Ok(String::from_str(alloc, "no path")?),
-    }
-}
-
-fn both_hops(alloc: Global, routes: &Table, path: Path<'_>) -> Result<String, Fail> {
+fn tell_both_hops(
+    alloc: Global,
+    text: &mut String,
+    routes: &Table,
+    path: Path<'_>,
+) -> Result<(), Fail> {
     let stored = PathBuf::new(alloc, path)?;
     let own = routes.hop(&path);
-    let found = routes.hop_at(&stored);
-    if are_one(routes, own, found) {
-        text_of_hop(alloc, own)
+    if are_one(routes, own, routes.hop_at(&stored)) {
+        tell_hop(text, own)
     } else {
-        Ok(String::from_str(alloc, "two hops")?)
+        Ok(text.push_str("two hops")?)
     }
 }
 
@@ -95,13 +88,10 @@ fn are_one(routes: &Table, one: Option<&Hop>, other: Option<&Hop>) -> bool {
     }
 }
 
-fn text_of_hop(alloc: Global, hop: Option<&Hop>) -> Result<String, Fail> {
+fn tell_hop(text: &mut String, hop: Option<&Hop>) -> Result<(), Fail> {
     match hop {
-        Some(hop) => {
-            let (name, at) = (text_of(&hop.name)?, hop.at);
-            Ok(format!(in alloc; "{name} {at}")?)
-        }
-        None => Ok(String::from_str(alloc, "none")?),
+        Some(hop) => Ok(write!(text, "{} {}", text_of(&hop.name)?, hop.at)?),
+        None => Ok(text.push_str("none")?),
     }
 }
 

@@ -2,6 +2,7 @@
 //! text that spells them is written.
 use relay_script::{Event, MOST_NODES, NodeIndex, ScriptLine, push_text, script_line};
 use std::alloc::{AllocError, Global};
+use std::str;
 use std::test::Fail;
 
 /// Names each node.
@@ -13,84 +14,96 @@ pub fn say_nodes(rt: &HostRuntime) -> Result<(), Fail> {
     Ok(())
 }
 
-/// What comes of a row.
-pub fn outcome_of_script(alloc: Global, given: &str) -> Result<String, Fail> {
-    if let Some(line) = given.strip_prefix("LINE ") {
-        return outcome_of_line(alloc, line.as_bytes());
-    }
-    if let Some(octets) = given.strip_prefix("TEXT ") {
-        return text_of(alloc, octets);
-    }
-    Ok(String::from_str(alloc, "no row")?)
-}
-
-/// What a line says.
-fn outcome_of_line(alloc: Global, line: &[u8]) -> Result<String, Fail> {
-    match script_line(alloc, line)? {
-        Some(said) => Ok(outcome_of(alloc, said)?),
-        None => Ok(String::from_str(alloc, "none")?),
+/// Tells what comes of a row.
+pub fn tell_script(alloc: Global, text: &mut String, given: &str) -> Result<(), Fail> {
+    let (word, rest) = given.split_once(' ').unwrap_or((given, ""));
+    match word {
+        "LINE" => match script_line(alloc, rest.as_bytes())? {
+            Some(said) => Ok(tell_line(text, &said)?),
+            None => Ok(text.push_str("none")?),
+        },
+        "TEXT" => tell_text(alloc, text, rest),
+        _ => Ok(text.push_str("no row")?),
     }
 }
 
 /// What was said.
-fn outcome_of(alloc: Global, said: ScriptLine) -> Result<String, AllocError> {
+fn tell_line(text: &mut String, said: &ScriptLine) -> Result<(), AllocError> {
     match said {
-        ScriptLine::Skipped => String::from_str(alloc, "skipped"),
-        ScriptLine::Nodes { count } => format!(in alloc; "{} nodes", count.count()),
-        ScriptLine::Event(event) => outcome_of_event(alloc, &event),
-        ScriptLine::Ledger => String::from_str(alloc, "ledger"),
-        ScriptLine::Marks => String::from_str(alloc, "marks"),
+        ScriptLine::Skipped => text.push_str("skipped"),
+        ScriptLine::Nodes { count } => write!(text, "{} nodes", count.count()),
+        ScriptLine::Event(event) => tell_event(text, event),
+        ScriptLine::Ledger => text.push_str("ledger"),
+        ScriptLine::Marks => text.push_str("marks"),
         ScriptLine::Copies {
             node,
             number,
             place,
-        } => format!(in alloc;
-            "copies of node {}, number {number}, place {place}",
-            node.index()
-        ),
+        } => tell_place(text, "copies", *node, *number, *place),
         ScriptLine::Lost {
             node,
             number,
             place,
-        } => format!(in alloc;
-            "lost replies of node {}, number {number}, place {place}",
-            node.index()
-        ),
+        } => tell_place(text, "lost replies", *node, *number, *place),
     }
+}
+
+/// What is asked of a place.
+fn tell_place(
+    text: &mut String,
+    what: &str,
+    node: NodeIndex,
+    number: u64,
+    place: u64,
+) -> Result<(), AllocError> {
+    let node = node.index();
+    write!(
+        text,
+        "{what} of node {node}, number {number}, place {place}"
+    )
 }
 
 /// What happens.
-fn outcome_of_event(alloc: Global, event: &Event) -> Result<String, AllocError> {
+fn tell_event(text: &mut String, event: &Event) -> Result<(), AllocError> {
     match event {
-        Event::Connect { node } => format!(in alloc; "connect node {}", node.index()),
-        Event::Send { link, text } => outcome_of_send(alloc, *link, text.as_slice()),
+        Event::Connect { node } => tell_of_node(text, "connect", *node),
+        Event::Send { link, text: octets } => tell_send(text, *link, octets.as_slice()),
         Event::Carry { link, node, count } => {
-            format!(in alloc; "carry link {link}, node {}, count {count}", node.index())
+            write!(
+                text,
+                "carry link {link}, node {}, count {count}",
+                node.index()
+            )
         }
-        Event::Break { link } => format!(in alloc; "break link {link}"),
-        Event::Tick { moment } => format!(in alloc; "tick {}", moment.seconds()),
-        Event::Give { node } => format!(in alloc; "give node {}", node.index()),
-        Event::Compact { node } => format!(in alloc; "compact node {}", node.index()),
+        Event::Break { link } => write!(text, "break link {link}"),
+        Event::Tick { moment } => write!(text, "tick {}", moment.seconds()),
+        Event::Give { node } => tell_of_node(text, "give", *node),
+        Event::Compact { node } => tell_of_node(text, "compact", *node),
         Event::Stop { node, calls, pick } => {
-            format!(in alloc; "stop node {}, calls {calls}, pick {pick}", node.index())
+            tell_of_node(text, "stop", *node)?;
+            write!(text, ", calls {calls}, pick {pick}")
         }
     }
+}
+
+fn tell_of_node(text: &mut String, what: &str, node: NodeIndex) -> Result<(), AllocError> {
+    write!(text, "{what} node {}", node.index())
 }
 
 /// The octets that are written on a link, in decimal.
-fn outcome_of_send(alloc: Global, link: u64, octets: &[u8]) -> Result<String, AllocError> {
-    let mut outcome = format!(in alloc; "send link {link}:")?;
+fn tell_send(text: &mut String, link: u64, octets: &[u8]) -> Result<(), AllocError> {
+    write!(text, "send link {link}:")?;
     for octet in octets {
-        outcome.push_str(format!(in alloc; " {octet}")?.as_str())?;
+        write!(text, " {octet}")?;
     }
-    Ok(outcome)
+    Ok(())
 }
 
 /// The text that spells octets, which stand in decimal.
-fn text_of(alloc: Global, octets: &str) -> Result<String, Fail> {
-    let mut text = Vec::new(alloc);
+fn tell_text(alloc: Global, text: &mut String, octets: &str) -> Result<(), Fail> {
+    let mut spelled = Vec::new(alloc);
     for word in octets.split(" ") {
-        push_text(&mut text, &[word.parse::<u8>()?])?;
+        push_text(&mut spelled, &[word.parse::<u8>()?])?;
     }
-    Ok(String::from_utf8(text)?)
+    Ok(text.push_str(str::from_utf8(spelled.as_slice())?)?)
 }

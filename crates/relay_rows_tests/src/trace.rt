@@ -7,58 +7,52 @@ use relay_trace::{
     received_line,
 };
 use std::alloc::{AllocError, Global};
+use std::str;
 use std::test::Fail;
 
-/// What comes of a row.
-pub fn outcome_of_trace(alloc: Global, given: &str) -> Result<String, Fail> {
-    if let Some(seconds) = given.strip_prefix("DATE ") {
-        return dated(alloc, seconds);
-    }
-    if let Some(seconds) = given.strip_prefix("MOMENT ") {
-        return moment_text(alloc, seconds.parse::<u64>()?);
-    }
-    if let Some(words) = given.strip_prefix("STAMP ") {
-        return stamped(alloc, words);
-    }
-    if let Some(text) = given.strip_prefix("HEADER ") {
-        return header_text(alloc, text, 1);
-    }
-    if let Some(text) = given.strip_prefix("HUNDRED ") {
-        return header_text(alloc, text, 100);
-    }
-    match given {
-        "LAST second" => Ok(format!(in alloc; "{LAST_SECOND}")?),
-        "FAULT OutOfRange" => Ok(fault_text(alloc, TraceFault::OutOfRange)?),
-        "FAULT NoMemory" => Ok(fault_text(alloc, TraceFault::NoMemory)?),
-        _ => Ok(String::from_str(alloc, "no row")?),
+/// Tells what comes of a row.
+pub fn tell_trace(alloc: Global, text: &mut String, given: &str) -> Result<(), Fail> {
+    let (word, rest) = given.split_once(' ').unwrap_or((given, ""));
+    match word {
+        "DATE" => tell_date(alloc, text, rest),
+        "MOMENT" => Ok(tell_moment(text, rest.parse::<u64>()?)?),
+        "STAMP" => Ok(tell_stamp(alloc, text, rest)?),
+        "HEADER" => Ok(tell_header(alloc, text, rest, 1)?),
+        "HUNDRED" => Ok(tell_header(alloc, text, rest, 100)?),
+        "LAST" => Ok(write!(text, "{LAST_SECOND}")?),
+        "FAULT" if rest == "OutOfRange" => Ok(tell_fault(text, TraceFault::OutOfRange)?),
+        "FAULT" => Ok(tell_fault(text, TraceFault::NoMemory)?),
+        _ => Ok(text.push_str("no row")?),
     }
 }
 
 /// The date of a moment.
-fn dated(alloc: Global, seconds: &str) -> Result<String, Fail> {
-    let moment = Moment::new(seconds.parse::<u64>()?)?;
-    Ok(String::from_utf8(date_text(alloc, moment)?)?)
+fn tell_date(alloc: Global, text: &mut String, seconds: &str) -> Result<(), Fail> {
+    let date = date_text(alloc, Moment::new(seconds.parse::<u64>()?)?)?;
+    Ok(text.push_str(str::from_utf8(date.as_slice())?)?)
 }
 
 /// The seconds of a moment, or why there is none.
-fn moment_text(alloc: Global, seconds: u64) -> Result<String, Fail> {
+fn tell_moment(text: &mut String, seconds: u64) -> Result<(), AllocError> {
     match Moment::new(seconds) {
-        Ok(moment) => Ok(format!(in alloc; "{}", moment.seconds())?),
-        Err(fault) => Ok(fault_text(alloc, fault)?),
+        Ok(moment) => write!(text, "{}", moment.seconds()),
+        Err(fault) => tell_fault(text, fault),
     }
 }
 
-fn fault_text(alloc: Global, fault: TraceFault) -> Result<String, AllocError> {
-    format!(in alloc; "{fault}")
+fn tell_fault(text: &mut String, fault: TraceFault) -> Result<(), AllocError> {
+    write!(text, "{fault}")
 }
 
 /// The time stamp line of what these words say.
-fn stamped(alloc: Global, words: &str) -> Result<String, Fail> {
-    let Some(stamp) = stamp_of(words) else {
-        return Ok(String::from_str(alloc, "no stamp")?);
-    };
-    let line = received_line(alloc, &stamp)?;
-    Ok(shown(alloc, line.as_slice())?)
+fn tell_stamp(alloc: Global, text: &mut String, words: &str) -> Result<(), TraceFault> {
+    match stamp_of(words) {
+        Some(stamp) => {
+            let line = received_line(alloc, &stamp)?;
+            Ok(tell_octets(text, line.as_slice())?)
+        }
+        None => Ok(text.push_str("no stamp")?),
+    }
 }
 
 /// Client, its address, host, protocol, number and moment, with a space between each two.
@@ -81,12 +75,12 @@ fn stamp_of(words: &str) -> Option<TimeStamp<'_>> {
 }
 
 fn peer_of(text: &str) -> Option<[u8; 4]> {
+    let mut peer = [0; 4];
     let mut numbers = text.split('.');
-    let first = numbers.next()?.parse::<u8>().ok()?;
-    let second = numbers.next()?.parse::<u8>().ok()?;
-    let third = numbers.next()?.parse::<u8>().ok()?;
-    let fourth = numbers.next()?.parse::<u8>().ok()?;
-    Some([first, second, third, fourth])
+    for octet in &mut peer {
+        *octet = numbers.next()?.parse::<u8>().ok()?;
+    }
+    Some(peer)
 }
 
 fn protocol_of(word: &str) -> Option<Protocol> {
@@ -98,20 +92,23 @@ fn protocol_of(word: &str) -> Option<Protocol> {
 }
 
 /// How many fields of a text, taken so many times, are `Received:`, and where its first empty line stands.
-fn header_text(alloc: Global, written: &str, times: u32) -> Result<String, Fail> {
-    let octets = octets_of(alloc, written)?;
-    let mut text: Vec<u8> = Vec::new(alloc);
+fn tell_header(
+    alloc: Global,
+    text: &mut String,
+    written: &str,
+    times: u32,
+) -> Result<(), AllocError> {
+    let mut header: Vec<u8> = Vec::new(alloc);
     for _ in 0..times {
-        text.extend_from_slice(octets.as_slice())?;
+        push_octets(&mut header, written)?;
     }
-    let count = received_count(text.as_slice());
-    let end = header_end(text.as_slice());
-    Ok(format!(in alloc; "{count} {end}")?)
+    let count = received_count(header.as_slice());
+    let end = header_end(header.as_slice());
+    write!(text, "{count} {end}")
 }
 
 /// The octets of a text in which `\r` and `\n` stand for CR and LF.
-fn octets_of(alloc: Global, written: &str) -> Result<Vec<u8>, AllocError> {
-    let mut octets: Vec<u8> = Vec::new(alloc);
+fn push_octets(octets: &mut Vec<u8>, written: &str) -> Result<(), AllocError> {
     let mut is_letter = false;
     for octet in written.as_bytes() {
         if *octet == b'\\' {
@@ -121,7 +118,7 @@ fn octets_of(alloc: Global, written: &str) -> Result<Vec<u8>, AllocError> {
             is_letter = false;
         }
     }
-    Ok(octets)
+    Ok(())
 }
 
 /// CR or LF by its letter.
@@ -130,8 +127,7 @@ fn ending_of(letter: u8) -> u8 {
 }
 
 /// Octets as a text in which CR and LF stand by their letters.
-fn shown(alloc: Global, octets: &[u8]) -> Result<String, AllocError> {
-    let mut text = String::new(alloc);
+fn tell_octets(text: &mut String, octets: &[u8]) -> Result<(), AllocError> {
     for octet in octets {
         match *octet {
             b'\r' => text.push_str("\\r")?,
@@ -139,5 +135,5 @@ fn shown(alloc: Global, octets: &[u8]) -> Result<String, AllocError> {
             other => text.push(char::from(other))?,
         }
     }
-    Ok(text)
+    Ok(())
 }

@@ -18,7 +18,7 @@ pub enum Verdict {
 impl Display for Verdict {
     fn fmt<W: fmt::Write>(&self, f: &mut Formatter<W>) -> fmt::Result {
         match self {
-            Verdict::Equal => write!(f, "as written down"),
+            Verdict::Equal => f.write_str("as written down"),
             Verdict::Differs(size, _) => write!(f, "differs, in pieces of {size}"),
         }
     }

@@ -6,7 +6,8 @@ use Rattle.relay_script.specs.Word.{IsMoment, IsNode, IsNodeCount, IsNumber}
 use Rattle.relay_script.specs.declared.event.Event.{Event}
 use Rattle.relay_script.specs.declared.event.Event.TheVariants.{Connect, Send, Carry, Break, Tick, Give, Compact, Stop}
 use Rattle.relay_script.specs.declared.event.ScriptLine.{ScriptLine}
-use Rattle.relay_script.specs.declared.event.ScriptLine.TheVariants.{Skipped, Nodes, Event as Happens, Ledger, Marks, Copies, Lost}
+use Rattle.relay_script.specs.declared.event.ScriptLine.TheVariants.{Skipped, Nodes, Event as Happens, Ledger, Marks}
+use Rattle.relay_script.specs.declared.event.ScriptLine.TheVariants.{Copies, Lost}
 
 -- what stands behind a keyword
 pub data Operand : Type 0 where

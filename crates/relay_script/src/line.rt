@@ -2,7 +2,8 @@
 ghost use Rattle.std.specs.Prelude.{◌≡◌, ◌↔◌, [], ◌∷◌, codes, IfOk, IsTrue, MatchOption};
 ghost use Rattle.relay_script.specs.Line.{IsSkipped, Spells, SpellsEvent, SpellsNoLine, SpellsWords};
 ghost use Rattle.relay_script.specs.Line.Operand.{Number, Text};
-ghost use Rattle.relay_script.specs.Reading.{LacksOperands, LacksWords, SpellsNoEvent, SpellsNoQuestion, SpellsOperands};
+ghost use Rattle.relay_script.specs.Reading.{LacksOperands, LacksWords, SpellsNoEvent, SpellsNoQuestion};
+ghost use Rattle.relay_script.specs.Reading.{SpellsOperands};
 ghost use Rattle.relay_script.specs.Reading.Kind.{NumberKind, TextKind};
 
 use crate::event::{Event, ScriptLine};

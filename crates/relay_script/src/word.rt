@@ -4,7 +4,8 @@ ghost use Rattle.std.specs.Char.{is_ascii_digit};
 ghost use Rattle.std.specs.List.{list_all};
 ghost use Rattle.relay_script.specs.Line.{IsOperand};
 ghost use Rattle.relay_script.specs.Line.Operand.{Count, Node, Number, Time};
-ghost use Rattle.relay_script.specs.Reading.{are_number_digits, CutsWord, HasNoSpace, IsNotBehind, LacksOperand, StandsBehind};
+ghost use Rattle.relay_script.specs.Reading.{are_number_digits, CutsWord, HasNoSpace, IsNotBehind, LacksOperand};
+ghost use Rattle.relay_script.specs.Reading.{StandsBehind};
 ghost use Rattle.relay_script.specs.Reading.Kind.{CountKind, NodeKind, NumberKind, TimeKind};
 
 use crate::node_count::NodeCount;

@@ -1,4 +1,4 @@
-use crate::meeting::dialogue::Verdict;
+use crate::comparison::Verdict;
 use crate::meeting::mark::written_behind;
 use crate::meeting::transcript::{End, Transcript};
 use crate::meeting::verdict_text::verdict_lines;

@@ -3,10 +3,10 @@ ghost use Rattle.relay_rows_tests.specs.Played.{Plays};
 ghost use Rattle.relay_server.specs.Setup.{setup_of_config};
 ghost use Rattle.relay_rows_tests.specs.Transcript.{IsTranscript};
 
+use crate::comparison::Verdict;
 use crate::meeting::play::Play;
 use relay_routes::Config;
 use std::alloc::{AllocError, Global};
-use std::fmt::{self, Display, Formatter};
 use std::fs;
 use std::rt::Files;
 use std::test::Fail;
@@ -29,27 +29,6 @@ impl Drop for Dialogue {
             replies: _replies,
             offers: _offers,
         } = self;
-    }
-}
-
-/// What a dialogue or an attempt came to.
-#[derive(Clone, Copy)]
-pub enum Verdict {
-    /// Each cutting gave what is written down.
-    Equal,
-    /// Cut into two pieces behind this many octets, something else came out.
-    DiffersAt(usize),
-    /// In pieces of one octet, something else came out.
-    DiffersOctetByOctet,
-}
-
-impl Display for Verdict {
-    fn fmt<W: fmt::Write>(&self, f: &mut Formatter<W>) -> fmt::Result {
-        match self {
-            Verdict::Equal => write!(f, "as written down, cut at every octet"),
-            Verdict::DiffersAt(place) => write!(f, "differs, cut behind {place} octets"),
-            Verdict::DiffersOctetByOctet => write!(f, "differs, octet by octet"),
-        }
     }
 }
 
