@@ -73,6 +73,17 @@ def init_makes_both_files(field):
     same("the second file", field.relay.second.read_bytes(), closed)
 
 
+def one_file_under_two_names_is_no_spool(field):
+    """By a hard and by a symbolic link, at each subcommand that opens the spool to write; nothing is written."""
+    for link in (pathlib.Path.hardlink_to, pathlib.Path.symlink_to):
+        field.relay.forget()
+        field.relay.spool.touch()
+        link(field.relay.second, field.relay.spool)
+        for word in ("init", "run", "push", "compact"):
+            same(f"{word} by {link.__name__}", field.relay.refused(word), (1, "relayd: device"))
+        same("the file", field.relay.spool.read_bytes(), b"")
+
+
 def an_empty_spool_is_written_anew_and_anew(field):
     body = bytes.fromhex("05" "0000000000000001" "00000000")
     same("compact", field.relay.run("compact"), ["18 36"])
@@ -376,7 +387,7 @@ def feed(relay, answered, number):
         return number
 
 
-ROWS = [init_makes_both_files, an_empty_spool_is_written_anew_and_anew, what_is_held_stays,
+ROWS = [init_makes_both_files, one_file_under_two_names_is_no_spool, an_empty_spool_is_written_anew_and_anew, what_is_held_stays,
         a_drained_spool_is_as_small_as_one_body, a_spool_of_one_file_goes_on_without,
         the_newer_file_with_an_open_head_is_read, a_snapshot_that_is_cut_is_refused, both_files_are_taken_by_serve,
         a_file_that_takes_no_more_loses_nothing, each_allocation_that_is_refused_loses_nothing,

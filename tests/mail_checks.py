@@ -71,16 +71,16 @@ def converse(relay, *parts):
 FAILED = {"Final-Recipient": "rfc822; b@example.org", "Action": "failed"}
 
 
-def read_report(message, number, of):
+def read_report(message, number, of, sender="a@example.org"):
     """A report's three parts as Python's email reads them; its envelope and its head have to be right."""
     same("MAIL of a report", message.mail, b"<>")
-    same("RCPT of a report", message.recipients, [b"<a@example.org>"])
+    same("RCPT of a report", message.recipients, [f"<{sender}>".encode()])
     read = email.message_from_bytes(message.content, policy=email.policy.default)
     same("defects of a report", [part.defects for part in read.walk() if part.defects], [])
     same("type of a report", (read.get_content_type(), read.get_param("report-type")),
          ("multipart/report", "delivery-status"))
     same("From", read["From"], "postmaster@relay.example")
-    same("To", read["To"], "a@example.org")
+    same("To", read["To"], sender)
     same("Message-ID", read["Message-ID"], f"<{number}@relay.example>")
     parts = list(read.iter_parts())
     same("parts of a report", len(parts), 3)

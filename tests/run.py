@@ -112,13 +112,12 @@ def sixty_four_sessions_stand_side_by_side(field):
 
 
 def the_next_of_one_address_is_sent_away(field):
+    """Of one address 32 are taken where the configuration says nothing; others are taken even so."""
     relay = field.relay()
-    with relay.running(), clients_of(relay, 16) as clients:
+    with relay.running(), clients_of(relay, 32) as clients:
         with Client(relay) as client:
-            same("the 17th", client.rest(), TOO_MANY)
+            same("the 33rd", client.rest(), TOO_MANY)
         with clients_of(relay, 16, "127.0.0.2") as others:
-            with Client(relay, "127.0.0.2") as client:
-                same("the 17th of another address", client.rest(), TOO_MANY)
             others[0].hand_in()
         same("QUIT", clients[3].say(b"QUIT\r\n")[:4], "221 ")
         same("behind QUIT", clients[3].rest(), b"")
@@ -463,6 +462,20 @@ def its_faults_end_it_before_it_is_ready(field):
     same("no spool", relay.refused("run"), (1, "relayd: spool NotASpool"))
 
 
+def an_address_that_comes_later_is_waited_for(field):
+    """As while a machine boots: it is tried each second, for a minute; one line of the log says so."""
+    relay = field.relay()
+    shim(field, "later_address", relay, TRIES="59")
+    with relay.running():
+        hand_in(relay)
+        field.arrived(1)
+    same("lines of it", len(lines_of(relay, "this machine has no such address yet: tried again for 60 s")), 1)
+    relay.environment.update(TRIES="60")
+    same("one that doesn't come", relay.refused("run")[0], 1)
+    told = relay.refused("run", "--quiet")
+    same("one that doesn't come, told quietly", told, (1, "relayd: socket"))
+
+
 def a_closed_standard_error_stops_nothing(field):
     def close_two():
         os.close(0)
@@ -507,6 +520,7 @@ ROWS = [
     a_kill_loses_nothing,
     few_descriptors_keep_clients_waiting_alone,
     its_faults_end_it_before_it_is_ready,
+    an_address_that_comes_later_is_waited_for,
     a_closed_standard_error_stops_nothing,
 ]
 

@@ -19,7 +19,7 @@ sys.dont_write_bytecode = True
 
 from mail_checks import hand_in
 from relay_program import Difference, PATIENCE, same, until
-from running_relay import SOON, TEXT, Client, clients_of, comes_to_rest, greeted, hop_that_falls_silent, lines_of
+from running_relay import SOON, TEXT, TIMEOUT, Client, clients_of, comes_to_rest, greeted, hop_that_falls_silent, lines_of
 from running_relay import number_of, play_rows, shim
 
 DAY = 86400
@@ -290,6 +290,21 @@ def clients_leave_four_descriptors_for_attempts(field):
         until("an empty list", lambda: relay.held() == [])
 
 
+def idle_clients_leave_places_to_others(field):
+    """By a clock that goes twenty times as fast: 48 that are idle for 20 seconds stay; beside one more they go, but for
+    the one whose mail was accepted."""
+    relay = field.relay(sessions_per_client=64)
+    shim(field, "run_clocks", relay, FASTER="20")
+    with relay.running(), clients_of(relay, 48) as clients:
+        clients[0].hand_in()
+        time.sleep(1)
+        same("the reply of one that was idle", clients[1].say(b"NOOP\r\n"), "250 OK")
+        with clients_of(relay, 1):
+            same("what idle ones hear", [client.rest() for client in clients[2:]], [TIMEOUT] * 46)
+            clients[0].hand_in()
+        field.arrived(2)
+
+
 ROWS = [
     a_full_device_closes_all_and_goes_on_with_room,
     the_spool_is_opened_later_each_time,
@@ -300,6 +315,7 @@ ROWS = [
     a_next_hop_is_waited_for_by_what_it_was_told,
     a_thousand_connections_find_few_descriptors,
     clients_leave_four_descriptors_for_attempts,
+    idle_clients_leave_places_to_others,
 ]
 
 

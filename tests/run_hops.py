@@ -23,8 +23,9 @@ from running_relay import SOON, Client, beside, clients_of, comes_to_rest, hop_t
 from running_relay import play_rows, shim, slowest
 from smtp_sink import Listener
 
-# How many next hops say nothing at once.
+# How many next hops say nothing at once, and how many of these have a connection at most.
 SILENT = 63
+MOST_SILENT = 48
 
 
 class Answering(socketserver.BaseRequestHandler):
@@ -104,6 +105,46 @@ BAD = {
 }
 
 
+class Narrow:
+    """A next hop that serves a number of connections at a time. Each further one it greets by 421, or closes without a
+    word."""
+
+    def __init__(self, most, has_words):
+        self.most, self.has_words, self.lock = most, has_words, threading.Lock()
+        self.running = self.turned_away = self.taken = 0
+
+    def __call__(self, link):
+        with self.lock:
+            is_served = self.running < self.most
+            self.running += is_served
+            self.turned_away += not is_served
+        if is_served:
+            try:
+                self.serve(link)
+            finally:
+                with self.lock:
+                    self.running -= 1
+            # Who hears this may make another connection at once, so this one counts no more.
+            link.sendall(b"221 goodbye\r\n")
+        elif self.has_words:
+            link.sendall(b"421 hop.example too many connections\r\n")
+
+    def serve(self, link):
+        with link.makefile("rb") as lines:
+            link.sendall(b"220 hop.example\r\n")
+            for line in lines:
+                if line == b"QUIT\r\n":
+                    return
+                if line == b"DATA\r\n":
+                    link.sendall(b"354 go on\r\n")
+                    while lines.readline() not in (b".\r\n", b""):
+                        pass
+                    time.sleep(0.01)
+                    with self.lock:
+                        self.taken += 1
+                link.sendall(b"250 ok\r\n")
+
+
 def reset(link):
     """Closes a connection by a reset."""
     link.setsockopt(socket.SOL_SOCKET, socket.SO_LINGER, struct.pack("ii", 1, 0))
@@ -152,22 +193,46 @@ def a_hop_that_hangs_holds_up_no_other(field):
                 same("list", len(relay.held()), 10)
 
 
-def sixty_three_silent_hops_hold_up_no_other(field):
-    """Of the 64 attempts that there may be each of them has one, whatever waits for it."""
+def silent_hops_leave_room_for_others(field):
+    """Each of them has one connection, whatever is queued for it, and of the 64 that there may be all of them have 48:
+    the others are for next hops that have answered."""
     with contextlib.ExitStack() as stack:
         hops = [stack.enter_context(hop_that_hangs()) for _ in range(SILENT)]
         more = {f"silent-{at}.example": (f"hop-{at}.example", port) for at, (port, _) in enumerate(hops)}
         relay = field.relay(more=more)
+
+        def connections():
+            return sorted(len(taken) for _, taken in hops)
+
         with relay.running() as process, clients_of(relay, 1) as [client]:
+            client.hand_in()
+            field.arrived(1)
             for domain in list(more) * 3:
                 client.hand_in(f"c@{domain}")
-            until("a connection to each", lambda: all(taken for _, taken in hops))
+            wanted = [0] * (SILENT - MOST_SILENT) + [1] * MOST_SILENT
+            until("a connection to each that may have one", lambda: connections() == wanted)
             for _ in range(5):
                 client.hand_in()
                 field.arrived(1, SOON)
             comes_to_rest(process, "beside silent hops")
-            same("connections to each of them", {len(taken) for _, taken in hops}, {1})
+            same("connections to them", connections(), wanted)
             same("list", len(relay.held()), 3 * SILENT)
+
+
+def a_hop_of_few_connections_puts_nothing_off(field):
+    """Whether it says so by 421 or closes the connection: what it turns away is tried as soon as another has ended."""
+    for has_words in (True, False):
+        hop = Narrow(2, has_words)
+        with hop_that(hop) as port:
+            relay = field.relay(f"relay-{has_words}", more={"example.net": ("narrow.example", port)})
+            with relay.running() as process, clients_of(relay, 1) as [client]:
+                for _ in range(100):
+                    client.hand_in("c@example.net")
+                until("all that it takes", lambda: hop.taken == 100)
+                until("an empty list", lambda: relay.held() == [])
+                comes_to_rest(process, "after a hop of few connections")
+            same("attempts that put a message off", lines_of(relay, "deferred"), [])
+            same("whether it turned any away", 0 < hop.turned_away, True)
 
 
 def a_hop_that_takes_no_connection_is_lost_behind_half_a_minute(field):
@@ -248,7 +313,8 @@ def clients_that_are_reset_delay_no_reply(field):
 ROWS = [
     a_hop_that_is_away_holds_up_no_other,
     a_hop_that_hangs_holds_up_no_other,
-    sixty_three_silent_hops_hold_up_no_other,
+    silent_hops_leave_room_for_others,
+    a_hop_of_few_connections_puts_nothing_off,
     a_hop_that_takes_no_connection_is_lost_behind_half_a_minute,
     bad_next_hops_delay_no_reply,
     clients_that_are_reset_delay_no_reply,

@@ -8,9 +8,11 @@ With the names of rows it runs these alone. DUE (6300) says how many messages ar
 THROUGH (2000) how many go through a relay, and CONTENT (1048576) how many octets each of 64 messages at once has; what
 has to be prompt may take as many times as long as TIMES says in the environment (2 where it says nothing).
 """
+import contextlib
 import os
 import pathlib
 import re
+import selectors
 import sys
 import threading
 import time
@@ -19,7 +21,8 @@ sys.dont_write_bytecode = True
 
 from mail_checks import hand_in
 from relay_program import Difference, PATIENCE, free_port, same, until
-from running_relay import SOON, Client, clients_of, comes_to_rest, number_of, play_rows, resident
+from running_relay import SOON, Client, beside, clients_of, comes_to_rest, lines_of, no_later, number_of, play_rows
+from running_relay import resident, slowest
 
 DUE = int(os.environ.get("DUE", 6300))
 THROUGH = int(os.environ.get("THROUGH", 2000))
@@ -97,6 +100,92 @@ def mail_for_63_hops_that_are_away_holds_up_no_other(field):
         comes_to_rest(process, "beside hops that are away")
 
 
+def listing(relay):
+    """How long `list` takes, in seconds, and the numbers of the messages that it prints."""
+    begun = time.monotonic()
+    numbers = [row[0] for row in relay.held()]
+    return time.monotonic() - begun, numbers
+
+
+def list_takes_no_longer_beside_a_flood(field):
+    """What is appended while it reads isn't printed: it prints the queue as it was at one time."""
+    relay = field.relay(more={"example.net": ("away.example", free_port())}, spool_limit=1 << 30, sessions_per_client=64)
+
+    def flood(done):
+        while not done.is_set():
+            pour(relay, ["example.net"], 5 * AT_ONCE)
+
+    with relay.running("--quiet"):
+        pour(relay, ["example.net"], DUE)
+        alone = max(listing(relay)[0] for _ in range(3))
+        _, before = listing(relay)
+        with contextlib.ExitStack() as stack:
+            for _ in range(8):
+                stack.enter_context(beside(flood))
+            for _ in range(5):
+                took, numbers = listing(relay)
+                same("each is listed once, in order", numbers, sorted(set(numbers)))
+                same("what was listed and isn't any more", set(before) - set(numbers), set())
+                before = numbers
+                if took > 3 * alone + SOON:
+                    raise Difference(f"list takes {took:.2f} s beside a flood, and {alone:.2f} s alone")
+
+
+def list_ends_beside_compactions(field):
+    """One each second, as mail goes through a small spool."""
+    relay = field.relay(spool_limit=200_000, sessions_per_client=64)
+
+    def feed(done):
+        with clients_of(relay, 1) as [client]:
+            while not done.is_set():
+                client.hand_in()
+
+    with relay.running():
+        with beside(feed):
+            until("compactions", lambda: len(lines_of(relay, "spool compacted")) >= 1)
+            for _ in range(100):
+                took, _ = listing(relay)
+                if took > SOON:
+                    raise Difference(f"list takes {took:.2f} s beside compactions")
+
+
+def pipeline(relay, count, octets, done):
+    """Sends these octets over and over at this many connections, and reads what comes; nothing waits for the other."""
+    with contextlib.ExitStack() as stack:
+        selector = stack.enter_context(selectors.DefaultSelector())
+        for _ in range(count):
+            client = stack.enter_context(Client(relay, "127.0.0.2"))
+            client.begin()
+            client.link.setblocking(False)
+            selector.register(client.link, selectors.EVENT_READ | selectors.EVENT_WRITE)
+        while not done.is_set():
+            for key, events in selector.select(0.1):
+                with contextlib.suppress(BlockingIOError):
+                    if events & selectors.EVENT_READ:
+                        key.fileobj.recv(1 << 18)
+                    if events & selectors.EVENT_WRITE:
+                        # What goes begins with a whole line and may end in one: each line is a command all the same.
+                        key.fileobj.send(octets)
+
+
+def clients_that_pipeline_commands_delay_no_reply(field):
+    """Whatever they send and however many they are, another client's 250 comes within a few hundredths of a second."""
+    relay = field.relay(sessions_per_client=64)
+    with relay.running("--quiet") as process, clients_of(relay, 1) as [client]:
+        alone = slowest(client, 20)
+        field.arrived(20)
+        for count, octets in ((16, b"\r\n"), (60, b"NOOP\r\n"), (60, b"UNKNOWN\r\n"), (60, b"\r\n")):
+
+            def flood(done, count=count, octets=octets):
+                pipeline(relay, count, octets * (65_536 // len(octets)), done)
+
+            with beside(flood):
+                time.sleep(0.5)
+                no_later(client, alone, 20, f"{count} clients that pipeline {octets}")
+            field.arrived(20)
+        comes_to_rest(process, "after clients that pipeline")
+
+
 def memory_and_descriptors_stay_as_mail_goes_through(field):
     relay = field.relay(sessions_per_client=64)
     with relay.running("--quiet") as process:
@@ -154,6 +243,9 @@ def at_rest_it_sleeps(field):
 
 ROWS = [
     mail_for_63_hops_that_are_away_holds_up_no_other,
+    clients_that_pipeline_commands_delay_no_reply,
+    list_takes_no_longer_beside_a_flood,
+    list_ends_beside_compactions,
     memory_and_descriptors_stay_as_mail_goes_through,
     sixty_four_texts_at_once_cost_what_they_have,
     at_rest_it_sleeps,

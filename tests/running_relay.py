@@ -75,12 +75,16 @@ class Client:
         self.replies.close()
         self.link.close()
 
+    def reply_lines(self):
+        """The lines of a reply, without their ends."""
+        lines = [self.replies.readline()]
+        while lines[-1][3:4] == b"-":
+            lines.append(self.replies.readline())
+        return [line.decode().rstrip("\r\n") for line in lines]
+
     def reply(self):
         """The last line of a reply."""
-        line = self.replies.readline()
-        while line[3:4] == b"-":
-            line = self.replies.readline()
-        return line.decode().rstrip("\r\n")
+        return self.reply_lines()[-1]
 
     def say(self, octets):
         self.link.sendall(octets)

@@ -26,6 +26,8 @@ class Manners:
     # The unit that isn't answered, and behind which the connection is closed: "connection", "EHLO", "MAIL",
     # "RCPT", "DATA", "some content" (the beginning of a dot text) or "content" (all of it).
     hangs_up_at: str = ""
+    # Whether no connection is greeted before the sink's `greet`.
+    holds_greeting: bool = False
 
 
 @dataclasses.dataclass
@@ -92,6 +94,7 @@ class Conversation(socketserver.BaseRequestHandler):
         self.mail, self.recipients, self.chunks = None, [], b""
         # The last message that it has taken.
         self.last = None
+        self.sink.greets.wait()
         try:
             self.reply("connection", "220 sink.example ready")
             while self.command(self.reader.up_to(CRLF)):
@@ -200,6 +203,9 @@ class Sink:
         self.manners = manners or Manners()
         self.messages, self.commands, self.breaches = [], [], []
         self.connections, self.changed = 0, threading.Condition()
+        self.greets = threading.Event()
+        if not self.manners.holds_greeting:
+            self.greet()
         self.listener = Listener(("127.0.0.1", port), Conversation)
         self.listener.sink = self
         self.port = self.listener.server_address[1]
@@ -212,7 +218,12 @@ class Sink:
     def __exit__(self, *failure):
         self.close()
 
+    def greet(self):
+        """Greets the connections that are there, and each later one."""
+        self.greets.set()
+
     def close(self):
+        self.greet()
         self.listener.shutdown()
         self.listener.server_close()
         self.thread.join()
