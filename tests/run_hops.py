@@ -124,8 +124,6 @@ class Narrow:
             finally:
                 with self.lock:
                     self.running -= 1
-            # Who hears this may make another connection at once, so this one counts no more.
-            link.sendall(b"221 goodbye\r\n")
         elif self.has_words:
             link.sendall(b"421 hop.example too many connections\r\n")
 
@@ -133,8 +131,6 @@ class Narrow:
         with link.makefile("rb") as lines:
             link.sendall(b"220 hop.example\r\n")
             for line in lines:
-                if line == b"QUIT\r\n":
-                    return
                 if line == b"DATA\r\n":
                     link.sendall(b"354 go on\r\n")
                     while lines.readline() not in (b".\r\n", b""):
@@ -143,6 +139,8 @@ class Narrow:
                     with self.lock:
                         self.taken += 1
                 link.sendall(b"250 ok\r\n")
+                if line == b"QUIT\r\n":
+                    return
 
 
 def reset(link):

@@ -353,7 +353,7 @@ impl Clients {
             Next::Stays => self.clients.put(number, client),
             Next::Leaves(outbox) => {
                 let channel = Box::into_inner(client).into_channel();
-                leaving.take(registry, channel, outbox, now);
+                leaving.take(registry, channel, outbox, None, now);
             },
             Next::Gone => intake.closed = true,
         }

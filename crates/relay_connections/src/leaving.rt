@@ -1,8 +1,9 @@
 //! Connections whose session or attempt has ended: their last octets are written, and what the peer still sends is
 //! read and dropped for a moment, since the system else resets the connection, and the last octets with it.
-ghost use Rattle.std.specs.Prelude.{◌≤◌, ◌<◌, ◌↔◌, IsTrue};
+ghost use Rattle.std.specs.Prelude.{◌≡◌, ◌≤◌, ◌<◌, ◌↔◌, IsTrue};
 ghost use Rattle.relay_connections.specs.declared.leaving.TheConstants.{MOST_STRANGERS};
-ghost use Rattle.relay_connections.specs.Table.{count_of};
+ghost use Rattle.relay_connections.specs.Leaving.{goes_to, leavers_of};
+ghost use Rattle.relay_connections.specs.Table.{count_of, count_of_such, is_such};
 
 use crate::channel::{Channel, End, Readiness};
 use crate::clocks::Now;
@@ -25,6 +26,8 @@ struct Leaver {
     outbox: Outbox,
     /// Whether they are written, and the peer was told that nothing more comes.
     is_shut: bool,
+    /// The number of the place that it goes to, where it goes to a next hop.
+    place: Option<usize>,
     /// The tick at which the connection is closed.
     deadline: u64,
 }
@@ -36,8 +39,19 @@ impl Drop for Leaver {
             channel: _channel,
             outbox: _outbox,
             is_shut: _,
+            place: _,
             deadline: _,
         } = self;
+    }
+}
+
+/// Whether the connection in a slot goes to the place of a number.
+fn goes_to(slot: &Option<Box<Leaver>>, place: usize) -> bool
+    ensures { result ≡ is_such (goes_to place) slot.now }
+{
+    match slot {
+        Some(leaver) => leaver.place == Some(place),
+        None => false,
     }
 }
 
@@ -73,13 +87,22 @@ impl Leaving {
         })
     }
 
-    /// Takes a connection with its last octets. They are written at once as far as they go. Where 64 are leaving
-    /// already, or no memory is left, it is closed behind that.
-    pub fn take(&mut self, registry: &Registry, channel: Channel, outbox: Outbox, now: &Now) {
+    /// Takes a connection with its last octets, and the number of the place that it goes to, where it goes to a next
+    /// hop. The octets are written at once as far as they go. Where 64 are leaving already, or no memory is left, it is
+    /// closed behind that.
+    pub fn take(
+        &mut self,
+        registry: &Registry,
+        channel: Channel,
+        outbox: Outbox,
+        place: Option<usize>,
+        now: &Now,
+    ) {
         let mut leaver = Leaver {
             channel,
             outbox,
             is_shut: false,
+            place,
             deadline: now.behind(self.seconds),
         };
         leaver.write(now);
@@ -100,6 +123,20 @@ impl Leaving {
         ensures { IsTrue result ↔ (count_of self.now.leavers < MOST_STRANGERS) }
     {
         self.leavers.count() < MOST_STRANGERS
+    }
+
+    /// How many are leaving that go to the next hops at the place of a number.
+    pub fn count_to(&self, place: usize) -> usize
+        ensures { result ≡ count_of_such (goes_to place) (leavers_of self.now) }
+    {
+        let standing = self.leavers.standing();
+        let mut count = 0;
+        for number in 0..standing.len() {
+            if goes_to(&standing[number], place) {
+                count += 1;
+            }
+        }
+        count
     }
 
     /// Closes all connections.

@@ -19,36 +19,40 @@ abbrev pub hold_end : ℕ → Option Hold → Option ℕ
 hold_end tick None = None
 hold_end tick (Some hold) = if nat_lt tick hold.until then Some hold.until else None
 
--- Fewer connections stand than the most and than the next hop takes, or none where it has said nothing yet, and it
--- isn't left alone.
+-- how many connections to the next hop stand: those of attempts that run, and those whose attempt has ended
+abbrev pub standing : Pace → ℕ
+standing pace = min (pace.running + pace.leaving) (2 ^ 64 - 1)
+
+-- Fewer attempts run than the most, and fewer connections stand than the next hop takes; or none runs where it has said
+-- nothing yet. And it isn't left alone.
 pub record MayBegin (most tick : ℕ) (pace : Pace) : Type 0 where
-  pub fewer : pace.has_answered ≡ true → pace.running < min most pace.limit
+  pub fewer : pace.has_answered ≡ true → (pace.running < most) × (standing pace < pace.limit)
   pub one : pace.has_answered ≡ false → pace.running ≡ 0
   pub alone : IsHeld pace.hold tick → ⊥
 
 -- nothing is known of the next hop: no limit either
 abbrev pub unknown_pace : Pace
-unknown_pace = record { running = 0; limit = 2 ^ 64 - 1; has_answered = false; hold = None }
+unknown_pace = record { running = 0; leaving = 0; limit = 2 ^ 64 - 1; has_answered = false; hold = None }
 
--- this number of connections stand
+-- this number of attempts run
 abbrev pub with_running : ℕ → Pace → Pace
-with_running running pace =
-    record { running = running; limit = pace.limit; has_answered = pace.has_answered; hold = pace.hold }
+with_running running pace = record pace { running = running }
+
+-- this number of connections stand whose attempt has ended
+abbrev pub with_leaving : ℕ → Pace → Pace
+with_leaving leaving pace = record pace { leaving = leaving }
 
 -- the next hop takes this number of connections at a time
 abbrev pub with_limit : ℕ → Pace → Pace
-with_limit limit pace =
-    record { running = pace.running; limit = limit; has_answered = pace.has_answered; hold = pace.hold }
+with_limit limit pace = record pace { limit = limit }
 
 -- the next hop has said something
 abbrev pub answered_pace : Pace → Pace
-answered_pace pace = record { running = pace.running; limit = pace.limit; has_answered = true; hold = None }
+answered_pace pace = record pace { has_answered = true; hold = None }
 
 -- it is left alone from this tick on, or up to the last that there is
 abbrev pub held_from : ℕ → Pace → Pace
-held_from tick pace = record {
-  running = pace.running;
-  limit = pace.limit;
+held_from tick pace = record pace {
   has_answered = false;
   hold = Some (record {
     until = min (tick + next_hold pace.hold * 1000) (2 ^ 64 - 1);

@@ -1,6 +1,6 @@
 ghost use Rattle.std.specs.Prelude.{◌≡◌, ◌↔◌, ◌<◌, ◌+◌, ◌-◌, ◌^◌, max, min, IsTrue};
 ghost use Rattle.relay_limits.specs.Pace.{IsHeld, MayBegin, answered_pace, held_from, hold_end, next_hold};
-ghost use Rattle.relay_limits.specs.Pace.{unknown_pace, with_limit, with_running};
+ghost use Rattle.relay_limits.specs.Pace.{standing, unknown_pace, with_leaving, with_limit, with_running};
 
 /// How many seconds a next hop that can't be reached is left alone the first time. Behind each further attempt it is
 /// twice as long, up to the longest.
@@ -22,7 +22,10 @@ struct Hold {
 /// of a monotonic clock.
 #[derive(Debug, Drop)]
 pub struct Pace {
+    /// How many attempts run, each by a connection.
     running: usize,
+    /// How many connections stand beside these whose attempt has ended: the next hop counts them until they are closed.
+    leaving: usize,
     /// The most connections that the next hop takes at a time, as far as is known.
     limit: usize,
     /// The next hop has said something since it was left alone last, or since the relay began.
@@ -37,31 +40,39 @@ impl Pace {
     {
         Pace {
             running: 0,
+            leaving: 0,
             limit: usize::MAX,
             has_answered: false,
             hold: None,
         }
     }
 
-    /// Whether one more connection may be begun: fewer stand than `most` and than the next hop takes, and the next hop
-    /// isn't left alone. Until it has said something only one is made, so that a next hop that can't be reached, or is
-    /// silent, takes no more of those that there may be.
+    /// Whether one more connection may be begun: fewer attempts run than `most`, fewer connections stand than the next
+    /// hop takes, and the next hop isn't left alone. Until it has said something only one is made, so that a next hop
+    /// that can't be reached, or is silent, takes no more of those that there may be.
     pub fn may_begin(&self, most: usize, tick: u64) -> bool
         ensures { IsTrue result ↔ MayBegin most tick self.now }
     {
-        let most_now = if self.has_answered {
-            most.min(self.limit)
+        let takes_one_more = if self.has_answered {
+            self.running < most && self.standing() < self.limit
         } else {
-            1
+            self.running == 0
         };
-        self.running < most_now && !self.is_held(tick)
+        takes_one_more && !self.is_held(tick)
     }
 
-    /// Whether more than one connection to the next hop stands.
-    pub fn is_shared(&self) -> bool
-        ensures { IsTrue result ↔ (1 < self.now.running) }
+    /// How many connections to the next hop stand, with those whose attempt has ended.
+    pub fn standing(&self) -> usize
+        ensures { result ≡ standing self.now }
     {
-        1 < self.running
+        self.running.saturating_add(self.leaving)
+    }
+
+    /// Whether connections stand whose attempt has ended.
+    pub fn has_leaving(&self) -> bool
+        ensures { IsTrue result ↔ (0 < self.now.leaving) }
+    {
+        0 < self.leaving
     }
 
     /// Whether the next hop has said something since it was left alone last, or since the relay began.
@@ -73,9 +84,9 @@ impl Pace {
 
     /// Lowers the limit to the connections that stand, 1 at least: the next hop has refused one more.
     pub fn lower_limit(&mut self)
-        ensures { self.new ≡ with_limit (max self.old.running 1) self.old }
+        ensures { self.new ≡ with_limit (max (standing self.old) 1) self.old }
     {
-        self.limit = self.running.max(1);
+        self.limit = self.standing().max(1);
     }
 
     /// Raises the limit by one: an attempt has ended well, so the next hop may take one more.
@@ -92,11 +103,18 @@ impl Pace {
         self.running = self.running.saturating_add(1);
     }
 
-    /// A connection, or what was to be one, is gone.
+    /// An attempt's connection, or what was to be one, is gone, or is leaving.
     pub fn ended(&mut self)
         ensures { self.new ≡ with_running (self.old.running - 1) self.old }
     {
         self.running = self.running.saturating_sub(1);
+    }
+
+    /// So many connections stand whose attempt has ended.
+    pub fn note_leaving(&mut self, count: usize)
+        ensures { self.new ≡ with_leaving count self.old }
+    {
+        self.leaving = count;
     }
 
     /// The next hop has said something: when it can't be reached the next time, it is left alone for as short as the

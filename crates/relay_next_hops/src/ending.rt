@@ -23,7 +23,7 @@ pub(crate) fn conclude(
 ) -> Result<(), Fault> {
     let (channel, errand) = ended;
     let lane = errand.aim.lane;
-    let is_shared = lanes.is_shared(lane);
+    let is_shared = lanes.is_shared(&errand.aim);
     lanes.ended(lane);
     match course {
         Course::Stays => Ok(()),
@@ -32,14 +32,15 @@ pub(crate) fn conclude(
                 lanes.ended_well(lane);
             }
             tell(errand, "ended", None, noted, now, log);
-            leaving.take(registry, channel, outbox, now);
+            leaving.take(registry, channel, outbox, Some(lane), now);
+            lanes.note_leaving_of(lane, leaving);
             Ok(())
         }
         Course::TurnedAway => {
             lanes.turn_away(lane, errand.into_task());
             Ok(())
         }
-        // Refused, or closed without a greeting, while others stand: the next hop takes no more of them.
+        // Refused, or closed without a greeting, beside others: the next hop takes no more of them.
         Course::Lost(Loss::Refused | Loss::Cut) if is_shared && errand.attempt.is_none() => {
             lanes.turn_away(lane, errand.into_task());
             Ok(())

@@ -29,6 +29,8 @@ pub(crate) struct Aim {
     pub(crate) lane: usize,
     /// The lane's place.
     pub(crate) at: SocketAddrV4,
+    /// Other connections to the place stood when it was begun.
+    pub(crate) beside: bool,
     /// When the message was accepted, where that is known.
     pub(crate) accepted: Option<Moment>,
 }
@@ -222,7 +224,7 @@ impl Hop {
     }
 
     /// Does one thing more: makes the connection, awaits the greeting, writes what waits, or reads what its attempt may
-    /// hear then. It is shared where other connections to the next hop stand.
+    /// hear then. The next hop is shared where other connections to it stand, or stood when this one was begun.
     pub(crate) fn attend(
         &mut self,
         relay: &mut Relay<FileDisk>,

@@ -183,7 +183,7 @@ impl Hops {
         };
         let mut hop = taken;
         let had_spoken = hop.has_spoken;
-        let is_shared = lanes.is_shared(hop.aim.lane);
+        let is_shared = lanes.is_shared(&hop.aim);
         let course = hop.attend(relay, is_shared, now)?;
         if hop.has_spoken && !had_spoken {
             lanes.answered(hop.aim.lane);

@@ -1,8 +1,9 @@
 //! What is due, by the places of the next hops, and which of it may be begun.
 ghost use Rattle.std.specs.Prelude.{◌≤◌};
 
+use crate::hop::Aim;
 use crate::lane::{Lane, Task};
-use relay_connections::Now;
+use relay_connections::{Leaving, Now};
 use std::alloc::Global;
 use std::collections::{HashMap, VecDeque};
 use std::net::SocketAddrV4;
@@ -199,11 +200,34 @@ impl Lanes {
         }
     }
 
-    /// Whether several connections of a lane stand.
-    pub(crate) fn is_shared(&self, number: usize) -> bool {
+    /// How many connections of a lane stand.
+    pub(crate) fn standing(&self, number: usize) -> usize {
         match self.lanes.get(number) {
-            Some(lane) => lane.pace.is_shared(),
-            None => false,
+            Some(lane) => lane.pace.standing(),
+            None => 0,
+        }
+    }
+
+    /// Whether others of its lane stand beside a connection, or stood when it was begun: one that is refused may have
+    /// been one too many.
+    pub(crate) fn is_shared(&self, aim: &Aim) -> bool {
+        aim.beside || 1 < self.standing(aim.lane)
+    }
+
+    /// A connection of a lane may be leaving.
+    pub(crate) fn note_leaving_of(&mut self, number: usize, leaving: &Leaving) {
+        if let Some(lane) = self.lanes.get_mut(number) {
+            lane.pace.note_leaving(leaving.count_to(number));
+        }
+    }
+
+    /// Connections that were leaving are closed: more may be begun where the next hop takes no more than stood.
+    pub(crate) fn note_leaving(&mut self, leaving: &Leaving) {
+        for (number, lane) in self.lanes.iter_mut().enumerate() {
+            if lane.pace.has_leaving() {
+                lane.pace.note_leaving(leaving.count_to(number));
+                self.is_open = true;
+            }
         }
     }
 

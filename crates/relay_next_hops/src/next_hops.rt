@@ -107,6 +107,11 @@ impl NextHops {
         self.hops.answer(replied, registry, relay, &mut self.lanes, leaving, now, log)
     }
 
+    /// Connections that were leaving are closed: a next hop that took no more than stood may take another.
+    pub fn note_leaving(&mut self, leaving: &Leaving) {
+        self.lanes.note_leaving(leaving);
+    }
+
     /// Begins what is due and may be begun, with the descriptors that are kept for that, and gives the places of one
     /// message up that have no next hop. It tells whether it did that. Only a device that failed is a fault.
     pub fn begin<R: Clock + Net>(

@@ -127,7 +127,7 @@ fn start_lane<N: Net>(
         let Some((task, at)) = lanes.next(lane, now) else {
             return Ok(Begun::GoesOn);
         };
-        let aim = aim_of(relay, task.message, lane, at);
+        let aim = aim_of(relay, lanes, task.message, lane, at);
         match hops.connect(net, registry, number, task, aim, log.speaks(), now) {
             Ok(()) => lanes.began(lane),
             Err((task, error)) if is_want_of_sockets(&error) => {
@@ -143,12 +143,23 @@ fn start_lane<N: Net>(
 }
 
 /// Where a connection for a message goes.
-fn aim_of(relay: &Relay<FileDisk>, message: u64, lane: usize, at: SocketAddrV4) -> Aim {
+fn aim_of(
+    relay: &Relay<FileDisk>,
+    lanes: &Lanes,
+    message: u64,
+    lane: usize,
+    at: SocketAddrV4,
+) -> Aim {
     let accepted = match relay.node().message(message) {
         Some(message) => Some(message.accept.at),
         None => None,
     };
-    Aim { lane, at, accepted }
+    Aim {
+        lane,
+        at,
+        beside: 0 < lanes.standing(lane),
+        accepted,
+    }
 }
 
 /// Records that the next message of a lane whose place is left alone is lost, where it has been due for too long, and
@@ -172,7 +183,7 @@ fn lose_overdue(
     let Some(task) = lanes.pop(lane) else {
         return Ok(false);
     };
-    let aim = aim_of(relay, task.message, lane, at);
+    let aim = aim_of(relay, lanes, task.message, lane, at);
     lose_held(relay, errand_of(task, aim), now, log)?;
     Ok(true)
 }
@@ -219,7 +230,7 @@ fn fail(
     now: &Now,
     log: &mut Log<'_, Vec<u8>>,
 ) -> Result<(), Fault> {
-    let aim = aim_of(relay, task.message, lane, at);
+    let aim = aim_of(relay, lanes, task.message, lane, at);
     let errand = errand_of(task, aim);
     lose(relay, lanes, errand, Loss::of_connecting(error), now, log)
 }

@@ -176,6 +176,7 @@ fn turn_away(
             registry,
             Channel::new(alloc, stream),
             Outbox::new(line),
+            None,
             now,
         );
     } else {

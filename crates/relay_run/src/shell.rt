@@ -161,6 +161,7 @@ impl Shell {
         self.exchange(registry, now, log)?;
         if self.leaving.serve(now) > 0 {
             self.door.resume();
+            self.next_hops.note_leaving(&self.leaving);
         }
         self.begin(rt, registry, now, log)
     }
