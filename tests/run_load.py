@@ -132,13 +132,13 @@ def list_takes_no_longer_beside_a_flood(field):
 
 
 def list_ends_beside_compactions(field):
-    """One each second, as mail goes through a small spool."""
+    """One each second, as mail goes through a small spool, which is full at times."""
     relay = field.relay(spool_limit=200_000, sessions_per_client=64)
 
     def feed(done):
         with clients_of(relay, 1) as [client]:
             while not done.is_set():
-                client.hand_in()
+                client.offer()
 
     with relay.running():
         with beside(feed):

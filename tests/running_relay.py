@@ -100,10 +100,14 @@ class Client:
         same("the reply to RCPT", self.say(f"RCPT TO:<{path}>\r\n".encode())[:4], "250 ")
         same("the reply to DATA", self.say(b"DATA\r\n")[:4], "354 ")
 
+    def offer(self, path="b@example.org", text=TEXT):
+        """A message, and the reply to it."""
+        self.ask_for_text(path)
+        return self.say(text)
+
     def hand_in(self, path="b@example.org", text=TEXT):
         """A message; the number that it was queued as."""
-        self.ask_for_text(path)
-        return number_of(self.say(text))
+        return number_of(self.offer(path, text))
 
     def rest(self):
         """What is still to come up to the connection's end, which may be no reset."""
