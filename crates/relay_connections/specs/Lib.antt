@@ -5,3 +5,4 @@ pub mod Readiness
 pub mod Room
 pub mod Share
 pub mod Hearing
+pub mod Refusals
