@@ -3,4 +3,5 @@ mod HearingLemmas
 mod ShareLemmas
 mod LeftLemmas
 mod TableLemmas
+mod RefusalLemmas
 pub mod Theorems

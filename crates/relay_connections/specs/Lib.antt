@@ -6,3 +6,4 @@ pub mod Room
 pub mod Leaving
 pub mod Share
 pub mod Hearing
+pub mod Refusals

@@ -10,6 +10,7 @@ mod clocks;
 mod hearing;
 mod held;
 mod leaving;
+mod refusals;
 mod share;
 mod table;
 
@@ -19,4 +20,5 @@ pub use clients::Clients;
 pub use clocks::{Now, tick_of};
 pub use hearing::Replied;
 pub use leaving::Leaving;
+pub use refusals::Refusals;
 pub use table::{Table, holds, turned};

@@ -92,10 +92,10 @@ impl<'a, E: Write> Log<'a, E> {
         }
     }
 
-    /// Says that a client was told that there are too many connections.
-    pub fn refused(&mut self, peer: SocketAddrV4) {
+    /// Says that a client was told that there are too many connections, the last of so many of its address.
+    pub fn refused(&mut self, peer: SocketAddrV4, count: u64) {
         if self.speaks {
-            self.say(refused_text(self.alloc, peer));
+            self.say(refused_text(self.alloc, peer, count));
         }
     }
 

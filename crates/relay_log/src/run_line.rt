@@ -57,10 +57,13 @@ fn write_paths(text: &mut Vec<u8>, envelope: &Envelope) -> io::Result<()> {
     Ok(())
 }
 
-/// Says that a client was told that there are too many connections.
-pub(crate) fn refused_text(alloc: Global, peer: SocketAddrV4) -> io::Result<Vec<u8>> {
+/// Says that a client was told that there are too many connections, the last of so many.
+pub(crate) fn refused_text(alloc: Global, peer: SocketAddrV4, count: u64) -> io::Result<Vec<u8>> {
     let mut text = Vec::new(alloc);
     write!(text, "relayd: client {peer} refused: too many connections")?;
+    if 1 < count {
+        write!(text, ", {count} times")?;
+    }
     Ok(text)
 }
 

@@ -2,3 +2,4 @@ pub mod Lanes
 pub mod Spares
 pub mod Readiness
 pub mod Phases
+pub mod Numbers

@@ -210,12 +210,9 @@ impl Hop {
         (channel, errand)
     }
 
-    /// Whether it is being made for this message and next hop, in this lane.
-    pub(crate) fn is_connecting(&self, message: u64, lane: usize, name: &HostName) -> bool {
-        self.attempt.is_none()
-            && self.message == message
-            && self.aim.lane == lane
-            && self.name.as_slice() == name.as_slice()
+    /// Whether it is for this message and next hop, in this lane.
+    pub(crate) fn is_for(&self, message: u64, lane: usize, name: &HostName) -> bool {
+        self.message == message && self.aim.lane == lane && self.name.as_slice() == name.as_slice()
     }
 
     /// The tick at which it is lost as things stand.

@@ -66,11 +66,11 @@ impl Hops {
         self.hops.free()
     }
 
-    /// Whether a connection is being made for this message and next hop, in this lane.
-    pub(crate) fn is_connecting(&self, message: u64, lane: usize, name: &HostName) -> bool {
+    /// Whether a connection for this message and next hop, in this lane, is being made or stands.
+    pub(crate) fn is_tried(&self, message: u64, lane: usize, name: &HostName) -> bool {
         for slot in self.hops.standing() {
             if let Some(hop) = slot {
-                if hop.is_connecting(message, lane, name) {
+                if hop.is_for(message, lane, name) {
                     return true;
                 }
             }

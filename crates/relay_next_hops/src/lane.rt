@@ -6,6 +6,7 @@ use relay_limits::Pace;
 use relay_routes::HostName;
 use std::alloc::Global;
 use std::collections::VecDeque;
+use std::mem;
 use std::net::SocketAddrV4;
 
 /// A message that is due, and the next hop that it is for.
@@ -38,6 +39,8 @@ pub(crate) struct Lane {
     /// How many connections there are, and whether the place is left alone.
     pub(crate) pace: Pace,
     tasks: VecDeque<Task>,
+    /// What was due before the lane was emptied.
+    bygone: VecDeque<Task>,
 }
 
 // Written out, so that what drops it calls this, and doesn't look into its tasks.
@@ -47,6 +50,7 @@ impl Drop for Lane {
             at: _,
             pace: _,
             tasks: _tasks,
+            bygone: _bygone,
         } = self;
     }
 }
@@ -58,12 +62,25 @@ impl Lane {
             at,
             pace: Pace::new(),
             tasks: VecDeque::new(alloc),
+            bygone: VecDeque::new(alloc),
         }
     }
 
-    /// Nothing is due any more.
-    pub(crate) fn clear(&mut self) {
-        self.tasks.clear();
+    /// Nothing is due any more. To let go of all that was takes a while, and is left to `let_go`.
+    pub(crate) fn clear(&mut self)
+        ensures { self.new.tasks.items ≡ [] }
+    {
+        self.bygone.clear();
+        mem::swap(&mut self.tasks, &mut self.bygone);
+    }
+
+    /// Lets go of what was due before, up to so much.
+    pub(crate) fn let_go(&mut self, most: usize) {
+        for _ in 0..most {
+            if self.bygone.pop_front().is_none() {
+                return;
+            }
+        }
     }
 
     /// Whether nothing is due.

@@ -3,6 +3,7 @@ ghost use Rattle.std.specs.Prelude.{◌≤◌};
 
 use crate::hop::Aim;
 use crate::lane::{Lane, Task};
+use crate::numbers::Numbers;
 use relay_connections::{Leaving, Now};
 use std::alloc::Global;
 use std::collections::{HashMap, VecDeque};
@@ -20,6 +21,14 @@ pub(crate) struct Lanes {
     pub(crate) most: usize,
     /// The number of the first change that wasn't looked at.
     pub(crate) next_number: u64,
+    /// The messages that may be queued, and how far it has come to list what is due of them.
+    pub(crate) queued: Numbers,
+    /// They are all there.
+    pub(crate) knows_all: bool,
+    /// It goes on to list what is due.
+    pub(crate) is_listing: bool,
+    /// How many milliseconds that took so far.
+    pub(crate) took: u64,
     /// Something may be due that isn't listed.
     pub(crate) is_stale: bool,
     /// What is due next may be due at another moment than the node has told.
@@ -50,6 +59,10 @@ impl Drop for Lanes {
             unroutable: _unroutable,
             most: _,
             next_number: _,
+            queued: _queued,
+            knows_all: _,
+            is_listing: _,
+            took: _,
             is_stale: _,
             is_unsure: _,
             is_open: _,
@@ -73,6 +86,10 @@ impl Lanes {
             unroutable: VecDeque::new(alloc),
             most,
             next_number: 0,
+            queued: Numbers::new(alloc),
+            knows_all: false,
+            is_listing: false,
+            took: 0,
             is_stale: true,
             is_unsure: true,
             is_open: true,
@@ -151,8 +168,11 @@ impl Lanes {
         }
     }
 
-    /// Puts a task that was taken back.
+    /// Puts a task that was taken back, unless its message is listed anyway.
     pub(crate) fn put_back(&mut self, number: usize, task: Task) {
+        if self.queued.is_to_come(task.message) {
+            return;
+        }
         if let Some(lane) = self.lanes.get_mut(number) {
             lane.put_back(task);
         }
@@ -171,9 +191,10 @@ impl Lanes {
         self.unroutable.pop_front()
     }
 
-    /// Whether such a message is left, or something was listed since it was last begun what may be.
+    /// Whether such a message is left, something was listed since it was last begun what may be, or it goes on to list
+    /// what is due.
     pub(crate) fn is_ready(&self) -> bool {
-        self.is_fresh || !self.unroutable.is_empty()
+        self.is_fresh || self.is_listing || !self.unroutable.is_empty()
     }
 
     /// A connection of a lane is made.
@@ -244,8 +265,8 @@ impl Lanes {
     pub(crate) fn turn_away(&mut self, number: usize, task: Task) {
         if let Some(lane) = self.lanes.get_mut(number) {
             lane.pace.lower_limit();
-            lane.put_back(task);
         }
+        self.put_back(number, task);
     }
 
     /// An attempt of a lane has ended well: its next hop may take one more connection.

@@ -8,6 +8,7 @@ mod lane;
 mod lanes;
 mod listing;
 mod next_hops;
+mod numbers;
 mod phase;
 mod spares;
 mod starting;

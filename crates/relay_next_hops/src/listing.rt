@@ -1,15 +1,21 @@
-//! When it is looked for what is due. To list it all costs a walk over what is due, so that is done where the node
-//! tells that something is due which isn't listed, and once a minute while something waits. A message that has just
-//! come is put behind the others at once.
+//! When it is looked for what is due. To list it all is a walk over what is queued, so that is done where the node tells
+//! that something is due which isn't listed, and once a minute while something waits; and in parts, one at a turn, so
+//! that nobody waits for it. A message that has just come is put behind the others at once.
+//!
+//! Between two parts messages come, are handed on and are put off. The lanes are emptied when the walk begins, and each
+//! message that is queued then is looked at once, when the walk comes to it; so it is listed then as it stands then, but
+//! for the next hops to which a connection for it is being made or stands. Before that nothing of it is listed: what a
+//! next hop turns away of it isn't put back. Each that comes later is listed when it comes, and the walk passes it by.
 use crate::hops::Hops;
 use crate::lane::{Lane, Task};
 use crate::lanes::Lanes;
+use crate::numbers::Numbers;
 use relay_connections::{Now, tick_of};
 use relay_disk::FileDisk;
 use relay_files::Fault;
 use relay_loop::Relay;
-use relay_node::{NodeFault, Work};
-use relay_routes::{HostName, Table};
+use relay_node::NodeFault;
+use relay_routes::HostName;
 use relay_trace::Moment;
 use std::net::SocketAddrV4;
 use std::rt::Clock;
@@ -20,13 +26,16 @@ const LISTING_PAUSE: u64 = 1_000;
 /// Between two listings lies so many times what the last one took.
 const LISTING_SHARE: u64 = 10;
 
+/// How many messages are looked at in one part.
+const PART_SIZE: usize = 512;
+
 /// Behind so many seconds it is looked for what is due, also where nothing has changed: the wall clock may have been
 /// set.
 const LISTING_SECONDS: u64 = 60;
 
 impl Lanes {
-    /// Lists what has come since the last time; and all that is due, where something is due that isn't listed, and the
-    /// last listing is long enough ago. Want of memory leaves it for the next time.
+    /// Lists what has come since the last time; and a part of all that is due, where something is due that isn't listed,
+    /// and the last listing is long enough ago, or hasn't come to its end. Want of memory leaves it for the next time.
     pub(crate) fn refresh<C: Clock>(
         &mut self,
         clock: &C,
@@ -34,21 +43,16 @@ impl Lanes {
         hops: &Hops,
         now: &Now,
     ) -> Result<(), Fault> {
-        self.take_new(relay, now);
+        self.take_new(relay, hops, now);
         self.note_time(hops, now);
-        if !self.is_stale || now.tick < self.next_listing {
+        if !self.is_listing && (!self.is_stale || now.tick < self.next_listing) {
             return Ok(());
         }
         let begun = tick_of(clock);
-        self.list(relay, hops, now)?;
-        let ended = tick_of(clock);
-        let took = ended.saturating_sub(begun).saturating_mul(LISTING_SHARE);
-        self.next_listing = ended.saturating_add(took.max(LISTING_PAUSE));
-        self.next_minute = now.behind(LISTING_SECONDS);
-        self.next_due = u64::MAX;
-        self.is_stale = false;
-        self.is_unsure = true;
-        self.is_open = true;
+        if self.is_listing || self.begin_listing(relay, now)? {
+            self.list_part(relay, hops, now);
+        }
+        self.end_part(begun, tick_of(clock));
         Ok(())
     }
 
@@ -60,8 +64,8 @@ impl Lanes {
         hops: &Hops,
         now: &Now,
     ) -> Result<(), Fault> {
-        self.is_fresh = self.take_new(relay, now);
-        if self.is_stale || !self.is_unsure || self.has_waiting(hops) {
+        self.is_fresh = self.take_new(relay, hops, now);
+        if self.is_listing || self.is_stale || !self.is_unsure || self.has_waiting(hops) {
             return Ok(());
         }
         match relay.node().next_due(now.moment) {
@@ -79,8 +83,9 @@ impl Lanes {
         if self.next_minute <= now.tick {
             self.next_minute = now.behind(LISTING_SECONDS);
             self.is_unsure = true;
-            // The node tells that what waits is due, and nothing of what is due behind that.
-            self.is_stale = self.is_stale || self.has_waiting(hops);
+            // The node tells that what waits is due, and nothing of what is due behind that. A walk also lets go of
+            // the numbers of those that have left.
+            self.is_stale = self.is_stale || self.has_waiting(hops) || self.queued.has_grown();
         }
         if self.next_due <= now.tick {
             self.next_due = u64::MAX;
@@ -120,7 +125,7 @@ impl Lanes {
 
     /// Lists what is due of the messages that have come since the last time, reports too. It tells whether there was a
     /// change.
-    fn take_new(&mut self, relay: &Relay<FileDisk>, now: &Now) -> bool {
+    fn take_new(&mut self, relay: &Relay<FileDisk>, hops: &Hops, now: &Now) -> bool {
         let next_number = relay.node().next_number();
         if self.next_number == next_number {
             return false;
@@ -128,7 +133,9 @@ impl Lanes {
         // What was there at the start is listed as a whole.
         if 0 < self.next_number {
             for number in self.next_number..next_number {
-                self.add(relay, number, now);
+                if self.add(relay, hops, number, now) && self.queued.push(number).is_err() {
+                    self.knows_all = false;
+                }
             }
         }
         self.next_number = next_number;
@@ -136,36 +143,38 @@ impl Lanes {
         true
     }
 
-    /// Lists what is due of a message.
-    fn add(&mut self, relay: &Relay<FileDisk>, number: u64, now: &Now) {
+    /// Lists what is due of a message, and isn't tried. It tells whether there is such a message.
+    fn add(&mut self, relay: &Relay<FileDisk>, hops: &Hops, number: u64, now: &Now) -> bool {
         let Some(message) = relay.node().message(number) else {
-            return;
+            return false;
         };
         let routes = &relay.node().config().routes;
         for (index, place) in message.places.as_slice().iter().enumerate() {
             let recipients = message.accept.envelope.recipients.as_slice();
             let Some(recipient) = recipients.get(index) else {
-                return;
+                return true;
             };
             match routes.hop_at(&recipient.path) {
                 Some(hop) if place.held && place.due <= now.moment.seconds() => {
-                    self.push(number, hop.at, &hop.name);
+                    self.push(hops, number, hop.at, &hop.name);
                 }
                 None if place.held => self.push_unroutable(number),
                 _ => {}
             }
         }
+        true
     }
 
-    /// Lists a message that has just come for a next hop. Where no memory is left for it, it is left out.
-    fn push(&mut self, message: u64, at: SocketAddrV4, name: &HostName) {
+    /// Lists a message for a next hop, behind all others, unless it is tried there. Where no memory is left for it, it is
+    /// left out.
+    fn push(&mut self, hops: &Hops, message: u64, at: SocketAddrV4, name: &HostName) {
         let Some(number) = self.number_of(at) else {
             return;
         };
         let Some(lane) = self.lanes.get_mut(number) else {
             return;
         };
-        if lane.ends_with(message, name) {
+        if lane.ends_with(message, name) || hops.is_tried(message, number, name) {
             return;
         }
         if let Ok(hop) = name.copy(self.alloc) {
@@ -184,42 +193,67 @@ impl Lanes {
         }
     }
 
-    /// Lists all that is due, without what a connection is being made for already.
-    fn list(&mut self, relay: &Relay<FileDisk>, hops: &Hops, now: &Now) -> Result<(), Fault> {
-        let works = match relay.node().due(self.alloc, now.moment) {
-            Ok(works) => works,
-            Err(NodeFault::Stopped) => return Err(Fault::Device),
-            Err(_) => return Ok(()),
-        };
+    /// Begins to list all that is due, with nothing listed, and tells whether: not where no memory is left for that.
+    fn begin_listing(&mut self, relay: &Relay<FileDisk>, now: &Now) -> Result<bool, Fault> {
+        if !self.knows_all && !self.gather(relay)? {
+            return Ok(false);
+        }
+        if self.queued.begin().is_err() {
+            return Ok(false);
+        }
         self.unroutable.clear();
         for lane in self.lanes.as_mut_slice() {
             lane.clear();
         }
-        for work in works {
-            self.sort_in(work, &relay.node().config().routes, hops);
-        }
-        Ok(())
+        self.next_minute = now.behind(LISTING_SECONDS);
+        self.next_due = u64::MAX;
+        self.is_stale = false;
+        self.is_unsure = true;
+        self.is_open = true;
+        self.is_listing = true;
+        Ok(true)
     }
 
-    /// Puts a work where it belongs. Where no memory is left for it, it is left out.
-    fn sort_in(&mut self, work: Work, routes: &Table, hops: &Hops) {
-        match work {
-            Work::NoRoute(message) => self.push_unroutable(message),
-            Work::Try(message, hop) => {
-                // The node's hops are those of its routes.
-                let Some(at) = routes.place_of(hop.as_slice()) else {
-                    return;
-                };
-                let Some(number) = self.number_of(at) else {
-                    return;
-                };
-                if hops.is_connecting(message, number, &hop) {
-                    return;
-                }
-                if let Some(lane) = self.lanes.get_mut(number) {
-                    lane.push(Task { message, hop });
-                }
+    /// Asks the node which messages are queued, and tells whether it has said: not where no memory is left for that.
+    fn gather(&mut self, relay: &Relay<FileDisk>) -> Result<bool, Fault> {
+        let places = match relay.node().marks(self.alloc) {
+            Ok(places) => places,
+            Err(NodeFault::Stopped) => return Err(Fault::Device),
+            Err(_) => return Ok(false),
+        };
+        match Numbers::of_places(self.alloc, places.as_slice()) {
+            Ok(numbers) => {
+                self.queued = numbers;
+                self.knows_all = true;
+                Ok(true)
             }
+            Err(_) => Ok(false),
+        }
+    }
+
+    /// Lists what is due of the next messages, and lets go of as much that was listed before.
+    fn list_part(&mut self, relay: &Relay<FileDisk>, hops: &Hops, now: &Now) {
+        for lane in self.lanes.as_mut_slice() {
+            lane.let_go(PART_SIZE);
+        }
+        for _ in 0..PART_SIZE {
+            let Some(number) = self.queued.next() else {
+                return;
+            };
+            if self.add(relay, hops, number, now) && self.queued.pass(number).is_err() {
+                self.knows_all = false;
+            }
+        }
+    }
+
+    /// Takes note of a part that has lasted from one tick to another, and of whether it was the last.
+    fn end_part(&mut self, begun: u64, ended: u64) {
+        self.took = self.took.saturating_add(ended.saturating_sub(begun));
+        if self.queued.is_over() {
+            let pause = self.took.saturating_mul(LISTING_SHARE).max(LISTING_PAUSE);
+            self.next_listing = ended.saturating_add(pause);
+            self.is_listing = false;
+            self.took = 0;
         }
     }
 

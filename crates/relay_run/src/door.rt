@@ -3,7 +3,7 @@ ghost use Rattle.std.specs.Prelude.{◌≤◌};
 
 use mio::net::{TcpListener, TcpStream};
 use mio::{Interest, Registry, Token};
-use relay_connections::{Channel, Clients, Leaving, Now};
+use relay_connections::{Channel, Clients, Leaving, Now, Refusals};
 use relay_disk::FileDisk;
 use relay_files::Fault;
 use relay_log::Log;
@@ -28,6 +28,8 @@ pub(crate) struct Door {
     is_ready: bool,
     /// The tick before which none is taken.
     paused_until: u64,
+    /// Those that were told that there is no room.
+    refusals: Refusals,
 }
 
 // Written out, so that what drops it calls this, and doesn't look into its listener.
@@ -38,6 +40,7 @@ impl Drop for Door {
             listener: _listener,
             is_ready: _,
             paused_until: _,
+            refusals: _refusals,
         } = self;
     }
 }
@@ -73,6 +76,7 @@ impl Door {
             listener,
             is_ready: true,
             paused_until: 0,
+            refusals: Refusals::new(alloc)?,
         })
     }
 
@@ -96,14 +100,16 @@ impl Door {
         self.is_ready && self.paused_until <= now.tick
     }
 
-    /// The tick at which clients are taken again, or the given one where that is earlier.
+    /// The tick at which clients are taken again, or it is told of those that were refused, or the given one where that
+    /// is earlier.
     pub(crate) fn next_deadline(&self, otherwise: u64) -> u64
         ensures { result ≤ otherwise }
     {
+        let next = self.refusals.next_deadline(otherwise);
         if self.is_ready {
-            otherwise.min(self.paused_until)
+            next.min(self.paused_until)
         } else {
-            otherwise
+            next
         }
     }
 
@@ -119,6 +125,7 @@ impl Door {
         now: &Now,
         log: &mut Log<'_, Vec<u8>>,
     ) -> Result<(), Fault> {
+        self.refusals.tell(now, log);
         for _ in 0..MOST_AT_ONCE {
             if !self.is_ready(now) {
                 return Ok(());
@@ -132,7 +139,7 @@ impl Door {
                     if clients.has_room(*peer.ip()) {
                         clients.open(registry, relay, stream, peer, now)?;
                     } else {
-                        log.refused(peer);
+                        self.refusals.note(peer, now, log);
                         turn_away(self.alloc, registry, relay, leaving, stream, now);
                     }
                 }

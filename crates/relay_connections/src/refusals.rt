@@ -1,0 +1,199 @@
+//! Which refused clients are told of in the log: each address in one line a minute at most, which tells of how many.
+ghost use Rattle.std.specs.Prelude.{◌≡◌, ◌≢◌, ◌≤◌, ◌<◌, ℕ, None, Some, IfOk, MatchOption, false, true, length, slice_set};
+ghost use Rattle.std.specs.Net.Addr.{ipv4_octets};
+ghost use Rattle.std.specs.Net.Socket.{v4_ip};
+ghost use Rattle.relay_slots.specs.Slots.{AreFree, IsFull, slot_at};
+ghost use Rattle.relay_connections.specs.Refusals.{again, Counts, is_of, IsUnknown, left_behind, over_at, tallies_of, told};
+ghost use Rattle.relay_connections.specs.Table.{is_such};
+
+use crate::clocks::Now;
+use crate::table::{Table, turned};
+use relay_log::Log;
+use relay_slots::SLOT_COUNT;
+use std::alloc::{AllocError, Global};
+use std::net::SocketAddrV4;
+
+/// For so many seconds behind a line nothing more is told of its address.
+const SILENT_SECONDS: u64 = 60;
+
+/// The refusals of an address that aren't told yet.
+#[derive(Clone, Copy, Debug)]
+pub(crate) struct Tally {
+    /// The client of that address that was refused last.
+    peer: SocketAddrV4,
+    /// How many were refused since the address was told of last.
+    count: u64,
+    /// The tick before which nothing is told of it.
+    until: u64,
+}
+
+impl Tally {
+    /// The client was told of just now.
+    fn told(peer: SocketAddrV4, now: &Now) -> Self
+        ensures { result ≡ told peer now.now.tick }
+    {
+        Tally {
+            peer,
+            count: 0,
+            until: now.behind(SILENT_SECONDS),
+        }
+    }
+
+    /// One more of its address was refused.
+    fn again(self, peer: SocketAddrV4) -> Self
+        ensures { result ≡ again peer self }
+    {
+        Tally {
+            peer,
+            count: self.count.saturating_add(1),
+            until: self.until,
+        }
+    }
+
+    /// Tells of those that aren't told yet.
+    fn tell(&self, log: &mut Log<'_, Vec<u8>>) {
+        if 0 < self.count {
+            log.refused(self.peer, self.count);
+        }
+    }
+}
+
+/// Whether the tally in a slot is of an address.
+fn is_of(slot: &Option<Tally>, address: [u8; 4]) -> bool
+    ensures { result ≡ is_such (is_of address) slot.now }
+{
+    match slot {
+        Some(tally) => tally.peer.ip().octets() == address,
+        None => false,
+    }
+}
+
+/// The clients that were refused, by their addresses: of up to 64, when it was told of each last, and how many were
+/// refused since. Each refusal is told once, by a line of its own or in the number of another.
+pub struct Refusals {
+    tallies: Table<Tally>,
+    /// Whose place was taken last for another address.
+    dropped: usize,
+}
+
+// Written out, so that what drops them calls this, and doesn't look into each.
+impl Drop for Refusals {
+    fn drop(self) {
+        let Refusals {
+            tallies: _tallies,
+            dropped: _,
+        } = self;
+    }
+}
+
+impl Refusals {
+    /// None was refused yet. It fails where memory runs out.
+    pub fn new(alloc: Global) -> Result<Self, AllocError>
+        ensures { IfOk result (λ refusals. AreFree (tallies_of refusals)) }
+    {
+        Ok(Refusals {
+            tallies: Table::new(alloc)?,
+            dropped: 0,
+        })
+    }
+
+    /// Takes note that a client was refused, which is told at once where nothing was told of its address for a minute.
+    pub fn note(&mut self, peer: SocketAddrV4, now: &Now, log: &mut Log<'_, Vec<u8>>) {
+        self.tell(now, log);
+        if self.count(peer) {
+            return;
+        }
+        let (number, other) = self.make_room();
+        if let Some(other) = other {
+            other.tell(log);
+        }
+        self.tallies.put(number, Tally::told(peer, now));
+        log.refused(peer, 1);
+    }
+
+    /// Tells of the refusals of those addresses of which nothing was told for a minute.
+    pub fn tell(&mut self, now: &Now, log: &mut Log<'_, Vec<u8>>) {
+        for number in 0..self.tallies.standing().len() {
+            if let Some(tally) = self.take_over(number, now) {
+                tally.tell(log);
+            }
+        }
+    }
+
+    /// The tick at which it is to be told of one of them, or the given one where that is earlier.
+    pub fn next_deadline(&self, otherwise: u64) -> u64
+        ensures { result ≤ otherwise }
+    {
+        let mut next = otherwise;
+        for slot in self.tallies.standing() {
+            if let Some(tally) = slot {
+                next = next.min(tally.until);
+            }
+        }
+        next
+    }
+
+    /// Counts the refusal of a client where it was told of its address already. It tells whether it was.
+    fn count(&mut self, peer: SocketAddrV4) -> bool
+        ensures counted { result ≡ true → Counts peer (tallies_of self.old) (tallies_of self.new) }
+        ensures unknown { result ≡ false → IsUnknown (ipv4_octets (v4_ip peer)) (tallies_of self.old) }
+        ensures same { result ≡ false → tallies_of self.new ≡ tallies_of self.old }
+    {
+        let Some(number) = self.number_of(peer.ip().octets()) else {
+            return false;
+        };
+        if let Some(tally) = self.tallies.take(number) {
+            self.tallies.put(number, tally.again(peer));
+        }
+        true
+    }
+
+    /// The number of an address of which it was told already.
+    fn number_of(&self, address: [u8; 4]) -> Option<usize>
+        ensures found { MatchOption result (IsUnknown address (tallies_of self.now))
+            (λ number. is_such (is_of address) (slot_at (tallies_of self.now) number) ≡ true) }
+        ensures within { MatchOption result (Unit {0}) (λ number. number < length (tallies_of self.now)) }
+    {
+        let standing = self.tallies.standing();
+        for number in 0..standing.len() {
+            if is_of(&standing[number], address) {
+                return Some(number);
+            }
+        }
+        None
+    }
+
+    /// A number for one more address. Where 64 have theirs, it is taken from one of them, each time from the next, and
+    /// what wasn't told of that comes with it.
+    fn make_room(&mut self) -> (usize, Option<Tally>)
+        ensures taken { result.1 ≡ slot_at (tallies_of self.old) result.0 }
+        ensures rest { tallies_of self.new ≡ slice_set (tallies_of self.old) result.0 None }
+        ensures needed { result.1 ≢ None → IsFull (tallies_of self.old) }
+        ensures within { result.0 < length (tallies_of self.old) }
+    {
+        let number = match self.tallies.free() {
+            Some(number) => number,
+            None => {
+                self.dropped = turned(self.dropped, 1, SLOT_COUNT);
+                self.dropped
+            }
+        };
+        (number, self.tallies.take(number))
+    }
+
+    /// What isn't told of the address of a number, where nothing was told of it for a minute: from now on it is told.
+    fn take_over(&mut self, number: usize, now: &Now) -> Option<Tally>
+        ensures taken { result ≡ over_at now.now.tick (slot_at (tallies_of self.old) number) }
+        ensures left { tallies_of self.new ≡ left_behind now.now.tick (tallies_of self.old) number }
+    {
+        let tally = match self.tallies.standing().get(number) {
+            Some(Some(tally)) if tally.until <= now.tick => *tally,
+            _ => return None,
+        };
+        let _ = self.tallies.take(number);
+        if 0 < tally.count {
+            self.tallies.put(number, Tally::told(tally.peer, now));
+        }
+        Some(tally)
+    }
+}

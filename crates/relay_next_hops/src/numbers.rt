@@ -1,0 +1,147 @@
+//! The numbers of the messages that may be queued, and a walk over them in parts, while messages come and go.
+ghost use Rattle.std.specs.Prelude.{◌≡◌, ◌==◌, ◌↔◌, [], ◌∷◌, IfOk, IsTrue, MatchOption, OnErr, OnOk};
+ghost use Rattle.std.specs.List.{list_any};
+ghost use Rattle.relay_next_hops.specs.Numbers.{begun, no_numbers, numbers_behind, with_left, with_newer, with_passed};
+
+use std::alloc::{AllocError, Global};
+use std::marker::Model;
+use std::mem;
+
+/// The numbers of the messages that may be queued, each once, in order.
+pub(crate) struct Numbers {
+    /// What the walk goes over.
+    walk: Vec<u64>,
+    /// How many of these it has come to.
+    place: usize,
+    /// Those that it has come to, and that were queued then.
+    passed: Vec<u64>,
+    /// Those that have come since it began.
+    newer: Vec<u64>,
+}
+
+// Written out, so that what drops them calls this, and doesn't look into each.
+impl Drop for Numbers {
+    fn drop(self) {
+        let Numbers {
+            walk: _walk,
+            place: _,
+            passed: _passed,
+            newer: _newer,
+        } = self;
+    }
+}
+
+impl Model for Numbers {
+    ghost use Rattle.std.specs.Prelude.{◌≤◌, drop, length};
+    ghost use Rattle.relay_next_hops.specs.Numbers.{Walk};
+
+    ghost Value = { Walk };
+
+    ghost view = { λ numbers. record {
+      left = drop numbers.place numbers.walk.items;
+      passed = numbers.passed.items;
+      newer = numbers.newer.items;
+    } };
+
+    ghost invariant = { λ numbers. numbers.place ≤ length numbers.walk.items };
+}
+
+impl Numbers {
+    /// None, and no walk is under way.
+    pub(crate) fn new(alloc: Global) -> Self
+        ensures { result ≡ no_numbers }
+    {
+        Numbers {
+            walk: Vec::new(alloc),
+            place: 0,
+            passed: Vec::new(alloc),
+            newer: Vec::new(alloc),
+        }
+    }
+
+    /// Those of the messages of which these places are held, the places of each message one behind another. It fails
+    /// where memory runs out.
+    pub(crate) fn of_places(alloc: Global, places: &[(u64, u8)]) -> Result<Self, AllocError>
+        ensures numbers { IfOk result (λ numbers. numbers.newer ≡ numbers_behind 0 places.now) }
+        ensures rest { IfOk result (λ numbers. (numbers.left ≡ []) × (numbers.passed ≡ [])) }
+    {
+        let mut numbers = Numbers::new(alloc);
+        // No message has this number.
+        let mut last = 0;
+        for (number, _) in places {
+            if *number != last {
+                numbers.push(*number)?;
+                last = *number;
+            }
+        }
+        Ok(numbers)
+    }
+
+    /// A message has come. It fails where memory runs out, and the number is left out.
+    pub(crate) fn push(&mut self, number: u64) -> Result<(), AllocError>
+        ensures pushed { OnOk result (self.new ≡ with_newer number self.old) }
+        ensures failed { OnErr result (self.new ≡ self.old) }
+    {
+        self.newer.push(number)?;
+        Ok(())
+    }
+
+    /// Begins a walk over all of them, once the last has come to its end. It fails where memory runs out.
+    pub(crate) fn begin(&mut self) -> Result<(), AllocError>
+        ensures begins { self.old.left ≡ [] → OnOk result (self.new ≡ begun self.old) }
+        ensures failed { OnErr result (self.new ≡ self.old) }
+    {
+        if !self.is_over() {
+            return Ok(());
+        }
+        self.passed.extend_from_slice(self.newer.as_slice())?;
+        self.newer.clear();
+        self.walk.clear();
+        self.place = 0;
+        mem::swap(&mut self.walk, &mut self.passed);
+        Ok(())
+    }
+
+    /// Whether the walk has come to its end.
+    pub(crate) fn is_over(&self) -> bool
+        ensures { IsTrue result ↔ (self.now.left ≡ []) }
+    {
+        self.walk[self.place..].is_empty()
+    }
+
+    /// The next of the walk.
+    pub(crate) fn next(&mut self) -> Option<u64>
+        ensures next { MatchOption result (self.old.left ≡ []) (λ number. self.old.left ≡ number ∷ self.new.left) }
+        ensures rest { self.new ≡ with_left self.new.left self.old }
+        ensures none { self.old.left ≡ [] → self.new ≡ self.old }
+    {
+        if self.walk.len() <= self.place {
+            return None;
+        }
+        let number = self.walk[self.place];
+        self.place += 1;
+        Some(number)
+    }
+
+    /// The walk has come to this one, and its message is queued. It fails where memory runs out, and the number is left
+    /// out.
+    pub(crate) fn pass(&mut self, number: u64) -> Result<(), AllocError>
+        ensures passed { OnOk result (self.new ≡ with_passed number self.old) }
+        ensures failed { OnErr result (self.new ≡ self.old) }
+    {
+        self.passed.push(number)?;
+        Ok(())
+    }
+
+    /// Whether the walk is still to come to a message.
+    pub(crate) fn is_to_come(&self, number: u64) -> bool
+        ensures { result ≡ list_any (λ other. other == number) self.now.left }
+    {
+        self.walk[self.place..].contains(&number)
+    }
+
+    /// Whether more have come since the last walk began than were left then.
+    pub(crate) fn has_grown(&self) -> bool {
+        self.passed.len() < self.newer.len()
+    }
+}
