@@ -42,6 +42,13 @@ pub sizes_more : (said : List Said) (one : Said) → text_sizes (said ++ one ∷
 sizes_more [] one = omega arith
 sizes_more (first ∷ said) one = omega (arith, sizes_more said one)
 
+pub sizes_stay : (said new : List Said) (one : Said) (texts : List ℕ) → text_size one ≡ 0 → length texts ≡ text_sizes said
+    → new ≡ said ++ one ∷ [] → length texts ≡ text_sizes new
+sizes_stay said new one texts none fits is =
+    let more = sizes_more said one in
+    let all = ap text_sizes is in
+    omega (arith, none, fits, more, all)
+
 -- what one verdict needs of the texts stays, whatever comes behind them
 settled_stays : (one : Said) (texts more : List ℕ) → text_size one ≤ length texts
     → settled_by one (texts ++ more) ≡ settled_by one texts

@@ -1,3 +1,4 @@
+pub mod Action
 pub mod Settled
 pub mod Conversation
 pub mod Attempt

@@ -1,6 +1,7 @@
 //! What a client writes (RFC 5321, section 4.1.1; RFC 3030, section 2; RFC 3461, section 4). Where memory runs out,
 //! part of it may have been written.
-ghost use Rattle.std.specs.Prelude.{◌≡◌, ◌++◌, ℕ, List, OnOk};
+ghost use Rattle.std.specs.Prelude.{◌≡◌, ◌++◌, ℕ, List, OnOk, if◌then◌else◌};
+ghost use Rattle.relay_envelope.specs.Envelope.{mail_text, rcpt_text};
 ghost use Rattle.relay_course.specs.Course.{IsSentAs};
 ghost use Rattle.relay_course.specs.WrittenLine.{data_line, ehlo_line, helo_line, last_chunk, mail_line, quit_line};
 ghost use Rattle.relay_course.specs.WrittenLine.{rcpt_line, rcpt_line_at};
@@ -38,13 +39,26 @@ pub(crate) fn write_mail_line(
     ensures { OnOk result (out.new.items ≡ out.old.items ++ mail_line dsn envelope.now) }
 {
     out.extend_from_slice(b"MAIL FROM:")?;
+    write_reverse_path(alloc, out, dsn, envelope)?;
+    out.extend_from_slice(b"\r\n")
+}
+
+/// Writes the reverse path, with the parameters of MAIL where the server offers DSN.
+fn write_reverse_path(
+    alloc: Global,
+    out: &mut Vec<u8>,
+    dsn: bool,
+    envelope: &Envelope,
+) -> Result<(), AllocError>
+    ensures { OnOk result (out.new.items
+        ≡ out.old.items ++ (if dsn then mail_text envelope.now else envelope.now.reverse_path)) }
+{
     if dsn {
         let text = write_mail(alloc, envelope)?;
-        out.extend_from_slice(text.as_slice())?;
+        out.extend_from_slice(text.as_slice())
     } else {
-        out.extend_from_slice(envelope.reverse_path.as_slice())?;
+        out.extend_from_slice(envelope.reverse_path.as_slice())
     }
-    out.extend_from_slice(b"\r\n")
 }
 
 /// Writes RCPT, with its parameters where the server offers DSN.
@@ -57,13 +71,26 @@ fn write_rcpt_line(
     ensures { OnOk result (out.new.items ≡ out.old.items ++ rcpt_line dsn recipient.now) }
 {
     out.extend_from_slice(b"RCPT TO:")?;
+    write_forward_path(alloc, out, dsn, recipient)?;
+    out.extend_from_slice(b"\r\n")
+}
+
+/// Writes a forward path, with the parameters of RCPT where the server offers DSN.
+fn write_forward_path(
+    alloc: Global,
+    out: &mut Vec<u8>,
+    dsn: bool,
+    recipient: &Recipient,
+) -> Result<(), AllocError>
+    ensures { OnOk result (out.new.items
+        ≡ out.old.items ++ (if dsn then rcpt_text recipient.now else recipient.now.path)) }
+{
     if dsn {
         let text = write_rcpt(alloc, recipient)?;
-        out.extend_from_slice(text.as_slice())?;
+        out.extend_from_slice(text.as_slice())
     } else {
-        out.extend_from_slice(recipient.path.as_slice())?;
+        out.extend_from_slice(recipient.path.as_slice())
     }
-    out.extend_from_slice(b"\r\n")
 }
 
 /// Writes the RCPT of a place, from 0, if the envelope has it.

@@ -3,8 +3,10 @@ ghost use Rattle.relay_course.specs.Progress.{Errand, Progress, behind_answer, b
 ghost use Rattle.relay_course.specs.Progress.{with_command};
 ghost use Rattle.relay_course.specs.VerdictTable.{all_later, content_verdict_by, kind_of, refusal};
 ghost use Rattle.relay_course.specs.WrittenLine.{ehlo_line, helo_line};
+ghost use Rattle.relay_client.specs.Action.{done_by};
 ghost use Rattle.relay_client.specs.Conversation.{Does, Holds, IsAtGreeting, IsErrandOf, SettlesOne};
 
+use crate::action::{Action, action_behind};
 use crate::command::{write_dot_text, write_ehlo, write_helo, write_quit};
 use crate::mail_object::MailObject;
 use crate::settled::Settled;
@@ -105,7 +107,7 @@ impl Conversation {
         }
     }
 
-    /// The table: by what waited and by the reply's first digit, what is done.
+    /// What the table says of the reply is done.
     fn behind_answer(
         &mut self,
         mail: &MailObject<'_>,
@@ -118,30 +120,32 @@ impl Conversation {
             → Does errand old (behind_answer errand waited (kind_of reply.now.code) reply.now old)
             self.new ended out.old.items out.new.items) }
     {
-        let kind = kind_of(reply.code());
-        match (waited, kind) {
-            (Awaited::Greeting, ReplyKind::Completion) => self.greet(out),
-            (Awaited::Ehlo, ReplyKind::Completion) => self.take_offer(mail, reply, out),
-            (Awaited::Ehlo, ReplyKind::Permanent) => self.greet_plainly(out),
-            (Awaited::Helo, ReplyKind::Completion) => self.behind_hello(mail, out),
-            (Awaited::Mail, ReplyKind::Completion) => self.go_on(mail, out),
-            (Awaited::Rcpt(_), _) => self.go_on(mail, out),
-            (Awaited::Data, ReplyKind::Intermediate) => self.send_text(mail, out),
-            (Awaited::Content, _) => self.end_behind_content(kind, reply, out),
-            (Awaited::Greeting, ReplyKind::Intermediate) => self.put_off(out),
-            (Awaited::Greeting, ReplyKind::Transient) => self.put_off(out),
-            (Awaited::Greeting, ReplyKind::Permanent) => self.refuse(reply, out),
-            (Awaited::Ehlo, ReplyKind::Intermediate) => self.put_off(out),
-            (Awaited::Ehlo, ReplyKind::Transient) => self.put_off(out),
-            (Awaited::Helo, ReplyKind::Intermediate) => self.put_off(out),
-            (Awaited::Helo, ReplyKind::Transient) => self.put_off(out),
-            (Awaited::Helo, ReplyKind::Permanent) => self.refuse(reply, out),
-            (Awaited::Mail, ReplyKind::Intermediate) => self.put_off(out),
-            (Awaited::Mail, ReplyKind::Transient) => self.put_off(out),
-            (Awaited::Mail, ReplyKind::Permanent) => self.refuse(reply, out),
-            (Awaited::Data, ReplyKind::Completion) => self.put_off(out),
-            (Awaited::Data, ReplyKind::Transient) => self.put_off(out),
-            (Awaited::Data, ReplyKind::Permanent) => self.refuse(reply, out),
+        let action = action_behind(waited, kind_of(reply.code()));
+        self.act(action, mail, reply, out)
+    }
+
+    /// Does this.
+    fn act(
+        &mut self,
+        action: Action,
+        mail: &MailObject<'_>,
+        reply: &Reply,
+        out: &mut Vec<u8>,
+    ) -> Result<Option<Verdicts>, AllocError>
+        ensures { IfOk result (λ ended. (errand : Errand) (old : Progress)
+            → Holds self.old errand old → IsErrandOf errand mail.now
+            → Does errand old (done_by errand action reply.now old) self.new ended out.old.items out.new.items) }
+    {
+        match action {
+            Action::Greet => self.greet(out),
+            Action::TakeOffer => self.take_offer(mail, reply, out),
+            Action::GreetPlainly => self.greet_plainly(out),
+            Action::Begin => self.behind_hello(mail, out),
+            Action::GoOn => self.go_on(mail, out),
+            Action::SendText => self.send_text(mail, out),
+            Action::EndBehindContent(kind) => self.end_behind_content(kind, reply, out),
+            Action::PutOff => self.put_off(out),
+            Action::Refuse => self.refuse(reply, out),
         }
     }
 
@@ -263,7 +267,6 @@ impl Conversation {
     }
 
     /// Later for each place. It fails where memory runs out.
-    #[tactic(auto, using(crate::proofs::SettledLemmas::later_more))]
     pub(crate) fn all_later(&self) -> Result<Verdicts, AllocError>
         ensures { IfOk result (λ verdicts. verdicts ≡ all_later self.now.places.items) }
     {

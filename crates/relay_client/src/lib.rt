@@ -2,6 +2,7 @@
 //! what goes to the server, and at the end a verdict for each place.
 #![tactic(auto)]
 
+mod action;
 mod attempt;
 mod command;
 mod conversation;

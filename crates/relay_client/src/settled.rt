@@ -71,7 +71,6 @@ impl Settled {
     }
 
     /// The next RCPT was accepted.
-    #[tactic(auto, using(crate::proofs::SettledLemmas::accepted_more, crate::proofs::SettledLemmas::sizes_more))]
     fn accept(&mut self) -> Result<(), AllocError>
         ensures { OnOk result (self.new ≡ self.old ++ None ∷ []) }
     {
@@ -80,7 +79,6 @@ impl Settled {
     }
 
     /// The next RCPT may be tried again.
-    #[tactic(auto, using(crate::proofs::SettledLemmas::delayed_more, crate::proofs::SettledLemmas::sizes_more))]
     fn delay(&mut self) -> Result<(), AllocError>
         ensures { OnOk result (self.new ≡ self.old ++ Some Verdict.Later ∷ []) }
     {
@@ -146,7 +144,6 @@ fn has_accepted(said: &[Said]) -> bool
 
 /// The verdict of each of the places by what was said of it: the last one where its RCPT was accepted, or isn't
 /// answered. The texts are those of the refusals.
-#[tactic(auto, using(crate::proofs::SettledLemmas::verdicts_step))]
 fn verdicts_of(
     alloc: Global,
     places: &[u8],

@@ -1,4 +1,6 @@
 mod RunLemmas
+mod CallLemmas
+mod GoesLemmas
 mod TurnLemmas
 mod ImageLemmas
 mod LinkLemmas

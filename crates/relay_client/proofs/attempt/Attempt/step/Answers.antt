@@ -1,4 +1,5 @@
 use Rattle.std.proofs.Common.{◌++◌, take}
+use Rattle.std.proofs.lemmas.Result.{IfOk-from_err}
 use Rattle.relay_client.proofs.KeepLemmas.{fault_step, keeps_reply, reads_one}
 use Rattle.relay_client.proofs.attempt.Attempt.step.Goals as goal
 
@@ -18,3 +19,17 @@ returns-in_ok-verdicts-in-Err-clause-keeps c = λ errand input output is k.
     let old = c.args.self.now in
     fault_step old.reader old.talk errand input (output ++ c.args.out.now.items) c.args.rest.now c.in-Err.fault
     c.in_ok-verdicts-in-Err.verdicts k c.in-Err.ensures.faults c.if-is_no_memory.ensures c.in_ok-verdicts-in-Err.ensures
+
+pub returns-in_err-verdicts-in-Ok-clause-keeps : goal.returns-in_err-verdicts-in-Ok-clause-keeps
+returns-in_err-verdicts-in-Ok-clause-keeps c = IfOk-from_err c.from_residual.result _ c.from_residual.ensures.0
+
+pub returns-in_err-verdicts-in-Ok-clause-within : goal.returns-in_err-verdicts-in-Ok-clause-within
+returns-in_err-verdicts-in-Ok-clause-within c = IfOk-from_err c.from_residual.result _ c.from_residual.ensures.0
+
+pub returns-in_err-verdicts-in-Err-clause-keeps : goal.returns-in_err-verdicts-in-Err-clause-keeps
+returns-in_err-verdicts-in-Err-clause-keeps c =
+    IfOk-from_err c.from_residual-in_err-verdicts-in-Err.result _ c.from_residual-in_err-verdicts-in-Err.ensures.0
+
+pub returns-in_err-verdicts-in-Err-clause-within : goal.returns-in_err-verdicts-in-Err-clause-within
+returns-in_err-verdicts-in-Err-clause-within c =
+    IfOk-from_err c.from_residual-in_err-verdicts-in-Err.result _ c.from_residual-in_err-verdicts-in-Err.ensures.0

@@ -1,10 +1,15 @@
 use Rattle.std.proofs.Common.{◌≡◌, ◌+◌, ◌-◌, ◌<◌, ◌≤◌, ℕ, Bool, false, IsTrue, List, [], ◌∷◌, ◌++◌, length, refl, inl, sym, subst, ap, ◌∙◌, arith, rules}
 use Rattle.std.proofs.lemmas.Bool.{false≢true}
+use Rattle.std.proofs.lemmas.Result.{IfOk-from_err}
+use Rattle.relay_disk.specs.Disks.{Fails}
 use Rattle.std.proofs.lemmas.List.Sums.{sum_by-cons}
 use Rattle.relay_spool.specs.Head.{AreAdded}
 use Rattle.relay_spool.specs.Image.{room_of, size_of}
 use Rattle.relay_spool.specs.Pair.{HasBodies}
-use Rattle.relay_spool.specs.Spool.{AtEachMoment, IsBeforeOrWithAll, Rests, Stored, bodies_on}
+use Rattle.relay_spool.specs.declared.fault.SpoolFault.TheVariants.{Device}
+use Rattle.relay_spool.specs.Spool.{AtEachMoment, IsBeforeOrWithAll, Rests, Stored, bodies_on, calls_to_add}
+use Rattle.relay_spool.proofs.CallLemmas.{makes_none}
+use Rattle.relay_spool.proofs.GoesLemmas.{passed_on, refused_by}
 use Rattle.relay_spool.proofs.ImageLemmas.{length-added, size_of-append}
 use Rattle.relay_spool.proofs.SpoolLemmas.{rests_found, every_image, sound_of, gate_within, still_stop}
 use Rattle.relay_spool.proofs.spool.Spool.append_all.Goals as goal
@@ -111,3 +116,27 @@ returns-in_err-add_links-clause-stop g c = λ honest.
     let are : AreAdded c.deref.result.now more = rw c.deref.ensures.value c.closed-links.ensures in
     subst (λ (s : Stored g.row.D.Denot). AtEachMoment words s.disk c.add_links.new.disks (HasBodies (IsBeforeOrWithAll s.bodies more))) c.self.view_is
     (c.add_links.ensures.stop honest before more (gate_place inside.size before c.self.invariant.low (c.self.invariant.place honest live)) are (c.self.invariant.rests honest live))
+
+pub returns-then-saturating_sub-room-clause-refused : goal.returns-then-saturating_sub-room-clause-refused
+returns-then-saturating_sub-room-clause-refused g c = refl
+
+pub returns-then-saturating_sub-room-clause-none : goal.returns-then-saturating_sub-room-clause-none
+returns-then-saturating_sub-room-clause-none g c = λ none. refl
+
+pub returns-then-saturating_sub-room-clause-calls : goal.returns-then-saturating_sub-room-clause-calls
+returns-then-saturating_sub-room-clause-calls g c =
+    makes_none g.D.Disk.words (calls_to_add c.args.row) _ c.args.self.now.disk.first refl
+
+pub returns-then-is_empty-clause-none : goal.returns-then-is_empty-clause-none
+returns-then-is_empty-clause-none g c = λ none. refl
+
+pub returns-in_err-add_links-clause-appended : goal.returns-in_err-add_links-clause-appended
+returns-in_err-add_links-clause-appended g c = IfOk-from_err c.from_residual.result _ c.from_residual.ensures.0
+
+pub returns-in_err-add_links-clause-refused : goal.returns-in_err-add_links-clause-refused
+returns-in_err-add_links-clause-refused g c =
+    refused_by _ c.from_residual.result Device (passed_on c.from_residual.result Device c.from_residual.ensures.1) (
+      refl,
+      subst (λ (s : Stored g.row.D.Denot). Fails g.D.Disk.words s.disk c.add_links.new.disks) c.self.view_is
+          c.in_err-add_links.ensures.failures.fault,
+    )

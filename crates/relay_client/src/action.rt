@@ -1,0 +1,61 @@
+//! The table of a conversation: what is done behind a reply (RFC 5321, sections 3.1 to 3.3 and 4.2).
+ghost use Rattle.std.specs.Prelude.{◌≡◌};
+ghost use Rattle.relay_lines.specs.Reply.{Reply};
+ghost use Rattle.relay_course.specs.Progress.{Errand, Progress, behind_answer};
+ghost use Rattle.relay_client.specs.Action.{done_by};
+
+use relay_course::{Awaited, ReplyKind};
+
+/// What is done behind a reply.
+#[derive(Clone, Copy)]
+pub(crate) enum Action {
+    /// EHLO.
+    Greet,
+    /// What the server offers is kept, and the transaction begins.
+    TakeOffer,
+    /// HELO.
+    GreetPlainly,
+    /// The transaction begins.
+    Begin,
+    /// The next RCPT, or the content behind the last one.
+    GoOn,
+    /// The text.
+    SendText,
+    /// The end, by a reply of this kind to the content.
+    EndBehindContent(ReplyKind),
+    /// The end: it may be tried again.
+    PutOff,
+    /// The end: it is refused for good.
+    Refuse,
+}
+
+/// The table: by what waited and by the kind of the reply, what is done.
+pub(crate) fn action_behind(waited: Awaited, kind: ReplyKind) -> Action
+    ensures { (errand : Errand) (reply : Reply) (old : Progress)
+        → behind_answer errand waited kind reply old ≡ done_by errand result reply old }
+{
+    match (waited, kind) {
+        (Awaited::Greeting, ReplyKind::Completion) => Action::Greet,
+        (Awaited::Ehlo, ReplyKind::Completion) => Action::TakeOffer,
+        (Awaited::Ehlo, ReplyKind::Permanent) => Action::GreetPlainly,
+        (Awaited::Helo, ReplyKind::Completion) => Action::Begin,
+        (Awaited::Mail, ReplyKind::Completion) => Action::GoOn,
+        (Awaited::Rcpt(_), _) => Action::GoOn,
+        (Awaited::Data, ReplyKind::Intermediate) => Action::SendText,
+        (Awaited::Content, _) => Action::EndBehindContent(kind),
+        (Awaited::Greeting, ReplyKind::Intermediate) => Action::PutOff,
+        (Awaited::Greeting, ReplyKind::Transient) => Action::PutOff,
+        (Awaited::Greeting, ReplyKind::Permanent) => Action::Refuse,
+        (Awaited::Ehlo, ReplyKind::Intermediate) => Action::PutOff,
+        (Awaited::Ehlo, ReplyKind::Transient) => Action::PutOff,
+        (Awaited::Helo, ReplyKind::Intermediate) => Action::PutOff,
+        (Awaited::Helo, ReplyKind::Transient) => Action::PutOff,
+        (Awaited::Helo, ReplyKind::Permanent) => Action::Refuse,
+        (Awaited::Mail, ReplyKind::Intermediate) => Action::PutOff,
+        (Awaited::Mail, ReplyKind::Transient) => Action::PutOff,
+        (Awaited::Mail, ReplyKind::Permanent) => Action::Refuse,
+        (Awaited::Data, ReplyKind::Completion) => Action::PutOff,
+        (Awaited::Data, ReplyKind::Transient) => Action::PutOff,
+        (Awaited::Data, ReplyKind::Permanent) => Action::Refuse,
+    }
+}
