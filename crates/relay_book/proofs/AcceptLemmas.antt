@@ -229,6 +229,17 @@ begins_accept text at path ret envid recipients stored envelope spelled mail has
           ∙ ap (λ (s : List ℕ). accept_octets (record { at = at; envelope = record envelope { recipients = recipients }; stored_text = s })) last_is;
     }
 
+-- the same of what was made of the fields
+pub head_found : (text : List ℕ) (at : ℕ) (path : List ℕ) (ret : ℕ) (envid : List ℕ) (recipients : List Recipient) (stored : List ℕ) (given envelope : Envelope) (moment head : ℕ)
+    → SpellsAccept text at path ret envid recipients stored → IsMail given → HasMailFields given path ret envid → moment ≡ at → moment ≤ LAST_SECOND
+    → length stored ≤ text_limit path → envelope ≡ given → head ≡ length text - length stored
+    → BeginsAccept text moment (record envelope { recipients = recipients }) head
+head_found text at path ret envid recipients stored given envelope moment head spelled mail has moment_is late short envelope_is head_is =
+    subst (BeginsAccept text moment (record envelope { recipients = recipients })) (sym head_is)
+    (subst (λ (e : Envelope). BeginsAccept text moment (record e { recipients = recipients }) (length text - length stored)) (sym envelope_is)
+    (subst (λ n. BeginsAccept text n (record given { recipients = recipients }) (length text - length stored)) (sym moment_is)
+    (begins_accept text at path ret envid recipients stored given spelled mail has (omega (arith, moment_is, late)) short)))
+
 pub begun_is_accept : (text : List ℕ) (at : ℕ) (envelope : Envelope) (head : ℕ) (stored : List ℕ) → BeginsAccept text at envelope head → stored ≡ drop head text
     → IsAccept (record { at = at; envelope = envelope; stored_text = stored })
 begun_is_accept text at envelope head stored begun is = subst (λ (s : List ℕ). IsAccept (record { at = at; envelope = envelope; stored_text = s })) (sym is) begun.valid

@@ -1,5 +1,5 @@
 -- Rows of values, one after another.
-use Rattle.std.proofs.Common.{◌≡◌, ℕ, suc, ◌+◌, ◌<◌, ◌≤◌, List, [], ◌∷◌, ◌++◌, length, sym, ap, ◌∙◌, arith, append_assoc, append-nil, length-append}
+use Rattle.std.proofs.Common.{◌≡◌, ℕ, suc, ◌+◌, ◌<◌, ◌≤◌, List, [], ◌∷◌, ◌++◌, length, sym, ap, subst, ◌∙◌, arith, append_assoc, append-nil, length-append}
 use Rattle.std.specs.List.{flat_map, AllByRecursion}
 use Rattle.relay_envelope.specs.declared.envelope.Recipient.{Recipient}
 use Rattle.relay_envelope.specs.Envelope.{IsRecipient}
@@ -33,6 +33,16 @@ one_more_valid Valid count values value are valid =
     let parts = length-append values (value ∷ []) in
     let many = are.so_many in
     record { so_many = omega (arith, parts, many); valid = all_joined Valid values value are.valid valid }
+
+-- both of the value that was made of it
+pub one_more_row : {A : Type 0} (Valid : A → Type 0) (octets_of : A → List ℕ) (count : ℕ) (text : List ℕ) (values : List A) (rest : List ℕ) (value given : A) (behind : List ℕ) (more : List A)
+    → AreSoMany Valid count values × (text ≡ flat_map octets_of values ++ rest) → Valid given → rest ≡ octets_of given ++ behind → value ≡ given → more ≡ values ++ value ∷ []
+    → AreSoMany Valid (count + 1) more × (text ≡ flat_map octets_of more ++ behind)
+one_more_row {A} Valid octets_of count text values rest value given behind more before valid is same more_are =
+    let all : more ≡ values ++ given ∷ [] = more_are ∙ ap (λ (v : A). values ++ v ∷ []) same in (
+      subst (AreSoMany Valid (count + 1)) (sym all) (one_more_valid Valid count values given before.0 valid),
+      one_more_read octets_of text values given rest behind before.1 is ∙ ap (λ (l : List A). flat_map octets_of l ++ behind) (sym all),
+    )
 
 -- behind fewer values than so many stands no further one
 row_from : {A : Type 0} (Valid : A → Type 0) (octets_of : A → List ℕ) → IsCode Valid octets_of → (done values : List A) (behind rest : List ℕ)
