@@ -267,12 +267,3 @@ record_is_accept text at envelope head stored begun is = subst (λ (s : List ℕ
 pub record_is_text : (text : List ℕ) (at : ℕ) (envelope : Envelope) (head : ℕ) (stored : List ℕ) → BeginsRecord text at envelope head → stored ≡ drop head text
     → text ≡ 1 ∷ accept_octets (record { at = at; envelope = envelope; stored_text = stored })
 record_is_text text at envelope head stored begun is = begun.text_is ∙ ap (λ (l : List ℕ). 1 ∷ accept_octets (record { at = at; envelope = envelope; stored_text = l })) (sym is)
-
--- the fields of an accept, or octets without them
-pub ruleset accept_fields = (no_moment, no_mail_fields, no_recipients, no_stored_text, accept_spelled)
-
--- fields that are judged: no accept, or the head of one
-pub ruleset accept_heads = (bad_mail, bad_moment, bad_text, begins_accept, stored_within)
-
--- the accept that a head begins
-pub ruleset begun_accepts = (begun_is_accept, begun_is_text)

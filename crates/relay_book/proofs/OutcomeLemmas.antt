@@ -188,8 +188,5 @@ may_be_stored outcome message moment hop some report = record { message = messag
 -- the head of an outcome, or octets without one
 pub ruleset outcome_heads = (no_message, no_moment, no_hop, head_is)
 
--- the fields of an outcome, or octets without them
-pub ruleset outcome_fields = (no_head, no_rulings, no_report, outcome_spelled)
-
 -- fields that are judged: no outcome, or one
 pub ruleset judged_outcomes = (bad_moment, bad_hop, bad_report, is_outcome, outcome_is)

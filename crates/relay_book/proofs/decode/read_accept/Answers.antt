@@ -18,7 +18,7 @@ pub returns-in_err-from_slice-clause-memory : goal.returns-in_err-from_slice-cla
 returns-in_err-from_slice-clause-memory c = λ _. begun_with_mail c.args.text.now c.in_ok-at.at c.in_ok-at.envelope c.in_ok-at.head c.in_ok-at.ensures.accept
 
 pub returns-clause-accept : goal.returns-clause-accept
-returns-clause-accept c = 
+returns-clause-accept c =
     let is : c.in_ok-from_slice.field-0 ≡ drop c.in_ok-at.head c.args.text.now =
     c.in_ok-from_slice.ensures ∙ take_all _ (drop c.in_ok-at.head c.args.text.now) (simp length-drop (omega arith)) in (
       begun_is_accept c.args.text.now c.in_ok-at.at c.in_ok-at.envelope c.in_ok-at.head _ c.in_ok-at.ensures.accept is,

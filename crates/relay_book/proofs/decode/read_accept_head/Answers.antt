@@ -18,17 +18,17 @@ pub returns-in_default-clause-bad : goal.returns-in_default-clause-bad
 returns-in_default-clause-bad c = λ _. bad_mail c.args.text.now c.in_ok-at.at c.in_ok-at.path.now c.in_ok-at.ret c.in_ok-at.envid.now c.in_ok-at.recipients c.in_ok-at.stored_text.now c.in_ok-at.ensures.fields c.in_default.ensures
 
 pub returns-in_default-new-clause-bad : goal.returns-in_default-new-clause-bad
-returns-in_default-new-clause-bad c = 
+returns-in_default-new-clause-bad c =
     let late : LAST_SECOND < c.in_ok-at.at = search rules in
     λ _. bad_moment c.args.text.now c.in_ok-at.at c.in_ok-at.path.now c.in_ok-at.ret c.in_ok-at.envid.now c.in_ok-at.recipients c.in_ok-at.stored_text.now c.in_ok-at.ensures.fields late
 
 pub returns-then-stored_text-text_limit-clause-bad : goal.returns-then-stored_text-text_limit-clause-bad
-returns-then-stored_text-text_limit-clause-bad c = 
+returns-then-stored_text-text_limit-clause-bad c =
     let long : text_limit c.in_ok-at.path.now < length c.in_ok-at.stored_text.now = search rules in
     λ _. bad_text c.args.text.now c.in_ok-at.at c.in_ok-at.path.now c.in_ok-at.ret c.in_ok-at.envid.now c.in_ok-at.recipients c.in_ok-at.stored_text.now c.in_ok-at.ensures.fields long
 
 pub overflow_sub-head : goal.overflow_sub-head
-overflow_sub-head c = 
+overflow_sub-head c =
     let within = stored_within c.args.text.now c.in_ok-at.at c.in_ok-at.path.now c.in_ok-at.ret c.in_ok-at.envid.now c.in_ok-at.recipients c.in_ok-at.stored_text.now c.in_ok-at.ensures.fields in
     omega (arith, within)
 
@@ -39,7 +39,7 @@ pub returns-in_err-envelope-clause-memory : goal.returns-in_err-envelope-clause-
 returns-in_err-envelope-clause-memory c = λ _. spelled_with_mail c.args.text.now c.in_ok-at.at c.in_ok-at.path.now c.in_ok-at.ret c.in_ok-at.envid.now c.in_ok-at.recipients c.in_ok-at.stored_text.now c.in_ok-at.ensures.fields
 
 pub returns-clause-accept : goal.returns-clause-accept
-returns-clause-accept c = 
+returns-clause-accept c =
     let moment_is : c.in-Ok.at ≡ c.in_ok-at.at = search rules in
     let late : c.in-Ok.at ≤ LAST_SECOND = search rules in
     let short : length c.in_ok-at.stored_text.now ≤ text_limit c.in_ok-at.path.now = search rules in

@@ -13,7 +13,7 @@ pub returns-in_err-message-clause-memory : goal.returns-in_err-message-clause-me
 returns-in_err-message-clause-memory c = λ bad. c.in_err-message.ensures.memory (fault_passed c.from_residual.result _ _ c.from_residual.ensures.1 bad)
 
 pub returns-in_default-clause-bad : goal.returns-in_default-clause-bad
-returns-in_default-clause-bad c = 
+returns-in_default-clause-bad c =
     let late : LAST_SECOND < c.in_ok-message.at = search rules in
     λ _. bad_moment c.args.text.now c.in_ok-message.message c.in_ok-message.at c.in_ok-message.hop.now c.in_ok-message.rulings c.in_ok-message.report.now c.in_ok-message.ensures.fields late
 
@@ -30,7 +30,7 @@ pub returns-in_err-from_slice-2-clause-memory : goal.returns-in_err-from_slice-2
 returns-in_err-from_slice-2-clause-memory c = λ _. spelled_with_hop c.args.text.now c.in_ok-message.message c.in_ok-message.at c.in_ok-message.hop.now c.in_ok-message.rulings c.in_ok-message.report.now c.in_ok-message.ensures.fields
 
 pub returns-clause-outcome : goal.returns-clause-outcome
-returns-clause-outcome c = 
+returns-clause-outcome c =
     let moment_is : c.in-Ok.at ≡ c.in_ok-message.at = search rules in
     let late : c.in-Ok.at ≤ LAST_SECOND = search rules in
     let may : MayBeHop c.in_ok-message.hop.now = search rules in

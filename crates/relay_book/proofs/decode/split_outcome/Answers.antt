@@ -13,11 +13,11 @@ pub returns-in_err-rulings-clause-memory : goal.returns-in_err-rulings-clause-me
 returns-in_err-rulings-clause-memory c = λ bad. begins_with_hop c.args.text.now c.in-Some.message c.in-Some.at c.in-Some.hop.now c.in-Some.rest.now c.in-Some.ensures (c.in_err-rulings.ensures.memory (fault_passed c.from_residual.result _ _ c.from_residual.ensures.1 bad))
 
 pub returns-in-Some-read_last-clause-fields : goal.returns-in-Some-read_last-clause-fields
-returns-in-Some-read_last-clause-fields c = 
+returns-in-Some-read_last-clause-fields c =
     outcome_spelled c.args.text.now c.in-Some.message c.in-Some.at c.in-Some.hop.now c.in-Some.rest.now c.in_ok-rulings.rulings c.in_ok-rulings.rest.now c.in-Some-read_last.report.now c.in-Some.ensures
     c.in_ok-rulings.ensures.counted.1 c.in_ok-rulings.ensures.counted.0 c.in-Some-read_last.ensures.0 c.in-Some-read_last.ensures.1
 
 pub returns-in-None-clause-bad : goal.returns-in-None-clause-bad
-returns-in-None-clause-bad c = 
+returns-in-None-clause-bad c =
     λ _. no_report c.args.text.now c.in-Some.message c.in-Some.at c.in-Some.hop.now c.in-Some.rest.now c.in_ok-rulings.rulings c.in_ok-rulings.rest.now c.in-Some.ensures
     c.in_ok-rulings.ensures.counted.1 c.in_ok-rulings.ensures.counted.0 c.in-None.ensures

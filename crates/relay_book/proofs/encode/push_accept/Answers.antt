@@ -6,7 +6,7 @@ use Rattle.relay_book.proofs.WriteLemmas.{accept_written}
 use Rattle.relay_book.proofs.encode.push_accept.Goals as goal
 
 pub returns : goal.returns
-returns c = 
+returns c =
     let recipients_are : c.as_slice.result.now ≡ c.args.accept.now.envelope.recipients = search rules in
     let stored_is : c.as_slice-2.result.now ≡ c.args.accept.now.stored_text = search rules in
     on_ok_weaker c.push_sized_4.result

@@ -10,7 +10,7 @@ use Rattle.relay_book.proofs.WriteLemmas.{entry_written}
 use Rattle.relay_book.proofs.encode.push_entry.Goals as goal
 
 pub returns : goal.returns
-returns c = 
+returns c =
     let recipients_are : c.as_slice.result.now ≡ c.args.message.now.accept.envelope.recipients = search rules in
     let places_are : c.as_slice-2.result.now ≡ c.args.message.now.places = search rules in
     let stored_is : c.as_slice-3.result.now ≡ c.args.message.now.accept.stored_text = search rules in

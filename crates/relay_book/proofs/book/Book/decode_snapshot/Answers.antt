@@ -29,7 +29,7 @@ pub returns-then-next-lt1-clause-memory : goal.returns-then-next-lt1-clause-memo
 returns-then-next-lt1-clause-memory c = λ _ _. may_be c.in_ok-version.version (text_of c.args.octets) c.in_ok-version.next c.in_ok-version.count (text_of c.next_head.new.octets) c.in_ok-version.ensures.head
 
 pub returns-in_err-read_entries-clause-bad : goal.returns-in_err-read_entries-clause-bad
-returns-in_err-read_entries-clause-bad c = 
+returns-in_err-read_entries-clause-bad c =
     λ bad. bad_entries c.in_ok-version.version (text_of c.args.octets) c.in_ok-version.next c.in_ok-version.count (text_of c.next_head.new.octets) c.in_ok-version.ensures.head
     (c.in_err-read_entries.ensures.bad (fault_passed c.from_residual-in_err-read_entries.result _ _ c.from_residual-in_err-read_entries.ensures.1 bad))
 

@@ -10,7 +10,7 @@ loop-index-preserved g c =
     (numbers_live test c.args.messages.now.entries) c.in-Some.ensures.entry c.loop-index.invariant c.in_ok-push_where.ensures
 
 pub returns : goal.returns
-returns g c = 
+returns g c =
     let test = g.Q.Question.holds c.args.question.now in
     let past = c.loop-index-test.false in
     let len = c.len-index-end.ensures.len in

@@ -10,7 +10,7 @@ loop-index-preserved c =
     (marks_live is_held c.args.messages.now.entries) c.in-Some.ensures.entry c.loop-index.invariant c.in_ok-push_held.ensures
 
 pub returns : goal.returns
-returns c = 
+returns c =
     let past = c.loop-index-test.false in
     let len = c.len-index-end.ensures.len in
     marks_end is_held c.args.messages.now.entries c.loop-index.index c.loop-index.marks.items (marks_live is_held c.args.messages.now.entries) (omega (arith, past, len))

@@ -24,12 +24,12 @@ pub returns-in_err-number-clause-bad : goal.returns-in_err-number-clause-bad
 returns-in_err-number-clause-bad c = λ bad. c.in_err-number.ensures.bad (fault_passed c.from_residual.result _ _ c.from_residual.ensures.1 bad)
 
 pub returns-in_default-clause-bad : goal.returns-in_default-clause-bad
-returns-in_default-clause-bad c = 
+returns-in_default-clause-bad c =
     λ _. bad_mail c.args.version c.args.text.now c.in_ok-number.number c.in_ok-number.at c.in_ok-number.path.now c.in_ok-number.ret c.in_ok-number.envid.now c.in_ok-number.recipients
     c.in_ok-number.places c.in_ok-number.stored_text.now c.in_ok-number.rest.now c.in_ok-number.ensures.fields c.in_default.ensures
 
 pub returns-in_default-new-clause-bad : goal.returns-in_default-new-clause-bad
-returns-in_default-new-clause-bad c = 
+returns-in_default-new-clause-bad c =
     let late : LAST_SECOND < c.in_ok-number.at = search rules in
     λ _. bad_moment c.args.version c.args.text.now c.in_ok-number.number c.in_ok-number.at c.in_ok-number.path.now c.in_ok-number.ret c.in_ok-number.envid.now c.in_ok-number.recipients
     c.in_ok-number.places c.in_ok-number.stored_text.now c.in_ok-number.rest.now c.in_ok-number.ensures.fields late

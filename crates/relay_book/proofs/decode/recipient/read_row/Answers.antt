@@ -19,6 +19,6 @@ pub returns-in_err-push-in-Some-clause-bad : goal.returns-in_err-push-in-Some-cl
 returns-in_err-push-in-Some-clause-bad c = no_memory c.from_residual-in_err-push-in-Some.result c.from_residual-in_err-push-in-Some.ensures.1
 
 pub loop-index-preserved : goal.loop-index-preserved
-loop-index-preserved c = 
+loop-index-preserved c =
     one_more_row IsRecipient recipient_octets c.loop-index.index c.args.text.now c.loop-index.recipients c.loop-index.rest.now c.in_ok-new-in-Some.field-0 _ c.in-Some.behind.now
     c.push.new.self c.loop-index.invariant c.in-Some.ensures.0 c.in-Some.ensures.1 c.in_ok-new-in-Some.ensures c.in_ok-push-in-Some.ensures.ok

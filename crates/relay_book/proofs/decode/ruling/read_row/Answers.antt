@@ -13,6 +13,6 @@ pub returns-in_err-push-in-Ok-clause-bad : goal.returns-in_err-push-in-Ok-clause
 returns-in_err-push-in-Ok-clause-bad c = no_memory c.from_residual.result c.from_residual.ensures.1
 
 pub loop-index-preserved : goal.loop-index-preserved
-loop-index-preserved c = 
+loop-index-preserved c =
     one_more_row IsRuling ruling_octets c.loop-index.index c.args.text.now c.loop-index.rulings c.loop-index.rest.now c.in-Ok.ruling c.in-Ok.ruling c.in-Ok.behind.now
     c.push.new.self c.loop-index.invariant c.in-Ok.ensures.ruling.0 c.in-Ok.ensures.ruling.1 refl c.in_ok-push-in-Ok.ensures.ok
