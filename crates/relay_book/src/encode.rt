@@ -3,8 +3,8 @@ ghost use Rattle.std.specs.Prelude.{◌≡◌, ◌++◌, ◌∷◌, ◌<◌, ◌
 ghost use Rattle.std.specs.List.{flat_map, AllByRecursion, zip};
 ghost use Rattle.relay_envelope.specs.Envelope.{IsEnvelope, IsRecipient};
 ghost use Rattle.relay_book.specs.Record.{IsAccept, IsChange, IsOutcome, IsRuling, IsVerdict, accept_octets, counted};
-ghost use Rattle.relay_book.specs.Record.{encode, notify_number, octets_8, outcome_kind, outcome_octets};
-ghost use Rattle.relay_book.specs.Record.{recipient_octets, ret_number, ruling_octets, sized_2, verdict_octets, written};
+ghost use Rattle.relay_book.specs.Record.{encode, notify_number, octets_8, outcome_kind, outcome_octets, written};
+ghost use Rattle.relay_book.specs.Record.{recipient_octets, ret_number, ruling_octets, sized_2, verdict_octets};
 ghost use Rattle.relay_book.specs.declared.version.Version.TheVariants.{WithDelay};
 ghost use Rattle.relay_book.specs.Snapshot.{IsQueued, entry_octets, place_octets, placed_octets};
 
