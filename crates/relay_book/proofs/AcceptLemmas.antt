@@ -229,6 +229,17 @@ begins_accept text at path ret envid recipients stored envelope spelled mail has
           ∙ ap (λ (s : List ℕ). accept_octets (record { at = at; envelope = record envelope { recipients = recipients }; stored_text = s })) last_is;
     }
 
+-- the same of what was made of the fields
+pub head_found : (text : List ℕ) (at : ℕ) (path : List ℕ) (ret : ℕ) (envid : List ℕ) (recipients : List Recipient) (stored : List ℕ) (given envelope : Envelope) (moment head : ℕ)
+    → SpellsAccept text at path ret envid recipients stored → IsMail given → HasMailFields given path ret envid → moment ≡ at → moment ≤ LAST_SECOND
+    → length stored ≤ text_limit path → envelope ≡ given → head ≡ length text - length stored
+    → BeginsAccept text moment (record envelope { recipients = recipients }) head
+head_found text at path ret envid recipients stored given envelope moment head spelled mail has moment_is late short envelope_is head_is =
+    subst (BeginsAccept text moment (record envelope { recipients = recipients })) (sym head_is)
+    (subst (λ (e : Envelope). BeginsAccept text moment (record e { recipients = recipients }) (length text - length stored)) (sym envelope_is)
+    (subst (λ n. BeginsAccept text n (record given { recipients = recipients }) (length text - length stored)) (sym moment_is)
+    (begins_accept text at path ret envid recipients stored given spelled mail has (omega (arith, moment_is, late)) short)))
+
 pub begun_is_accept : (text : List ℕ) (at : ℕ) (envelope : Envelope) (head : ℕ) (stored : List ℕ) → BeginsAccept text at envelope head → stored ≡ drop head text
     → IsAccept (record { at = at; envelope = envelope; stored_text = stored })
 begun_is_accept text at envelope head stored begun is = subst (λ (s : List ℕ). IsAccept (record { at = at; envelope = envelope; stored_text = s })) (sym is) begun.valid
@@ -256,12 +267,3 @@ record_is_accept text at envelope head stored begun is = subst (λ (s : List ℕ
 pub record_is_text : (text : List ℕ) (at : ℕ) (envelope : Envelope) (head : ℕ) (stored : List ℕ) → BeginsRecord text at envelope head → stored ≡ drop head text
     → text ≡ 1 ∷ accept_octets (record { at = at; envelope = envelope; stored_text = stored })
 record_is_text text at envelope head stored begun is = begun.text_is ∙ ap (λ (l : List ℕ). 1 ∷ accept_octets (record { at = at; envelope = envelope; stored_text = l })) (sym is)
-
--- the fields of an accept, or octets without them
-pub ruleset accept_fields = (no_moment, no_mail_fields, no_recipients, no_stored_text, accept_spelled)
-
--- fields that are judged: no accept, or the head of one
-pub ruleset accept_heads = (bad_mail, bad_moment, bad_text, begins_accept, stored_within)
-
--- the accept that a head begins
-pub ruleset begun_accepts = (begun_is_accept, begun_is_text)

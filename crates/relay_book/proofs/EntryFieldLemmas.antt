@@ -261,8 +261,5 @@ module _ (version : Version) where
         out (omega (arith, number_is, low)) (omega (arith, number_is, high));
   }
 
--- the fields of an entry, or octets without them
-pub ruleset entry_fields = (no_number, no_moment, no_mail_fields, no_placed, no_stored_text, entry_spelled)
-
 -- fields of which no entry is made
 pub ruleset refused_entries = (bad_mail, bad_moment, bad_text, bad_places)

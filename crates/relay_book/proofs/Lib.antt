@@ -1,6 +1,7 @@
 mod FaultLemmas
 mod CodeLemmas
 mod FitLemmas
+mod WriteLemmas
 mod FieldLemmas
 mod ValueLemmas
 mod RefusalLemmas

@@ -1,11 +1,11 @@
 -- The first moment at which a place is due, by keys that rise.
-use Rattle.std.proofs.Common.{◌≡◌, ◌⊎◌, inl, inr, ℕ, suc, ◌<◌, ◌≤◌, ◌==◌, Bool, true, false, cond, ◌&&◌, ◌||◌, List, [], ◌∷◌, ◌++◌, Option, None, Some, refl, sym, subst, ap, ◌∙◌, arith, if◌then◌else◌, Contains, nat_cmp, nat_lt}
-use Rattle.std.specs.List.{flat_map, AllByRecursion}
+use Rattle.std.proofs.Common.{◌≡◌, ◌⊎◌, inl, inr, ℕ, suc, ◌<◌, ◌≤◌, ◌==◌, Bool, true, false, ◌&&◌, ◌||◌, List, [], ◌∷◌, ◌++◌, None, Some, refl, sym, subst, ap, ◌∙◌, arith, if◌then◌else◌, Contains, nat_cmp, nat_lt}
+use Rattle.std.specs.List.{AllByRecursion}
 use Rattle.std.specs.List.Sorted.{IsStrictlySortedBy}
 use Rattle.std.specs.Ordering.{is_lt, ordering_then}
 use Rattle.std.specs.declared.cmp.Ordering.{Ordering}
-use Rattle.std.specs.declared.cmp.Ordering.TheVariants.{Less, Equal, Greater}
-use Rattle.std.proofs.lemmas.Map.Keys.{sorted_head, sorted_tail}
+use Rattle.std.specs.declared.cmp.Ordering.TheVariants.{Less, Greater}
+use Rattle.std.proofs.lemmas.Map.Keys.{sorted_head}
 use Rattle.std.proofs.lemmas.List.Elements.{Contains-append_cases, Contains-append_left, Contains-append_right}
 use Rattle.std.proofs.lemmas.Bool.{cond-true, cond-false, cases_eq, cases_order, eq-eqb, eqb-true, ne_eqb, and_parts, and_from, false_from_ne_true, ltb-true, false≢true}
 use Rattle.relay_book.specs.declared.message.Place.{Place}
@@ -13,7 +13,7 @@ use Rattle.relay_book.specs.declared.message.Message.{Message}
 use Rattle.relay_book.specs.Queue.{message_of}
 use Rattle.relay_book.specs.Book.{AllTold, AreTold, Rise, is_held_until}
 use Rattle.relay_book.specs.Moments.{IsLeastOf, moments_from, moments_of, waits_from, waits_of}
-use Rattle.relay_book.proofs.PlaceLemmas.{in_none, in_cons, head_in, tail_in}
+use Rattle.relay_book.proofs.PlaceLemmas.{in_none, in_cons, head_in}
 use Rattle.relay_book.proofs.DueLemmas.{pair_cmp}
 
 -- a list that contains nothing is empty

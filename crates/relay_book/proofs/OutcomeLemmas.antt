@@ -169,14 +169,24 @@ pub outcome_is : (version : Version) (text : List ℕ) (message at : ℕ) (hop :
     → text ≡ outcome_octets (record { version = version; message = message; at = at; hop = hop; rulings = rulings; report = report })
 outcome_is version text message at hop rulings report spelled = spelled.text_is
 
+-- the outcome that was made of the fields
+pub outcome_found : (version : Version) (text : List ℕ) (message at : ℕ) (hop : List ℕ) (rulings : List Ruling) (report : List ℕ) (moment : ℕ) (copy : List ℕ) (all : List Ruling) (other : List ℕ)
+    → SpellsOutcome text message at hop rulings report → moment ≡ at → moment ≤ LAST_SECOND → MayBeHop hop → length report ≤ 2 ^ 26 → copy ≡ hop → all ≡ rulings → other ≡ report
+    → IsOutcome (record { version = version; message = message; at = moment; hop = copy; rulings = all; report = other })
+    × (text ≡ outcome_octets (record { version = version; message = message; at = moment; hop = copy; rulings = all; report = other }))
+outcome_found version text message at hop rulings report moment copy all other spelled moment_is late may short copy_is all_are other_is =
+    let given : OutcomeFields = record { version = version; message = message; at = at; hop = hop; rulings = rulings; report = report } in
+    let made : given ≡ record { version = version; message = message; at = moment; hop = copy; rulings = all; report = other } =
+    (λ i. record { version = version; message = message; at = sym moment_is i; hop = sym copy_is i; rulings = sym all_are i; report = sym other_is i }) in (
+      subst IsOutcome made (is_outcome version text message at hop rulings report spelled (omega (arith, moment_is, late)) may short),
+      subst (λ (o : OutcomeFields). text ≡ outcome_octets o) made (outcome_is version text message at hop rulings report spelled),
+    )
+
 pub may_be_stored : (outcome : OutcomeFields) → outcome.message < 2 ^ 64 → outcome.at ≤ LAST_SECOND → MayBeHop outcome.hop → AreSome IsRuling outcome.rulings → length outcome.report ≤ 2 ^ 26 → IsOutcome outcome
 may_be_stored outcome message moment hop some report = record { message = message; moment = moment; hop = hop; some = some.some; within = some.within; rulings = some.valid; report = report }
 
 -- the head of an outcome, or octets without one
 pub ruleset outcome_heads = (no_message, no_moment, no_hop, head_is)
-
--- the fields of an outcome, or octets without them
-pub ruleset outcome_fields = (no_head, no_rulings, no_report, outcome_spelled)
 
 -- fields that are judged: no outcome, or one
 pub ruleset judged_outcomes = (bad_moment, bad_hop, bad_report, is_outcome, outcome_is)

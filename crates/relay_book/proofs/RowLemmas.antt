@@ -1,6 +1,7 @@
 -- Rows of values, one after another.
-use Rattle.std.proofs.Common.{◌≡◌, ℕ, suc, ◌+◌, ◌<◌, ◌≤◌, List, [], ◌∷◌, ◌++◌, length, sym, ap, ◌∙◌, arith, append_assoc, append-nil, length-append}
+use Rattle.std.proofs.Common.{◌≡◌, ℕ, zero, suc, ◌+◌, ◌<◌, ◌≤◌, List, [], ◌∷◌, ◌++◌, drop, get_or, length, map, refl, sym, ap, subst, ◌∙◌, arith, add-one, append_assoc, append-nil, length-append}
 use Rattle.std.specs.List.{flat_map, AllByRecursion}
+use Rattle.std.proofs.lemmas.List.{drop_more}
 use Rattle.relay_envelope.specs.declared.envelope.Recipient.{Recipient}
 use Rattle.relay_envelope.specs.Envelope.{IsRecipient}
 use Rattle.relay_book.specs.declared.change.Ruling.{Ruling}
@@ -33,6 +34,16 @@ one_more_valid Valid count values value are valid =
     let parts = length-append values (value ∷ []) in
     let many = are.so_many in
     record { so_many = omega (arith, parts, many); valid = all_joined Valid values value are.valid valid }
+
+-- both of the value that was made of it
+pub one_more_row : {A : Type 0} (Valid : A → Type 0) (octets_of : A → List ℕ) (count : ℕ) (text : List ℕ) (values : List A) (rest : List ℕ) (value given : A) (behind : List ℕ) (more : List A)
+    → AreSoMany Valid count values × (text ≡ flat_map octets_of values ++ rest) → Valid given → rest ≡ octets_of given ++ behind → value ≡ given → more ≡ values ++ value ∷ []
+    → AreSoMany Valid (count + 1) more × (text ≡ flat_map octets_of more ++ behind)
+one_more_row {A} Valid octets_of count text values rest value given behind more before valid is same more_are =
+    let all : more ≡ values ++ given ∷ [] = more_are ∙ ap (λ (v : A). values ++ v ∷ []) same in (
+      subst (AreSoMany Valid (count + 1)) (sym all) (one_more_valid Valid count values given before.0 valid),
+      one_more_read octets_of text values given rest behind before.1 is ∙ ap (λ (l : List A). flat_map octets_of l ++ behind) (sym all),
+    )
 
 -- behind fewer values than so many stands no further one
 row_from : {A : Type 0} (Valid : A → Type 0) (octets_of : A → List ℕ) → IsCode Valid octets_of → (done values : List A) (behind rest : List ℕ)
@@ -100,6 +111,48 @@ pub counted_are_one : {A : Type 0} (Valid : A → Type 0) (octets_of : A → Lis
 counted_are_one Valid octets_of code values others x y are also e =
     let first = same_head (length values) (length others) (flat_map octets_of values ++ x) (flat_map octets_of others ++ y) e in
     code_list Valid octets_of code values others x y first.0 are.valid also.valid first.1
+
+-- a row that is written, value by value
+pub flat_step : {A : Type 0} (octets_of : A → List ℕ) (values : List A) (index : ℕ) (value : A) (old new all : List ℕ) → index < length values → value ≡ get_or values index value
+    → old ++ flat_map octets_of (drop index values) ≡ all → new ≡ old ++ octets_of value → new ++ flat_map octets_of (drop (index + 1) values) ≡ all
+flat_step {A} octets_of values index value old new all within is before new_is =
+    let first : drop index values ≡ value ∷ drop (index + 1) values = drop_more values index value within ∙ ap (λ (v : A). v ∷ drop (index + 1) values) (sym is) in
+    ap (λ (l : List ℕ). l ++ flat_map octets_of (drop (index + 1) values)) new_is
+    ∙ append_assoc old (octets_of value) (flat_map octets_of (drop (index + 1) values))
+    ∙ sym (ap (λ (l : List A). old ++ flat_map octets_of l) first)
+    ∙ before
+
+drop_whole : {A : Type 0} (values : List A) (index : ℕ) → length values ≤ index → drop index values ≡ []
+drop_whole [] zero past = refl
+drop_whole [] (suc index) past = refl
+drop_whole (value ∷ values) zero past = absurd (omega (arith, past))
+drop_whole (value ∷ values) (suc index) past = drop_whole values index (omega (arith, past))
+
+-- all of it behind its count
+pub flat_end : {A : Type 0} (octets_of : A → List ℕ) (values : List A) (index : ℕ) (old mid new : List ℕ) → length values ≤ index → mid ≡ old ++ length values ∷ []
+    → new ++ flat_map octets_of (drop index values) ≡ mid ++ flat_map octets_of values → new ≡ old ++ counted octets_of values
+flat_end {A} octets_of values index old mid new past mid_is whole =
+    sym (append-nil new)
+    ∙ ap (λ (l : List A). new ++ flat_map octets_of l) (sym (drop_whole values index past))
+    ∙ whole
+    ∙ ap (λ (l : List ℕ). l ++ flat_map octets_of values) mid_is
+    ∙ append_assoc old (length values ∷ []) (flat_map octets_of values)
+
+-- values of which each makes the same
+map_same : {A B : Type 0} (f : A → B) (made : B) → ((value : A) → f value ≡ made) → (values : List A) (index : ℕ) → index < length values
+    → map f (drop index values) ≡ made ∷ map f (drop (suc index) values)
+map_same f made same [] index within = absurd (omega (arith, within))
+map_same {A} {B} f made same (value ∷ values) zero within = ap (λ (b : B). b ∷ map f values) (same value)
+map_same f made same (value ∷ values) (suc index) within = map_same f made same values index (omega (arith, within))
+
+pub map_step : {A B : Type 0} (f : A → B) (made : B) → ((value : A) → f value ≡ made) → (values : List A) (index : ℕ) (old new all : List B) → index < length values
+    → old ++ map f (drop index values) ≡ all → new ≡ old ++ made ∷ [] → new ++ map f (drop (index + 1) values) ≡ all
+map_step {A} {B} f made same values index old new all within before new_is =
+    ap (λ (l : List B). l ++ map f (drop (index + 1) values)) new_is
+    ∙ append_assoc old (made ∷ []) (map f (drop (index + 1) values))
+    ∙ ap (λ n. old ++ made ∷ map f (drop n values)) (add-one index)
+    ∙ ap (λ (l : List B). old ++ l) (sym (map_same f made same values index within))
+    ∙ before
 
 -- octets without a counted row
 pub ruleset refused_rows = (no_count, no_such_count, no_counted_row)

@@ -302,6 +302,3 @@ pub ruleset counted_entries = (none_read, too_many_counted)
 
 -- the head of a snapshot, or octets without one
 pub ruleset snapshot_heads = (no_kind, other_kind, no_counts, head_is)
-
--- the counts in the head of a snapshot, or octets without them
-pub ruleset head_counts = (no_next, no_count, counts_are)

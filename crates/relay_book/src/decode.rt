@@ -119,7 +119,6 @@ fn read_last(text: &[u8]) -> Option<&[u8]>
 type AcceptFields<'a> = (u64, &'a [u8], u8, &'a [u8], Recipients, &'a [u8]);
 
 /// Cuts an accept into its fields.
-#[tactic(auto, using(crate::proofs::AcceptLemmas::accept_fields, crate::proofs::BeginLemmas::begins_with_mail))]
 fn split_accept(alloc: Global, text: &[u8]) -> Result<AcceptFields<'_>, BookFault>
     ensures fields { IfOk result (λ parts.
         SpellsAccept text.now parts.0 parts.1.now parts.2 parts.3.now parts.4 parts.5.now) }
@@ -143,7 +142,6 @@ fn split_accept(alloc: Global, text: &[u8]) -> Result<AcceptFields<'_>, BookFaul
 type AcceptHead = (Moment, Envelope, usize);
 
 /// What the accept says before its stored text that the text spells.
-#[tactic(auto, using(crate::proofs::AcceptLemmas::accept_heads, crate::proofs::BeginLemmas::spelled_with_mail))]
 fn read_accept_head(alloc: Global, text: &[u8]) -> Result<AcceptHead, BookFault>
     ensures accept { IfOk result (λ parts. BeginsAccept text.now parts.0 parts.1 parts.2) }
     ensures bad { IsErrOf result BookFault.BadRecord → SpellsNoAccept text.now }
@@ -166,7 +164,6 @@ fn read_accept_head(alloc: Global, text: &[u8]) -> Result<AcceptHead, BookFault>
 }
 
 /// The accept that the text spells.
-#[tactic(auto, using(crate::proofs::AcceptLemmas::begun_accepts, crate::proofs::BeginLemmas::begun_with_mail))]
 fn read_accept(alloc: Global, text: &[u8]) -> Result<Accept, BookFault>
     ensures accept { IfOk result (λ accept. IsAccept accept × (text.now ≡ accept_octets accept)) }
     ensures bad { IsErrOf result BookFault.BadRecord → SpellsNoAccept text.now }
@@ -196,7 +193,6 @@ fn read_head(text: &[u8]) -> Option<(u64, u64, &[u8], &[u8])>
 }
 
 /// Cuts an outcome into its fields.
-#[tactic(auto, using(crate::proofs::OutcomeLemmas::outcome_fields, crate::proofs::BeginLemmas::begins_with_hop))]
 fn split_outcome(alloc: Global, text: &[u8]) -> Result<OutcomeFields<'_>, BookFault>
     ensures fields { IfOk result (λ parts.
         SpellsOutcome text.now parts.0 parts.1 parts.2.now parts.3 parts.4.now) }

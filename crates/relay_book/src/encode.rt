@@ -3,8 +3,8 @@ ghost use Rattle.std.specs.Prelude.{◌≡◌, ◌++◌, ◌∷◌, ◌<◌, ◌
 ghost use Rattle.std.specs.List.{flat_map, AllByRecursion, zip};
 ghost use Rattle.relay_envelope.specs.Envelope.{IsEnvelope, IsRecipient};
 ghost use Rattle.relay_book.specs.Record.{IsAccept, IsChange, IsOutcome, IsRuling, IsVerdict, accept_octets, counted};
-ghost use Rattle.relay_book.specs.Record.{encode, notify_number, octets_8, outcome_kind, outcome_octets};
-ghost use Rattle.relay_book.specs.Record.{recipient_octets, ret_number, ruling_octets, verdict_octets};
+ghost use Rattle.relay_book.specs.Record.{encode, notify_number, octets_8, outcome_kind, outcome_octets, written};
+ghost use Rattle.relay_book.specs.Record.{recipient_octets, ret_number, ruling_octets, sized_2, verdict_octets};
 ghost use Rattle.relay_book.specs.declared.version.Version.TheVariants.{WithDelay};
 ghost use Rattle.relay_book.specs.Snapshot.{IsQueued, entry_octets, place_octets, placed_octets};
 
@@ -35,21 +35,32 @@ pub fn encode_change(alloc: Global, change: &Change) -> Result<Vec<u8>, AllocErr
 }
 
 /// Adds the fields of an accept.
-#[tactic(auto, using(crate::proofs::FitLemmas::fields_fit))]
+#[tactic(auto, using(crate::proofs::FitLemmas::text_fits))]
 fn push_accept(out: &mut Vec<u8>, accept: &Accept) -> Result<(), AllocError>
     requires { IsAccept accept.now }
     ensures { OnOk result (out.new.items ≡ out.old.items ++ accept_octets accept.now) }
+{
+    push_mail(out, accept)?;
+    push_recipients(out, accept.envelope.recipients.as_slice())?;
+    push_sized_4(out, accept.stored_text.as_slice())
+}
+
+/// Adds what an accept says before its recipients: its moment, and the three of MAIL.
+#[tactic(auto, using(crate::proofs::FitLemmas::fields_fit))]
+fn push_mail(out: &mut Vec<u8>, accept: &Accept) -> Result<(), AllocError>
+    requires { IsAccept accept.now }
+    ensures { OnOk result (out.new.items ≡ out.old.items ++ (octets_8 accept.now.at
+        ++ (sized_2 accept.now.envelope.reverse_path
+        ++ (ret_number accept.now.envelope.ret ∷ sized_2 (written accept.now.envelope.envid))))) }
 {
     let envelope = &accept.envelope;
     push_8(out, accept.at.seconds())?;
     push_sized_2(out, envelope.reverse_path.as_slice())?;
     push_1(out, number_of_ret(envelope.ret))?;
     match &envelope.envid {
-        Some(envid) => push_sized_2(out, envid.as_slice())?,
-        None => push_sized_2(out, b"")?,
+        Some(envid) => push_sized_2(out, envid.as_slice()),
+        None => push_sized_2(out, b""),
     }
-    push_recipients(out, envelope.recipients.as_slice())?;
-    push_sized_4(out, accept.stored_text.as_slice())
 }
 
 fn number_of_ret(ret: Option<Ret>) -> u8
@@ -170,7 +181,7 @@ fn push_verdict(out: &mut Vec<u8>, verdict: &Verdict) -> Result<(), AllocError>
 
 /// Adds a message that is queued, by the second version: its number, and the fields of its accept, each recipient
 /// followed by its place.
-#[tactic(auto, using(crate::proofs::FitLemmas::fields_fit), unfolding(crate::specs::Snapshot::entry_octets))]
+#[tactic(auto, using(crate::proofs::FitLemmas::text_fits), unfolding(crate::specs::Snapshot::entry_octets))]
 pub(crate) fn push_entry(
     out: &mut Vec<u8>,
     number: u64,
@@ -179,19 +190,11 @@ pub(crate) fn push_entry(
     requires { IsQueued (number, message.now) }
     ensures { OnOk result (out.new.items ≡ out.old.items ++ entry_octets WithDelay (number, message.now)) }
 {
-    let accept = &message.accept;
-    let envelope = &accept.envelope;
     push_8(out, number)?;
-    push_8(out, accept.at.seconds())?;
-    push_sized_2(out, envelope.reverse_path.as_slice())?;
-    push_1(out, number_of_ret(envelope.ret))?;
-    match &envelope.envid {
-        Some(envid) => push_sized_2(out, envid.as_slice())?,
-        None => push_sized_2(out, b"")?,
-    }
+    push_mail(out, &message.accept)?;
     push_placed(
         out,
-        envelope.recipients.as_slice(),
+        message.accept.envelope.recipients.as_slice(),
         message.places.as_slice(),
     )?;
     push_sized_4(out, message.accept.stored_text.as_slice())

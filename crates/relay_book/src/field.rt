@@ -31,7 +31,6 @@ pub(crate) fn read_4(text: &[u8]) -> Option<(u32, &[u8])>
 }
 
 /// A text behind its length of two octets, and what follows it.
-#[tactic(auto, using(crate::proofs::FieldLemmas::none_short, crate::proofs::FieldLemmas::none_cut))]
 pub(crate) fn read_sized_2(text: &[u8]) -> Option<(&[u8], &[u8])>
     ensures { MatchOption result
         (HasNoSized text.now)
@@ -47,7 +46,6 @@ pub(crate) fn read_sized_2(text: &[u8]) -> Option<(&[u8], &[u8])>
 }
 
 /// A text behind its length of four octets, and what follows it.
-#[tactic(auto, using(crate::proofs::LongLemmas::none_short, crate::proofs::LongLemmas::none_cut))]
 pub(crate) fn read_sized_4(text: &[u8]) -> Option<(&[u8], &[u8])>
     ensures { MatchOption result
         (HasNoLong text.now)

@@ -25,7 +25,6 @@ impl Book {
 }
 
 /// The numbers of the entries whose messages haven't ended and of which a question holds, in order.
-#[tactic(auto, using(crate::proofs::MarkRowLemmas::numbers_step, crate::proofs::MarkRowLemmas::numbers_end))]
 fn numbers_among<Q: Question>(
     alloc: Global,
     question: &Q,

@@ -11,7 +11,6 @@ use std::alloc::{AllocError, Global};
 use std::collections::BTreeSet;
 
 /// The places that are held, in order.
-#[tactic(auto, using(crate::proofs::MarkRowLemmas::marks_step, crate::proofs::MarkRowLemmas::marks_end))]
 pub(super) fn held_places(
     alloc: Global,
     messages: &IndexMap<u64, Option<Message>>,

@@ -145,7 +145,6 @@ fn version_of(kind: u8) -> Option<Version>
 }
 
 /// The next number, the count of messages, and what follows them.
-#[tactic(auto, using(crate::proofs::SnapshotReadLemmas::head_counts))]
 fn read_counts(text: &[u8]) -> Option<(u64, u32, &[u8])>
     ensures { MatchOption result (SpellsNoCounts text.now)
         (λ parts. SpellsCounts text.now parts.0 parts.1 parts.2.now) }

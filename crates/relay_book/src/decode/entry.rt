@@ -35,7 +35,6 @@ type EntryFields<'a> = (
 );
 
 /// Cuts a message into its fields.
-#[tactic(auto, using(crate::proofs::EntryFieldLemmas::entry_fields))]
 fn split_entry(alloc: Global, version: Version, text: &[u8]) -> Result<EntryFields<'_>, BookFault>
     ensures fields { IfOk result (λ parts. SpellsEntry
         version text.now parts.0 parts.1 parts.2.now parts.3 parts.4.now parts.5 parts.6 parts.7.now parts.8.now) }

@@ -122,7 +122,6 @@ pub(super) fn read_recipient(text: &[u8]) -> Option<(Rcpt<'_>, &[u8])>
 }
 
 /// So many recipients, and what follows them.
-#[tactic(auto, using(crate::proofs::RowLemmas::no_recipient_row))]
 fn read_row(alloc: Global, count: u8, text: &[u8]) -> Result<(Recipients, &[u8]), BookFault>
     ensures row { IfOk result (λ parts. AreSoMany IsRecipient count parts.0
         × (text.now ≡ flat_map recipient_octets parts.0 ++ parts.1.now)) }

@@ -91,7 +91,6 @@ fn read_ruling(alloc: Global, text: &[u8]) -> Result<(Ruling, &[u8]), BookFault>
 }
 
 /// So many verdicts, and what follows them.
-#[tactic(auto, using(crate::proofs::RowLemmas::no_ruling_row))]
 fn read_row(alloc: Global, count: u8, text: &[u8]) -> Result<(Rulings, &[u8]), BookFault>
     ensures row { IfOk result (λ parts. AreSoMany IsRuling count parts.0
         × (text.now ≡ flat_map ruling_octets parts.0 ++ parts.1.now)) }

@@ -1,7 +1,8 @@
 use Rattle.std.proofs.Common.{arith}
 use Rattle.relay_pieces.specs.Pieces.{text_of}
 use Rattle.relay_book.proofs.book.Book.decode_snapshot.Goals.{then-next-lt1-via-then-next-lt1, then-next-lt1-via-else-next-lt1+then-next}
-use Rattle.relay_book.proofs.SnapshotReadLemmas.{bad_next, is_snapshot}
+use Rattle.relay_book.proofs.FaultLemmas.{fault_passed}
+use Rattle.relay_book.proofs.SnapshotReadLemmas.{bad_entries, bad_head, bad_next, is_snapshot, may_be}
 use Rattle.relay_book.proofs.book.Book.decode_snapshot.Goals as goal
 
 pub returns-clause-snapshot : goal.returns-clause-snapshot
@@ -17,3 +18,23 @@ returns-then-next-lt1-clause-bad c =
       | then-next-lt1-via-then-next-lt1 w ↦ (λ some few. let low = w.if-next-lt1.true in omega (arith, some, low))
       | then-next-lt1-via-else-next-lt1+then-next w ↦ (λ some few. let high = w.if-next.true in omega (arith, few, high))
     ])
+
+pub returns-in_err-version-clause-bad : goal.returns-in_err-version-clause-bad
+returns-in_err-version-clause-bad c = λ bad. bad_head (text_of c.args.octets) (c.in_err-version.ensures.bad (fault_passed c.from_residual.result _ _ c.from_residual.ensures.1 bad))
+
+pub returns-in_err-version-clause-memory : goal.returns-in_err-version-clause-memory
+returns-in_err-version-clause-memory c = λ bad holds. absurd (c.in_err-version.ensures.memory (fault_passed c.from_residual.result _ _ c.from_residual.ensures.1 bad) holds)
+
+pub returns-then-next-lt1-clause-memory : goal.returns-then-next-lt1-clause-memory
+returns-then-next-lt1-clause-memory c = λ _ _. may_be c.in_ok-version.version (text_of c.args.octets) c.in_ok-version.next c.in_ok-version.count (text_of c.next_head.new.octets) c.in_ok-version.ensures.head
+
+pub returns-in_err-read_entries-clause-bad : goal.returns-in_err-read_entries-clause-bad
+returns-in_err-read_entries-clause-bad c =
+    λ bad. bad_entries c.in_ok-version.version (text_of c.args.octets) c.in_ok-version.next c.in_ok-version.count (text_of c.next_head.new.octets) c.in_ok-version.ensures.head
+    (c.in_err-read_entries.ensures.bad (fault_passed c.from_residual-in_err-read_entries.result _ _ c.from_residual-in_err-read_entries.ensures.1 bad))
+
+pub returns-in_err-read_entries-clause-memory : goal.returns-in_err-read_entries-clause-memory
+returns-in_err-read_entries-clause-memory c = λ _ _. may_be c.in_ok-version.version (text_of c.args.octets) c.in_ok-version.next c.in_ok-version.count (text_of c.next_head.new.octets) c.in_ok-version.ensures.head
+
+pub returns-clause-memory : goal.returns-clause-memory
+returns-clause-memory c = λ _ _. may_be c.in_ok-version.version (text_of c.args.octets) c.in_ok-version.next c.in_ok-version.count (text_of c.next_head.new.octets) c.in_ok-version.ensures.head

@@ -5,6 +5,7 @@ use Rattle.relay_book.specs.Book.{AllTold, AreTold, Shown}
 use Rattle.relay_book.specs.Ready.{change_of, entry_of, message_in}
 use Rattle.relay_book.proofs.ReadyLemmas.{is_ready_outcome}
 use Rattle.relay_book.proofs.ToldLemmas.{are_told_more}
+use Rattle.relay_book.proofs.FaultLemmas.{no_memory}
 use Rattle.relay_book.proofs.book.Book.prepare_outcome.Goals as goal
 
 pub returns-clause-ready : goal.returns-clause-ready
@@ -26,3 +27,54 @@ returns-clause-ready c =
     (subst (AreTold c.tell_made.new.self.told c.args.outcome.message) behind_is behind))
     (subst (λ (keys : List (ℕ × ℕ)). AllTold keys (entry_of c.reserve.new.self.queue.next (message_in c.in_ok-made.made))) (sym c.reserve.ensures.told)
     (subst (λ (q : Queue). AllTold c.tell_made.new.self.told (entry_of q.next (message_in c.in_ok-made.made))) (sym c.reserve.ensures.queue) c.in_ok-tell_made.ensures.told))
+
+pub returns-in_err-were_due-clause-bad : goal.returns-in_err-were_due-clause-bad
+returns-in_err-were_due-clause-bad c = no_memory c.from_residual.result c.from_residual.ensures.1
+
+pub returns-in_err-were_due-clause-memory : goal.returns-in_err-were_due-clause-memory
+returns-in_err-were_due-clause-memory c = λ _. c.fits.ensures.0 c.if-not-fits.false
+
+pub returns-in_err-places-clause-bad : goal.returns-in_err-places-clause-bad
+returns-in_err-places-clause-bad c = no_memory c.from_residual-in_err-places.result c.from_residual-in_err-places.ensures.1
+
+pub returns-in_err-places-clause-memory : goal.returns-in_err-places-clause-memory
+returns-in_err-places-clause-memory c = λ _. c.fits.ensures.0 c.if-not-fits.false
+
+pub returns-in_err-made-clause-bad : goal.returns-in_err-made-clause-bad
+returns-in_err-made-clause-bad c = no_memory c.from_residual-in_err-made.result c.from_residual-in_err-made.ensures.1
+
+pub returns-in_err-made-clause-memory : goal.returns-in_err-made-clause-memory
+returns-in_err-made-clause-memory c = λ _. c.fits.ensures.0 c.if-not-fits.false
+
+pub returns-in_err-tell_all-clause-bad : goal.returns-in_err-tell_all-clause-bad
+returns-in_err-tell_all-clause-bad c = no_memory c.from_residual-in_err-tell_all.result c.from_residual-in_err-tell_all.ensures.1
+
+pub returns-in_err-tell_all-clause-memory : goal.returns-in_err-tell_all-clause-memory
+returns-in_err-tell_all-clause-memory c = λ _. c.fits.ensures.0 c.if-not-fits.false
+
+pub returns-in_err-tell_all-clause-queue : goal.returns-in_err-tell_all-clause-queue
+returns-in_err-tell_all-clause-queue c = c.tell_all.ensures.queue
+
+pub returns-in_err-tell_made-clause-bad : goal.returns-in_err-tell_made-clause-bad
+returns-in_err-tell_made-clause-bad c = no_memory c.from_residual-in_err-tell_made.result c.from_residual-in_err-tell_made.ensures.1
+
+pub returns-in_err-tell_made-clause-memory : goal.returns-in_err-tell_made-clause-memory
+returns-in_err-tell_made-clause-memory c = λ _. c.fits.ensures.0 c.if-not-fits.false
+
+pub returns-in_err-tell_made-clause-queue : goal.returns-in_err-tell_made-clause-queue
+returns-in_err-tell_made-clause-queue c = c.tell_made.ensures.queue ∙ c.tell_all.ensures.queue
+
+pub returns-in_err-reserve-clause-bad : goal.returns-in_err-reserve-clause-bad
+returns-in_err-reserve-clause-bad c = no_memory c.from_residual-in_err-reserve.result c.from_residual-in_err-reserve.ensures.1
+
+pub returns-in_err-reserve-clause-memory : goal.returns-in_err-reserve-clause-memory
+returns-in_err-reserve-clause-memory c = λ _. c.fits.ensures.0 c.if-not-fits.false
+
+pub returns-in_err-reserve-clause-queue : goal.returns-in_err-reserve-clause-queue
+returns-in_err-reserve-clause-queue c = c.reserve.ensures.queue ∙ c.tell_made.ensures.queue ∙ c.tell_all.ensures.queue
+
+pub returns-clause-queue : goal.returns-clause-queue
+returns-clause-queue c = c.reserve.ensures.queue ∙ c.tell_made.ensures.queue ∙ c.tell_all.ensures.queue
+
+pub returns-clause-change : goal.returns-clause-change
+returns-clause-change c = c.in_ok-made.ensures.change

@@ -4,7 +4,7 @@ use Rattle.relay_pieces.specs.Pieces.{text_of}
 use Rattle.relay_book.specs.Fields.{HasNone}
 use Rattle.relay_book.specs.Snapshot.{entry_octets}
 use Rattle.relay_book.specs.SnapshotFields.{IsQueuedIn, ReadsEntries, numbered}
-use Rattle.relay_book.proofs.FaultLemmas.{fault_as}
+use Rattle.relay_book.proofs.FaultLemmas.{fault_as, no_memory}
 use Rattle.relay_book.proofs.SnapshotReadLemmas.{all_read, no_next_entry, octets_behind, one_read}
 use Rattle.relay_book.proofs.book.Book.read_entries.Goals as goal
 
@@ -39,3 +39,9 @@ returns-clause-entries c =
     all_read c.args.version c.args.count c.args.next (text_of c.args.text) c.loop-index.self.queue (text_of c.loop-index.text) c.skip_to.new.self.queue.messages
     (subst (λ (n : ℕ). ReadsEntries c.args.version n c.args.next (text_of c.args.text) c.loop-index.self.queue (text_of c.loop-index.text)) whole c.loop-index.invariant) none
     c.skip_to.ensures.messages
+
+pub returns-in_err-make_room-clause-bad : goal.returns-in_err-make_room-clause-bad
+returns-in_err-make_room-clause-bad c = no_memory c.from_residual.result c.from_residual.ensures.1
+
+pub returns-in_err-restore-in-Ok-clause-bad : goal.returns-in_err-restore-in-Ok-clause-bad
+returns-in_err-restore-in-Ok-clause-bad c = no_memory c.from_residual-in_err-restore-in-Ok.result c.from_residual-in_err-restore-in-Ok.ensures.1
