@@ -21,8 +21,8 @@ sys.dont_write_bytecode = True
 
 from mail_checks import hand_in
 from relay_program import Difference, PATIENCE, free_port, same, until
-from running_relay import SOON, Client, beside, clients_of, comes_to_rest, lines_of, no_later, number_of, play_rows
-from running_relay import resident, slowest
+from running_relay import SOON, TIMES, Client, beside, clients_of, comes_to_rest, lines_of, no_later, number_of, play_rows
+from running_relay import resident, shim, slowest, token_of
 
 DUE = int(os.environ.get("DUE", 6300))
 THROUGH = int(os.environ.get("THROUGH", 2000))
@@ -33,6 +33,8 @@ AT_ONCE = 20
 # How many messages come before all of them have to be out: what waits at once takes memory of which an allocator doesn't
 # give all back, more or less of it by how far the next hop is behind.
 WAVE = 2000
+# What a 250 may wait for while all that is due is listed, in seconds.
+LISTING = 0.02 * TIMES
 # What memory may grow by while mail goes through, in octets: what a run keeps doesn't grow with what has left.
 MOST_GROWN = 4 << 20
 
@@ -98,6 +100,50 @@ def mail_for_63_hops_that_are_away_holds_up_no_other(field):
         if held != DUE // AT_ONCE * AT_ONCE:
             raise Difference(f"{held} messages wait, of {DUE}")
         comes_to_rest(process, "beside hops that are away")
+
+
+def what_is_due_is_listed_beside_prompt_replies(field):
+    """Once in a minute of its clock, which is a second here, in parts: a 250 waits for none of it."""
+    away = {f"away-{number}.example": (f"hop-{number}.example", free_port()) for number in range(4)}
+    relay = field.relay(more=away, spool_limit=1 << 30, client_timeout=3600)
+    shim(field, "run_clocks", relay, FASTER="60")
+    with relay.running("--quiet") as process, clients_of(relay, 1, "127.0.0.2") as [client]:
+        alone = slowest(client, 20)
+        pour(relay, list(away), DUE)
+        waits = []
+        for _ in range(40):
+            waits.append(slowest(client, 5))
+            time.sleep(0.1)
+        if max(waits) > alone + LISTING:
+            raise Difference(f"a message waits {max(waits):.3f} s beside {DUE} that are due, and {alone:.3f} s without")
+        field.arrived(220)
+        same("how many wait", len(relay.held()), DUE // AT_ONCE * AT_ONCE)
+        comes_to_rest(process, "beside what is due")
+
+
+def what_is_listed_in_parts_is_tried_once(field):
+    """Four parts at least, again in each minute of its clock, which is four seconds here, as messages come and go."""
+    relay = field.relay(spool_limit=1 << 30, client_timeout=3600)
+    shim(field, "run_clocks", relay, FASTER="15")
+    field.sink.manners.holds_greeting = True
+    field.sink.greets.clear()
+
+    def bring(tokens):
+        with Client(relay) as client:
+            client.begin()
+            for token in tokens:
+                client.hand_in(text=b"Subject: %d\r\n\r\ntext\r\n.\r\n" % token)
+
+    with relay.running("--quiet"):
+        bring(range(THROUGH))
+        time.sleep(5)
+        field.sink.greets.set()
+        bring(range(THROUGH, THROUGH + 200))
+        field.sink.wait_for(THROUGH + 200, PATIENCE + THROUGH / 50)
+        time.sleep(5)
+        until("an empty list", lambda: relay.held() == [])
+    tokens = sorted(token_of(message) for message in field.sink.take_all())
+    same("what came", tokens, list(range(THROUGH + 200)))
 
 
 def listing(relay):
@@ -243,6 +289,8 @@ def at_rest_it_sleeps(field):
 
 ROWS = [
     mail_for_63_hops_that_are_away_holds_up_no_other,
+    what_is_due_is_listed_beside_prompt_replies,
+    what_is_listed_in_parts_is_tried_once,
     clients_that_pipeline_commands_delay_no_reply,
     list_takes_no_longer_beside_a_flood,
     list_ends_beside_compactions,

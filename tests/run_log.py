@@ -77,6 +77,57 @@ def a_client_that_is_sent_away_has_a_line(field):
         until("its line", lambda: told(relay, "client 127") == [line])
 
 
+def sent_away(relay, address="127.0.0.1"):
+    """A client for which there is no room: its place."""
+    with Client(relay, address) as client:
+        same("what it is told", client.rest(), TOO_MANY)
+        return "{}:{}".format(*client.link.getsockname())
+
+
+def refused_clients_have_a_line_a_minute(field):
+    """Each address has its own, which says for how many it stands where it stands for several."""
+    relay = field.relay(sessions_per_client=1, client_timeout=3600)
+    shim(field, "run_clocks", relay, FASTER="15")
+    with relay.running(), clients_of(relay, 1), clients_of(relay, 1, "127.0.0.2"):
+        text, many = "relayd: client {} refused: too many connections", ", 4 times"
+        peers = [sent_away(relay) for _ in range(5)]
+        other = sent_away(relay, "127.0.0.2")
+        lines = [text.format(peers[0]), text.format(other)]
+        until("the lines at once", lambda: told(relay, "refused") == lines, SOON)
+        lines.append(text.format(peers[4]) + many)
+        until("the line of the others", lambda: told(relay, "refused") == lines, 4 + SOON)
+        # A minute begins with each line.
+        last = sent_away(relay)
+        same("the lines then", told(relay, "refused"), lines)
+        lines.append(text.format(last))
+        until("the line of one more", lambda: told(relay, "refused") == lines, 4 + SOON)
+        # Behind two minutes without one it's told at once again.
+        time.sleep(2 * 4 + 1)
+        lines.append(text.format(sent_away(relay)))
+        until("the last line, at once", lambda: told(relay, "refused") == lines, SOON)
+
+
+def each_refusal_is_told_of_where_many_addresses_are_refused(field):
+    """By a line of its own, or in the number of another, once; of up to 64 addresses a minute's are told of together."""
+    relay, addresses = field.relay(sessions_per_client=64, client_timeout=3600), [f"127.0.1.{last}" for last in range(1, 81)]
+    shim(field, "run_clocks", relay, FASTER="15")
+    counts = {address: 0 for address in addresses}
+    with relay.running(), clients_of(relay, 64):
+        for address in [*addresses, *addresses[:40], *addresses[:40]]:
+            sent_away(relay, address)
+            counts[address] += 1
+
+        def counted():
+            found = {address: 0 for address in addresses}
+            for line in told(relay, "refused"):
+                address, times = re.fullmatch(
+                    r"relayd: client ([0-9.]+):\d+ refused: too many connections(?:, (\d+) times)?", line).groups()
+                found[address] += int(times or 1)
+            return found
+
+        until("all of them", lambda: counted() == counts, 4 + SOON)
+
+
 def what_came_of_each_recipient_has_a_line(field):
     """With the number of the report that is queued, and the reply that put one off."""
     relay = field.relay()
@@ -148,6 +199,8 @@ ROWS = [
     a_next_hop_that_is_away_is_left_alone_for_longer_each_time,
     a_client_that_is_cut_off_has_a_line,
     a_client_that_is_sent_away_has_a_line,
+    refused_clients_have_a_line_a_minute,
+    each_refusal_is_told_of_where_many_addresses_are_refused,
     what_came_of_each_recipient_has_a_line,
     a_full_spool_has_a_line_once_a_minute,
     a_full_spool_is_noted_where_quit_stands_behind_the_mail,

@@ -1,6 +1,6 @@
 -- Which refused clients are told of in the log: of each address when it was told of it last, and how many of its
 -- clients were refused since.
-use Rattle.std.specs.Prelude.{◌≡◌, ℕ, ◌+◌, ◌*◌, ◌-◌, ◌^◌, min, nat_lt, Bool, true, false, List, length}
+use Rattle.std.specs.Prelude.{◌≡◌, ℕ, ◌+◌, ◌*◌, ◌-◌, ◌^◌, min, nat_lt, Bool, true, false, List}
 use Rattle.std.specs.Prelude.{Option, None, Some, bytes_eq, slice_set, if◌then◌else◌}
 use Rattle.std.specs.declared.net.socket_addr.SocketAddrV4.{SocketAddrV4}
 use Rattle.std.specs.Net.Addr.{ipv4_octets}

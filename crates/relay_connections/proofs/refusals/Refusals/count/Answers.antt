@@ -1,9 +1,8 @@
-use Rattle.std.proofs.Common.{rules, ◌≡◌, sym, ap, ◌∙◌, Some, true, slice_set}
+use Rattle.std.proofs.Common.{rules, ◌≡◌, ap, ◌∙◌, Some, true, slice_set}
 use Rattle.std.specs.Net.Addr.{ipv4_octets}
 use Rattle.std.specs.Net.Socket.{v4_ip}
 use Rattle.relay_slots.specs.Slots.{slot_at}
 use Rattle.relay_connections.specs.Refusals.{is_of}
-use Rattle.relay_connections.specs.Table.{is_such}
 use Rattle.relay_connections.proofs.RefusalLemmas.{put_again}
 use Rattle.relay_connections.proofs.refusals.Refusals.count.Goals as goal
 

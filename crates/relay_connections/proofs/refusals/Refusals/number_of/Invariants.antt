@@ -1,5 +1,5 @@
 -- none of those that were passed over is of the address
-use Rattle.std.proofs.Common.{◌≡◌, ◌<◌, ◌≤◌, ℕ, true, length}
+use Rattle.std.proofs.Common.{◌≡◌, ◌<◌, ℕ, true}
 use Rattle.relay_slots.specs.Slots.{slot_at}
 use Rattle.relay_connections.specs.Refusals.{is_of}
 use Rattle.relay_connections.specs.Table.{is_such}
