@@ -2,8 +2,8 @@
 use Rattle.std.specs.Prelude.{ℕ, ◌+◌, ◌*◌, ◌^◌, ◌≤◌, nat_le, max, List, length, if◌then◌else◌}
 use Rattle.relay_disk.specs.Device.{DiskWords}
 
--- profile: 64 outcomes with reports that return headers, of 32 KiB each, and one with a report that returns a message of
--- the greatest size, with 128 KiB beside it; and no fewer than 4 MiB
+-- profile: 64 outcomes with reports that return headers, of 32 KiB each, and one with a report that returns a message
+-- of the greatest size, with 128 KiB beside it; and no fewer than 4 MiB
 abbrev pub ballast_of : ℕ → ℕ
 ballast_of max_content = max (max_content + (2 ^ 21 + 2 ^ 17)) (2 ^ 22)
 

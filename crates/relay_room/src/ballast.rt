@@ -10,11 +10,11 @@ const BLOCK: usize = 4_096;
 
 /// How many octets a ballast has for a relay whose messages have up to so many: 64 outcomes with reports that return
 /// headers, and one that returns a whole message; and no fewer than 4 MiB.
-pub fn ballast_size(max_content: usize) -> usize
+pub fn ballast_size(max_content: usize) -> u32
     requires { max_content ≤ 2 ^ 24 }
     ensures { result ≡ ballast_of max_content }
 {
-    (max_content + 2_228_224).max(4_194_304)
+    (max_content + 2_228_224).max(4_194_304) as u32
 }
 
 /// Gives the ballast up: its octets are room for others then.
@@ -29,8 +29,8 @@ pub fn give_up<D: Disk>(disk: &mut D) -> Result<(), DiskFault>
 }
 
 /// Tests how much room the disk has, up to twice the size of the ballast, in octets: so many are written and synced.
-/// Where all of them are there, the ballast stays; else nothing does, and a write has failed. A failure to sync or to cut
-/// is a fault.
+/// Where all of them are there, the ballast stays; else nothing does, and a write has failed. A failure to sync or to
+/// cut is a fault.
 pub fn test_room<D: Disk>(disk: &mut D, size: usize) -> Result<usize, DiskFault>
     requires { size < 2 ^ 62 }
     ensures held { D.honest → IfOk result (HasHeld D.words disk.old disk.new) }

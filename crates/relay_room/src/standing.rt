@@ -28,8 +28,8 @@ impl Standing {
         Standing::Roomy.behind_failure(0)
     }
 
-    /// How it stands once the device has failed: nothing is known of the room. Where it was short of it before, an outcome
-    /// has taken more than there was, and attempts wait for as much as the ballast has, which is of this size.
+    /// How it stands once the device has failed: nothing is known of the room. Where it was short of it before, an
+    /// outcome has taken more than there was, and attempts wait for as much as the ballast has, which is of this size.
     pub fn behind_failure(self, size: usize) -> Self
         ensures { result ≡ standing_at_failure self size }
     {
