@@ -1,12 +1,14 @@
 // Writes down each call of the device of the program that it is preloaded into, a line each in the file that CALLS
 // names, and lets some fail: the sync of the number in FAILED_SYNC, the write of the number in FULL_WRITE for want of
-// space, and the write of the number in HALF_WRITE does half. They are counted from 1, and a folder's syncs aren't.
+// space, and the write of the number in HALF_WRITE does half. They are counted from 1, and a folder's syncs aren't, nor
+// what is done with the file that keeps room beside a spool.
 #define _GNU_SOURCE
 #include <errno.h>
 #include <fcntl.h>
 #include <stdarg.h>
 #include <stdio.h>
 #include <stdlib.h>
+#include <string.h>
 #include <sys/stat.h>
 #include <sys/syscall.h>
 #include <unistd.h>
@@ -23,6 +25,15 @@ static void note(const char *form, ...)
 	if (calls < 0 || syscall(SYS_write, calls, line, size) != size)
 		abort();
 	syscall(SYS_close, calls);
+}
+
+// Whether this is the file that keeps room.
+static int keeps_room(int file)
+{
+	char link[40], name[4096];
+	snprintf(link, sizeof link, "/proc/self/fd/%d", file);
+	long size = syscall(SYS_readlinkat, AT_FDCWD, link, name, sizeof name);
+	return size >= 5 && memcmp(name + size - 5, ".room", 5) == 0;
 }
 
 // Whether the call of this number is the one that the variable names.
@@ -50,6 +61,8 @@ int open(const char *name, int flags, ...)
 ssize_t pwrite(int file, const void *octets, size_t count, off_t place)
 {
 	static long number = 0;
+	if (keeps_room(file))
+		return syscall(SYS_pwrite64, file, octets, count, place);
 	number++;
 	if (is_chosen("FULL_WRITE", number)) {
 		note("write %zu octets at %lld: no space\n", count, (long long)place);
@@ -70,6 +83,8 @@ static int sync_by(long call, int file)
 		note("sync folder\n");
 		return syscall(call, file);
 	}
+	if (keeps_room(file))
+		return syscall(call, file);
 	number++;
 	if (is_chosen("FAILED_SYNC", number)) {
 		note("sync: failed\n");

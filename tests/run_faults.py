@@ -8,9 +8,11 @@ With the names of rows it runs these alone. What has to be prompt may take as ma
 environment (2 where it says nothing).
 """
 import contextlib
+import os
 import re
 import resource
 import signal
+import subprocess
 import sys
 import threading
 import time
@@ -19,10 +21,11 @@ sys.dont_write_bytecode = True
 
 from mail_checks import hand_in
 from relay_program import Difference, PATIENCE, same, until
-from running_relay import SOON, TEXT, TIMEOUT, Client, clients_of, comes_to_rest, greeted, hop_that_falls_silent, lines_of
-from running_relay import number_of, play_rows, shim
+from running_relay import SOON, TEXT, TIMEOUT, Client, beside, clients_of, comes_to_rest, greeted, hop_that_falls_silent
+from running_relay import lines_of, number_of, play_rows, shim
 
 DAY = 86400
+NO_ROOM = b"421 relay.example insufficient system storage, closing\r\n"
 # So the spool is longer than the log, which may not grow either then.
 LONG = b"Subject: long\r\n\r\n" + b"x" * 70 * 300 + b"\r\n.\r\n"
 
@@ -64,10 +67,12 @@ def a_full_device_closes_all_and_goes_on_with_room(field):
         same("a message without room", refused_or_lost(clients[0]), True)
         same("what the others hear", [client.rest() for client in clients[1:]], [b"", b""])
         until("a line of it", lambda: len(lines_of(relay, "device failed")) == 1)
-        # Who comes meanwhile waits, and is greeted.
-        same("a client behind it", greeted(relay), True)
-        same("a line that it is open", len(lines_of(relay, "spool opened again")), 1)
+        # Who comes meanwhile is told so.
+        with Client(relay) as client:
+            same("what a client hears", client.rest(), NO_ROOM)
         empty(process)
+        until("a greeting", lambda: greeted(relay))
+        same("a line that it is open", len(lines_of(relay, "spool opened again")), 1)
         with Client(relay) as client:
             client.begin()
             client.hand_in()
@@ -76,35 +81,159 @@ def a_full_device_closes_all_and_goes_on_with_room(field):
         comes_to_rest(process, "behind a device that had failed")
 
 
-def the_spool_is_opened_later_each_time(field):
+def the_spool_stays_closed_while_there_is_no_room(field):
+    """Its room is tested behind 1, 2 and 4 seconds, and nothing is begun until there is some."""
     relay = field.relay()
     with relay.running(preexec_fn=without_signals) as process:
         hand_in(relay, LONG)
         field.arrived(1)
         until("an empty list", lambda: relay.held() == [])
         fill(process, relay)
-        for times in range(1, 4):
-            with Client(relay) as client:
-                client.begin()
-                same("a message without room", refused_or_lost(client), True)
-            until("a line more", lambda: len(lines_of(relay, "device failed")) == times)
-        begun = time.monotonic()
-        same("a client behind it", greeted(relay), True)
-        if time.monotonic() - begun < 3:
-            raise Difference("the third time it is open again within 3 s")
-        pauses = [int(line.split()[-2]) for line in lines_of(relay, "device failed")]
-        same("the pauses", pauses, [1, 2, 4])
-        # With room the first change makes the pauses begin anew.
-        empty(process)
-        hand_in(relay)
-        field.arrived(1)
-        until("an empty list", lambda: relay.held() == [])
-        fill(process, relay)
         with Client(relay) as client:
             client.begin()
             same("a message without room", refused_or_lost(client), True)
-        until("a line more", lambda: len(lines_of(relay, "device failed")) == 4)
-        same("the pause", lines_of(relay, "device failed")[-1].split()[-2], "1")
+        begun = time.monotonic()
+        while time.monotonic() < begun + 4:
+            with Client(relay) as client:
+                same("what a client hears", client.rest(), NO_ROOM)
+            time.sleep(0.5)
+        comes_to_rest(process, "without room")
+        same("lines of it", len(lines_of(relay, "device failed")), 1)
+        empty(process)
+        until("a greeting", lambda: greeted(relay))
+        hand_in(relay)
+        field.arrived(1)
+        until("an empty list", lambda: relay.held() == [])
+
+
+@contextlib.contextmanager
+def small_disk(field, kilobytes, name="small"):
+    """A relay whose spool is on a disk of its own, of this size, and the file that takes its room; none where nobody may
+    mount one."""
+    folder = field.folder / name
+    folder.mkdir()
+    mounted = subprocess.run(["mount", "-t", "tmpfs", "-o", f"size={kilobytes}k", "none", folder], capture_output=True)
+    if mounted.returncode != 0:
+        print("run_faults: a disk of its own can't be mounted here: the row is skipped")
+        yield None, None
+        return
+    try:
+        relay = field.relay(name)
+        relay.log = field.folder / f"{name}.log"
+        yield relay, folder / "others"
+    finally:
+        subprocess.run(["umount", "-l", folder], check=True)
+
+
+def take_room(others, left):
+    """Lets a file of others take all room of a disk but so many octets."""
+    with others.open("ab", buffering=0) as file, contextlib.suppress(OSError):
+        while True:
+            file.write(bytes(4096))
+    os.truncate(others, max(others.stat().st_size - left, 0))
+
+
+def copies_at(sink):
+    """How often each number was taken by the sink."""
+    numbers = [int(re.search(rb" id (\d+);", message.content)[1]) for message in list(sink.messages)]
+    return {number: numbers.count(number) for number in numbers}
+
+
+def feed_beside(relay, seconds, big):
+    """Hands in small messages, one behind another on a connection, for so long, beside a client that offers what doesn't
+    fit, where that is asked for: how many were answered 250, and their numbers."""
+    numbers, done = [], threading.Event()
+
+    def offer(done):
+        while not done.is_set():
+            with contextlib.suppress(Difference, OSError), Client(relay) as client:
+                client.begin()
+                while not done.is_set():
+                    client.ask_for_text()
+                    client.say(b"Subject: big\r\n\r\n" + b"x" * 70 * 4400 + b"\r\n.\r\n")
+
+    def feed():
+        ends = time.monotonic() + seconds
+        while time.monotonic() < ends:
+            with contextlib.suppress(Difference, OSError), Client(relay) as client:
+                client.begin()
+                while time.monotonic() < ends:
+                    client.ask_for_text()
+                    numbers.append(number_of(client.say(TEXT)))
+                    time.sleep(0.05)
+
+    with beside(offer) if big else contextlib.nullcontext():
+        feed()
+    done.set()
+    return numbers
+
+
+def what_doesnt_fit_costs_others_nothing(field):
+    """On a disk of 300 KB with 190 KB free, of which a client offers more than there are: no message is copied without
+    end, and the others go on."""
+    with small_disk(field, 300) as (relay, others):
+        if relay is None:
+            return
+        others.write_bytes(bytes(110 * 1024))
+        with relay.running() as process:
+            alone = feed_beside(relay, 5, big=False)
+            crowded = feed_beside(relay, 15, big=True)
+            if len(crowded) / 15 < len(alone) / 5 / 2:
+                raise Difference(f"{len(crowded)} messages in 15 s beside it, and {len(alone)} in 5 s alone")
+            until("an empty list", lambda: relay.held() == [], 60)
+            copies = copies_at(field.sink)
+            same("messages that were lost", set(alone + crowded) - set(copies), set())
+            same("messages that came thrice", [number for number, count in copies.items() if count > 2], [])
+            comes_to_rest(process, "behind what didn't fit")
+            # With room the state ends, and what didn't fit does.
+            others.unlink()
+            subprocess.run(["mount", "-o", "remount,size=32m", others.parent], check=True)
+            until("mail of any size", lambda: takes(relay, 300), 60)
+        field.sink.take_all()
+
+
+def takes(relay, kilobytes):
+    """Whether a message of this size is accepted."""
+    with contextlib.suppress(Difference, OSError), Client(relay) as client:
+        client.begin()
+        client.ask_for_text()
+        return client.say(b"Subject: big\r\n\r\n" + (b"x" * 70 + b"\r\n") * (kilobytes * 14) + b".\r\n").startswith("250 ")
+    return False
+
+
+def a_disk_that_stays_full_for_ten_minutes_copies_nothing_twice_over(field):
+    """By a clock that goes sixty times as fast: with the room that was kept queued mail leaves, and when others have taken
+    that too nothing begins; everything flows again with room."""
+    with small_disk(field, 16 * 1024) as (relay, others):
+        if relay is None:
+            return
+        shim(field, "run_clocks", relay, FASTER="60")
+        with relay.running() as process:
+            numbers = feed_beside(relay, 1, big=False)
+            take_room(others, 8 * 1024)
+            same("a message without room", takes(relay, 300), False)
+            until("an empty list", lambda: relay.held() == [], 60)
+            copies = copies_at(field.sink)
+            same("messages that were lost", set(numbers) - set(copies), set())
+            # What was given up serves what comes meanwhile, until the others take that too.
+            until("a greeting", lambda: greeted(relay), 60)
+            hand_in(relay)
+            until("an empty list", lambda: relay.held() == [], 60)
+            take_room(others, 0)
+            ends = time.monotonic() + 10
+            while time.monotonic() < ends:
+                takes(relay, 1)
+                time.sleep(0.2)
+            comes_to_rest(process, "on a full disk")
+            same("messages that came thrice", [number for number, count in copies_at(field.sink).items() if count > 2], [])
+            failures = len(lines_of(relay, "device failed"))
+            if failures > 3:
+                raise Difference(f"the device fails {failures} times")
+            others.unlink()
+            until("mail of any size", lambda: takes(relay, 300), 120)
+            until("an empty list", lambda: relay.held() == [], 60)
+            same("messages that came thrice", [number for number, count in copies_at(field.sink).items() if count > 2], [])
+        field.sink.take_all()
 
 
 def what_was_answered_stays_behind_a_full_device(field):
@@ -307,7 +436,9 @@ def idle_clients_leave_places_to_others(field):
 
 ROWS = [
     a_full_device_closes_all_and_goes_on_with_room,
-    the_spool_is_opened_later_each_time,
+    the_spool_stays_closed_while_there_is_no_room,
+    what_doesnt_fit_costs_others_nothing,
+    a_disk_that_stays_full_for_ten_minutes_copies_nothing_twice_over,
     what_was_answered_stays_behind_a_full_device,
     a_sync_that_fails_ends_it,
     a_clock_that_is_set_holds_up_nothing_else,

@@ -1,1 +1,2 @@
 pub mod Reopening
+pub mod Room

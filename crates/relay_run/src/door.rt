@@ -150,6 +150,17 @@ impl Door {
         }
         Ok(())
     }
+
+    /// Tells those that are waiting by this line why they aren't served, and closes their connections.
+    pub(crate) fn refuse_all(&mut self, line: &[u8]) {
+        for _ in 0..MOST_AT_ONCE {
+            match accept(&self.listener) {
+                Found::Client(stream, _peer) => dismiss(&stream, line),
+                Found::Missed => {}
+                Found::Nobody | Found::Want => return,
+            }
+        }
+    }
 }
 
 /// The next client of a listener.
@@ -187,10 +198,14 @@ fn turn_away(
             now,
         );
     } else {
-        // A client that doesn't hear it finds the connection closed.
-        let _ = write(&stream, line.as_slice());
-        let _ = stream.shutdown(Shutdown::Write);
+        dismiss(&stream, line.as_slice());
     }
+}
+
+/// Writes a line to a client and closes its connection. One that doesn't hear it finds the connection closed.
+fn dismiss(stream: &TcpStream, line: &[u8]) {
+    let _ = write(stream, line);
+    let _ = stream.shutdown(Shutdown::Write);
 }
 
 fn write(mut stream: &TcpStream, octets: &[u8]) -> io::Result<usize> {

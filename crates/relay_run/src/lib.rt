@@ -4,6 +4,7 @@
 
 mod door;
 mod reopening;
+mod room;
 mod serving;
 mod shell;
 mod start;

@@ -1,7 +1,9 @@
 //! A spool whose device has failed is opened again, on the files that are open and locked already.
-ghost use Rattle.std.specs.Prelude.{◌≡◌, IfErr, IsErr, OnOk};
-ghost use Rattle.relay_run.specs.Reopening.{HasFailedToSync, next_pause};
+ghost use Rattle.std.specs.Prelude.{◌≡◌, ◌↔◌, IfErr, IfOk, IsErr, IsTrue};
+ghost use Rattle.relay_run.specs.Reopening.{HasAll, HasFailedToSync, next_pause};
 
+use crate::door::Door;
+use crate::room::Room;
 use relay_disk::{Disk, Disks, FileDisk};
 use relay_files::Fault;
 use relay_log::Log;
@@ -9,7 +11,7 @@ use relay_loop::Relay;
 use relay_node::{Node, NotOpened, NotReopened};
 use relay_routes::Config;
 use relay_trace::clock_moment;
-use std::alloc::Global;
+use std::alloc::{AllocError, Global};
 use std::io::Write;
 use std::rt::Clock;
 use std::time::Duration;
@@ -20,6 +22,15 @@ const FIRST_PAUSE: u64 = 1;
 
 /// The most seconds that a spool is left alone.
 const LONGEST_PAUSE: u64 = 60;
+
+/// The greatest limit that a spool may have.
+const GREATEST_LIMIT: u64 = 549_755_813_888;
+
+/// How many times in a second those are told so that come while the spool isn't open.
+const TELLINGS: u64 = 5;
+
+/// How many milliseconds lie between two of these.
+const TELLING_PAUSE: u64 = 200;
 
 /// How long a spool is left alone whose device has failed.
 #[derive(Clone, Copy, Debug)]
@@ -82,52 +93,209 @@ enum Opening {
     Failed(Closed),
 }
 
-/// Opens the spool of a relay whose device has failed again, behind 1 second, 2, 4 and up to 60, as often as it takes;
-/// a line of the log tells of each time. All connections of the relay are dropped. A sync that has failed is a fault
-/// at once, since octets may be lost then that were written; so is a spool that holds something else than it did.
-pub(crate) fn open_again<C: Clock, E: Write>(
+/// What was known of a spool behind the last turn that went well. What a failed call was to add counts as added in the
+/// relay itself, so that isn't asked.
+#[derive(Clone, Copy, Debug)]
+pub(crate) struct Known {
+    /// The number of the next change.
+    next_number: u64,
+    /// How many octets it has.
+    size: usize,
+}
+
+impl Known {
+    /// What a relay knows of its spool.
+    pub(crate) fn of(relay: &Relay<FileDisk>) -> Self
+        ensures number { result.next_number ≡ relay.now.node.records.queue.next }
+        ensures size { result.size ≡ relay.now.node.records.spool.size }
+    {
+        let node = relay.node();
+        Known {
+            next_number: node.next_number(),
+            size: node.size(),
+        }
+    }
+
+    /// Whether what was opened has all that was known.
+    fn is_all_in(&self, found: &Known) -> bool
+        ensures { IsTrue result ↔ HasAll self.now.next_number self.now.size found.now.next_number found.now.size }
+    {
+        self.next_number <= found.next_number && self.size <= found.size
+    }
+}
+
+/// Why a spool is opened again.
+#[derive(Clone, Copy, Debug)]
+pub(crate) enum Why {
+    /// Its device has failed.
+    Failed,
+    /// There is room again, and it was bounded for want of that.
+    Renewed,
+}
+
+/// Opens the spool of a relay again, which has to have all that was known: where its device has failed, when a test finds
+/// room, and else at once. All connections are dropped. A sync that has failed is a fault.
+pub(crate) fn reopen<C: Clock, E: Write>(
     alloc: Global,
     clock: &C,
     relay: Relay<FileDisk>,
+    known: Known,
+    why: Why,
+    door: &mut Door,
+    room: &mut Room,
     pauses: &mut Pauses,
     quiet: bool,
     errors: &mut E,
 ) -> Result<Relay<FileDisk>, Fault>
-    ensures { HasFailedToSync relay.node.records.spool.disk → IsErr result }
+    ensures synced { HasFailedToSync relay.node.records.spool.disk → IsErr result }
+    ensures whole { IfOk result (λ opened. HasAll known.next_number known.size
+        opened.node.records.queue.next opened.node.records.spool.size) }
 {
-    pauses.note_failure(relay.node().size());
-    let mut closed = Closed::of(relay.into_node());
-    sync(&mut closed.disks)?;
-    wait_for_room(alloc, clock, closed, pauses, quiet, errors)
+    match why {
+        Why::Failed => open_again(
+            alloc, clock, relay, known, door, room, pauses, quiet, errors,
+        ),
+        Why::Renewed => open_bounded(alloc, relay, known, room),
+    }
 }
 
-/// Opens a spool as soon as its device doesn't fail.
+/// Opens the spool of a relay whose device has failed again, behind 1 second, 2, 4 and up to 60, as often as it takes
+/// until a test finds room for what comes of an attempt. Lines of the log tell that it has failed, and that it is open
+/// again. All connections of the relay are dropped, and who comes meanwhile is told so. A sync that has failed is a
+/// fault at once, since octets may be lost then that were written; so is a spool that holds something else than it did,
+/// or less.
+fn open_again<C: Clock, E: Write>(
+    alloc: Global,
+    clock: &C,
+    relay: Relay<FileDisk>,
+    known: Known,
+    door: &mut Door,
+    room: &mut Room,
+    pauses: &mut Pauses,
+    quiet: bool,
+    errors: &mut E,
+) -> Result<Relay<FileDisk>, Fault>
+    ensures synced { HasFailedToSync relay.node.records.spool.disk → IsErr result }
+    ensures whole { IfOk result (λ opened. HasAll known.next_number known.size
+        opened.node.records.queue.next opened.node.records.spool.size) }
+{
+    pauses.note_failure(known.size);
+    let mut closed = Closed::of(relay.into_node());
+    sync(&mut closed.disks)?;
+    room.fail()?;
+    wait_for_room(
+        alloc, clock, closed, known, door, room, pauses, quiet, errors,
+    )
+}
+
+/// Opens the spool of a relay under the limit that the room sets it. All connections are dropped. A sync that has
+/// failed is a fault, and so is a spool that holds something else than it did, or less.
+pub(crate) fn open_bounded(
+    alloc: Global,
+    relay: Relay<FileDisk>,
+    known: Known,
+    room: &mut Room,
+) -> Result<Relay<FileDisk>, Fault>
+    ensures synced { HasFailedToSync relay.node.records.spool.disk → IsErr result }
+    ensures whole { IfOk result (λ opened. HasAll known.next_number known.size
+        opened.node.records.queue.next opened.node.records.spool.size) }
+{
+    let mut closed = Closed::of(relay.into_node());
+    sync(&mut closed.disks)?;
+    open_at_once(alloc, closed, known, room)
+}
+
+/// Opens a spool under the limit that the room sets it.
+fn open_at_once(
+    alloc: Global,
+    closed: Closed,
+    known: Known,
+    room: &mut Room,
+) -> Result<Relay<FileDisk>, Fault>
+    ensures { IfOk result (λ opened. HasAll known.next_number known.size
+        opened.node.records.queue.next opened.node.records.spool.size) }
+{
+    let mut closed = closed;
+    closed.bound(room)?;
+    match closed.open(alloc)? {
+        Opening::Done(relay) => unless_less(known, relay, room),
+        Opening::Failed(_closed) => Err(Fault::NoMemory),
+    }
+}
+
+/// Opens a spool as soon as its device doesn't fail and there is room.
 fn wait_for_room<C: Clock, E: Write>(
     alloc: Global,
     clock: &C,
     closed: Closed,
+    known: Known,
+    door: &mut Door,
+    room: &mut Room,
     pauses: &mut Pauses,
     quiet: bool,
     errors: &mut E,
-) -> Result<Relay<FileDisk>, Fault> {
+) -> Result<Relay<FileDisk>, Fault>
+    ensures { IfOk result (λ opened. HasAll known.next_number known.size
+        opened.node.records.queue.next opened.node.records.spool.size) }
+{
     let mut closed = closed;
-    for _ in 0..u64::MAX {
+    let line = refusal(alloc, &closed.config)?;
+    for times in 0..u64::MAX {
         let seconds = pauses.next();
-        let mut log = Log::stamped(alloc, errors, !quiet, clock_moment(clock));
-        log.device_failed(seconds);
-        clock.sleep(Duration::from_secs(seconds));
-        match closed.open(alloc)? {
-            Opening::Done(relay) => {
-                pauses.opened_size = relay.node().size();
-                let mut log = Log::stamped(alloc, errors, !quiet, clock_moment(clock));
-                log.opened_again();
-                return Ok(relay);
+        if times == 0 {
+            let mut log = Log::stamped(alloc, errors, !quiet, clock_moment(clock));
+            log.device_failed(seconds);
+        }
+        pause(clock, seconds, door, line.as_slice());
+        room.test(known.size)?;
+        if room.may_start(known.size) {
+            closed.bound(room)?;
+            match closed.open(alloc)? {
+                Opening::Done(relay) => {
+                    pauses.opened_size = relay.node().size();
+                    let mut log = Log::stamped(alloc, errors, !quiet, clock_moment(clock));
+                    log.opened_again();
+                    return unless_less(known, relay, room);
+                }
+                Opening::Failed(again) => closed = again,
             }
-            Opening::Failed(again) => closed = again,
         }
         sync(&mut closed.disks)?;
     }
     Err(Fault::Device)
+}
+
+/// The relay, unless its spool has less than was known.
+fn unless_less(
+    known: Known,
+    relay: Relay<FileDisk>,
+    room: &mut Room,
+) -> Result<Relay<FileDisk>, Fault>
+    ensures { IfOk result (λ opened. HasAll known.next_number known.size
+        opened.node.records.queue.next opened.node.records.spool.size) }
+{
+    if !known.is_all_in(&Known::of(&relay)) {
+        return Err(Fault::Device);
+    }
+    room.opened();
+    Ok(relay)
+}
+
+/// Lets so many seconds pass, in which those that come are told why they aren't served.
+fn pause<C: Clock>(clock: &C, seconds: u64, door: &mut Door, line: &[u8]) {
+    for _ in 0..seconds.saturating_mul(TELLINGS) {
+        clock.sleep(Duration::from_millis(TELLING_PAUSE));
+        door.refuse_all(line);
+    }
+}
+
+/// The reply with which clients are told that there is no room, code 421.
+fn refusal(alloc: Global, config: &Config) -> Result<Vec<u8>, AllocError> {
+    let mut line = Vec::new(alloc);
+    line.extend_from_slice(b"421 ")?;
+    line.extend_from_slice(config.host.as_slice())?;
+    line.extend_from_slice(b" insufficient system storage, closing\r\n")?;
+    Ok(line)
 }
 
 /// Syncs both files. It fails where a sync of one has failed before.
@@ -148,6 +316,16 @@ impl Closed {
     {
         let (config, disks) = node.into_parts();
         Closed { config, disks }
+    }
+
+    /// Sets it the limit that the room allows.
+    fn bound(&mut self, room: &Room) -> Result<(), Fault> {
+        let (Ok(first), Ok(second)) = (self.disks.first.size(), self.disks.second.size()) else {
+            return Err(Fault::Device);
+        };
+        let limit = room.limit(first.saturating_add(second) as u64);
+        self.config.spool_limit = limit.min(GREATEST_LIMIT).max(1);
+        Ok(())
     }
 
     /// Opens it. What it holds that is no spool of ours is a fault.

@@ -41,13 +41,13 @@ pub fn run<
 {
     let (config, limits) = settings(alloc, rt, path)?;
     let at = config.listen;
-    let relay = locked_relay(alloc, rt, config)?;
+    let (relay, room) = locked_relay(alloc, rt, config)?;
     let spares = Spares::new(alloc, kept_file(rt, path)?)?;
     let Ok(poll) = Poll::new(rt) else {
         return Err(Fault::Socket);
     };
     let door = open_door(alloc, rt, poll.registry(), at, quiet, errors)?;
-    let shell = Shell::new(alloc, relay, door, spares, &limits)?;
+    let shell = Shell::new(alloc, relay, door, spares, room, &limits)?;
     let events = Events::with_capacity(alloc, EVENT_COUNT)?;
     say_ready(alloc, &shell.relay, at, writer)?;
     serve(alloc, rt, poll, events, shell, quiet, errors)

@@ -1,12 +1,14 @@
-ghost use Rattle.std.specs.Prelude.{◌≡◌, ◌≤◌, ◌-◌, ℕ, true, IsErr};
+ghost use Rattle.std.specs.Prelude.{◌≡◌, ◌≤◌, ◌-◌, ◌↔◌, ℕ, true, IfOk, IsErr, IsTrue};
 ghost use Rattle.relay_connections.specs.Readiness.{IsLeftClient, clients_of};
 ghost use Rattle.relay_next_hops.specs.Lanes.{next_due_of};
 ghost use Rattle.relay_next_hops.specs.Readiness.{IsLeftHop, hops_of};
-ghost use Rattle.relay_run.specs.Reopening.{HasFailedToSync};
+ghost use Rattle.relay_run.specs.Reopening.{HasAll, HasFailedToSync};
+ghost use Rattle.relay_run.specs.Room.{MayStart};
 ghost use Rattle.relay_run.specs.declared.shell.TheConstants.{LONGEST_WAIT};
 
 use crate::door::Door;
-use crate::reopening::{Pauses, open_again};
+use crate::reopening::{Known, Pauses, Why, reopen};
+use crate::room::Room;
 use crate::tidying::Tidying;
 use mio::event::Event;
 use mio::{Events, Registry};
@@ -36,6 +38,8 @@ pub(crate) struct Shell {
     spares: Spares,
     tidying: Tidying,
     pauses: Pauses,
+    room: Room,
+    known: Known,
 }
 
 // Written out, so that what drops it calls this, and doesn't look into its parts.
@@ -50,6 +54,8 @@ impl Drop for Shell {
             spares: _spares,
             tidying: _,
             pauses: _,
+            room: _room,
+            known: _,
         } = self;
     }
 }
@@ -61,12 +67,14 @@ impl Shell {
         relay: Relay<FileDisk>,
         door: Door,
         spares: Spares,
+        room: Room,
         limits: &Limits,
     ) -> Result<Self, AllocError> {
         let clients = Clients::new(alloc, limits)?;
         let next_hops = NextHops::new(alloc, limits)?;
         let leaving = Leaving::new(alloc, u64::from(limits.client_timeout))?;
         let pauses = Pauses::new(relay.node().size());
+        let known = Known::of(&relay);
         Ok(Shell {
             relay,
             door,
@@ -76,19 +84,25 @@ impl Shell {
             spares,
             tidying: Tidying::new(),
             pauses,
+            room,
+            known,
         })
     }
 
-    /// The same relay once its device, which has failed, has room again. All connections are closed but the listener,
-    /// at which clients wait meanwhile. A sync that has failed is a fault.
+    /// The same relay with its spool opened again: once its device, where that has failed, has room, or else at once,
+    /// under its configured limit. All connections are closed but the listener, at which clients are told so meanwhile.
+    /// A sync that has failed is a fault, and so is a spool that has less than before.
     pub(crate) fn reopened<C: Clock, E: Write>(
         self,
         alloc: Global,
         clock: &C,
+        why: Why,
         quiet: bool,
         errors: &mut E,
     ) -> Result<Self, Fault>
-        ensures { HasFailedToSync self.relay.node.records.spool.disk → IsErr result }
+        ensures synced { HasFailedToSync self.relay.node.records.spool.disk → IsErr result }
+        ensures whole { IfOk result (λ shell. HasAll self.known.next_number self.known.size
+            shell.relay.node.records.queue.next shell.relay.node.records.spool.size) }
     {
         let Shell {
             relay,
@@ -99,14 +113,30 @@ impl Shell {
             spares,
             tidying: _,
             pauses,
+            room,
+            known,
         } = self;
+        let mut door = door;
         let mut clients = clients;
         clients.clear();
         let next_hops = next_hops.renewed();
         let mut leaving = leaving;
         leaving.clear();
         let mut pauses = pauses;
-        let relay = open_again(alloc, clock, relay, &mut pauses, quiet, errors)?;
+        let mut room = room;
+        let relay = reopen(
+            alloc,
+            clock,
+            relay,
+            known,
+            why,
+            &mut door,
+            &mut room,
+            &mut pauses,
+            quiet,
+            errors,
+        )?;
+        let known = Known::of(&relay);
         Ok(Shell {
             relay,
             door,
@@ -114,9 +144,36 @@ impl Shell {
             next_hops,
             leaving,
             spares,
-            tidying: Tidying::behind_failure(&Now::of(clock)),
+            tidying: Tidying::new(),
             pauses,
+            room,
+            known,
         })
+    }
+
+    /// A turn has gone well: what the relay knows of its spool now is there when that is opened again.
+    pub(crate) fn note_known(&mut self)
+        ensures number { self.new.known.next_number ≡ self.old.relay.node.records.queue.next }
+        ensures size { self.new.known.size ≡ self.old.relay.node.records.spool.size }
+    {
+        self.known = Known::of(&self.relay);
+    }
+
+    /// Whether the spool is to be opened under its configured limit now.
+    pub(crate) fn is_renewed(&self, now: &Now) -> bool {
+        self.room.is_renewed(now)
+    }
+
+    /// Whether no attempt may begin for now.
+    pub(crate) fn is_held(&self) -> bool {
+        !self.may_start()
+    }
+
+    /// Whether attempts may begin.
+    fn may_start(&self) -> bool
+        ensures { IsTrue result ↔ MayStart self.now.room self.now.relay.node.records.spool.size }
+    {
+        self.room.may_start(self.relay.node().size())
     }
 
     /// The system tells what connections may be ready for.
@@ -140,7 +197,8 @@ impl Shell {
         }
     }
 
-    /// Does for each connection what can be done at once, one thing each, and begins what is due.
+    /// Does for each connection what can be done at once, one thing each, and begins what is due. While the relay is
+    /// short of room that is tested first, where that is due.
     pub(crate) fn turn<R: Clock + Net>(
         &mut self,
         rt: &R,
@@ -148,6 +206,8 @@ impl Shell {
         now: &Now,
         log: &mut Log<'_, Vec<u8>>,
     ) -> Result<(), Fault> {
+        let node = self.relay.node();
+        self.room.look(node.size(), node.config().spool_limit, now)?;
         self.door.admit(
             registry,
             &mut self.relay,
@@ -166,13 +226,21 @@ impl Shell {
         self.begin(rt, registry, now, log)
     }
 
-    /// Writes the spool anew where that is due behind a turn.
+    /// Writes the spool anew where that is due behind a turn, and there is room for it.
     pub(crate) fn tidy(&mut self, now: &Now, log: &mut Log<'_, Vec<u8>>) -> Result<(), Fault> {
         if !self.tidying.may_be_due(now) {
             return Ok(());
         }
+        let node = self.relay.node();
+        if !self.room.has_room_for(node.compacted_size(), node.size()) {
+            self.tidying.pause(now);
+            return Ok(());
+        }
         let is_quiet = !self.is_ready(now);
-        self.tidying.tidy(&mut self.relay, is_quiet, now, log)
+        if self.tidying.tidy(&mut self.relay, is_quiet, now, log)? {
+            self.room.note_compacted();
+        }
+        Ok(())
     }
 
     /// Makes connections to next hops, and reads of those that reply.
@@ -252,14 +320,20 @@ impl Shell {
         }
     }
 
-    /// Begins what is due.
+    /// Begins what is due, and nothing while the room for what comes of it isn't there.
     fn begin<R: Clock + Net>(
         &mut self,
         rt: &R,
         registry: &Registry,
         now: &Now,
         log: &mut Log<'_, Vec<u8>>,
-    ) -> Result<(), Fault> {
+    ) -> Result<(), Fault>
+        ensures held { ¬ MayStart self.old.room self.old.relay.node.records.spool.size
+            → (self.new.relay ≡ self.old.relay) × (self.new.next_hops ≡ self.old.next_hops) }
+    {
+        if !self.may_start() {
+            return Ok(());
+        }
         let gave_up = self
             .next_hops
             .begin(rt, registry, &mut self.relay, &mut self.spares, now, log)?;
@@ -303,6 +377,7 @@ impl Shell {
         next = self.clients.next_deadline(next);
         next = self.leaving.next_deadline(next);
         next = self.tidying.next_deadline(next);
+        next = self.room.next_deadline(next);
         next = self.next_hops.next_deadline(next);
         next.saturating_sub(now.tick)
     }

@@ -1,5 +1,7 @@
 //! What a relay begins with.
 use crate::door::Door;
+use crate::reopening::{Known, open_bounded};
+use crate::room::Room;
 use mio::Registry;
 use relay_disk::FileDisk;
 use relay_files::{Fault, configuration_text, locked_node};
@@ -49,17 +51,25 @@ fn document(alloc: Global, text: &str) -> Result<toml::Table, Fault> {
     }
 }
 
-/// The relay of the spool that the configuration names, whose files are taken for this process alone.
+/// The relay of the spool that the configuration names, whose files are taken for this process alone, and the room
+/// beside it. Where there is little room, its limit is less than what is configured.
 pub(crate) fn locked_relay<F: Files<File = File>>(
     alloc: Global,
     files: &F,
     config: Config,
-) -> Result<Relay<FileDisk>, Fault> {
+) -> Result<(Relay<FileDisk>, Room), Fault> {
     let node = locked_node(alloc, files, config)?;
-    match Relay::new(alloc, node) {
-        Ok(relay) => Ok(relay),
-        Err(_node) => Err(Fault::NoMemory),
+    let mut room = Room::open(alloc, files, node.config())?;
+    room.test(node.size())?;
+    let Ok(relay) = Relay::new(alloc, node) else {
+        return Err(Fault::NoMemory);
+    };
+    if room.is_short() {
+        let known = Known::of(&relay);
+        let relay = open_bounded(alloc, relay, known, &mut room)?;
+        return Ok((relay, room));
     }
+    Ok((relay, room))
 }
 
 /// The listener at the configured place. A line of the log says that its address is waited for.

@@ -13,9 +13,6 @@ use relay_node::NodeFault;
 /// The least milliseconds between two times that the spool is written anew.
 const PAUSE: u64 = 1_000;
 
-/// How many seconds the spool isn't written anew behind a failure of its device, since that takes room.
-const FAILURE_PAUSE: u64 = 600;
-
 /// While there is something else to do, a spool of which more octets than this would be left isn't compacted, since
 /// others wait for some 3 ms for each MiB of them, unless mail is refused for it.
 const MOST_LEFT: usize = 32 * 1024 * 1024;
@@ -47,16 +44,6 @@ impl Tidying {
         }
     }
 
-    /// The spool was opened again behind a failure of its device.
-    pub(crate) fn behind_failure(now: &Now) -> Self {
-        Tidying {
-            has_shrunk: true,
-            was_full: false,
-            next: now.behind(FAILURE_PAUSE),
-            next_telling: 0,
-        }
-    }
-
     /// An attempt has ended, or a message was given up.
     pub(crate) fn note_shrunk(&mut self) {
         self.has_shrunk = true;
@@ -84,6 +71,11 @@ impl Tidying {
             && (self.was_full || is_quiet || node.config().spool_limit / 2 < node.size() as u64)
     }
 
+    /// There is no room for that: the spool isn't looked at for a moment.
+    pub(crate) fn pause(&mut self, now: &Now) {
+        self.next = now.tick.saturating_add(PAUSE);
+    }
+
     /// The tick at which the spool is to be looked at, or the given one where that is earlier.
     pub(crate) fn next_deadline(&self, otherwise: u64) -> u64
         ensures { result ≤ otherwise }
@@ -95,17 +87,17 @@ impl Tidying {
         }
     }
 
-    /// Compacts the spool where that is due and worth it, and costs others no more than they may wait for. A spool
-    /// without a second file, one that holds too much, and want of memory leave it as it is.
+    /// Compacts the spool where that is due and worth it, and costs others no more than they may wait for: it tells
+    /// whether it did. A spool without a second file, one that holds too much, and want of memory leave it as it is.
     pub(crate) fn tidy(
         &mut self,
         relay: &mut Relay<FileDisk>,
         is_quiet: bool,
         now: &Now,
         log: &mut Log<'_, Vec<u8>>,
-    ) -> Result<(), Fault> {
+    ) -> Result<bool, Fault> {
         if !self.is_due(relay, is_quiet, now) {
-            return Ok(());
+            return Ok(false);
         }
         let was_full = self.was_full;
         self.has_shrunk = false;
@@ -115,19 +107,19 @@ impl Tidying {
         let limit = node.config().spool_limit;
         let left = node.compacted_size();
         if !is_worth_compacting(node.size(), left, limit, was_full) {
-            return Ok(());
+            return Ok(false);
         }
         if MOST_LEFT < left && !is_quiet && !was_full {
             self.has_shrunk = true;
-            return Ok(());
+            return Ok(false);
         }
         match relay.compact() {
             Ok((before, behind)) => {
                 log.compacted(before, behind);
-                Ok(())
+                Ok(true)
             }
             Err(NodeFault::Stopped) => Err(Fault::Device),
-            Err(_) => Ok(()),
+            Err(_) => Ok(false),
         }
     }
 }

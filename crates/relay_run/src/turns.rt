@@ -1,6 +1,7 @@
 //! The turns of a relay: each waits for what the system tells, and does at once what can be done then.
 ghost use Rattle.std.specs.Prelude.{IfOk};
 
+use crate::reopening::Why;
 use crate::shell::Shell;
 use mio::{Events, Poll};
 use relay_connections::Now;
@@ -11,6 +12,9 @@ use std::io::Write;
 use std::net::Net;
 use std::rt::Clock;
 use std::time::Duration;
+
+/// How many milliseconds lie between two turns while no attempt may begin, although something is due.
+const HELD_PAUSE: u64 = 10;
 
 /// Serves without an end.
 pub(crate) fn serve<R: Clock + Net, E: Write>(
@@ -43,9 +47,13 @@ fn wait<R: Clock>(rt: &R, poll: &mut Poll, events: &mut Events, shell: &mut Shel
     // A wait that fails tells of nothing, and the clocks go on.
     let _ = poll.poll(events, Some(wait));
     shell.note_events(events);
+    if shell.is_held() {
+        rt.sleep(Duration::from_millis(HELD_PAUSE));
+    }
 }
 
-/// The relay behind a turn that has come to this end: where its device has failed, it is opened again.
+/// The relay behind a turn that has come to this end: where its device has failed, or has room again, its spool is
+/// opened again.
 fn behind_turn<R: Clock, E: Write>(
     alloc: Global,
     rt: &R,
@@ -55,8 +63,15 @@ fn behind_turn<R: Clock, E: Write>(
     errors: &mut E,
 ) -> Result<Shell, Fault> {
     match end {
+        Ok(()) if shell.is_renewed(&Now::of(rt)) => shell.reopened(
+            alloc,
+            rt,
+            Why::Renewed,
+            quiet,
+            errors,
+        ),
         Ok(()) => Ok(shell),
-        Err(Fault::Device) => shell.reopened(alloc, rt, quiet, errors),
+        Err(Fault::Device) => shell.reopened(alloc, rt, Why::Failed, quiet, errors),
         Err(fault) => Err(fault),
     }
 }
@@ -76,9 +91,12 @@ fn take_turn<R: Clock + Net, E: Write>(
     let end = serve_all(alloc, rt, poll, shell, &now, quiet, lines);
     hand_out(lines, errors);
     end?;
+    shell.note_known();
     let end = tidy(alloc, shell, &now, quiet, lines);
     hand_out(lines, errors);
-    end
+    end?;
+    shell.note_known();
+    Ok(())
 }
 
 /// Serves all connections once, and gathers the lines of the log.

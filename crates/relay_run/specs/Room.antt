@@ -1,0 +1,18 @@
+-- Room on the disk of a spool, and what a relay that runs may begin by it.
+use Rattle.std.specs.Prelude.{◌≡◌, ℕ, ◌-◌, ◌^◌}
+use Rattle.relay_room.specs.Standing.{MayBegin, standing_at_test}
+use Rattle.relay_run.specs.declared.room.Room.{Room}
+
+-- how many octets a spool of so many has more than when the room was tested last
+abbrev pub grown_since : Room → ℕ → ℕ
+grown_since room size = size - room.tested_size
+
+-- Attempts may begin: the room that was tested holds what comes of them, and the spool isn't about to be opened anew.
+pub record MayStart (room : Room) (size : ℕ) : Type 0 where
+  pub stays : room.renewal ≡ 2 ^ 64 - 1
+  pub holds : MayBegin room.standing (grown_since room size)
+
+-- the room was tested, unless the ballast is there: the relay stands as the room that was found says
+abbrev pub IsTested : Room → Room → Type 0
+IsTested old new =
+    (room : ℕ) × (new.standing ≡ standing_at_test old.standing room old.size)
