@@ -91,6 +91,7 @@ pub(crate) fn open_door<R: Clock + Net, E: Write>(
                 }
                 rt.sleep(Duration::from_secs(1));
             }
+            Err(error) if error.kind() == ErrorKind::OutOfMemory => return Err(Fault::NoMemory),
             Err(_) => return Err(Fault::Socket),
         }
     }
