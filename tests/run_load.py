@@ -107,17 +107,19 @@ def what_is_due_is_listed_beside_prompt_replies(field):
     away = {f"away-{number}.example": (f"hop-{number}.example", free_port()) for number in range(4)}
     relay = field.relay(more=away, spool_limit=1 << 30, client_timeout=3600)
     shim(field, "run_clocks", relay, FASTER="60")
-    with relay.running("--quiet") as process, clients_of(relay, 1, "127.0.0.2") as [client]:
-        alone = slowest(client, 20)
+    with relay.running("--quiet") as process:
+        with clients_of(relay, 1) as [client]:
+            alone = slowest(client, 20)
+        field.arrived(20)
         pour(relay, list(away), DUE)
         waits = []
-        for _ in range(40):
-            waits.append(slowest(client, 5))
-            time.sleep(0.1)
+        with clients_of(relay, 1) as [client]:
+            for _ in range(40):
+                waits.append(slowest(client, 5, "c@away-0.example"))
+                time.sleep(0.1)
         if max(waits) > alone + LISTING:
             raise Difference(f"a message waits {max(waits):.3f} s beside {DUE} that are due, and {alone:.3f} s without")
-        field.arrived(220)
-        same("how many wait", len(relay.held()), DUE // AT_ONCE * AT_ONCE)
+        same("how many wait", len(relay.held()), DUE // AT_ONCE * AT_ONCE + 200)
         comes_to_rest(process, "beside what is due")
 
 

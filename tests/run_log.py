@@ -108,8 +108,9 @@ def refused_clients_have_a_line_a_minute(field):
 
 
 def each_refusal_is_told_of_where_many_addresses_are_refused(field):
-    """By a line of its own, or in the number of another, once; of up to 64 addresses a minute's are told of together."""
-    relay, addresses = field.relay(sessions_per_client=64, client_timeout=3600), [f"127.0.1.{last}" for last in range(1, 81)]
+    """By a line of its own, or in the number of another, once; up to 64 addresses are counted at a time."""
+    relay = field.relay(sessions_per_client=64, client_timeout=3600)
+    addresses = [f"127.0.1.{last}" for last in range(1, 81)]
     shim(field, "run_clocks", relay, FASTER="15")
     counts = {address: 0 for address in addresses}
     with relay.running(), clients_of(relay, 64):

@@ -191,11 +191,11 @@ def hop_that_falls_silent(*replies):
             yield listener.getsockname()[1]
 
 
-def slowest(client, count):
+def slowest(client, count, path="b@example.org"):
     """The longest that one of so many messages waits for its 250, in seconds."""
     waits = []
     for _ in range(count):
-        client.ask_for_text()
+        client.ask_for_text(path)
         begun = time.monotonic()
         number_of(client.say(TEXT))
         waits.append(time.monotonic() - begun)
