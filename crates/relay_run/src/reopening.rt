@@ -151,6 +151,7 @@ pub(crate) fn reopen<C: Clock, E: Write>(
     ensures synced { HasFailedToSync relay.node.records.spool.disk → IsErr result }
     ensures whole { IfOk result (λ opened. HasAll known.next_number known.size
         opened.node.records.queue.next opened.node.records.spool.size) }
+    ensures tested { why ≡ Why.Failed → IfOk result (λ _. MayStart room.new known.size) }
 {
     match why {
         Why::Failed => open_again(
