@@ -108,8 +108,8 @@ def the_spool_stays_closed_while_there_is_no_room(field):
 
 @contextlib.contextmanager
 def small_disk(field, kilobytes, name="small"):
-    """A relay whose spool is on a disk of its own, of this size, and the file that takes its room; none where nobody may
-    mount one."""
+    """A relay whose spool is on a disk of its own, of this size, and the file that takes its room; none where nobody
+    may mount one."""
     folder = field.folder / name
     folder.mkdir()
     mounted = subprocess.run(["mount", "-t", "tmpfs", "-o", f"size={kilobytes}k", "none", folder], capture_output=True)
@@ -139,10 +139,14 @@ def copies_at(sink):
     return {number: numbers.count(number) for number in numbers}
 
 
+def came_thrice(field):
+    return [number for number, count in copies_at(field.sink).items() if count > 2]
+
+
 def feed_beside(relay, seconds, big):
-    """Hands in small messages, one behind another on a connection, for so long, beside a client that offers what doesn't
-    fit, where that is asked for: how many were answered 250, and their numbers."""
-    numbers, done = [], threading.Event()
+    """Hands in small messages, one behind another on a connection, for so long, beside a client that offers what
+    doesn't fit, where that is asked for: the numbers of those that were answered 250."""
+    numbers = []
 
     def offer(done):
         while not done.is_set():
@@ -164,7 +168,6 @@ def feed_beside(relay, seconds, big):
 
     with beside(offer) if big else contextlib.nullcontext():
         feed()
-    done.set()
     return numbers
 
 
@@ -183,7 +186,7 @@ def what_doesnt_fit_costs_others_nothing(field):
             until("an empty list", lambda: relay.held() == [], 60)
             copies = copies_at(field.sink)
             same("messages that were lost", set(alone + crowded) - set(copies), set())
-            same("messages that came thrice", [number for number, count in copies.items() if count > 2], [])
+            same("messages that came thrice", came_thrice(field), [])
             comes_to_rest(process, "behind what didn't fit")
             # With room the state ends, and what didn't fit does.
             others.unlink()
@@ -197,13 +200,14 @@ def takes(relay, kilobytes):
     with contextlib.suppress(Difference, OSError), Client(relay) as client:
         client.begin()
         client.ask_for_text()
-        return client.say(b"Subject: big\r\n\r\n" + (b"x" * 70 + b"\r\n") * (kilobytes * 14) + b".\r\n").startswith("250 ")
+        text = b"Subject: big\r\n\r\n" + (b"x" * 70 + b"\r\n") * (kilobytes * 14) + b".\r\n"
+        return client.say(text).startswith("250 ")
     return False
 
 
 def a_disk_that_stays_full_for_ten_minutes_copies_nothing_twice_over(field):
-    """By a clock that goes sixty times as fast: with the room that was kept queued mail leaves, and when others have taken
-    that too nothing begins; everything flows again with room."""
+    """By a clock that goes sixty times as fast: with the room that was kept queued mail leaves, and when others have
+    taken that too nothing begins; everything flows again with room."""
     with small_disk(field, 16 * 1024) as (relay, others):
         if relay is None:
             return
@@ -225,14 +229,14 @@ def a_disk_that_stays_full_for_ten_minutes_copies_nothing_twice_over(field):
                 takes(relay, 1)
                 time.sleep(0.2)
             comes_to_rest(process, "on a full disk")
-            same("messages that came thrice", [number for number, count in copies_at(field.sink).items() if count > 2], [])
+            same("messages that came thrice", came_thrice(field), [])
             failures = len(lines_of(relay, "device failed"))
             if failures > 3:
                 raise Difference(f"the device fails {failures} times")
             others.unlink()
             until("mail of any size", lambda: takes(relay, 300), 120)
             until("an empty list", lambda: relay.held() == [], 60)
-            same("messages that came thrice", [number for number, count in copies_at(field.sink).items() if count > 2], [])
+            same("messages that came thrice", came_thrice(field), [])
         field.sink.take_all()
 
 

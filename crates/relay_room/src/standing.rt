@@ -1,5 +1,5 @@
 //! How a relay stands with the room on its disk, and what it may do by that.
-ghost use Rattle.std.specs.Prelude.{◌≡◌, ◌*◌, ◌+◌, ◌-◌, ◌^◌, ◌<◌, ◌↔◌, IsTrue};
+ghost use Rattle.std.specs.Prelude.{ℕ, ◌≡◌, ◌*◌, ◌+◌, ◌-◌, ◌^◌, ◌<◌, ◌↔◌, IsTrue};
 ghost use Rattle.relay_room.specs.Standing.{MayBegin, bounded_limit, standing_at_failure, standing_at_test};
 
 /// How many octets the outcome of an attempt takes, with a report of all its recipients that returns a header: while a
@@ -31,7 +31,8 @@ impl Standing {
     /// How it stands once the device has failed: nothing is known of the room. Where it was short of it before, an
     /// outcome has taken more than there was, and attempts wait for as much as the ballast has, which is of this size.
     pub fn behind_failure(self, size: usize) -> Self
-        ensures { result ≡ standing_at_failure self size }
+        ensures standing { result ≡ standing_at_failure self size }
+        ensures held { (grown : ℕ) → ¬ MayBegin result grown }
     {
         let need = match self {
             Standing::Roomy => OUTCOME,

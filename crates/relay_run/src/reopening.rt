@@ -1,6 +1,7 @@
 //! A spool whose device has failed is opened again, on the files that are open and locked already.
-ghost use Rattle.std.specs.Prelude.{◌≡◌, ◌↔◌, IfErr, IfOk, IsErr, IsTrue};
+ghost use Rattle.std.specs.Prelude.{ℕ, ◌≡◌, ◌↔◌, IfErr, IfOk, IsErr, IsTrue};
 ghost use Rattle.relay_run.specs.Reopening.{HasAll, HasFailedToSync, next_pause};
+ghost use Rattle.relay_run.specs.Room.{MayStart};
 
 use crate::door::Door;
 use crate::room::Room;
@@ -150,6 +151,7 @@ pub(crate) fn reopen<C: Clock, E: Write>(
     ensures synced { HasFailedToSync relay.node.records.spool.disk → IsErr result }
     ensures whole { IfOk result (λ opened. HasAll known.next_number known.size
         opened.node.records.queue.next opened.node.records.spool.size) }
+    ensures tested { why ≡ Why.Failed → IfOk result (λ _. MayStart room.new known.size) }
 {
     match why {
         Why::Failed => open_again(
@@ -178,6 +180,7 @@ fn open_again<C: Clock, E: Write>(
     ensures synced { HasFailedToSync relay.node.records.spool.disk → IsErr result }
     ensures whole { IfOk result (λ opened. HasAll known.next_number known.size
         opened.node.records.queue.next opened.node.records.spool.size) }
+    ensures tested { IfOk result (λ _. MayStart room.new known.size) }
 {
     pauses.note_failure(known.size);
     let mut closed = Closed::of(relay.into_node());
@@ -235,8 +238,10 @@ fn wait_for_room<C: Clock, E: Write>(
     quiet: bool,
     errors: &mut E,
 ) -> Result<Relay<FileDisk>, Fault>
-    ensures { IfOk result (λ opened. HasAll known.next_number known.size
+    requires { ¬ MayStart room.old known.size }
+    ensures whole { IfOk result (λ opened. HasAll known.next_number known.size
         opened.node.records.queue.next opened.node.records.spool.size) }
+    ensures tested { IfOk result (λ _. MayStart room.new known.size) }
 {
     let mut closed = closed;
     let line = refusal(alloc, &closed.config)?;
@@ -271,8 +276,9 @@ fn unless_less(
     relay: Relay<FileDisk>,
     room: &mut Room,
 ) -> Result<Relay<FileDisk>, Fault>
-    ensures { IfOk result (λ opened. HasAll known.next_number known.size
+    ensures whole { IfOk result (λ opened. HasAll known.next_number known.size
         opened.node.records.queue.next opened.node.records.spool.size) }
+    ensures stays { (size : ℕ) → MayStart room.old size → MayStart room.new size }
 {
     if !known.is_all_in(&Known::of(&relay)) {
         return Err(Fault::Device);

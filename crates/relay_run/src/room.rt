@@ -1,5 +1,5 @@
 //! The file beside the spool that keeps room for outcomes, and what is known of the room on its disk.
-ghost use Rattle.std.specs.Prelude.{◌≡◌, ◌≤◌, ◌↔◌, IsTrue, OnOk};
+ghost use Rattle.std.specs.Prelude.{ℕ, ◌≡◌, ◌≤◌, ◌↔◌, IsTrue, OnOk};
 
 use relay_connections::Now;
 use relay_disk::{DiskFault, FileDisk};
@@ -77,6 +77,7 @@ impl Room {
     /// The device has failed: the ballast is given up, and nothing is known of the room.
     pub(crate) fn fail(&mut self) -> Result<(), Fault>
         ensures standing { self.new.standing ≡ standing_at_failure self.old.standing self.old.size }
+        ensures held { (size : ℕ) → ¬ MayStart self.new size }
     {
         self.standing = self.standing.behind_failure(self.size as usize);
         self.renewal = u64::MAX;
@@ -123,7 +124,9 @@ impl Room {
     }
 
     /// The spool was opened under the limit that the room sets it.
-    pub(crate) fn opened(&mut self) {
+    pub(crate) fn opened(&mut self)
+        ensures { (size : ℕ) → MayStart self.old size → MayStart self.new size }
+    {
         self.renewal = u64::MAX;
     }
 

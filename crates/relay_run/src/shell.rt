@@ -103,6 +103,7 @@ impl Shell {
         ensures synced { HasFailedToSync self.relay.node.records.spool.disk → IsErr result }
         ensures whole { IfOk result (λ shell. HasAll self.known.next_number self.known.size
             shell.relay.node.records.queue.next shell.relay.node.records.spool.size) }
+        ensures tested { why ≡ Why.Failed → IfOk result (λ shell. MayStart shell.room self.known.size) }
     {
         let Shell {
             relay,
