@@ -1,9 +1,11 @@
 //! Which refused clients are told of in the log: each address in one line a minute at most, which tells of how many.
-ghost use Rattle.std.specs.Prelude.{◌≡◌, ◌≢◌, ◌≤◌, ◌<◌, ℕ, None, Some, IfOk, MatchOption, false, true, length, slice_set};
+ghost use Rattle.std.specs.Prelude.{◌≡◌, ◌≢◌, ◌≤◌, ◌<◌, ℕ, None, Some, IfOk, MatchOption, false, true};
+ghost use Rattle.std.specs.Prelude.{length, slice_set};
 ghost use Rattle.std.specs.Net.Addr.{ipv4_octets};
 ghost use Rattle.std.specs.Net.Socket.{v4_ip};
 ghost use Rattle.relay_slots.specs.Slots.{AreFree, IsFull, slot_at};
-ghost use Rattle.relay_connections.specs.Refusals.{again, Counts, is_of, IsUnknown, left_behind, over_at, tallies_of, told};
+ghost use Rattle.relay_connections.specs.Refusals.{Counts, IsUnknown, again, is_of, left_behind};
+ghost use Rattle.relay_connections.specs.Refusals.{over_at, tallies_of, told};
 ghost use Rattle.relay_connections.specs.Table.{is_such};
 
 use crate::clocks::Now;

@@ -1,8 +1,8 @@
 -- The numbers of the messages that may be queued, and how far a walk over them has come.
 use Rattle.std.specs.Prelude.{ℕ, ◌==◌, List, [], ◌∷◌, ◌++◌, if◌then◌else◌}
 
--- Numbers in order: those that the walk is still to come to, of which there are none where none is under way; those that
--- it has come to, and that were queued then; and those that have come since it began.
+-- Numbers in order: those that the walk is still to come to, of which there are none where none is under way; those
+-- that it has come to, and that were queued then; and those that have come since it began.
 pub record Walk : Type 0 where
   pub left : List ℕ
   pub passed : List ℕ

@@ -1,11 +1,12 @@
-//! When it is looked for what is due. To list it all is a walk over what is queued, so that is done where the node tells
-//! that something is due which isn't listed, and once a minute while something waits; and in parts, one at a turn, so
-//! that nobody waits for it. A message that has just come is put behind the others at once.
+//! When it is looked for what is due. To list it all is a walk over what is queued, so that is done where the node
+//! tells that something is due which isn't listed, and once a minute while something waits; and in parts, one at a
+//! turn, so that nobody waits for it. A message that has just come is put behind the others at once.
 //!
-//! Between two parts messages come, are handed on and are put off. The lanes are emptied when the walk begins, and each
-//! message that is queued then is looked at once, when the walk comes to it; so it is listed then as it stands then, but
-//! for the next hops to which a connection for it is being made or stands. Before that nothing of it is listed: what a
-//! next hop turns away of it isn't put back. Each that comes later is listed when it comes, and the walk passes it by.
+//! Between two parts messages come, are handed on and are put off. The lanes are emptied when the walk begins, and
+//! each message that is queued then is looked at once, when the walk comes to it; so it is listed then as it stands
+//! then, but for the next hops to which a connection for it is being made or stands. Before that nothing of it is
+//! listed: what a next hop turns away of it isn't put back. Each that comes later is listed when it comes, and the
+//! walk passes it by.
 use crate::hops::Hops;
 use crate::lane::{Lane, Task};
 use crate::lanes::Lanes;
@@ -34,8 +35,9 @@ const PART_SIZE: usize = 512;
 const LISTING_SECONDS: u64 = 60;
 
 impl Lanes {
-    /// Lists what has come since the last time; and a part of all that is due, where something is due that isn't listed,
-    /// and the last listing is long enough ago, or hasn't come to its end. Want of memory leaves it for the next time.
+    /// Lists what has come since the last time; and a part of all that is due, where something is due that isn't
+    /// listed, and the last listing is long enough ago, or hasn't come to its end. Want of memory leaves it for the
+    /// next time.
     pub(crate) fn refresh<C: Clock>(
         &mut self,
         clock: &C,
@@ -165,8 +167,8 @@ impl Lanes {
         true
     }
 
-    /// Lists a message for a next hop, behind all others, unless it is tried there. Where no memory is left for it, it is
-    /// left out.
+    /// Lists a message for a next hop, behind all others, unless it is tried there. Where no memory is left for it, it
+    /// is left out.
     fn push(&mut self, hops: &Hops, message: u64, at: SocketAddrV4, name: &HostName) {
         let Some(number) = self.number_of(at) else {
             return;

@@ -134,8 +134,8 @@ pub(crate) enum Why {
     Renewed,
 }
 
-/// Opens the spool of a relay again, which has to have all that was known: where its device has failed, when a test finds
-/// room, and else at once. All connections are dropped. A sync that has failed is a fault.
+/// Opens the spool of a relay again, which has to have all that was known: where its device has failed, when a test
+/// finds room, and else at once. All connections are dropped. A sync that has failed is a fault.
 pub(crate) fn reopen<C: Clock, E: Write>(
     alloc: Global,
     clock: &C,
