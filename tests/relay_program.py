@@ -2,6 +2,7 @@
 import contextlib
 import os
 import pathlib
+import random
 import select
 import signal
 import socket
@@ -37,10 +38,13 @@ def until(what, holds, seconds=PATIENCE):
 
 
 def free_port():
-    """A port of 127.0.0.1 that nobody listened on a moment ago."""
-    with socket.socket() as probe:
-        probe.bind(("127.0.0.1", 0))
-        return probe.getsockname()[1]
+    """A port of 127.0.0.1 that nobody listened on a moment ago, of those that the system doesn't choose by itself: so
+    neither a connection nor a listener of another test has it a moment later."""
+    while True:
+        port = random.randrange(10_000, 32_768)
+        with socket.socket() as probe, contextlib.suppress(OSError):
+            probe.bind(("127.0.0.1", port))
+            return port
 
 
 def is_listening(port):
