@@ -68,12 +68,13 @@ hostile: relayd
 bench: relayd relay_node_tests
 	bench/run.sh build/relayd build/relay_node_tests
 
-# Measures a relay over sockets beside bare syncs, and one that stays up beside the least that a relay does with half a
-# millisecond more for each sync; kills one at thirty moments and one that stays up at a hundred while mail comes in;
-# and looks at what much mail, and 64 messages of 16 MiB at once, cost it.
+# Measures a relay over sockets beside bare syncs, one that stays up beside the least that a relay does with half a
+# millisecond more for each sync, and what others cost a client; kills one at thirty moments and one that stays up at a
+# hundred while mail comes in; and looks at what much mail, and 64 messages of 16 MiB at once, cost it.
 load: relayd
 	bench/load.py build/relayd
 	FLOOR=1 SYNC_WAIT=500 bench/load.py build/relayd run
+	bench/delays.py build/relayd
 	bench/crashes.py build/relayd
 	bench/crashes.py build/relayd 64
 	KILLS=100 SESSIONS=64 tests/run.py build/relayd a_kill_loses_nothing
