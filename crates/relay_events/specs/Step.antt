@@ -196,10 +196,23 @@ module _ {D : Type 0} (honest : Type 0) (words : DiskWords D) where
   LooksForWork (Compact node) = ⊥
   LooksForWork (Stop node calls pick) = ⊥
 
+  -- what takes memory before a node is called, as all events do but two: the clock is always set, and so is a stop that
+  -- waits for a later call
+  abbrev pub TakesMemory : Event → Type 0
+  TakesMemory (Connect node) = Unit {0}
+  TakesMemory (Send number octets) = Unit {0}
+  TakesMemory (Carry number node count) = Unit {0}
+  TakesMemory (Break number) = Unit {0}
+  TakesMemory (Tick now) = ⊥
+  TakesMemory (Give node) = Unit {0}
+  TakesMemory (Compact node) = Unit {0}
+  TakesMemory (Stop node zero pick) = Unit {0}
+  TakesMemory (Stop node (suc calls) pick) = ⊥
+
   -- Where memory runs out before a node is called, nothing changes.
   abbrev pub RefusesLate : World D → Event → World D → PairFault → Type 0
   RefusesLate old event new why =
-      ((first_fault old event ≡ None) ⊎ LooksForWork event) × (why ≡ fault.NoMemory) × (new ≡ old)
+      TakesMemory event × ((first_fault old event ≡ None) ⊎ LooksForWork event) × (why ≡ fault.NoMemory) × (new ≡ old)
 
   -- An event that no fault stands against happens, and nodes are told of links that it broke; this is the answer.
   abbrev pub Does : World D → Event → World D → Result Seen PairFault → Type 0
