@@ -12,7 +12,7 @@ use Rattle.relay_records.specs.declared.fault.NodeFault.{NodeFault}
 use Rattle.relay_records.specs.declared.fault.NodeFault.TheVariants.{NoMemory, Stopped, Unknown, TooMany, NotDue, Busy, Open, Full, NoSecond}
 use Rattle.relay_records.specs.declared.noted.Noted.{Noted}
 use Rattle.relay_records.specs.Note.{IsNoted}
-use Rattle.relay_records.specs.Records.{Keeps, Kept}
+use Rattle.relay_records.specs.Records.{IsStopped, Keeps, Kept}
 use Rattle.relay_attempts.specs.declared.reply.Replied.{Replied}
 use Rattle.relay_attempts.specs.Reply.{CutsLoss, CutsReply, AttemptHasEnded, Told}
 use Rattle.relay_node.specs.Attempts.{RefusesToReply, Replies, RepliesBy, Tells}
@@ -68,6 +68,17 @@ module _ {D : Type 0} (before after : NodeState D) (records : List (List ℕ)) (
     session_records session (Open cause) ok refuses = absurd refuses
     session_records session Full ok refuses = refuses.0.records
     session_records session NoSecond ok refuses = absurd refuses
+
+    -- a call that stopped the node is one in which its device failed
+    pub session_stopped : (session : ℕ) (fault : NodeFault) → is_stop fault ≡ true
+        → RefusesToReceive words session before after fault → IsStopped words before.records after.records
+    session_stopped session fault stop refuses =
+        subst (λ f. RefusesToReceive words session before after f) (stop_is fault stop) refuses
+
+    pub attempt_stopped : (slot : ℕ) (fault : NodeFault) → is_stop fault ≡ true
+        → RefusesToReply words slot before after fault → IsStopped words before.records after.records
+    attempt_stopped slot fault stop refuses =
+        subst (λ f. RefusesToReply words slot before after f) (stop_is fault stop) refuses
 
     -- and there was no memory or room for what was heard, where the session was known
     pub session_want : (session : ℕ) (fault : NodeFault) → is_stop fault ≡ false → fault ≢ Unknown
@@ -196,7 +207,8 @@ module _ {D : Type 0} (honest : Type 0) (words : DiskWords D) (before after : No
 
 -- a call for an attempt that stopped its node
 module _ {D : Type 0} (honest : Type 0) (words : DiskWords D) (before after : NodeState D) (records : List (List ℕ)) (slot now : ℕ)
-    (knows : KnowsAttempt honest words before slot) (config : after.config ≡ before.config) where
+    (knows : KnowsAttempt honest words before slot) (config : after.config ≡ before.config)
+    (failed : IsStopped words before.records after.records) where
   pub stops_losing : ((changes : List Change) (told : Told) → Keeps honest words before.records changes
       → Tells before.config.host changes before.attempts slot told
       → CutsLoss honest words before.config.host now changes slot told after.records)
@@ -208,7 +220,7 @@ module _ {D : Type 0} (honest : Type 0) (words : DiskWords D) (before after : No
         after = after;
         runs = runs_on before after records config;
         cuts = cuts;
-        live = cut.cuts.cuts.halted.stopped;
+        failed = failed;
         noted = cut.cuts.cuts.noted.note;
         note_is = cut.cuts.cuts.noted.is;
       }
@@ -224,7 +236,7 @@ module _ {D : Type 0} (honest : Type 0) (words : DiskWords D) (before after : No
         after = after;
         runs = runs_on before after records config;
         cuts = cuts;
-        live = cut.cuts.cuts.halted.stopped;
+        failed = failed;
         noted = cut.cuts.cuts.noted.note;
         note_is = cut.cuts.cuts.noted.is;
       }
@@ -261,18 +273,18 @@ module _ {D : Type 0} (honest : Type 0) (words : DiskWords D) (before after : No
 -- a call on a session that stopped its node
 pub stops_hearing : {D : Type 0} (honest : Type 0) (words : DiskWords D) (before after : NodeState D) (old new : List (List ℕ))
     (session now : ℕ) (piece : List ℕ) → KnowsSession honest words before session → new ≡ old → after.config ≡ before.config
-    → ((changes : List Change) (peer : List ℕ) (said : Said) → Keeps honest words before.records changes
+    → IsStopped words before.records after.records → ((changes : List Change) (peer : List ℕ) (said : Said) → Keeps honest words before.records changes
     → SeatHasSaid before.config before.seats session peer said
     → CutsTalk honest words before.config changes peer now said piece before.records after.records)
     → StopsHearing honest words now (host_of before old) (host_of after new) session piece
-stops_hearing honest words before after old new session now piece knows same config cuts =
+stops_hearing honest words before after old new session now piece knows same config failed cuts =
     let cut = cuts knows.changes knows.peer knows.said knows.keeps knows.says in
     subst (λ l. StopsHearing honest words now (host_of before old) (host_of after l) session piece) (sym same) (record {
       before = before;
       after = after;
       runs = runs_on before after old config;
       cuts = cuts;
-      live = cut.cuts.halted.stopped;
+      failed = failed;
       noted = cut.cuts.noted.note;
       note_is = cut.cuts.noted.is;
     })

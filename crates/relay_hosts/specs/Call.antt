@@ -7,7 +7,7 @@ use Rattle.relay_book.specs.declared.change.Change.{Change}
 use Rattle.relay_records.specs.declared.fault.NodeFault.{NodeFault}
 use Rattle.relay_records.specs.declared.fault.NodeFault.TheVariants as node_fault
 use Rattle.relay_records.specs.declared.noted.Noted.{Noted}
-use Rattle.relay_records.specs.Records.{Keeps}
+use Rattle.relay_records.specs.Records.{IsStopped, Keeps}
 use Rattle.relay_attempts.specs.declared.reply.Replied.{Replied}
 use Rattle.relay_attempts.specs.Reply.{CutsLoss, CutsReply, IsLost, Told}
 use Rattle.relay_node.specs.declared.receive.Received.{Received}
@@ -138,7 +138,7 @@ module _ {D : Type 0} (honest : Type 0) (words : DiskWords D) where
     pub attempts : after.attempts ≡ before.attempts
     pub notes : NotesChange old new after received.change recorded
 
-  -- A host's node stopped in that call, with a note of the accept.
+  -- A host's node stopped in that call, since its device failed, with a note of the accept.
   pub record StopsHearing (now : ℕ) (old new : Host D) (session : ℕ) (piece : List ℕ) : Type 0 where
     pub before : NodeState D
     pub after : NodeState D
@@ -146,7 +146,7 @@ module _ {D : Type 0} (honest : Type 0) (words : DiskWords D) where
     pub cuts : (changes : List Change) (peer : List ℕ) (said : Said) → Keeps honest words before.records changes
         → SeatHasSaid before.config before.seats session peer said
         → CutsTalk honest words before.config changes peer now said piece before.records after.records
-    pub live : after.records.spool.live ≡ false
+    pub failed : IsStopped words before.records after.records
     pub noted : Noted
     pub note_is : after.records.noted ≡ Some noted
 
@@ -172,7 +172,7 @@ module _ {D : Type 0} (honest : Type 0) (words : DiskWords D) where
     pub seats : after.seats ≡ before.seats
     pub notes : NotesChange old new after replied.change recorded
 
-  -- A host's node stopped in that call, with a note of the outcome.
+  -- A host's node stopped in that call, since its device failed, with a note of the outcome.
   pub record StopsReading (now : ℕ) (old new : Host D) (slot : ℕ) (piece : List ℕ) : Type 0 where
     pub before : NodeState D
     pub after : NodeState D
@@ -180,7 +180,7 @@ module _ {D : Type 0} (honest : Type 0) (words : DiskWords D) where
     pub cuts : (changes : List Change) (told : Told) → Keeps honest words before.records changes
         → Tells before.config.host changes before.attempts slot told
         → CutsReply honest words before.config.host now changes slot told piece after.records
-    pub live : after.records.spool.live ≡ false
+    pub failed : IsStopped words before.records after.records
     pub noted : Noted
     pub note_is : after.records.noted ≡ Some noted
 
@@ -202,7 +202,7 @@ module _ {D : Type 0} (honest : Type 0) (words : DiskWords D) where
     pub seats : after.seats ≡ before.seats
     pub notes : NotesOne old new after recorded
 
-  -- A host's node stopped in that call, with a note of the outcome.
+  -- A host's node stopped in that call, since its device failed, with a note of the outcome.
   pub record StopsLosing (now : ℕ) (old new : Host D) (slot : ℕ) : Type 0 where
     pub before : NodeState D
     pub after : NodeState D
@@ -210,7 +210,7 @@ module _ {D : Type 0} (honest : Type 0) (words : DiskWords D) where
     pub cuts : (changes : List Change) (told : Told) → Keeps honest words before.records changes
         → Tells before.config.host changes before.attempts slot told
         → CutsLoss honest words before.config.host now changes slot told after.records
-    pub live : after.records.spool.live ≡ false
+    pub failed : IsStopped words before.records after.records
     pub noted : Noted
     pub note_is : after.records.noted ≡ Some noted
 

@@ -4,7 +4,7 @@ use Rattle.std.proofs.lemmas.Option.{none-some}
 use Rattle.relay_records.specs.Records.{Kept}
 use Rattle.relay_hosts.specs.Call.{LosesSession, NotesChange, is_stop}
 use Rattle.relay_hosts.specs.Host.{host_of}
-use Rattle.relay_hosts.proofs.CallLemmas.{heard_added, heard_same, notes_none, notes_one, notes_some, owes_heard, owes_noted, owed_stopped, session_lost, session_records, session_want, stop_is, stops_hearing}
+use Rattle.relay_hosts.proofs.CallLemmas.{heard_added, heard_same, notes_none, notes_one, notes_some, owes_heard, owes_noted, owed_stopped, session_lost, session_records, session_stopped, session_want, stop_is, stops_hearing}
 use Rattle.relay_hosts.proofs.calls.hear_at.Goals as goal
 
 pub returns-then-is_stop-clause-told : goal.returns-then-is_stop-clause-told
@@ -13,6 +13,8 @@ returns-then-is_stop-clause-told g c =
     stops_hearing g.D.Disk.honest g.D.Disk.words c.args.node.now c.receive.new.self c.args.records.now.items
     c.reserve.new.self.items c.args.session c.args.now c.args.piece.now c.requires.session c.in-Ok.ensures.items
     c.in-Err.ensures.rest.1
+    (session_stopped c.args.node.now c.receive.new.self c.args.records.now.items c.in-Err.ensures.rest.1 g.D.Disk.words
+    c.args.session c.in-Err.fault stop (c.in-Err.ensures.refused.refused c.requires.session.keeps.live))
     (λ changes peer said keeps says.
     c.in-Err.ensures.cut changes peer said keeps says (ap (λ f. Err f) (stop_is c.in-Err.fault stop)))
 

@@ -2,7 +2,7 @@ use Rattle.std.proofs.Common.{◌≡◌, true, false, Err, ap, arith, rules, sym
 use Rattle.std.specs.Prelude.{vec_capacity, vec_len}
 use Rattle.std.proofs.lemmas.Option.{none-some}
 use Rattle.relay_hosts.specs.Call.{is_stop}
-use Rattle.relay_hosts.proofs.CallLemmas.{attempt_lost, attempt_records, attempt_want, noted_some, notes_one, owes_less, owes_one, owes_same, owes_stopped, owes_taken, stop_is, stops_losing}
+use Rattle.relay_hosts.proofs.CallLemmas.{attempt_lost, attempt_records, attempt_stopped, attempt_want, noted_some, notes_one, owes_less, owes_one, owes_same, owes_stopped, owes_taken, stop_is, stops_losing}
 use Rattle.relay_hosts.proofs.calls.lose_at.Goals as goal
 
 pub returns-then-is_stop-clause-told : goal.returns-then-is_stop-clause-told
@@ -10,6 +10,8 @@ returns-then-is_stop-clause-told g c =
     let stop : is_stop c.in-Err.fault ≡ true = search rules in
     stops_losing g.D.Disk.honest g.D.Disk.words c.args.node.now c.lost.new.self c.args.records.now.items c.args.slot c.args.now
     c.requires.attempt c.in-Err.ensures.rest.1
+    (attempt_stopped c.args.node.now c.lost.new.self c.args.records.now.items c.in-Err.ensures.rest.1 g.D.Disk.words c.args.slot
+    c.in-Err.fault stop (c.in-Err.ensures.refused.refused c.requires.attempt.keeps.live))
     (λ changes told keeps tells. c.in-Err.ensures.cut changes told keeps tells (ap (λ f. Err f) (stop_is c.in-Err.fault stop)))
 
 pub returns-then-is_stop-clause-room : goal.returns-then-is_stop-clause-room
