@@ -207,6 +207,7 @@ module _ {D : Type 0} (honest : Type 0) (words : DiskWords D) (old : World D) (n
     of = attempt_of loses.before loses.runs.up;
     after = loses.after;
     records = loses.records;
+    gone = loses.gone;
     others = loses.others;
     config = loses.runs.config;
     seats = loses.seats;

@@ -80,6 +80,32 @@ module _ {D : Type 0} (before after : NodeState D) (records : List (List ℕ)) (
     attempt_stopped slot fault stop refuses =
         subst (λ f. RefusesToReply words slot before after f) (stop_is fault stop) refuses
 
+    -- a session that was known is gone where a call on it is refused
+    pub session_gone : (session : ℕ) (fault : NodeFault) → is_stop fault ≡ false → fault ≢ Unknown
+        → RefusesToReceive words session before after fault → slot_at after.seats session ≡ None
+    session_gone session NoMemory ok known refuses = refuses.session
+    session_gone session Stopped ok known refuses = absurd (true≢false ok)
+    session_gone session Unknown ok known refuses = absurd (known refl)
+    session_gone session TooMany ok known refuses = absurd refuses
+    session_gone session NotDue ok known refuses = absurd refuses
+    session_gone session Busy ok known refuses = absurd refuses
+    session_gone session (Open cause) ok known refuses = absurd refuses
+    session_gone session Full ok known refuses = refuses.0.session
+    session_gone session NoSecond ok known refuses = absurd refuses
+
+    -- and so is an attempt
+    pub attempt_gone : (slot : ℕ) (fault : NodeFault) → is_stop fault ≡ false → fault ≢ Unknown
+        → RefusesToReply words slot before after fault → slot_at after.attempts slot ≡ None
+    attempt_gone slot NoMemory ok known refuses = refuses.attempt
+    attempt_gone slot Stopped ok known refuses = absurd (true≢false ok)
+    attempt_gone slot Unknown ok known refuses = absurd (known refl)
+    attempt_gone slot TooMany ok known refuses = absurd refuses
+    attempt_gone slot NotDue ok known refuses = absurd refuses
+    attempt_gone slot Busy ok known refuses = absurd refuses
+    attempt_gone slot (Open cause) ok known refuses = absurd refuses
+    attempt_gone slot Full ok known refuses = refuses.attempt
+    attempt_gone slot NoSecond ok known refuses = absurd refuses
+
     -- and there was no memory or room for what was heard, where the session was known
     pub session_want : (session : ℕ) (fault : NodeFault) → is_stop fault ≡ false → fault ≢ Unknown
         → RefusesToReceive words session before after fault → IsWant fault
@@ -118,24 +144,26 @@ module _ {D : Type 0} (before after : NodeState D) (records : List (List ℕ)) (
     attempt_want slot Full ok known refuses = inr refl
     attempt_want slot NoSecond ok known refuses = absurd refuses
 
-  pub session_lost : (session : ℕ) → after.records ≡ before.records → OthersStay before.seats after.seats session
-      → after.attempts ≡ before.attempts → LosesSession (host_of before records) (host_of after records) session
-  session_lost session same others attempts = record {
+  pub session_lost : (session : ℕ) → after.records ≡ before.records → slot_at after.seats session ≡ None
+      → OthersStay before.seats after.seats session → after.attempts ≡ before.attempts → LosesSession (host_of before records) (host_of after records) session
+  session_lost session same gone others attempts = record {
     before = before;
     after = after;
     runs = runs_on;
     records = same;
+    gone = gone;
     others = others;
     attempts = attempts;
   }
 
-  pub attempt_lost : (slot : ℕ) → after.records ≡ before.records → OthersStay before.attempts after.attempts slot
-      → after.seats ≡ before.seats → LosesAttempt (host_of before records) (host_of after records) slot
-  attempt_lost slot same others seats = record {
+  pub attempt_lost : (slot : ℕ) → after.records ≡ before.records → slot_at after.attempts slot ≡ None
+      → OthersStay before.attempts after.attempts slot → after.seats ≡ before.seats → LosesAttempt (host_of before records) (host_of after records) slot
+  attempt_lost slot same gone others seats = record {
     before = before;
     after = after;
     runs = runs_on;
     records = same;
+    gone = gone;
     others = others;
     seats = seats;
   }

@@ -1,7 +1,7 @@
 -- What a call of its node makes of one host.
 use Rattle.std.specs.Prelude.{◌≡◌, ◌⊎◌, ℕ, ◌≤◌, Bool, true, false, List, [], ◌∷◌, ◌++◌, length, Option, None, Some}
 use Rattle.relay_disk.specs.Device.{DiskWords}
-use Rattle.relay_slots.specs.Slots.{OthersStay}
+use Rattle.relay_slots.specs.Slots.{OthersStay, slot_at}
 use Rattle.relay_server.specs.Dialogue.{Said}
 use Rattle.relay_book.specs.declared.change.Change.{Change}
 use Rattle.relay_records.specs.declared.fault.NodeFault.{NodeFault}
@@ -74,12 +74,13 @@ NotesChange old new after None (Some recorded) = ⊥
 NotesChange old new after (Some change) None = ⊥
 NotesChange old new after (Some change) (Some recorded) = NotesOne old new after recorded
 
--- A host's node has lost the session of this number, and nothing else.
+-- A host's node has lost the session of this number, which is free now, and nothing else.
 pub record LosesSession {D : Type 0} (old new : Host D) (session : ℕ) : Type 0 where
   pub before : NodeState D
   pub after : NodeState D
   pub runs : Runs old new before after
   pub records : after.records ≡ before.records
+  pub gone : slot_at after.seats session ≡ None
   pub others : OthersStay before.seats after.seats session
   pub attempts : after.attempts ≡ before.attempts
 
@@ -89,6 +90,7 @@ pub record LosesAttempt {D : Type 0} (old new : Host D) (slot : ℕ) : Type 0 wh
   pub after : NodeState D
   pub runs : Runs old new before after
   pub records : after.records ≡ before.records
+  pub gone : slot_at after.attempts slot ≡ None
   pub others : OthersStay before.attempts after.attempts slot
   pub seats : after.seats ≡ before.seats
 
