@@ -12,7 +12,7 @@ use Rattle.relay_world.specs.Crashes.{CrashesAtRest, CrashesCompacting, CrashesG
 use Rattle.relay_world.specs.Crashes.{serves_for}
 use Rattle.relay_world.specs.Steps.{Breaks, DropsAttempt, EndsSession, HasGivenUp, HasHeard, HasLost, HasOpened}
 use Rattle.relay_world.specs.Steps.{HasRead, HasStarted, HasTicked, HasWritten}
-use Rattle.relay_world.specs.Stops.{HasArmed, HasCompacted, StaysDown}
+use Rattle.relay_world.specs.Stops.{HasArmed, HasCompacted, StopsAgain}
 use Rattle.relay_world.specs.World.{Host, World}
 use Rattle.relay_events.specs.declared.event.Event.{Event}
 use Rattle.relay_events.specs.declared.event.Event.TheVariants.{Connect, Send, Carry, Break, Tick, Give, Compact, Stop}
@@ -73,10 +73,10 @@ pub record IsCarriedTo (link : Link) (attempt : Attempt) (node : ℕ) (waits : B
   pub waiting : waits_down link ≡ waits
 
 module _ {D : Type 0} (honest : Type 0) (words : DiskWords D) where
-  -- A node stops between two calls, or one that is down stops again; then it is opened, or stays down.
+  -- A node stops between two calls, or one that is down stops again; then it is opened, or can't be opened.
   pub record StopsNow (old new : World D) (node : ℕ) : Type 0 where
     pub down : World D
-    pub stops : CrashesAtRest honest words old down node ⊎ StaysDown honest words old down node
+    pub stops : CrashesAtRest honest words old down node ⊎ StopsAgain honest words old down node
     pub opened : IsOpened honest words down new node
 
   -- A stop is set for a node that is up: of its disks so many calls pass, and the next fails.

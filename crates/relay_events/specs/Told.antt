@@ -5,7 +5,7 @@ use Rattle.relay_world.specs.declared.attempt.Attempt.{Attempt}
 use Rattle.relay_world.specs.declared.link.Link.{Link}
 use Rattle.relay_world.specs.Crashes.{CrashesLosing}
 use Rattle.relay_world.specs.Steps.{DropsAttempt, EndsSession, HasLost}
-use Rattle.relay_world.specs.Stops.{HasReopened, StaysDown}
+use Rattle.relay_world.specs.Stops.{HasReopened, IsRefused}
 use Rattle.relay_world.specs.World.{World, link_at}
 use Rattle.relay_hosts.specs.Links.{hears_on, is_running, is_untold, tries_on}
 
@@ -35,9 +35,9 @@ pub record IsFirstUntold {D : Type 0} (world : World D) (number : ℕ) : Type 0 
       → is_untold world.attempts other ≡ false
 
 module _ {D : Type 0} (honest : Type 0) (words : DiskWords D) where
-  -- a node that went down has been opened again, or stays down
+  -- a node that went down has been opened again, or couldn't be opened
   abbrev pub IsOpened : World D → World D → ℕ → Type 0
-  IsOpened old new node = HasReopened honest words old new node ⊎ StaysDown honest words old new node
+  IsOpened old new node = HasReopened honest words old new node ⊎ IsRefused honest words old new node
 
   -- the node was told of the loss of its attempt's link, and stopped in that call
   pub record CrashesTold (old new : World D) (number node : ℕ) : Type 0 where

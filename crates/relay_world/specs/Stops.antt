@@ -12,7 +12,7 @@ use Rattle.relay_book.specs.StandsFor.{StandsFor}
 use Rattle.relay_records.specs.declared.noted.Noted.{Noted}
 use Rattle.relay_records.specs.declared.fault.Cause.{Cause}
 use Rattle.relay_records.specs.ListLaws.{IsNoFaultOfImage}
-use Rattle.relay_records.specs.Open.{Opens, RefusesImage}
+use Rattle.relay_records.specs.Open.{FailsFor, Opens, RefusesImage}
 use Rattle.relay_records.specs.Records.{Compacts, IsStopped, Keeps, Kept}
 use Rattle.relay_attempts.specs.Outcomes.{CutsUnroutable}
 use Rattle.relay_attempts.specs.Reply.{CutsLoss, CutsReply, Told}
@@ -205,8 +205,8 @@ pub record StopsGivingUp {D : Type 0} (honest : Type 0) (words : DiskWords D) (o
         (record host { state = Down disk (Some (record { note = noted; origin = FromNoHop message })) })
     pub rest : OnlyHostsChange old new
 
--- A node that is down stays so: its disks were refused, or stopped again, and leave no images that they didn't leave
--- before.
+-- A node that is down stays so, and its disks leave no images that they didn't leave before: they were refused, or have
+-- stopped again. Which of the two it was is said below.
 pub record StaysDown {D : Type 0} (honest : Type 0) (words : DiskWords D) (old new : World D) (node : ℕ) : Type 0 where
   pub host : Host D
   pub host_at : slice_get old.hosts node ≡ Some host
@@ -217,6 +217,19 @@ pub record StaysDown {D : Type 0} (honest : Type 0) (words : DiskWords D) (old n
   pub left : honest → ImagesWithin words disk again
   pub hosts : IsPut old.hosts new.hosts node (record host { state = Down again undecided })
   pub rest : OnlyHostsChange old new
+
+-- A node that is down stops again, before it is opened.
+abbrev pub StopsAgain : {D : Type 0} → Type 0 → DiskWords D → World D → World D → ℕ → Type 0
+StopsAgain honest words old new node = StaysDown honest words old new node
+
+-- A node that is down couldn't be opened: its disks were refused, for this cause. That is a failure of the device, which
+-- has counted it, want of memory, or the size of the spool, and of an honest disk never the octets.
+pub record IsRefused {D : Type 0} (honest : Type 0) (words : DiskWords D) (old new : World D) (node : ℕ) : Type 0 where
+  pub stays : StaysDown honest words old new node
+  pub cause : Cause
+  pub why : RefusesImage honest (seen_of words stays.disk) cause
+  pub failures : FailsFor words stays.disk stays.again cause
+  pub not_octets : honest → IsNoFaultOfImage cause
 
 -- an outcome is found: so many octets more were read on the link, and the attempt at this place has this fate
 pub record FindsOutcome {D : Type 0} (old new : World D) (number place used : ℕ) (fate : Fate) : Type 0 where
