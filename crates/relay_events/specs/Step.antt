@@ -10,6 +10,7 @@ use Rattle.relay_world.specs.declared.attempt.Attempt.{Attempt}
 use Rattle.relay_world.specs.declared.link.Link.{Link}
 use Rattle.relay_world.specs.Crashes.{CrashesAtRest, CrashesCompacting, CrashesGivingUp, CrashesHearing, CrashesReading}
 use Rattle.relay_world.specs.Crashes.{serves_for}
+use Rattle.relay_world.specs.Steps.{AttemptOf, waiting_down, waiting_up}
 use Rattle.relay_world.specs.Steps.{Breaks, DropsAttempt, EndsSession, HasGivenUp, HasHeard, HasLost, HasOpened}
 use Rattle.relay_world.specs.Steps.{HasRead, HasStarted, HasTicked, HasWritten}
 use Rattle.relay_world.specs.Stops.{HasArmed, HasCompacted, StopsAgain}
@@ -22,7 +23,7 @@ use Rattle.relay_events.specs.declared.seen.Seen.{Seen}
 use Rattle.relay_events.specs.declared.seen.Seen.TheVariants as seen
 use Rattle.relay_records.specs.declared.fault.NodeFault.{NodeFault}
 use Rattle.relay_records.specs.declared.fault.NodeFault.TheVariants as node_fault
-use Rattle.relay_hosts.specs.Call.{IsWant}
+use Rattle.relay_hosts.specs.Call.{IsWhyUnheard, IsWhyUnread, IsWhyUntold}
 use Rattle.relay_hosts.specs.Compact.{IsWhyNotCompacted}
 use Rattle.relay_events.specs.FirstFault.{first_fault}
 use Rattle.relay_hosts.specs.Links.{waits_down, waits_up}
@@ -84,9 +85,16 @@ module _ {D : Type 0} (honest : Type 0) (words : DiskWords D) where
     pub armed : HasArmed honest words old new node
     pub calls_left : calls_left_of words armed.stays.after.records.spool.disk ≡ Some calls
 
+  -- why an attempt is dropped to which octets are carried, or, where none wait, the end of the other side
+  abbrev pub IsWhyDropped : (old : World D) (number count : ℕ) → AttemptOf old number → Bool → NodeFault → Type 0
+  IsWhyDropped old number count of true why =
+      IsWhyUnread honest words old.clock of.host.state of.slot (waiting_down count of.link) why
+  IsWhyDropped old number count of false why = IsWhyUntold honest words old.clock of.host.state of.slot why
+
   -- what waits for a node on a link is carried to it: octets are heard or read, or, where none wait, the end of the
   -- other side; or octets are heard or read, and there is no memory for what the node answers, so that the link breaks;
-  -- or the node has no memory or room for what it hears or reads, and the link breaks; or the node stops in that call
+  -- or the node has no memory for what it hears or reads, or no number or room for the change that it leads to, and the
+  -- link breaks; or the node stops in that call
   pub data Carries (old : World D) (number node count : ℕ) (new : World D) : Did → Type 0 where
     Hears : (heard : HasHeard honest words old new number count) → heard.of.end.node ≡ node
         → waits_up heard.of.link ≡ true
@@ -109,11 +117,12 @@ module _ {D : Type 0} (honest : Type 0) (words : DiskWords D) where
         → IsCarriedTo lost.of.link lost.of.attempt node false
         → Carries old number node count new (Shows (seen.Carried 0 0 (Some change) true))
     RefusesToHear : (ended : World D) → (gone : EndsSession old ended number) → gone.of.end.node ≡ node
-        → waits_up gone.of.link ≡ true → Breaks ended new number → (why : NodeFault) → IsWant why
+        → waits_up gone.of.link ≡ true → Breaks ended new number → (why : NodeFault)
+        → IsWhyUnheard gone.of.host.state gone.of.session (waiting_up count gone.of.link) why
         → Carries old number node count new (Refuses (fault_of why))
     RefusesToRead : (dropped : World D) → (gone : DropsAttempt old dropped number) → (waits : Bool)
         → IsCarriedTo gone.of.link gone.of.attempt node waits
-        → Breaks dropped new number → (why : NodeFault) → IsWant why
+        → Breaks dropped new number → (why : NodeFault) → IsWhyDropped old number count gone.of waits why
         → Carries old number node count new (Refuses (fault_of why))
     CrashesInHearing : (down : World D) → (crash : CrashesHearing honest words old down number count)
         → crash.of.end.node ≡ node → waits_up crash.of.link ≡ true → IsOpened honest words down new node

@@ -7,6 +7,8 @@ use Rattle.relay_world.specs.Crashes.{CrashesLosing}
 use Rattle.relay_world.specs.Steps.{DropsAttempt, EndsSession, HasLost}
 use Rattle.relay_world.specs.Stops.{HasReopened, IsRefused}
 use Rattle.relay_world.specs.World.{World, link_at}
+use Rattle.relay_records.specs.declared.fault.NodeFault.{NodeFault}
+use Rattle.relay_hosts.specs.Call.{IsWhyUntold}
 use Rattle.relay_hosts.specs.Links.{hears_on, is_running, is_untold, tries_on}
 
 -- a session goes on at the server end of the link of this number
@@ -46,12 +48,13 @@ module _ {D : Type 0} (honest : Type 0) (words : DiskWords D) where
     pub its_node : crash.of.attempt.node ≡ node
     pub opened : IsOpened down new node
 
-  -- One end of a broken link was told: the session has ended; or the attempt has its outcome, or is gone without one;
-  -- or the node stopped in it.
+  -- One end of a broken link was told: the session has ended; or the attempt has its outcome, or is gone without one,
+  -- for want of memory or of room for it; or the node stopped in it.
   pub data TellsOne (old new : World D) (number : ℕ) : List ℕ → Type 0 where
     Ends : EndsSession old new number → TellsOne old new number []
     Loses : (change : ℕ) → HasLost honest words old new number change → TellsOne old new number []
-    Drops : DropsAttempt old new number → TellsOne old new number []
+    Drops : (why : NodeFault) → (drops : DropsAttempt old new number)
+        → IsWhyUntold honest words old.clock drops.of.host.state drops.of.slot why → TellsOne old new number []
     Crashes : (node : ℕ) → CrashesTold old new number node → TellsOne old new number (node ∷ [])
 
   -- and whichever stopped in it was added to these that had

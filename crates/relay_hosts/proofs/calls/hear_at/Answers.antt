@@ -5,7 +5,7 @@ use Rattle.relay_records.specs.declared.fault.NodeFault.TheVariants.{Unknown}
 use Rattle.relay_records.specs.Records.{Kept}
 use Rattle.relay_hosts.specs.Call.{LosesSession, NotesChange, is_stop}
 use Rattle.relay_hosts.specs.Host.{host_of}
-use Rattle.relay_hosts.proofs.CallLemmas.{heard_added, heard_same, notes_none, notes_one, notes_some, owes_heard, owes_noted, owed_stopped, session_gone, session_lost, session_records, session_stopped, session_want, stop_is, stops_hearing}
+use Rattle.relay_hosts.proofs.CallLemmas.{heard_added, heard_same, notes_none, notes_one, notes_some, owes_heard, owes_noted, owed_stopped, session_gone, session_lost, session_records, session_stopped, session_why, stop_is, stops_hearing}
 use Rattle.relay_hosts.proofs.calls.hear_at.Goals as goal
 
 pub returns-then-is_stop-clause-told : goal.returns-then-is_stop-clause-told
@@ -45,8 +45,9 @@ returns-in-Err-clause-told g c =
           (session_gone c.args.node.now c.receive.new.self c.args.records.now.items c.in-Err.ensures.rest.1 g.D.Disk.words
           c.args.session c.in-Err.fault ok known (refused.refused knows.keeps.live))
           c.in-Err.ensures.rest.0 c.in-Err.ensures.rest.2),
-      session_want c.args.node.now c.receive.new.self c.args.records.now.items c.in-Err.ensures.rest.1 g.D.Disk.words
-          c.args.session c.in-Err.fault ok known
+      session_why c.args.node.now c.receive.new.self c.args.records.now.items c.in-Err.ensures.rest.1 g.D.Disk.words
+          c.args.session c.args.piece.now c.in-Err.fault ok known
+          (λ is peer said says. c.in-Err.ensures.full peer said says (ap (λ f. Err f) is))
           (refused.refused knows.keeps.live),
     )
 

@@ -3,7 +3,7 @@ use Rattle.std.specs.Prelude.{vec_capacity, vec_len}
 use Rattle.std.proofs.lemmas.Option.{none-some}
 use Rattle.relay_records.specs.declared.fault.NodeFault.TheVariants.{Unknown}
 use Rattle.relay_hosts.specs.Call.{is_stop}
-use Rattle.relay_hosts.proofs.CallLemmas.{attempt_gone, attempt_lost, attempt_records, attempt_stopped, attempt_want, noted_some, notes_none, notes_one, notes_some, read_ended, read_same, owes_less, owes_one, owes_same, owes_stopped, owes_taken, stop_is, stops_reading}
+use Rattle.relay_hosts.proofs.CallLemmas.{attempt_gone, attempt_lost, attempt_records, attempt_stopped, attempt_why, noted_some, notes_none, notes_one, notes_some, read_ended, read_same, owes_less, owes_one, owes_same, owes_stopped, owes_taken, stop_is, stops_reading}
 use Rattle.relay_hosts.proofs.calls.read_at.Goals as goal
 
 pub returns-then-is_stop-clause-told : goal.returns-then-is_stop-clause-told
@@ -37,8 +37,9 @@ returns-in-Err-clause-told g c =
           (attempt_gone c.args.node.now c.reply.new.self c.args.records.now.items c.in-Err.ensures.rest.1 g.D.Disk.words c.args.slot
           c.in-Err.fault ok known (refused.refused knows.keeps.live))
           c.in-Err.ensures.rest.0 c.in-Err.ensures.rest.2,
-      attempt_want c.args.node.now c.reply.new.self c.args.records.now.items c.in-Err.ensures.rest.1 g.D.Disk.words c.args.slot
+      attempt_why c.args.node.now c.reply.new.self c.args.records.now.items c.in-Err.ensures.rest.1 g.D.Disk.words c.args.slot
           c.in-Err.fault ok known
+          (λ is changes told keeps tells. c.in-Err.ensures.full changes told keeps tells (ap (λ f. Err f) is))
           (refused.refused knows.keeps.live),
     )
 
