@@ -17,12 +17,11 @@ use Rattle.relay_events.specs.declared.fault.PairFault.TheVariants as fault
 use Rattle.relay_events.specs.declared.seen.Seen.TheVariants as seen
 use Rattle.relay_events.specs.declared.tell.Loss.{Loss}
 use Rattle.relay_events.specs.declared.tell.Loss.TheVariants as loss
-use Rattle.relay_hosts.specs.Call.{IsWant}
 use Rattle.relay_events.specs.Carried.{RunsAndWaits, RunsAt, TellsLoss, TriesWhole, stops_by}
 use Rattle.relay_events.specs.FirstFault.{carry_fault, carry_idles, first_fault}
 use Rattle.relay_hosts.specs.Links.{client_closed, client_idles, is_nil, runs_there, tries_on, waits_down, whole_link}
 use Rattle.relay_hosts.specs.Host.{is_up}
-use Rattle.relay_events.specs.Step.{Carries, CrashesInLosing, IsCarriedTo, Loses as LosesThere, Refuses, RefusesToRead, Shows, Stops, fault_of}
+use Rattle.relay_events.specs.Step.{Carries, CrashesInLosing, IsCarriedTo, IsWhyDropped, Loses as LosesThere, Refuses, RefusesToRead, Shows, Stops, fault_of}
 use Rattle.relay_events.specs.Told.{Crashes, CrashesTold, Drops, Loses, TellsSome, TriesAt}
 use Rattle.relay_events.proofs.CarryLemmas.{is_carried, is_tried}
 use Rattle.relay_events.proofs.PlaceLemmas.{link_same}
@@ -134,7 +133,7 @@ module _ {D : Type 0} (honest : Type 0) (words : DiskWords D) where
   pub some_told : (old new : World D) (number : ℕ) (were are : List ℕ) (lost : Loss) → TellsLoss honest words old new number lost
       → are ≡ were ++ stops_by lost → TellsSome honest words old new number were are
   some_told old new number were are (loss.Ended change) tells is = ([], Loses change tells, is)
-  some_told old new number were are (loss.Gone why) tells is = ([], Drops tells.0, is)
+  some_told old new number were are (loss.Gone why) tells is = ([], Drops why tells.0 tells.1, is)
   some_told old new number were are (loss.Stopped node) tells is = (node ∷ [], Crashes node tells, is)
 
   -- an attempt was told that its connection is over, by a node that is this one
@@ -145,10 +144,11 @@ module _ {D : Type 0} (honest : Type 0) (words : DiskWords D) where
       LosesThere change lost
       (carried_to old number node lost.of.link lost.of.link_is lost.of.place lost.of.client lost.of.attempt lost.of.attempt_at false runs)
 
-  pub dropped_carries : (old dropped new : World D) (number node count : ℕ) (waits : Bool) (why : NodeFault) → IsWant why
-      → RunsAndWaits old number node waits → DropsAttempt old dropped number → Breaks dropped new number
+  pub dropped_carries : (old dropped new : World D) (number node count : ℕ) (waits : Bool) (why : NodeFault)
+      → RunsAndWaits old number node waits → (gone : DropsAttempt old dropped number)
+      → IsWhyDropped honest words old number count gone.of waits why → Breaks dropped new number
       → Carries honest words old number node count new (Refuses (fault_of why))
-  dropped_carries old dropped new number node count waits why want runs gone breaks =
+  dropped_carries old dropped new number node count waits why runs gone want breaks =
       RefusesToRead dropped gone waits
       (carried_to old number node gone.of.link gone.of.link_is gone.of.place gone.of.client gone.of.attempt gone.of.attempt_at waits
       runs) breaks why want

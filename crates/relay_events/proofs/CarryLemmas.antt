@@ -184,7 +184,7 @@ module _ {D : Type 0} (honest : Type 0) (words : DiskWords D) where
   -- nothing was done, for want of memory
   pub unheard_steps : (old new : World D) (number node count : ℕ) → first_fault old (Carry number node count) ≡ None → new ≡ old
       → Steps honest words old (Carry number node count) new (Err fault.NoMemory)
-  unheard_steps old new number node count none same = inr (inl (inl none, refl, same))
+  unheard_steps old new number node count none same = inr (inl (tt, inl none, refl, same))
 
   -- relays of the same world, with as much room or more, are in order
   pub kept_order : (old new : Relays D) → world_of new ≡ world_of old → free_lines old ≤ free_lines new

@@ -11,7 +11,7 @@ use Rattle.relay_world.specs.declared.line.Line.{Line}
 use Rattle.relay_world.specs.Crashes.{GoesDown}
 use Rattle.relay_world.specs.Ledger.{lines_of}
 use Rattle.relay_world.specs.Once.{Drops as DropsEvent}
-use Rattle.relay_world.specs.Steps.{DropsAttempt}
+use Rattle.relay_world.specs.Steps.{AttemptOf, DropsAttempt}
 use Rattle.relay_world.specs.World.{Host, Undecided, World}
 use Rattle.relay_events.specs.declared.client_end.ClientEnd.{ClientEnd}
 use Rattle.relay_hosts.specs.declared.host.Origin.{Origin}
@@ -24,7 +24,7 @@ use Rattle.relay_hosts.specs.Room.{HasRoom, lines_to_come}
 use Rattle.relay_events.specs.Told.{ends_of, running_of, sessions_of}
 use Rattle.relay_events.proofs.CutShortLemmas.{goes_down, held_more}
 use Rattle.relay_events.proofs.HungLemmas.{hung_lines_less, hung_running_less, let_go_sessions}
-use Rattle.relay_events.proofs.LossLemmas.{has_dropped, over_fewer, over_room, over_running, over_world, running_is}
+use Rattle.relay_events.proofs.LossLemmas.{attempt_of, has_dropped, over_fewer, over_room, over_running, over_world, running_is}
 use Rattle.relay_events.proofs.RunLemmas.{one_happened}
 use Rattle.relay_events.proofs.TellLemmas.{get_within}
 
@@ -76,6 +76,15 @@ module _ {D : Type 0} (honest : Type 0) (words : DiskWords D) (old called : Worl
         subst (λ (w : World D). DropsAttempt old w number) (sym (set_is new Dropped sets))
         (has_dropped honest words old number end.place end.slot its runs.on was now was_is (record its { fate = Dropped }) refl
         loses)
+
+    -- and what is said of the attempt that ran there is said of it
+    pub has_gone_so : (P : AttemptOf old number → Type 0)
+        → P (attempt_of honest words old number end.place end.slot its runs.on was now was_is loses.before loses.runs.up)
+        → (drops : DropsAttempt old new number) × P drops.of
+    has_gone_so P so =
+        subst (λ (w : World D). (drops : DropsAttempt old w number) × P drops.of) (sym (set_is new Dropped sets))
+        (has_dropped honest words old number end.place end.slot its runs.on was now was_is (record its { fate = Dropped }) refl
+        loses, so)
 
     pub gone_happened : HasHappened honest words old new
     gone_happened = one_happened honest words old new (DropsEvent number has_gone)

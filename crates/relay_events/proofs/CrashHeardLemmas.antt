@@ -4,6 +4,7 @@ use Rattle.std.specs.Prelude.{slice_get, slice_set}
 use Rattle.relay_disk.specs.Device.{DiskWords}
 use Rattle.relay_book.specs.declared.change.Change.{Change}
 use Rattle.relay_node.specs.Node.{CutsTalk, NodeState}
+use Rattle.relay_records.specs.Records.{IsStopped}
 use Rattle.relay_world.specs.Bound.{IsBound}
 use Rattle.relay_world.specs.Crashes.{CrashesHearing, GoesDown}
 use Rattle.relay_world.specs.CrashRuns.{CrashingHappens}
@@ -41,7 +42,7 @@ module _ {D : Type 0} (honest : Type 0) (words : DiskWords D) (old called : Worl
   pub cut_short : IsCutShortAt called node
   cut_short =
       was_cut honest words old called node calls.of.host calls.now host_at called_is calls.hears.before calls.hears.after
-      calls.hears.runs calls.hears.live calls.hears.noted calls.hears.note_is
+      calls.hears.runs calls.hears.failed.live calls.hears.noted calls.hears.note_is
 
   module _ (down : World D) (crashes : CrashesAt honest words called down node (FromClient number)) where
     pub same : calls.hears.after ≡ crashes.before
@@ -59,6 +60,7 @@ module _ {D : Type 0} (honest : Type 0) (words : DiskWords D) (old called : Worl
     crash_heard = record {
       of = record calls.of { before = calls.hears.before; up = calls.hears.runs.up };
       stopped = crashes.before.records;
+      failed = subst (λ (n : NodeState D). IsStopped words calls.hears.before.records n.records) same calls.hears.failed;
       cuts = λ changes said keeps says. subst
           (λ (n : NodeState D). CutsTalk honest words calls.hears.before.config changes calls.of.end.peer old.clock said
           (waiting_up count calls.of.link) calls.hears.before.records n.records)

@@ -97,6 +97,7 @@ module _ {D : Type 0} (old : World D) (number : ℕ) (link : Link) (link_is : li
     };
     after = loses.after;
     records = loses.records;
+    gone = loses.gone;
     others = loses.others;
     config = loses.runs.config;
     attempts = loses.attempts;

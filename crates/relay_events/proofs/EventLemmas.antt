@@ -102,6 +102,7 @@ module _ {D : Type 0} (honest : Type 0) (words : DiskWords D) (old new : World D
     of = record of { before = loses.before; up = loses.runs.up };
     after = loses.after;
     records = loses.records;
+    gone = loses.gone;
     others = loses.others;
     config = loses.runs.config;
     attempts = loses.attempts;

@@ -20,6 +20,7 @@ use Rattle.relay_book.specs.Record.{IsOutcome}
 use Rattle.relay_records.specs.declared.noted.Noted.{Noted}
 use Rattle.relay_records.specs.Note.{IsNoted}
 use Rattle.relay_node.specs.Node.{NodeState}
+use Rattle.relay_records.specs.Records.{IsStopped}
 use Rattle.relay_world.specs.declared.line.Line.{Line}
 use Rattle.relay_world.specs.Crashes.{CrashesGivingUp, GoesDown}
 use Rattle.relay_world.specs.CrashRuns.{RestingCrashHappens}
@@ -173,7 +174,7 @@ module _ {D : Type 0} (honest : Type 0) (words : DiskWords D) (old called : Worl
     pub halted_short : IsCutShortAt called node
     halted_short =
         cut_short honest words old called node calls.was calls.now calls.was_at calls.new_is calls.gives.before calls.gives.after
-        calls.gives.runs calls.gives.live calls.gives.noted calls.gives.note_is
+        calls.gives.runs calls.gives.failed.live calls.gives.noted calls.gives.note_is
 
     module _ (down : World D) (crashes : CrashesAt honest words called down node (FromNoHop message)) where
       after_same : calls.gives.after ≡ crashes.before
@@ -194,6 +195,8 @@ module _ {D : Type 0} (honest : Type 0) (words : DiskWords D) (old called : Worl
         before = calls.gives.before;
         up = calls.gives.runs.up;
         stopped = crashes.before.records;
+        failed = subst (λ (n : NodeState D). IsStopped words calls.gives.before.records n.records) after_same
+            calls.gives.failed;
         cuts = λ changes keeps. subst
             (λ (n : NodeState D). CutsUnroutable honest words calls.gives.before.config.host calls.gives.before.config.routes
             message old.clock changes calls.gives.before.records n.records) after_same (calls.gives.cuts changes keeps);

@@ -6,7 +6,7 @@ use Rattle.relay_disk.specs.Device.{DiskWords}
 use Rattle.relay_book.specs.declared.change.Change.{Change}
 use Rattle.relay_book.specs.declared.fate.PlaceStep.{PlaceStep}
 use Rattle.relay_records.specs.declared.noted.Noted.{Noted}
-use Rattle.relay_records.specs.Records.{Keeps}
+use Rattle.relay_records.specs.Records.{IsStopped, Keeps}
 use Rattle.relay_attempts.specs.Reply.{CutsLoss}
 use Rattle.relay_course.specs.VerdictTable.{all_later}
 use Rattle.relay_node.specs.Attempts.{Tells}
@@ -109,7 +109,7 @@ module _ {D : Type 0} (honest : Type 0) (words : DiskWords D) (old called : Worl
     pub cut_short : IsCutShortAt called end.node
     cut_short =
         was_cut honest words old called end.node calls.was calls.now calls.was_at calls.new_is calls.tells.before calls.tells.after
-        calls.tells.runs calls.tells.live calls.tells.noted calls.tells.note_is
+        calls.tells.runs calls.tells.failed.live calls.tells.noted calls.tells.note_is
 
     module _ (down : World D) (crashes : CrashesAt honest words called down end.node (FromLoss number end.place end.message)) where
       after_same : calls.tells.after ≡ crashes.before
@@ -123,6 +123,8 @@ module _ {D : Type 0} (honest : Type 0) (words : DiskWords D) (old called : Worl
           of = attempt_of honest words old number end.place end.slot it runs.on calls.was calls.now host_is calls.tells.before
               calls.tells.runs.up;
           stopped = crashes.before.records;
+          failed = subst (λ (n : NodeState D). IsStopped words calls.tells.before.records n.records) after_same
+              calls.tells.failed;
           cuts = λ changes told keeps tells. subst
               (λ (n : NodeState D). CutsLoss honest words calls.tells.before.config.host old.clock changes end.slot told n.records)
               after_same (calls.tells.cuts changes told keeps tells);

@@ -195,18 +195,19 @@ module _ {D : Type 0} (honest : Type 0) (words : DiskWords D) (old : World D) (n
     ledger = ledger;
   }
 
-  ended_put : (ended : Attempt) (fate : Fate) → ended ≡ record attempt { fate = fate }
+  pub ended_put : (ended : Attempt) (fate : Fate) → ended ≡ record attempt { fate = fate }
       → IsPut old.attempts (slice_set old.attempts place ended) place (record attempt { fate = fate })
   ended_put ended fate is =
       subst (λ a. IsPut old.attempts (slice_set old.attempts place ended) place a) is
       (value_put old.attempts place attempt ended on.attempt_at)
 
-  pub has_dropped : (ended : Attempt) → ended ≡ record attempt { fate = Dropped } → LosesAttempt was now slot
+  abbrev pub has_dropped : (ended : Attempt) → ended ≡ record attempt { fate = Dropped } → LosesAttempt was now slot
       → DropsAttempt old (over_world ended old.ledger) number
   has_dropped ended is loses = record {
     of = attempt_of loses.before loses.runs.up;
     after = loses.after;
     records = loses.records;
+    gone = loses.gone;
     others = loses.others;
     config = loses.runs.config;
     seats = loses.seats;

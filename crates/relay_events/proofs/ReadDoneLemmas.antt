@@ -7,7 +7,7 @@ use Rattle.relay_disk.specs.Device.{DiskWords}
 use Rattle.relay_book.specs.declared.change.Change.{Change}
 use Rattle.relay_book.specs.declared.fate.PlaceStep.{PlaceStep}
 use Rattle.relay_records.specs.declared.noted.Noted.{Noted}
-use Rattle.relay_records.specs.Records.{Keeps}
+use Rattle.relay_records.specs.Records.{IsStopped, Keeps}
 use Rattle.relay_attempts.specs.declared.reply.Replied.{Replied}
 use Rattle.relay_attempts.specs.Reply.{CutsReply}
 use Rattle.relay_node.specs.Attempts.{Tells}
@@ -182,7 +182,7 @@ module _ {D : Type 0} (honest : Type 0) (words : DiskWords D) (old called : Worl
     pub cut_short : IsCutShortAt called end.node
     cut_short =
         was_cut honest words old called end.node calls.was calls.now calls.was_at calls.new_is stops.before stops.after stops.runs
-        stops.live stops.noted stops.note_is
+        stops.failed.live stops.noted stops.note_is
 
     module _ (down : World D)
         (crashes : CrashesAt honest words called down end.node (FromReplies number end.place end.message)) where
@@ -196,6 +196,7 @@ module _ {D : Type 0} (honest : Type 0) (words : DiskWords D) (old called : Worl
         of = attempt_of honest words old number end.place end.slot halted runs.on calls.was calls.now was_same stops.before
             stops.runs.up;
         stopped = crashes.before.records;
+        failed = subst (λ (n : NodeState D). IsStopped words stops.before.records n.records) after_same stops.failed;
         cuts = λ changes told keeps tells. subst
             (λ (n : NodeState D). CutsReply honest words stops.before.config.host old.clock changes end.slot told
             (waiting_down count runs.on.link) n.records) after_same (stops.cuts changes told keeps tells);

@@ -7,23 +7,27 @@ use Rattle.std.proofs.lemmas.List.{length-set}
 use Rattle.std.proofs.lemmas.Option.{none-some, same_Some}
 use Rattle.relay_disk.specs.Device.{DiskWords}
 use Rattle.relay_disk.specs.declared.disks.Disks.{Disks}
+use Rattle.relay_disk.specs.Disks.{seen_of}
 use Rattle.relay_book.specs.declared.change.Change.{Change}
 use Rattle.relay_records.specs.declared.noted.Noted.{Noted}
 use Rattle.relay_routes.specs.declared.config.Config.{Config}
-use Rattle.relay_records.specs.Open.{Opens}
+use Rattle.relay_records.specs.declared.fault.Cause.{Cause}
+use Rattle.relay_records.specs.ListLaws.{IsNoFaultOfImage}
+use Rattle.relay_records.specs.Open.{Opens, RefusesImage}
 use Rattle.relay_node.specs.Node.{IsIdle, NodeState}
 use Rattle.relay_world.specs.declared.line.Line.{Line}
 use Rattle.relay_world.specs.Bound.{IsBound, MayHaveCome}
 use Rattle.relay_world.specs.Ledger.{lines_by}
 use Rattle.relay_world.specs.Steps.{IsPut}
-use Rattle.relay_world.specs.Stops.{Decides, Finds, HasNotFound}
-use Rattle.relay_world.specs.World.{Down, Host, Up, World}
+use Rattle.relay_world.specs.Stops.{Decides, DownIsNotRefused, Finds, HasNotFound}
+use Rattle.relay_world.specs.World.{Down, Host, Undecided as WorldUndecided, Up, World}
 use Rattle.relay_hosts.specs.declared.host.Origin.{Origin}
 use Rattle.relay_hosts.specs.declared.host.Origin.TheVariants.{FromClient, FromReplies, FromLoss, FromNoHop}
 use Rattle.relay_hosts.specs.declared.host.Undecided.{Undecided}
 use Rattle.relay_hosts.specs.Crash.{Decided, OpensOrNot, without_octets}
 use Rattle.relay_hosts.specs.Links.{is_running}
 use Rattle.relay_hosts.specs.Host.{host_of, origin_in, undecided_in}
+use Rattle.relay_events.specs.Relays.{AreBound}
 use Rattle.relay_events.specs.Restart.{FindsChange, MayBeFound, OpensAt}
 use Rattle.relay_hosts.specs.Room.{HasRoom, lines_held, lines_left, lines_to_come}
 use Rattle.relay_events.specs.Told.{IsOpened, ends_of, running_of}
@@ -83,8 +87,10 @@ module _ {D : Type 0} (honest : Type 0) (words : DiskWords D) (old : World D) (n
   decides_without after None config is = not_found after config is
   decides_without after (Some undecided) config is = inl (is.0, not_found after config is.1)
 
-  opened_without : OpensOrNot honest words was now None → IsOpened honest words old with_now node
-  opened_without (inl comes) = inl (record {
+  opened_without : (honest → (cause : Cause) (disk : Disks D) (undecided : Option WorldUndecided) → was.state ≡ Down disk undecided
+      → RefusesImage honest (seen_of words disk) cause → IsNoFaultOfImage cause)
+      → OpensOrNot honest words was now None → IsOpened honest words old with_now node
+  opened_without never (inl comes) = inl (record {
     host = was;
     host_at = was_at;
     disk = comes.disk;
@@ -96,17 +102,25 @@ module _ {D : Type 0} (honest : Type 0) (words : DiskWords D) (old : World D) (n
     decides = decides_without comes.after comes.undecided comes.idle.config_is comes.decides;
     rest = (refl, length-set old.hosts node now);
   })
-  opened_without (inr stays) = inr (record {
-    host = was;
-    host_at = was_at;
-    disk = stays.disk;
-    undecided = stays.undecided;
-    down = stays.down;
-    again = stays.again;
-    left = stays.left;
-    hosts = put_now (record was { state = Down stays.again stays.undecided }) stays.new_is;
-    rest = (refl, refl, refl, refl, length-set old.hosts node now);
-  })
+  opened_without never (inr refused) =
+      let stays = refused.stays in
+      inr (record {
+        stays = record {
+          host = was;
+          host_at = was_at;
+          disk = stays.disk;
+          undecided = stays.undecided;
+          down = stays.down;
+          again = stays.again;
+          left = stays.left;
+          hosts = put_now (record was { state = Down stays.again stays.undecided }) stays.new_is;
+          rest = (refl, refl, refl, refl, length-set old.hosts node now);
+        };
+        cause = refused.cause;
+        why = refused.why;
+        failures = refused.failures;
+        not_octets = λ is_honest. never is_honest refused.cause stays.disk stays.undecided stays.down refused.why;
+      })
 
   held_without_up : (after : NodeState D) (undecided : Option Undecided) → Decided after was.records undecided now None
       → lines_held node now.state ≡ 0
@@ -115,9 +129,10 @@ module _ {D : Type 0} (honest : Type 0) (words : DiskWords D) (old : World D) (n
 
   held_less : OpensOrNot honest words was now None → lines_held node now.state ≤ lines_held node was.state
   held_less (inl comes) = let none = held_without_up comes.after comes.undecided comes.decides in omega (arith, none)
-  held_less (inr stays) =
+  held_less (inr refused) =
       let same : lines_held node now.state ≡ lines_held node was.state =
-      ap (λ (h : Host D). lines_held node h.state) stays.new_is ∙ ap (λ h. lines_held node h) (sym stays.down) in
+      ap (λ (h : Host D). lines_held node h.state) refused.stays.new_is
+      ∙ ap (λ h. lines_held node h) (sym refused.stays.down) in
       omega (arith, same)
 
   pub room_without : (free : ℕ) → OpensOrNot honest words was now None → HasRoom old free → HasRoom with_now free
@@ -126,11 +141,18 @@ module _ {D : Type 0} (honest : Type 0) (words : DiskWords D) (old : World D) (n
       let less = held_less opens in
       omega (arith, put, less, room)
 
+-- a node of relays that are bound is not refused for its octets
 pub reopened_without : {D : Type 0} (honest : Type 0) (words : DiskWords D) (old new : World D) (node : ℕ)
+    → (honest → DownIsNotRefused honest words) → AreBound honest words old
     → OpensAt honest words old new node None → IsOpened honest words old new node
-reopened_without honest words old new node at =
+reopened_without honest words old new node never bound at =
+    let within = get_within old.hosts node at.was at.was_at in
+    let even = bound.bound.even in
+    let list = some_at bound.lists node (omega (arith, within, even)) in
     subst (λ w. IsOpened honest words old w node) (sym at.new_is)
-    (opened_without honest words old node at.was at.now at.was_at at.opens)
+    (opened_without honest words old node at.was at.now at.was_at
+    (λ is_honest cause disk undecided down why. never is_honest old bound.lists node at.was list.0 disk undecided cause
+    bound.bound (record { host_at = at.was_at; list_at = list.1 }) down why) at.opens)
 
 pub still_room : {D : Type 0} (honest : Type 0) (words : DiskWords D) (old new : World D) (node free : ℕ)
     → OpensAt honest words old new node None → HasRoom old free → HasRoom new free
@@ -175,7 +197,7 @@ up_with {D} honest words was now found (inl comes) = by comes.undecided comes.do
       found_is = is.1;
       now_is = is.2;
     }
-up_with honest words was now found (inr stays) = absurd (none-some found (sym stays.none))
+up_with honest words was now found (inr refused) = absurd (none-some found (sym refused.stays.none))
 
 may_found : {D : Type 0} (world : World D) (node : ℕ) (host : Host D) (changes : List Change) (change : Change) (note : Noted)
     (origin : Origin) → MayHaveCome world node host changes change note (origin_in origin)

@@ -27,10 +27,10 @@ module _ {D : Type 0} (honest : Type 0) (words : DiskWords D) where
       → HasHappened honest words old new
   both_happened old next new first more = happen_on first.0 old next new first.1 more
 
-  -- a node that is opened, or stays down, is one event
+  -- a node that is opened, or can't be opened, is one event
   pub opened_happened : (old new : World D) (node : ℕ) → IsOpened honest words old new node → HasHappened honest words old new
   opened_happened old new node (inl opens) = one_happened old new (Reopens node opens)
-  opened_happened old new node (inr stays) = one_happened old new (IsNotOpened node stays)
+  opened_happened old new node (inr refused) = one_happened old new (IsNotOpened node refused.stays)
 
   -- by events relays stay bound
   pub still_bound : honest → RunsKeepAll honest words → (old new : World D) → AreBound honest words old

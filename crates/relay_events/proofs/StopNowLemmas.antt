@@ -10,7 +10,7 @@ use Rattle.relay_world.specs.Crashes.{CrashesAtRest, let_go}
 use Rattle.relay_world.specs.CrashRuns.{RestingCrashHappens}
 use Rattle.relay_world.specs.Once.{GoesOn, IsNotOpened, RunsKeepAll}
 use Rattle.relay_world.specs.Steps.{IsPut}
-use Rattle.relay_world.specs.Stops.{HasArmed, StaysDown, StaysUp}
+use Rattle.relay_world.specs.Stops.{HasArmed, StaysUp, StopsAgain}
 use Rattle.relay_world.specs.World as world
 use Rattle.relay_world.specs.World.{Host, World}
 use Rattle.relay_events.specs.declared.event.Event.TheVariants.{Stop}
@@ -45,7 +45,7 @@ module _ {D : Type 0} (honest : Type 0) (words : DiskWords D) where
         subst (λ h. IsPut old.hosts (slice_set old.hosts node taken.now) node h) is
         (value_put old.hosts node taken.was taken.now taken.was_at)
 
-    pub taken_stops : CrashesAtRest honest words old new node ⊎ StaysDown honest words old new node
+    pub taken_stops : CrashesAtRest honest words old new node ⊎ StopsAgain honest words old new node
     taken_stops = elim taken.stops [
       | inl rest ↦ inl (record {
         host = taken.was;

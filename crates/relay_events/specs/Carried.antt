@@ -16,7 +16,7 @@ use Rattle.relay_hosts.specs.declared.recorded.Recorded.{Recorded}
 use Rattle.relay_events.specs.declared.seen.Seen.TheVariants as seen
 use Rattle.relay_events.specs.declared.tell.Loss.{Loss}
 use Rattle.relay_events.specs.declared.tell.Loss.TheVariants as loss
-use Rattle.relay_hosts.specs.Call.{IsWant}
+use Rattle.relay_hosts.specs.Call.{IsWhyUntold}
 use Rattle.relay_hosts.specs.Links.{tries_on, waits_down}
 use Rattle.relay_events.specs.Told.{CrashesTold}
 use Rattle.relay_hosts.specs.Replied.{replied_attempt, replied_lines}
@@ -46,7 +46,9 @@ pub record RunsAndWaits {D : Type 0} (world : World D) (number node : ℕ) (wait
 -- the attempt is gone without one; or this node stopped in that call.
 abbrev pub TellsLoss : {D : Type 0} → Type 0 → DiskWords D → World D → World D → ℕ → Loss → Type 0
 TellsLoss honest words old new number (loss.Ended change) = HasLost honest words old new number change
-TellsLoss honest words old new number (loss.Gone why) = DropsAttempt old new number × IsWant why
+TellsLoss honest words old new number (loss.Gone why) =
+    (drops : DropsAttempt old new number)
+    × IsWhyUntold honest words old.clock drops.of.host.state drops.of.slot why
 TellsLoss honest words old new number (loss.Stopped node) = CrashesTold honest words old new number node
 
 -- the node that stopped in it, if one did

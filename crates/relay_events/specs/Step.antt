@@ -10,9 +10,10 @@ use Rattle.relay_world.specs.declared.attempt.Attempt.{Attempt}
 use Rattle.relay_world.specs.declared.link.Link.{Link}
 use Rattle.relay_world.specs.Crashes.{CrashesAtRest, CrashesCompacting, CrashesGivingUp, CrashesHearing, CrashesReading}
 use Rattle.relay_world.specs.Crashes.{serves_for}
+use Rattle.relay_world.specs.Steps.{AttemptOf, waiting_down, waiting_up}
 use Rattle.relay_world.specs.Steps.{Breaks, DropsAttempt, EndsSession, HasGivenUp, HasHeard, HasLost, HasOpened}
 use Rattle.relay_world.specs.Steps.{HasRead, HasStarted, HasTicked, HasWritten}
-use Rattle.relay_world.specs.Stops.{HasArmed, HasCompacted, StaysDown}
+use Rattle.relay_world.specs.Stops.{HasArmed, HasCompacted, StopsAgain}
 use Rattle.relay_world.specs.World.{Host, World}
 use Rattle.relay_events.specs.declared.event.Event.{Event}
 use Rattle.relay_events.specs.declared.event.Event.TheVariants.{Connect, Send, Carry, Break, Tick, Give, Compact, Stop}
@@ -22,7 +23,7 @@ use Rattle.relay_events.specs.declared.seen.Seen.{Seen}
 use Rattle.relay_events.specs.declared.seen.Seen.TheVariants as seen
 use Rattle.relay_records.specs.declared.fault.NodeFault.{NodeFault}
 use Rattle.relay_records.specs.declared.fault.NodeFault.TheVariants as node_fault
-use Rattle.relay_hosts.specs.Call.{IsWant}
+use Rattle.relay_hosts.specs.Call.{IsWhyUnheard, IsWhyUnread, IsWhyUntold}
 use Rattle.relay_hosts.specs.Compact.{IsWhyNotCompacted}
 use Rattle.relay_events.specs.FirstFault.{first_fault}
 use Rattle.relay_hosts.specs.Links.{waits_down, waits_up}
@@ -73,10 +74,10 @@ pub record IsCarriedTo (link : Link) (attempt : Attempt) (node : ℕ) (waits : B
   pub waiting : waits_down link ≡ waits
 
 module _ {D : Type 0} (honest : Type 0) (words : DiskWords D) where
-  -- A node stops between two calls, or one that is down stops again; then it is opened, or stays down.
+  -- A node stops between two calls, or one that is down stops again; then it is opened, or can't be opened.
   pub record StopsNow (old new : World D) (node : ℕ) : Type 0 where
     pub down : World D
-    pub stops : CrashesAtRest honest words old down node ⊎ StaysDown honest words old down node
+    pub stops : CrashesAtRest honest words old down node ⊎ StopsAgain honest words old down node
     pub opened : IsOpened honest words down new node
 
   -- A stop is set for a node that is up: of its disks so many calls pass, and the next fails.
@@ -84,9 +85,16 @@ module _ {D : Type 0} (honest : Type 0) (words : DiskWords D) where
     pub armed : HasArmed honest words old new node
     pub calls_left : calls_left_of words armed.stays.after.records.spool.disk ≡ Some calls
 
+  -- why an attempt is dropped to which octets are carried, or, where none wait, the end of the other side
+  abbrev pub IsWhyDropped : (old : World D) (number count : ℕ) → AttemptOf old number → Bool → NodeFault → Type 0
+  IsWhyDropped old number count of true why =
+      IsWhyUnread honest words old.clock of.host.state of.slot (waiting_down count of.link) why
+  IsWhyDropped old number count of false why = IsWhyUntold honest words old.clock of.host.state of.slot why
+
   -- what waits for a node on a link is carried to it: octets are heard or read, or, where none wait, the end of the
   -- other side; or octets are heard or read, and there is no memory for what the node answers, so that the link breaks;
-  -- or the node has no memory or room for what it hears or reads, and the link breaks; or the node stops in that call
+  -- or the node has no memory for what it hears or reads, or no number or room for the change that it leads to, and the
+  -- link breaks; or the node stops in that call
   pub data Carries (old : World D) (number node count : ℕ) (new : World D) : Did → Type 0 where
     Hears : (heard : HasHeard honest words old new number count) → heard.of.end.node ≡ node
         → waits_up heard.of.link ≡ true
@@ -109,11 +117,12 @@ module _ {D : Type 0} (honest : Type 0) (words : DiskWords D) where
         → IsCarriedTo lost.of.link lost.of.attempt node false
         → Carries old number node count new (Shows (seen.Carried 0 0 (Some change) true))
     RefusesToHear : (ended : World D) → (gone : EndsSession old ended number) → gone.of.end.node ≡ node
-        → waits_up gone.of.link ≡ true → Breaks ended new number → (why : NodeFault) → IsWant why
+        → waits_up gone.of.link ≡ true → Breaks ended new number → (why : NodeFault)
+        → IsWhyUnheard gone.of.host.state gone.of.session (waiting_up count gone.of.link) why
         → Carries old number node count new (Refuses (fault_of why))
     RefusesToRead : (dropped : World D) → (gone : DropsAttempt old dropped number) → (waits : Bool)
         → IsCarriedTo gone.of.link gone.of.attempt node waits
-        → Breaks dropped new number → (why : NodeFault) → IsWant why
+        → Breaks dropped new number → (why : NodeFault) → IsWhyDropped old number count gone.of waits why
         → Carries old number node count new (Refuses (fault_of why))
     CrashesInHearing : (down : World D) → (crash : CrashesHearing honest words old down number count)
         → crash.of.end.node ≡ node → waits_up crash.of.link ≡ true → IsOpened honest words down new node
@@ -196,10 +205,23 @@ module _ {D : Type 0} (honest : Type 0) (words : DiskWords D) where
   LooksForWork (Compact node) = ⊥
   LooksForWork (Stop node calls pick) = ⊥
 
+  -- what takes memory before a node is called, as all events do but two: the clock is always set, and so is a stop that
+  -- waits for a later call
+  abbrev pub TakesMemory : Event → Type 0
+  TakesMemory (Connect node) = Unit {0}
+  TakesMemory (Send number octets) = Unit {0}
+  TakesMemory (Carry number node count) = Unit {0}
+  TakesMemory (Break number) = Unit {0}
+  TakesMemory (Tick now) = ⊥
+  TakesMemory (Give node) = Unit {0}
+  TakesMemory (Compact node) = Unit {0}
+  TakesMemory (Stop node zero pick) = Unit {0}
+  TakesMemory (Stop node (suc calls) pick) = ⊥
+
   -- Where memory runs out before a node is called, nothing changes.
   abbrev pub RefusesLate : World D → Event → World D → PairFault → Type 0
   RefusesLate old event new why =
-      ((first_fault old event ≡ None) ⊎ LooksForWork event) × (why ≡ fault.NoMemory) × (new ≡ old)
+      TakesMemory event × ((first_fault old event ≡ None) ⊎ LooksForWork event) × (why ≡ fault.NoMemory) × (new ≡ old)
 
   -- An event that no fault stands against happens, and nodes are told of links that it broke; this is the answer.
   abbrev pub Does : World D → Event → World D → Result Seen PairFault → Type 0

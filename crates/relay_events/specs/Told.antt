@@ -5,8 +5,10 @@ use Rattle.relay_world.specs.declared.attempt.Attempt.{Attempt}
 use Rattle.relay_world.specs.declared.link.Link.{Link}
 use Rattle.relay_world.specs.Crashes.{CrashesLosing}
 use Rattle.relay_world.specs.Steps.{DropsAttempt, EndsSession, HasLost}
-use Rattle.relay_world.specs.Stops.{HasReopened, StaysDown}
+use Rattle.relay_world.specs.Stops.{HasReopened, IsRefused}
 use Rattle.relay_world.specs.World.{World, link_at}
+use Rattle.relay_records.specs.declared.fault.NodeFault.{NodeFault}
+use Rattle.relay_hosts.specs.Call.{IsWhyUntold}
 use Rattle.relay_hosts.specs.Links.{hears_on, is_running, is_untold, tries_on}
 
 -- a session goes on at the server end of the link of this number
@@ -35,9 +37,9 @@ pub record IsFirstUntold {D : Type 0} (world : World D) (number : ℕ) : Type 0 
       → is_untold world.attempts other ≡ false
 
 module _ {D : Type 0} (honest : Type 0) (words : DiskWords D) where
-  -- a node that went down has been opened again, or stays down
+  -- a node that went down has been opened again, or couldn't be opened
   abbrev pub IsOpened : World D → World D → ℕ → Type 0
-  IsOpened old new node = HasReopened honest words old new node ⊎ StaysDown honest words old new node
+  IsOpened old new node = HasReopened honest words old new node ⊎ IsRefused honest words old new node
 
   -- the node was told of the loss of its attempt's link, and stopped in that call
   pub record CrashesTold (old new : World D) (number node : ℕ) : Type 0 where
@@ -46,12 +48,13 @@ module _ {D : Type 0} (honest : Type 0) (words : DiskWords D) where
     pub its_node : crash.of.attempt.node ≡ node
     pub opened : IsOpened down new node
 
-  -- One end of a broken link was told: the session has ended; or the attempt has its outcome, or is gone without one;
-  -- or the node stopped in it.
+  -- One end of a broken link was told: the session has ended; or the attempt has its outcome, or is gone without one,
+  -- for want of memory or of room for it; or the node stopped in it.
   pub data TellsOne (old new : World D) (number : ℕ) : List ℕ → Type 0 where
     Ends : EndsSession old new number → TellsOne old new number []
     Loses : (change : ℕ) → HasLost honest words old new number change → TellsOne old new number []
-    Drops : DropsAttempt old new number → TellsOne old new number []
+    Drops : (why : NodeFault) → (drops : DropsAttempt old new number)
+        → IsWhyUntold honest words old.clock drops.of.host.state drops.of.slot why → TellsOne old new number []
     Crashes : (node : ℕ) → CrashesTold old new number node → TellsOne old new number (node ∷ [])
 
   -- and whichever stopped in it was added to these that had

@@ -17,6 +17,7 @@ use relay_hosts::ledger::{push_left, report_told};
 use relay_hosts::links::{read_down, read_up};
 use relay_hosts::{Origin, Undecided};
 use relay_node::Noted;
+use relay_world::laws::down_is_not_refused;
 use relay_world::{Fate, Line};
 
 impl<D: Reboot + Drop> Relays<D> {
@@ -44,8 +45,8 @@ impl<D: Reboot + Drop> Relays<D> {
         self.let_go(node);
     }
 
-    /// A node that is down is opened, or stays down. Where it has the change that was undecided, what that came from is
-    /// done.
+    /// A node that is down is opened, or stays down where its disks are refused. Where it has the change that was
+    /// undecided, what that came from is done.
     pub(crate) fn reopen(&mut self, node: usize)
         requires bound { AreBound D.Disk.honest D.Disk.words (world_of self.old) }
         requires room { HasRoom (world_of self.old) (free_lines self.old) }
@@ -55,6 +56,7 @@ impl<D: Reboot + Drop> Relays<D> {
         ensures fewer { ends_of (world_of self.new) ≤ ends_of (world_of self.old) }
         ensures running { running_of self.new.attempts.items ≤ running_of self.old.attempts.items }
     {
+        down_is_not_refused::<D>();
         let Some(found) = self.open_host(node) else {
             return;
         };

@@ -1,5 +1,6 @@
 -- A host behind a call of its node.
 use Rattle.std.proofs.Common.{inl, inr, ◌≡◌, ◌≢◌, ◌≤◌, ◌+◌, ℕ, true, false, cond, List, Option, None, Some, ◌-◌, refl, sym, subst, ap, ◌∙◌, arith}
+use Rattle.std.specs.Prelude.{◌⊎◌}
 use Rattle.std.specs.Option.{is_some}
 use Rattle.std.proofs.lemmas.Bool.{false≢true, true≢false}
 use Rattle.std.proofs.lemmas.Option.{none-some}
@@ -7,21 +8,23 @@ use Rattle.relay_disk.specs.Device.{DiskWords}
 use Rattle.relay_slots.specs.Slots.{OthersStay, slot_at}
 use Rattle.relay_routes.specs.declared.config.Config.{Config}
 use Rattle.relay_server.specs.Dialogue.{Offered, Said}
+use Rattle.relay_server.specs.Setup.{setup_of_config}
 use Rattle.relay_book.specs.declared.change.Change.{Change}
 use Rattle.relay_records.specs.declared.fault.NodeFault.{NodeFault}
 use Rattle.relay_records.specs.declared.fault.NodeFault.TheVariants.{NoMemory, Stopped, Unknown, TooMany, NotDue, Busy, Open, Full, NoSecond}
 use Rattle.relay_records.specs.declared.noted.Noted.{Noted}
 use Rattle.relay_records.specs.Note.{IsNoted}
-use Rattle.relay_records.specs.Records.{Keeps, Kept}
+use Rattle.relay_records.specs.Records.{IsStopped, Keeps, Kept}
 use Rattle.relay_attempts.specs.declared.reply.Replied.{Replied}
 use Rattle.relay_attempts.specs.Reply.{CutsLoss, CutsReply, AttemptHasEnded, Told}
 use Rattle.relay_node.specs.Attempts.{RefusesToReply, Replies, RepliesBy, Tells}
 use Rattle.relay_node.specs.declared.receive.Received.{Received}
 use Rattle.relay_node.specs.Node.{CutsTalk, Makes, Receives, RefusesToReceive, SeatHasSaid, NodeState}
+use Rattle.relay_node.specs.Room.{ComesToOffer}
 use Rattle.relay_world.specs.Steps.{without_note}
 use Rattle.relay_world.specs.World.{Up}
 use Rattle.relay_hosts.specs.declared.recorded.Recorded.{Recorded}
-use Rattle.relay_hosts.specs.Call.{IsWant, KnowsAttempt, KnowsSession, LosesAttempt, LosesSession, NotesChange, NotesOne, Runs, StopsHearing, StopsLosing, StopsReading, TakesNote, is_stop}
+use Rattle.relay_hosts.specs.Call.{IsWhyUnheard, KnowsAttempt, KnowsSession, LosesAttempt, LosesSession, NotesChange, NotesOne, Runs, StopsHearing, StopsLosing, StopsReading, TakesNote, is_stop}
 use Rattle.relay_hosts.specs.Host.{OwesWithin, count_some, host_of, notes_of}
 use Rattle.relay_hosts.proofs.SlotLemmas.{count_drop, count_no_more, count_one}
 
@@ -69,18 +72,57 @@ module _ {D : Type 0} (before after : NodeState D) (records : List (List ℕ)) (
     session_records session Full ok refuses = refuses.0.records
     session_records session NoSecond ok refuses = absurd refuses
 
-    -- and there was no memory or room for what was heard, where the session was known
-    pub session_want : (session : ℕ) (fault : NodeFault) → is_stop fault ≡ false → fault ≢ Unknown
-        → RefusesToReceive words session before after fault → IsWant fault
-    session_want session NoMemory ok known refuses = inl refl
-    session_want session Stopped ok known refuses = absurd (true≢false ok)
-    session_want session Unknown ok known refuses = absurd (known refl)
-    session_want session TooMany ok known refuses = absurd refuses
-    session_want session NotDue ok known refuses = absurd refuses
-    session_want session Busy ok known refuses = absurd refuses
-    session_want session (Open cause) ok known refuses = absurd refuses
-    session_want session Full ok known refuses = inr refl
-    session_want session NoSecond ok known refuses = absurd refuses
+    -- a call that stopped the node is one in which its device failed
+    pub session_stopped : (session : ℕ) (fault : NodeFault) → is_stop fault ≡ true
+        → RefusesToReceive words session before after fault → IsStopped words before.records after.records
+    session_stopped session fault stop refuses =
+        subst (λ f. RefusesToReceive words session before after f) (stop_is fault stop) refuses
+
+    pub attempt_stopped : (slot : ℕ) (fault : NodeFault) → is_stop fault ≡ true
+        → RefusesToReply words slot before after fault → IsStopped words before.records after.records
+    attempt_stopped slot fault stop refuses =
+        subst (λ f. RefusesToReply words slot before after f) (stop_is fault stop) refuses
+
+    -- a session that was known is gone where a call on it is refused
+    pub session_gone : (session : ℕ) (fault : NodeFault) → is_stop fault ≡ false → fault ≢ Unknown
+        → RefusesToReceive words session before after fault → slot_at after.seats session ≡ None
+    session_gone session NoMemory ok known refuses = refuses.session
+    session_gone session Stopped ok known refuses = absurd (true≢false ok)
+    session_gone session Unknown ok known refuses = absurd (known refl)
+    session_gone session TooMany ok known refuses = absurd refuses
+    session_gone session NotDue ok known refuses = absurd refuses
+    session_gone session Busy ok known refuses = absurd refuses
+    session_gone session (Open cause) ok known refuses = absurd refuses
+    session_gone session Full ok known refuses = refuses.0.session
+    session_gone session NoSecond ok known refuses = absurd refuses
+
+    -- and so is an attempt
+    pub attempt_gone : (slot : ℕ) (fault : NodeFault) → is_stop fault ≡ false → fault ≢ Unknown
+        → RefusesToReply words slot before after fault → slot_at after.attempts slot ≡ None
+    attempt_gone slot NoMemory ok known refuses = refuses.attempt
+    attempt_gone slot Stopped ok known refuses = absurd (true≢false ok)
+    attempt_gone slot Unknown ok known refuses = absurd (known refl)
+    attempt_gone slot TooMany ok known refuses = absurd refuses
+    attempt_gone slot NotDue ok known refuses = absurd refuses
+    attempt_gone slot Busy ok known refuses = absurd refuses
+    attempt_gone slot (Open cause) ok known refuses = absurd refuses
+    attempt_gone slot Full ok known refuses = refuses.attempt
+    attempt_gone slot NoSecond ok known refuses = absurd refuses
+
+    -- and there was no memory for what was heard, or no number for a message
+    pub session_why : (session : ℕ) (piece : List ℕ) (fault : NodeFault) → is_stop fault ≡ false → fault ≢ Unknown
+        → (fault ≡ Full → (peer : List ℕ) (said : Said) → SeatHasSaid before.config before.seats session peer said
+        → ComesToOffer (setup_of_config before.config) said piece)
+        → RefusesToReceive words session before after fault → IsWhyUnheard (Up before) session piece fault
+    session_why session piece NoMemory ok known comes refuses = inl refl
+    session_why session piece Stopped ok known comes refuses = absurd (true≢false ok)
+    session_why session piece Unknown ok known comes refuses = absurd (known refl)
+    session_why session piece TooMany ok known comes refuses = absurd refuses
+    session_why session piece NotDue ok known comes refuses = absurd refuses
+    session_why session piece Busy ok known comes refuses = absurd refuses
+    session_why session piece (Open cause) ok known comes refuses = absurd refuses
+    session_why session piece Full ok known comes refuses = inr (refl, record { none_left = refuses.1; comes = comes refl })
+    session_why session piece NoSecond ok known comes refuses = absurd refuses
 
     pub attempt_records : (slot : ℕ) (fault : NodeFault) → is_stop fault ≡ false
         → RefusesToReply words slot before after fault → after.records ≡ before.records
@@ -94,37 +136,40 @@ module _ {D : Type 0} (before after : NodeState D) (records : List (List ℕ)) (
     attempt_records slot Full ok refuses = refuses.records
     attempt_records slot NoSecond ok refuses = absurd refuses
 
-    -- an attempt that is known is gone for want of memory or room alone
-    pub attempt_want : (slot : ℕ) (fault : NodeFault) → is_stop fault ≡ false → fault ≢ Unknown
-        → RefusesToReply words slot before after fault → IsWant fault
-    attempt_want slot NoMemory ok known refuses = inl refl
-    attempt_want slot Stopped ok known refuses = absurd (true≢false ok)
-    attempt_want slot Unknown ok known refuses = absurd (known refl)
-    attempt_want slot TooMany ok known refuses = absurd refuses
-    attempt_want slot NotDue ok known refuses = absurd refuses
-    attempt_want slot Busy ok known refuses = absurd refuses
-    attempt_want slot (Open cause) ok known refuses = absurd refuses
-    attempt_want slot Full ok known refuses = inr refl
-    attempt_want slot NoSecond ok known refuses = absurd refuses
+    -- an attempt that is known is gone for want of memory alone, or of room
+    pub attempt_why : {NoRoom : Type 0} (slot : ℕ) (fault : NodeFault) → is_stop fault ≡ false → fault ≢ Unknown
+        → (fault ≡ Full → NoRoom) → RefusesToReply words slot before after fault
+        → (fault ≡ NoMemory) ⊎ ((fault ≡ Full) × NoRoom)
+    attempt_why slot NoMemory ok known room refuses = inl refl
+    attempt_why slot Stopped ok known room refuses = absurd (true≢false ok)
+    attempt_why slot Unknown ok known room refuses = absurd (known refl)
+    attempt_why slot TooMany ok known room refuses = absurd refuses
+    attempt_why slot NotDue ok known room refuses = absurd refuses
+    attempt_why slot Busy ok known room refuses = absurd refuses
+    attempt_why slot (Open cause) ok known room refuses = absurd refuses
+    attempt_why slot Full ok known room refuses = inr (refl, room refl)
+    attempt_why slot NoSecond ok known room refuses = absurd refuses
 
-  pub session_lost : (session : ℕ) → after.records ≡ before.records → OthersStay before.seats after.seats session
-      → after.attempts ≡ before.attempts → LosesSession (host_of before records) (host_of after records) session
-  session_lost session same others attempts = record {
+  pub session_lost : (session : ℕ) → after.records ≡ before.records → slot_at after.seats session ≡ None
+      → OthersStay before.seats after.seats session → after.attempts ≡ before.attempts → LosesSession (host_of before records) (host_of after records) session
+  session_lost session same gone others attempts = record {
     before = before;
     after = after;
     runs = runs_on;
     records = same;
+    gone = gone;
     others = others;
     attempts = attempts;
   }
 
-  pub attempt_lost : (slot : ℕ) → after.records ≡ before.records → OthersStay before.attempts after.attempts slot
-      → after.seats ≡ before.seats → LosesAttempt (host_of before records) (host_of after records) slot
-  attempt_lost slot same others seats = record {
+  pub attempt_lost : (slot : ℕ) → after.records ≡ before.records → slot_at after.attempts slot ≡ None
+      → OthersStay before.attempts after.attempts slot → after.seats ≡ before.seats → LosesAttempt (host_of before records) (host_of after records) slot
+  attempt_lost slot same gone others seats = record {
     before = before;
     after = after;
     runs = runs_on;
     records = same;
+    gone = gone;
     others = others;
     seats = seats;
   }
@@ -196,7 +241,8 @@ module _ {D : Type 0} (honest : Type 0) (words : DiskWords D) (before after : No
 
 -- a call for an attempt that stopped its node
 module _ {D : Type 0} (honest : Type 0) (words : DiskWords D) (before after : NodeState D) (records : List (List ℕ)) (slot now : ℕ)
-    (knows : KnowsAttempt honest words before slot) (config : after.config ≡ before.config) where
+    (knows : KnowsAttempt honest words before slot) (config : after.config ≡ before.config)
+    (failed : IsStopped words before.records after.records) where
   pub stops_losing : ((changes : List Change) (told : Told) → Keeps honest words before.records changes
       → Tells before.config.host changes before.attempts slot told
       → CutsLoss honest words before.config.host now changes slot told after.records)
@@ -208,7 +254,7 @@ module _ {D : Type 0} (honest : Type 0) (words : DiskWords D) (before after : No
         after = after;
         runs = runs_on before after records config;
         cuts = cuts;
-        live = cut.cuts.cuts.halted.stopped;
+        failed = failed;
         noted = cut.cuts.cuts.noted.note;
         note_is = cut.cuts.cuts.noted.is;
       }
@@ -224,7 +270,7 @@ module _ {D : Type 0} (honest : Type 0) (words : DiskWords D) (before after : No
         after = after;
         runs = runs_on before after records config;
         cuts = cuts;
-        live = cut.cuts.cuts.halted.stopped;
+        failed = failed;
         noted = cut.cuts.cuts.noted.note;
         note_is = cut.cuts.cuts.noted.is;
       }
@@ -261,18 +307,18 @@ module _ {D : Type 0} (honest : Type 0) (words : DiskWords D) (before after : No
 -- a call on a session that stopped its node
 pub stops_hearing : {D : Type 0} (honest : Type 0) (words : DiskWords D) (before after : NodeState D) (old new : List (List ℕ))
     (session now : ℕ) (piece : List ℕ) → KnowsSession honest words before session → new ≡ old → after.config ≡ before.config
-    → ((changes : List Change) (peer : List ℕ) (said : Said) → Keeps honest words before.records changes
+    → IsStopped words before.records after.records → ((changes : List Change) (peer : List ℕ) (said : Said) → Keeps honest words before.records changes
     → SeatHasSaid before.config before.seats session peer said
     → CutsTalk honest words before.config changes peer now said piece before.records after.records)
     → StopsHearing honest words now (host_of before old) (host_of after new) session piece
-stops_hearing honest words before after old new session now piece knows same config cuts =
+stops_hearing honest words before after old new session now piece knows same config failed cuts =
     let cut = cuts knows.changes knows.peer knows.said knows.keeps knows.says in
     subst (λ l. StopsHearing honest words now (host_of before old) (host_of after l) session piece) (sym same) (record {
       before = before;
       after = after;
       runs = runs_on before after old config;
       cuts = cuts;
-      live = cut.cuts.halted.stopped;
+      failed = failed;
       noted = cut.cuts.noted.note;
       note_is = cut.cuts.noted.is;
     })

@@ -3,8 +3,9 @@ use Rattle.std.proofs.Common.{inl, inr, ◌≡◌, ℕ, List, Option, None, Some
 use Rattle.std.specs.Option.{option_map}
 use Rattle.relay_disk.specs.Device.{DiskWords}
 use Rattle.relay_disk.specs.declared.disks.Disks.{Disks}
-use Rattle.relay_disk.specs.Disks.{ImagesWithin}
-use Rattle.relay_records.specs.Open.{Opens}
+use Rattle.relay_disk.specs.Disks.{ImagesWithin, seen_of}
+use Rattle.relay_records.specs.declared.fault.Cause.{Cause}
+use Rattle.relay_records.specs.Open.{FailsFor, Opens, RefusesImage}
 use Rattle.relay_node.specs.Node.{IsIdle, NodeState}
 use Rattle.relay_routes.specs.declared.config.Config.{Config}
 use Rattle.relay_world.specs.World as world
@@ -89,19 +90,26 @@ module _ {D : Type 0} (honest : Type 0) (words : DiskWords D) (down : DownNode D
     decides = decides;
   })
 
-  pub stays_down : (config : Config) (again : Disks D) → config ≡ down.config → (honest → ImagesWithin words down.disk again)
+  pub stays_down : (config : Config) (again : Disks D) (cause : Cause) → config ≡ down.config
+      → (honest → ImagesWithin words down.disk again) → RefusesImage honest (seen_of words down.disk) cause
+      → FailsFor words down.disk again cause
       → OpensOrNot honest words (host_in (Down down) records)
       (host_in (Down (record { config = config; disk = again; undecided = down.undecided })) records) None
-  stays_down config again same left = inr (record {
-    disk = down.disk;
-    undecided = option_map undecided_in down.undecided;
-    down = refl;
-    again = again;
-    left = left;
-    new_is = ap (λ (c : Config). record {
-      config = c;
-      state = world.Down again (option_map undecided_in down.undecided);
-      records = records;
-    }) same;
-    none = refl;
+  stays_down config again cause same left why failures = inr (record {
+    stays = record {
+      disk = down.disk;
+      undecided = option_map undecided_in down.undecided;
+      down = refl;
+      again = again;
+      left = left;
+      new_is = ap (λ (c : Config). record {
+        config = c;
+        state = world.Down again (option_map undecided_in down.undecided);
+        records = records;
+      }) same;
+      none = refl;
+    };
+    cause = cause;
+    why = why;
+    failures = failures;
   })

@@ -98,12 +98,13 @@ module _ {D : Type 0} (honest : Type 0) (words : DiskWords D) (before after : No
     new_is = same_host before after old new node records;
   }
 
-  -- a node that stopped while it gave them up
+  -- a node that stopped while it gave them up, for its device failed
   pub stops_giving_up : KnowsChanges honest words before → new ≡ old → after.config ≡ before.config
+      → RefusesToGiveUp words before.config.host before.config.routes message now before.records after.records Stopped
       → ((changes : List Change) → Keeps honest words before.records changes
       → CutsUnroutable honest words before.config.host before.config.routes message now changes before.records after.records)
       → StopsGivingUp honest words now (host_of before old) (host_of after new) message
-  stops_giving_up knows same config cuts =
+  stops_giving_up knows same config refused cuts =
       let cut = cuts knows.changes knows.keeps in
       subst (λ (l : List (List ℕ)). StopsGivingUp honest words now (host_of before old) (host_of after l) message) (sym same)
       (record {
@@ -111,7 +112,10 @@ module _ {D : Type 0} (honest : Type 0) (words : DiskWords D) (before after : No
         after = after;
         runs = runs_on before after old config;
         cuts = cuts;
-        live = cut.cuts.cuts.halted.stopped;
+        failed = elim refused [
+          | inl was ↦ absurd (true≢false (sym knows.keeps.live ∙ was.0))
+          | inr failed ↦ failed
+        ];
         noted = cut.cuts.cuts.noted.note;
         note_is = cut.cuts.cuts.noted.is;
       })

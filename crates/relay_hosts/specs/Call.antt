@@ -1,18 +1,20 @@
 -- What a call of its node makes of one host.
-use Rattle.std.specs.Prelude.{◌≡◌, ◌⊎◌, ℕ, ◌≤◌, Bool, true, false, List, [], ◌∷◌, ◌++◌, length, Option, None, Some}
+use Rattle.std.specs.Prelude.{◌≡◌, ◌⊎◌, ℕ, ◌<◌, ◌≤◌, ◌^◌, Bool, true, false, List, [], ◌∷◌, ◌++◌, length, Option, None, Some}
 use Rattle.relay_disk.specs.Device.{DiskWords}
-use Rattle.relay_slots.specs.Slots.{OthersStay}
+use Rattle.relay_slots.specs.Slots.{OthersStay, slot_at}
 use Rattle.relay_server.specs.Dialogue.{Said}
+use Rattle.relay_server.specs.Setup.{setup_of_config}
 use Rattle.relay_book.specs.declared.change.Change.{Change}
 use Rattle.relay_records.specs.declared.fault.NodeFault.{NodeFault}
 use Rattle.relay_records.specs.declared.fault.NodeFault.TheVariants as node_fault
 use Rattle.relay_records.specs.declared.noted.Noted.{Noted}
-use Rattle.relay_records.specs.Records.{Keeps}
+use Rattle.relay_records.specs.Records.{IsStopped, Keeps}
 use Rattle.relay_attempts.specs.declared.reply.Replied.{Replied}
-use Rattle.relay_attempts.specs.Reply.{CutsLoss, CutsReply, IsLost, Told}
+use Rattle.relay_attempts.specs.Reply.{CutsLoss, CutsReply, HasNoRoomAtEnd, HasNoRoomAtLoss, IsLost, Told}
 use Rattle.relay_node.specs.declared.receive.Received.{Received}
 use Rattle.relay_node.specs.Attempts.{Replies, Tells}
 use Rattle.relay_node.specs.Node.{CutsTalk, Receives, SeatHasSaid, NodeState}
+use Rattle.relay_node.specs.Room.{ComesToOffer}
 use Rattle.relay_world.specs.Steps.{without_note}
 use Rattle.relay_world.specs.World.{Down, HostState, Host, Up}
 use Rattle.relay_hosts.specs.declared.recorded.Recorded.{Recorded}
@@ -35,9 +37,17 @@ is_stop (node_fault.Open cause) = false
 is_stop node_fault.Full = false
 is_stop node_fault.NoSecond = false
 
--- why a node loses a session or an attempt: there was no memory for what it heard or read, or no room
-abbrev pub IsWant : NodeFault → Type 0
-IsWant fault = (fault ≡ node_fault.NoMemory) ⊎ (fault ≡ node_fault.Full)
+-- a message has come to its end on a session, and changes have no numbers any more
+pub record LacksNumber {D : Type 0} (node : NodeState D) (session : ℕ) (piece : List ℕ) : Type 0 where
+  pub none_left : 2 ^ 62 < node.records.queue.next
+  pub comes : (peer : List ℕ) (said : Said) → SeatHasSaid node.config node.seats session peer said
+      → ComesToOffer (setup_of_config node.config) said piece
+
+-- why a host loses a session on which octets came: there was no memory for what it heard, or no number for a message
+abbrev pub IsWhyUnheard : {D : Type 0} → HostState D → ℕ → List ℕ → NodeFault → Type 0
+IsWhyUnheard (Up node) session piece fault =
+    (fault ≡ node_fault.NoMemory) ⊎ ((fault ≡ node_fault.Full) × LacksNumber node session piece)
+IsWhyUnheard (Down disk undecided) session piece fault = ⊥
 
 -- the host is up with this node, and becomes the same host with that node
 pub record Runs {D : Type 0} (old new : Host D) (before after : NodeState D) : Type 0 where
@@ -74,12 +84,13 @@ NotesChange old new after None (Some recorded) = ⊥
 NotesChange old new after (Some change) None = ⊥
 NotesChange old new after (Some change) (Some recorded) = NotesOne old new after recorded
 
--- A host's node has lost the session of this number, and nothing else.
+-- A host's node has lost the session of this number, which is free now, and nothing else.
 pub record LosesSession {D : Type 0} (old new : Host D) (session : ℕ) : Type 0 where
   pub before : NodeState D
   pub after : NodeState D
   pub runs : Runs old new before after
   pub records : after.records ≡ before.records
+  pub gone : slot_at after.seats session ≡ None
   pub others : OthersStay before.seats after.seats session
   pub attempts : after.attempts ≡ before.attempts
 
@@ -89,6 +100,7 @@ pub record LosesAttempt {D : Type 0} (old new : Host D) (slot : ℕ) : Type 0 wh
   pub after : NodeState D
   pub runs : Runs old new before after
   pub records : after.records ≡ before.records
+  pub gone : slot_at after.attempts slot ≡ None
   pub others : OthersStay before.attempts after.attempts slot
   pub seats : after.seats ≡ before.seats
 
@@ -123,6 +135,25 @@ module _ {D : Type 0} (honest : Type 0) (words : DiskWords D) where
   abbrev pub HasAttempt : Host D → ℕ → Type 0
   HasAttempt host slot = HoldsAttempt host.state slot
 
+  -- why a host loses an attempt for which replies came: there was no memory for what it read, or no room for the
+  -- outcome with which they end it
+  abbrev pub IsWhyUnread : ℕ → HostState D → ℕ → List ℕ → NodeFault → Type 0
+  IsWhyUnread now (Up node) slot piece fault =
+      (fault ≡ node_fault.NoMemory)
+      ⊎ ((fault ≡ node_fault.Full) × ((changes : List Change) (told : Told) → Keeps honest words node.records changes
+      → Tells node.config.host changes node.attempts slot told
+      → HasNoRoomAtEnd node.config.host now told piece node.records))
+  IsWhyUnread now (Down disk undecided) slot piece fault = ⊥
+
+  -- and why it loses one that was told of the loss of its link: there was no memory, or no room, for the outcome of that
+  abbrev pub IsWhyUntold : ℕ → HostState D → ℕ → NodeFault → Type 0
+  IsWhyUntold now (Up node) slot fault =
+      (fault ≡ node_fault.NoMemory)
+      ⊎ ((fault ≡ node_fault.Full) × ((changes : List Change) (told : Told) → Keeps honest words node.records changes
+      → Tells node.config.host changes node.attempts slot told
+      → HasNoRoomAtLoss node.config.host now told node.records))
+  IsWhyUntold now (Down disk undecided) slot fault = ⊥
+
   -- A host has heard octets on a session, without a fault.
   pub record Hears (now : ℕ) (old new : Host D) (session : ℕ) (piece : List ℕ) (received : Received)
       (recorded : Option Recorded) : Type 0 where
@@ -138,7 +169,7 @@ module _ {D : Type 0} (honest : Type 0) (words : DiskWords D) where
     pub attempts : after.attempts ≡ before.attempts
     pub notes : NotesChange old new after received.change recorded
 
-  -- A host's node stopped in that call, with a note of the accept.
+  -- A host's node stopped in that call, since its device failed, with a note of the accept.
   pub record StopsHearing (now : ℕ) (old new : Host D) (session : ℕ) (piece : List ℕ) : Type 0 where
     pub before : NodeState D
     pub after : NodeState D
@@ -146,14 +177,15 @@ module _ {D : Type 0} (honest : Type 0) (words : DiskWords D) where
     pub cuts : (changes : List Change) (peer : List ℕ) (said : Said) → Keeps honest words before.records changes
         → SeatHasSaid before.config before.seats session peer said
         → CutsTalk honest words before.config changes peer now said piece before.records after.records
-    pub live : after.records.spool.live ≡ false
+    pub failed : IsStopped words before.records after.records
     pub noted : Noted
     pub note_is : after.records.noted ≡ Some noted
 
   abbrev pub HearsOrNot : ℕ → Host D → Host D → ℕ → List ℕ → Heard → Type 0
   HearsOrNot now old new session piece (heard.Done received recorded) =
       Hears now old new session piece received recorded
-  HearsOrNot now old new session piece (heard.Gone fault) = LosesSession old new session × IsWant fault
+  HearsOrNot now old new session piece (heard.Gone fault) =
+      LosesSession old new session × IsWhyUnheard old.state session piece fault
   HearsOrNot now old new session piece heard.Stopped = StopsHearing now old new session piece
   HearsOrNot now old new session piece heard.NoRoom = new ≡ old
 
@@ -172,7 +204,7 @@ module _ {D : Type 0} (honest : Type 0) (words : DiskWords D) where
     pub seats : after.seats ≡ before.seats
     pub notes : NotesChange old new after replied.change recorded
 
-  -- A host's node stopped in that call, with a note of the outcome.
+  -- A host's node stopped in that call, since its device failed, with a note of the outcome.
   pub record StopsReading (now : ℕ) (old new : Host D) (slot : ℕ) (piece : List ℕ) : Type 0 where
     pub before : NodeState D
     pub after : NodeState D
@@ -180,13 +212,14 @@ module _ {D : Type 0} (honest : Type 0) (words : DiskWords D) where
     pub cuts : (changes : List Change) (told : Told) → Keeps honest words before.records changes
         → Tells before.config.host changes before.attempts slot told
         → CutsReply honest words before.config.host now changes slot told piece after.records
-    pub live : after.records.spool.live ≡ false
+    pub failed : IsStopped words before.records after.records
     pub noted : Noted
     pub note_is : after.records.noted ≡ Some noted
 
   abbrev pub ReadsOrNot : ℕ → Host D → Host D → ℕ → List ℕ → Read → Type 0
   ReadsOrNot now old new slot piece (read.Done replied recorded) = Reads now old new slot piece replied recorded
-  ReadsOrNot now old new slot piece (read.Gone fault) = LosesAttempt old new slot × IsWant fault
+  ReadsOrNot now old new slot piece (read.Gone fault) =
+      LosesAttempt old new slot × IsWhyUnread now old.state slot piece fault
   ReadsOrNot now old new slot piece read.Stopped = StopsReading now old new slot piece
 
   -- A host was told that the connection of an attempt is lost, and has recorded its outcome, under this number.
@@ -202,7 +235,7 @@ module _ {D : Type 0} (honest : Type 0) (words : DiskWords D) where
     pub seats : after.seats ≡ before.seats
     pub notes : NotesOne old new after recorded
 
-  -- A host's node stopped in that call, with a note of the outcome.
+  -- A host's node stopped in that call, since its device failed, with a note of the outcome.
   pub record StopsLosing (now : ℕ) (old new : Host D) (slot : ℕ) : Type 0 where
     pub before : NodeState D
     pub after : NodeState D
@@ -210,12 +243,13 @@ module _ {D : Type 0} (honest : Type 0) (words : DiskWords D) where
     pub cuts : (changes : List Change) (told : Told) → Keeps honest words before.records changes
         → Tells before.config.host changes before.attempts slot told
         → CutsLoss honest words before.config.host now changes slot told after.records
-    pub live : after.records.spool.live ≡ false
+    pub failed : IsStopped words before.records after.records
     pub noted : Noted
     pub note_is : after.records.noted ≡ Some noted
 
   -- what became of an attempt whose host was told of the loss
   abbrev pub IsToldLoss : ℕ → Host D → Host D → ℕ → ToldLoss → Type 0
   IsToldLoss now old new slot (loss.Ended change recorded) = Loses now old new slot change recorded
-  IsToldLoss now old new slot (loss.Gone fault) = LosesAttempt old new slot × IsWant fault
+  IsToldLoss now old new slot (loss.Gone fault) =
+      LosesAttempt old new slot × IsWhyUntold now old.state slot fault
   IsToldLoss now old new slot loss.Stopped = StopsLosing now old new slot

@@ -3,9 +3,10 @@ use Rattle.std.specs.Prelude.{◌≡◌, ◌⊎◌, ◌≤◌, ◌<◌, ℕ, Boo
 use Rattle.std.specs.Option.{is_some, option_map}
 use Rattle.relay_disk.specs.Device.{DiskWords}
 use Rattle.relay_disk.specs.declared.disks.Disks.{Disks}
-use Rattle.relay_disk.specs.Disks.{ImagesWithin}
+use Rattle.relay_disk.specs.Disks.{ImagesWithin, seen_of}
 use Rattle.relay_records.specs.declared.noted.Noted.{Noted}
-use Rattle.relay_records.specs.Open.{Opens}
+use Rattle.relay_records.specs.declared.fault.Cause.{Cause}
+use Rattle.relay_records.specs.Open.{FailsFor, Opens, RefusesImage}
 use Rattle.relay_node.specs.Node.{IsIdle, NodeState}
 use Rattle.relay_world.specs.Stops.{IsLeftBy}
 use Rattle.relay_world.specs.World as world
@@ -112,5 +113,12 @@ module _ {D : Type 0} (honest : Type 0) (words : DiskWords D) (old new : world.H
     pub new_is : new ≡ record old { state = world.Down again undecided }
     pub none : found ≡ None
 
+  -- A host that is down couldn't be opened: its disks were refused, for this cause.
+  pub record IsRefused (found : Option Undecided) : Type 0 where
+    pub stays : StaysSo found
+    pub cause : Cause
+    pub why : RefusesImage honest (seen_of words stays.disk) cause
+    pub failures : FailsFor words stays.disk stays.again cause
+
   abbrev pub OpensOrNot : Option Undecided → Type 0
-  OpensOrNot found = ComesUp found ⊎ StaysSo found
+  OpensOrNot found = ComesUp found ⊎ IsRefused found

@@ -1,5 +1,5 @@
 -- What one host begins of itself: sessions, attempts, and the end of places without a hop.
-use Rattle.std.specs.Prelude.{◌≡◌, ◌⊎◌, ◌↔◌, ℕ, false, List, [], Option, Some, Result, Ok, Err}
+use Rattle.std.specs.Prelude.{◌≡◌, ◌⊎◌, ◌↔◌, ℕ, List, [], Option, Some, Result, Ok, Err}
 use Rattle.relay_disk.specs.Device.{DiskWords}
 use Rattle.relay_slots.specs.Slots.{IsFull}
 use Rattle.relay_book.specs.declared.change.Change.{Change}
@@ -7,7 +7,7 @@ use Rattle.relay_book.specs.Queue.{held_of}
 use Rattle.relay_records.specs.declared.fault.NodeFault.{NodeFault}
 use Rattle.relay_records.specs.declared.fault.NodeFault.TheVariants as node_fault
 use Rattle.relay_records.specs.declared.noted.Noted.{Noted}
-use Rattle.relay_records.specs.Records.{Keeps}
+use Rattle.relay_records.specs.Records.{IsStopped, Keeps}
 use Rattle.relay_attempts.specs.declared.runs.Run.{Run}
 use Rattle.relay_attempts.specs.declared.start.Started.{Started}
 use Rattle.relay_attempts.specs.declared.work.Work.{Work}
@@ -130,7 +130,7 @@ module _ {D : Type 0} (honest : Type 0) (words : DiskWords D) where
     pub attempts : after.attempts ≡ before.attempts
     pub notes : NotesOne old new after recorded
 
-  -- A host's node stopped in that call, with a note of the outcome.
+  -- A host's node stopped in that call, since its device failed, with a note of the outcome.
   pub record StopsGivingUp (now : ℕ) (old new : Host D) (message : ℕ) : Type 0 where
     pub before : NodeState D
     pub after : NodeState D
@@ -138,7 +138,7 @@ module _ {D : Type 0} (honest : Type 0) (words : DiskWords D) where
     pub cuts : (changes : List Change) → Keeps honest words before.records changes
         → CutsUnroutable honest words before.config.host before.config.routes message now changes before.records
         after.records
-    pub live : after.records.spool.live ≡ false
+    pub failed : IsStopped words before.records after.records
     pub noted : Noted
     pub note_is : after.records.noted ≡ Some noted
 

@@ -149,6 +149,7 @@ crashing_in_reading_keeps honest words old new lists number count bound is =
     (middle_bound honest words old new lists number bound is.of is.stopped _ is.crash) (record {
       of = of_middle honest words old new lists number bound is.of is.stopped _ is.crash;
       stopped = is.stopped;
+      failed = is.failed;
       cuts = is.cuts;
       drops = drops honest words old new lists number bound is.of is.stopped _ is.crash;
     }))
@@ -161,6 +162,7 @@ crashing_in_losing_keeps honest words old new lists number bound is =
     (middle_bound honest words old new lists number bound is.of is.stopped _ is.crash) (record {
       of = of_middle honest words old new lists number bound is.of is.stopped _ is.crash;
       stopped = is.stopped;
+      failed = is.failed;
       cuts = is.cuts;
       drops = drops honest words old new lists number bound is.of is.stopped _ is.crash;
     }))

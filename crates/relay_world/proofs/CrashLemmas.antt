@@ -171,6 +171,7 @@ module _ {D : Type 0} (honest : Type 0) (words : DiskWords D) (old new : World D
     no_session = none_else;
     no_attempt = none_runs;
     stopped = crash.stopped;
+    failed = crash.failed;
     cuts = crash.cuts;
     noted = crash.noted;
     note_is = crash.note_is;

@@ -112,6 +112,7 @@ module _ {D : Type 0} (honest : Type 0) (words : DiskWords D) (old new : World D
     no_session = none_heard node old;
     no_attempt = none_runs node old;
     stopped = crash.stopped;
+    failed = crash.failed;
     cuts = crash.cuts;
     noted = crash.noted;
     note_is = crash.note_is;

@@ -39,6 +39,7 @@ module _ {D : Type 0} (honest : Type 0) (words : DiskWords D) (old new : World D
       let stops : StopsReading honest words middle crashed number count = record {
         of = ends.of_middle honest words old new lists number bound is.of is.stopped _ is.crash;
         stopped = is.stopped;
+        failed = is.failed;
         cuts = is.cuts;
         drops = ends.drops honest words old new lists number bound is.of is.stopped _ is.crash;
       } in
@@ -56,6 +57,7 @@ module _ {D : Type 0} (honest : Type 0) (words : DiskWords D) (old new : World D
       let stops : StopsLosing honest words middle crashed number = record {
         of = ends.of_middle honest words old new lists number bound is.of is.stopped _ is.crash;
         stopped = is.stopped;
+        failed = is.failed;
         cuts = is.cuts;
         drops = ends.drops honest words old new lists number bound is.of is.stopped _ is.crash;
       } in
@@ -87,6 +89,7 @@ module _ {D : Type 0} (honest : Type 0) (words : DiskWords D) (old new : World D
       StopsInReading number count (record {
         of = ends.of_middle honest words old new lists number bound is.of is.stopped _ is.crash;
         stopped = is.stopped;
+        failed = is.failed;
         cuts = is.cuts;
         drops = ends.drops honest words old new lists number bound is.of is.stopped _ is.crash;
       }),
@@ -103,6 +106,7 @@ module _ {D : Type 0} (honest : Type 0) (words : DiskWords D) (old new : World D
       StopsInLosing number (record {
         of = ends.of_middle honest words old new lists number bound is.of is.stopped _ is.crash;
         stopped = is.stopped;
+        failed = is.failed;
         cuts = is.cuts;
         drops = ends.drops honest words old new lists number bound is.of is.stopped _ is.crash;
       }),

@@ -86,7 +86,8 @@ pub record CrashesCompacting {D : Type 0} (honest : Type 0) (words : DiskWords D
   pub left : IsLeftBy honest words stopped disk
   pub down : GoesDown old new node host disk None
 
--- A node crashed in a call that gave up the places of a message without a hop, while their outcome was added.
+-- A node crashed in a call that gave up the places of a message without a hop: its device failed while their outcome
+-- was added.
 pub record CrashesGivingUp {D : Type 0} (honest : Type 0) (words : DiskWords D) (old new : World D) (node message : ℕ)
     : Type 0
   where
@@ -95,6 +96,7 @@ pub record CrashesGivingUp {D : Type 0} (honest : Type 0) (words : DiskWords D) 
     pub before : NodeState D
     pub up : host.state ≡ Up before
     pub stopped : Kept D
+    pub failed : IsStopped words before.records stopped
     pub cuts : (changes : List Change) → Keeps honest words before.records changes
         → CutsUnroutable honest words before.config.host before.config.routes message old.clock changes
         before.records stopped
@@ -104,11 +106,12 @@ pub record CrashesGivingUp {D : Type 0} (honest : Type 0) (words : DiskWords D) 
     pub left : IsLeftBy honest words stopped disk
     pub down : GoesDown old new node host disk (Some (record { note = noted; origin = FromNoHop message }))
 
--- A node crashed in a call that heard octets of a link, while an accept was added.
+-- A node crashed in a call that heard octets of a link: its device failed while an accept was added.
 pub record CrashesHearing {D : Type 0} (honest : Type 0) (words : DiskWords D) (old new : World D) (number count : ℕ)
     : Type 0 where
   pub of : SessionOf old number
   pub stopped : Kept D
+  pub failed : IsStopped words of.before.records stopped
   pub cuts : (changes : List Change) (said : Said) → Keeps honest words of.before.records changes
       → SeatHasSaid of.before.config of.before.seats of.session of.end.peer said
       → CutsTalk honest words of.before.config changes of.end.peer old.clock said (waiting_up count of.link)
@@ -129,21 +132,23 @@ pub record CrashesEnding {D : Type 0} (honest : Type 0) (words : DiskWords D) (o
   pub left : IsLeftBy honest words stopped disk
   pub down : GoesDown old new of.attempt.node of.host disk (Some (record { note = noted; origin = origin }))
 
--- so it did by replies that it read, of those that wait as many as were carried
+-- so it did by replies that it read, of those that wait as many as were carried, as its device failed
 pub record CrashesReading {D : Type 0} (honest : Type 0) (words : DiskWords D) (old new : World D) (number count : ℕ)
     : Type 0 where
   pub of : AttemptOf old number
   pub stopped : Kept D
+  pub failed : IsStopped words of.before.records stopped
   pub cuts : (changes : List Change) (told : Told) → Keeps honest words of.before.records changes
       → Tells of.before.config.host changes of.before.attempts of.slot told
       → CutsReply honest words of.before.config.host old.clock changes of.slot told (waiting_down count of.link) stopped
   pub crash : CrashesEnding honest words old new number of stopped (FromReplies number of.place of.attempt.message)
 
--- and so by the loss of its link
+-- and so, as its device failed, by the loss of its link
 pub record CrashesLosing {D : Type 0} (honest : Type 0) (words : DiskWords D) (old new : World D) (number : ℕ)
     : Type 0 where
   pub of : AttemptOf old number
   pub stopped : Kept D
+  pub failed : IsStopped words of.before.records stopped
   pub cuts : (changes : List Change) (told : Told) → Keeps honest words of.before.records changes
       → Tells of.before.config.host changes of.before.attempts of.slot told
       → CutsLoss honest words of.before.config.host old.clock changes of.slot told stopped

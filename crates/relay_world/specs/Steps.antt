@@ -15,7 +15,7 @@ use Rattle.relay_node.specs.Node.{Connects, Receives, SeatHasSaid, NodeState}
 use Rattle.relay_records.specs.declared.noted.Noted.{Noted}
 use Rattle.relay_records.specs.Records.{Keeps}
 use Rattle.relay_server.specs.Dialogue.{Said}
-use Rattle.relay_slots.specs.Slots.{OthersStay}
+use Rattle.relay_slots.specs.Slots.{OthersStay, slot_at}
 use Rattle.relay_world.specs.declared.attempt.Attempt.{Attempt}
 use Rattle.relay_world.specs.declared.attempt.Fate.{Fate}
 use Rattle.relay_world.specs.declared.attempt.Fate.TheVariants.{Running, Replied as RepliedBy, Lost as LostBy, Dropped}
@@ -183,11 +183,12 @@ abbrev pub ended_link : Link → ServerEnd → Option Reply → Link
 ended_link link end closing =
     record link { server = Some (record end { session = None }); down = closed_down link closing }
 
--- The session at a link's server end is gone, with a reply of its own behind all others, or with none.
+-- The session at a link's server end is gone, at its node too, with a reply of its own behind all others, or with none.
 pub record EndsWith {D : Type 0} (old new : World D) (number : ℕ) (closing : Option Reply) : Type 0 where
   pub of : SessionOf old number
   pub after : NodeState D
   pub records : after.records ≡ of.before.records
+  pub gone : slot_at after.seats of.session ≡ None
   pub others : OthersStay of.before.seats after.seats of.session
   pub config : after.config ≡ of.before.config
   pub attempts : after.attempts ≡ of.before.attempts
@@ -274,11 +275,12 @@ pub record HasLost {D : Type 0} (honest : Type 0) (words : DiskWords D) (old new
   pub records : RecordsOutcome old new number of after (LostBy change) change
   pub rest : (new.clock ≡ old.clock) × (length new.hosts ≡ length old.hosts)
 
--- An attempt is gone without an outcome: its node had no memory or room for it.
+-- An attempt is gone without an outcome, at its node too, which had no memory or room for it.
 pub record DropsAttempt {D : Type 0} (old new : World D) (number : ℕ) : Type 0 where
   pub of : AttemptOf old number
   pub after : NodeState D
   pub records : after.records ≡ of.before.records
+  pub gone : slot_at after.attempts of.slot ≡ None
   pub others : OthersStay of.before.attempts after.attempts of.slot
   pub config : after.config ≡ of.before.config
   pub seats : after.seats ≡ of.before.seats

@@ -12,8 +12,8 @@ use Rattle.relay_book.specs.StandsFor.{StandsFor}
 use Rattle.relay_records.specs.declared.noted.Noted.{Noted}
 use Rattle.relay_records.specs.declared.fault.Cause.{Cause}
 use Rattle.relay_records.specs.ListLaws.{IsNoFaultOfImage}
-use Rattle.relay_records.specs.Open.{Opens, RefusesImage}
-use Rattle.relay_records.specs.Records.{Compacts, Keeps, Kept}
+use Rattle.relay_records.specs.Open.{FailsFor, Opens, RefusesImage}
+use Rattle.relay_records.specs.Records.{Compacts, IsStopped, Keeps, Kept}
 use Rattle.relay_attempts.specs.Outcomes.{CutsUnroutable}
 use Rattle.relay_attempts.specs.Reply.{CutsLoss, CutsReply, Told}
 use Rattle.relay_node.specs.Attempts.{Tells}
@@ -117,14 +117,16 @@ pub record HasCompacted {D : Type 0} (honest : Type 0) (words : DiskWords D) (ol
 abbrev pub cut_off_link : Link → ServerEnd → Link
 cut_off_link link end = record link { server = Some (record end { session = None }); broken = true }
 
--- A node has stopped in a call that heard octets of a link, of those that wait as many as were carried, while an accept
--- was added. What the call would have written isn't on the link, which is broken now, if it wasn't before.
+-- A node has stopped in a call that heard octets of a link, of those that wait as many as were carried, as its device
+-- failed while an accept was added. What the call would have written isn't on the link, which is broken now, if it
+-- wasn't before.
 pub record StopsHearing {D : Type 0} (honest : Type 0) (words : DiskWords D) (old new : World D) (number count : ℕ)
     : Type 0 where
   pub of : SessionOf old number
   pub no_session : NoSessionBut old of.end.node number
   pub no_attempt : NoAttempt old of.end.node
   pub stopped : Kept D
+  pub failed : IsStopped words of.before.records stopped
   pub cuts : (changes : List Change) (said : Said) → Keeps honest words of.before.records changes
       → SeatHasSaid of.before.config of.before.seats of.session of.end.peer said
       → CutsTalk honest words of.before.config changes of.end.peer old.clock said (waiting_up count of.link)
@@ -156,27 +158,31 @@ pub record DropsAtStop {D : Type 0} (honest : Type 0) (words : DiskWords D) (old
   pub rest : (new.ledger ≡ old.ledger) × (new.clock ≡ old.clock) × (length new.hosts ≡ length old.hosts)
 
 -- A node has stopped in a call of an attempt that read replies on a link, of those that wait as many as were carried,
--- while the outcome to which they led was added.
+-- as its device failed while the outcome to which they led was added.
 pub record StopsReading {D : Type 0} (honest : Type 0) (words : DiskWords D) (old new : World D) (number count : ℕ)
     : Type 0 where
   pub of : AttemptOf old number
   pub stopped : Kept D
+  pub failed : IsStopped words of.before.records stopped
   pub cuts : (changes : List Change) (told : Told) → Keeps honest words of.before.records changes
       → Tells of.before.config.host changes of.before.attempts of.slot told
       → CutsReply honest words of.before.config.host old.clock changes of.slot told (waiting_down count of.link) stopped
   pub drops : DropsAtStop honest words old new number of stopped (FromReplies number of.place of.attempt.message)
 
--- A node has stopped in the call that told it of the loss of an attempt's link, while the outcome was added.
+-- A node has stopped in the call that told it of the loss of an attempt's link, as its device failed while the outcome
+-- was added.
 pub record StopsLosing {D : Type 0} (honest : Type 0) (words : DiskWords D) (old new : World D) (number : ℕ)
     : Type 0 where
   pub of : AttemptOf old number
   pub stopped : Kept D
+  pub failed : IsStopped words of.before.records stopped
   pub cuts : (changes : List Change) (told : Told) → Keeps honest words of.before.records changes
       → Tells of.before.config.host changes of.before.attempts of.slot told
       → CutsLoss honest words of.before.config.host old.clock changes of.slot told stopped
   pub drops : DropsAtStop honest words old new number of stopped (FromLoss number of.place of.attempt.message)
 
--- A node has stopped in a call that gave up the places of a message without a hop, while their outcome was added.
+-- A node has stopped in a call that gave up the places of a message without a hop, as its device failed while their
+-- outcome was added.
 pub record StopsGivingUp {D : Type 0} (honest : Type 0) (words : DiskWords D) (old new : World D) (node message : ℕ)
     : Type 0
   where
@@ -187,6 +193,7 @@ pub record StopsGivingUp {D : Type 0} (honest : Type 0) (words : DiskWords D) (o
     pub no_session : NoSession old node
     pub no_attempt : NoAttempt old node
     pub stopped : Kept D
+    pub failed : IsStopped words before.records stopped
     pub cuts : (changes : List Change) → Keeps honest words before.records changes
         → CutsUnroutable honest words before.config.host before.config.routes message old.clock changes
         before.records stopped
@@ -198,8 +205,8 @@ pub record StopsGivingUp {D : Type 0} (honest : Type 0) (words : DiskWords D) (o
         (record host { state = Down disk (Some (record { note = noted; origin = FromNoHop message })) })
     pub rest : OnlyHostsChange old new
 
--- A node that is down stays so: its disks were refused, or stopped again, and leave no images that they didn't leave
--- before.
+-- A node that is down stays so, and its disks leave no images that they didn't leave before: they were refused, or have
+-- stopped again. Which of the two it was is said below.
 pub record StaysDown {D : Type 0} (honest : Type 0) (words : DiskWords D) (old new : World D) (node : ℕ) : Type 0 where
   pub host : Host D
   pub host_at : slice_get old.hosts node ≡ Some host
@@ -210,6 +217,19 @@ pub record StaysDown {D : Type 0} (honest : Type 0) (words : DiskWords D) (old n
   pub left : honest → ImagesWithin words disk again
   pub hosts : IsPut old.hosts new.hosts node (record host { state = Down again undecided })
   pub rest : OnlyHostsChange old new
+
+-- A node that is down stops again, before it is opened.
+abbrev pub StopsAgain : {D : Type 0} → Type 0 → DiskWords D → World D → World D → ℕ → Type 0
+StopsAgain honest words old new node = StaysDown honest words old new node
+
+-- A node that is down couldn't be opened: its disks were refused, for this cause. That is a failure of the device, which
+-- has counted it, want of memory, or the size of the spool, and of an honest disk never the octets.
+pub record IsRefused {D : Type 0} (honest : Type 0) (words : DiskWords D) (old new : World D) (node : ℕ) : Type 0 where
+  pub stays : StaysDown honest words old new node
+  pub cause : Cause
+  pub why : RefusesImage honest (seen_of words stays.disk) cause
+  pub failures : FailsFor words stays.disk stays.again cause
+  pub not_octets : honest → IsNoFaultOfImage cause
 
 -- an outcome is found: so many octets more were read on the link, and the attempt at this place has this fate
 pub record FindsOutcome {D : Type 0} (old new : World D) (number place used : ℕ) (fate : Fate) : Type 0 where

@@ -1,10 +1,11 @@
 use Rattle.std.proofs.Common.{◌≡◌, ℕ, List, true, false, Err, None, subst, ap, sym, ◌∙◌, arith, rules}
 use Rattle.std.specs.Prelude.{vec_capacity, vec_len}
 use Rattle.std.proofs.lemmas.Option.{none-some}
+use Rattle.relay_records.specs.declared.fault.NodeFault.TheVariants.{Unknown}
 use Rattle.relay_records.specs.Records.{Kept}
 use Rattle.relay_hosts.specs.Call.{LosesSession, NotesChange, is_stop}
 use Rattle.relay_hosts.specs.Host.{host_of}
-use Rattle.relay_hosts.proofs.CallLemmas.{heard_added, heard_same, notes_none, notes_one, notes_some, owes_heard, owes_noted, owed_stopped, session_lost, session_records, session_want, stop_is, stops_hearing}
+use Rattle.relay_hosts.proofs.CallLemmas.{heard_added, heard_same, notes_none, notes_one, notes_some, owes_heard, owes_noted, owed_stopped, session_gone, session_lost, session_records, session_stopped, session_why, stop_is, stops_hearing}
 use Rattle.relay_hosts.proofs.calls.hear_at.Goals as goal
 
 pub returns-then-is_stop-clause-told : goal.returns-then-is_stop-clause-told
@@ -13,6 +14,8 @@ returns-then-is_stop-clause-told g c =
     stops_hearing g.D.Disk.honest g.D.Disk.words c.args.node.now c.receive.new.self c.args.records.now.items
     c.reserve.new.self.items c.args.session c.args.now c.args.piece.now c.requires.session c.in-Ok.ensures.items
     c.in-Err.ensures.rest.1
+    (session_stopped c.args.node.now c.receive.new.self c.args.records.now.items c.in-Err.ensures.rest.1 g.D.Disk.words
+    c.args.session c.in-Err.fault stop (c.in-Err.ensures.refused.refused c.requires.session.keeps.live))
     (λ changes peer said keeps says.
     c.in-Err.ensures.cut changes peer said keeps says (ap (λ f. Err f) (stop_is c.in-Err.fault stop)))
 
@@ -33,14 +36,18 @@ returns-in-Err-clause-told g c =
     let same = session_records c.args.node.now c.receive.new.self c.args.records.now.items c.in-Err.ensures.rest.1
     g.D.Disk.words c.args.session c.in-Err.fault ok (c.in-Err.ensures.refused.refused c.requires.session.keeps.live) in
     let knows = c.requires.session in
-    let refused = c.in-Err.ensures.refused in (
+    let refused = c.in-Err.ensures.refused in
+    let known = λ (is : c.in-Err.fault ≡ Unknown).
+    none-some knows.says.seat (sym (refused.unknown.0 (ap (λ f. Err f) is)).1 ∙ knows.says.at) in (
       subst (λ l. LosesSession (host_of c.args.node.now c.args.records.now.items) (host_of c.receive.new.self l) c.args.session)
           (sym {A = List (List ℕ)} c.in-Ok.ensures.items)
           (session_lost c.args.node.now c.receive.new.self c.args.records.now.items c.in-Err.ensures.rest.1 c.args.session same
+          (session_gone c.args.node.now c.receive.new.self c.args.records.now.items c.in-Err.ensures.rest.1 g.D.Disk.words
+          c.args.session c.in-Err.fault ok known (refused.refused knows.keeps.live))
           c.in-Err.ensures.rest.0 c.in-Err.ensures.rest.2),
-      session_want c.args.node.now c.receive.new.self c.args.records.now.items c.in-Err.ensures.rest.1 g.D.Disk.words
-          c.args.session c.in-Err.fault ok
-          (λ is. none-some knows.says.seat (sym (refused.unknown.0 (ap (λ f. Err f) is)).1 ∙ knows.says.at))
+      session_why c.args.node.now c.receive.new.self c.args.records.now.items c.in-Err.ensures.rest.1 g.D.Disk.words
+          c.args.session c.args.piece.now c.in-Err.fault ok known
+          (λ is peer said says. c.in-Err.ensures.full peer said says (ap (λ f. Err f) is))
           (refused.refused knows.keeps.live),
     )
 

@@ -1,8 +1,9 @@
 use Rattle.std.proofs.Common.{◌≡◌, true, false, Err, ap, arith, rules, sym, ◌∙◌}
 use Rattle.std.specs.Prelude.{vec_capacity, vec_len}
 use Rattle.std.proofs.lemmas.Option.{none-some}
+use Rattle.relay_records.specs.declared.fault.NodeFault.TheVariants.{Unknown}
 use Rattle.relay_hosts.specs.Call.{is_stop}
-use Rattle.relay_hosts.proofs.CallLemmas.{attempt_lost, attempt_records, attempt_want, noted_some, notes_one, owes_less, owes_one, owes_same, owes_stopped, owes_taken, stop_is, stops_losing}
+use Rattle.relay_hosts.proofs.CallLemmas.{attempt_gone, attempt_lost, attempt_records, attempt_stopped, attempt_why, noted_some, notes_one, owes_less, owes_one, owes_same, owes_stopped, owes_taken, stop_is, stops_losing}
 use Rattle.relay_hosts.proofs.calls.lose_at.Goals as goal
 
 pub returns-then-is_stop-clause-told : goal.returns-then-is_stop-clause-told
@@ -10,6 +11,8 @@ returns-then-is_stop-clause-told g c =
     let stop : is_stop c.in-Err.fault ≡ true = search rules in
     stops_losing g.D.Disk.honest g.D.Disk.words c.args.node.now c.lost.new.self c.args.records.now.items c.args.slot c.args.now
     c.requires.attempt c.in-Err.ensures.rest.1
+    (attempt_stopped c.args.node.now c.lost.new.self c.args.records.now.items c.in-Err.ensures.rest.1 g.D.Disk.words c.args.slot
+    c.in-Err.fault stop (c.in-Err.ensures.refused.refused c.requires.attempt.keeps.live))
     (λ changes told keeps tells. c.in-Err.ensures.cut changes told keeps tells (ap (λ f. Err f) (stop_is c.in-Err.fault stop)))
 
 pub returns-then-is_stop-clause-room : goal.returns-then-is_stop-clause-room
@@ -25,13 +28,18 @@ pub returns-in-Err-clause-told : goal.returns-in-Err-clause-told
 returns-in-Err-clause-told g c =
     let ok : is_stop c.in-Err.fault ≡ false = search rules in
     let knows = c.requires.attempt in
-    let refused = c.in-Err.ensures.refused in (
+    let refused = c.in-Err.ensures.refused in
+    let known = λ (is : c.in-Err.fault ≡ Unknown).
+    none-some knows.tells.run (sym (refused.unknown.0 (ap (λ f. Err f) is)).1 ∙ knows.tells.at) in (
       attempt_lost c.args.node.now c.lost.new.self c.args.records.now.items c.in-Err.ensures.rest.1 c.args.slot
           (attempt_records c.args.node.now c.lost.new.self c.args.records.now.items c.in-Err.ensures.rest.1 g.D.Disk.words c.args.slot
           c.in-Err.fault ok (refused.refused knows.keeps.live))
+          (attempt_gone c.args.node.now c.lost.new.self c.args.records.now.items c.in-Err.ensures.rest.1 g.D.Disk.words c.args.slot
+          c.in-Err.fault ok known (refused.refused knows.keeps.live))
           c.in-Err.ensures.rest.0 c.in-Err.ensures.rest.2,
-      attempt_want c.args.node.now c.lost.new.self c.args.records.now.items c.in-Err.ensures.rest.1 g.D.Disk.words c.args.slot
-          c.in-Err.fault ok (λ is. none-some knows.tells.run (sym (refused.unknown.0 (ap (λ f. Err f) is)).1 ∙ knows.tells.at))
+      attempt_why c.args.node.now c.lost.new.self c.args.records.now.items c.in-Err.ensures.rest.1 g.D.Disk.words c.args.slot
+          c.in-Err.fault ok known
+          (λ is changes told keeps tells. c.in-Err.ensures.full changes told keeps tells (ap (λ f. Err f) is))
           (refused.refused knows.keeps.live),
     )
 

@@ -1,5 +1,6 @@
-use Rattle.std.proofs.Common.{◌≡◌, true, false, Err, ap, arith, rules}
+use Rattle.std.proofs.Common.{◌≡◌, true, false, Err, ap, arith, rules, subst}
 use Rattle.std.specs.Prelude.{vec_capacity, vec_len}
+use Rattle.relay_attempts.specs.Outcomes.{RefusesToGiveUp}
 use Rattle.relay_hosts.specs.Call.{is_stop}
 use Rattle.relay_hosts.proofs.CallLemmas.{noted_some, notes_one, owed_stopped, owes_noted, stop_is}
 use Rattle.relay_hosts.proofs.WorkLemmas.{given_up_same, owes_unchanged, refuses_giving_up, same_node, stops_giving_up}
@@ -10,6 +11,9 @@ returns-then-is_stop-clause-given g c =
     let stop : is_stop c.in-Err.fault ≡ true = search rules in
     stops_giving_up g.D.Disk.honest g.D.Disk.words c.args.node.now c.give_up_unroutable.new.self c.args.records.now.items
     c.reserve.new.self.items c.args.message c.args.now c.requires.changes c.in-Ok.ensures.items c.in-Err.ensures.rest.0
+    (subst (λ f. RefusesToGiveUp g.D.Disk.words c.args.node.now.config.host c.args.node.now.config.routes c.args.message
+    c.args.now c.args.node.now.records c.give_up_unroutable.new.self.records f) (stop_is c.in-Err.fault stop)
+    c.in-Err.ensures.refused)
     (λ changes keeps. c.in-Err.ensures.cut changes keeps (ap (λ f. Err f) (stop_is c.in-Err.fault stop)))
 
 pub returns-then-is_stop-clause-room : goal.returns-then-is_stop-clause-room

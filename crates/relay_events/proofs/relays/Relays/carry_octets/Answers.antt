@@ -12,7 +12,7 @@ use Rattle.relay_events.proofs.relays.Relays.carry_octets.Goals as goal
 
 -- nothing was done for want of memory
 pub returns-in_default-clause-steps : goal.returns-in_default-clause-steps
-returns-in_default-clause-steps g c = inr (inl (inl c.requires.none, refl, refl))
+returns-in_default-clause-steps g c = inr (inl (tt, inl c.requires.none, refl, refl))
 
 pub returns-in_default-keep_lines-clause-steps : goal.returns-in_default-keep_lines-clause-steps
 returns-in_default-keep_lines-clause-steps g c =

@@ -17,7 +17,7 @@ finish-requires-clause-list g c =
     omega (arith, room, fewer)
 
 pub returns-in_default-clause-steps : goal.returns-in_default-clause-steps
-returns-in_default-clause-steps g c node none at = inr (inl (inl none, refl, refl))
+returns-in_default-clause-steps g c node none at = inr (inl (tt, inl none, refl, refl))
 
 pub returns-clause-steps : goal.returns-clause-steps
 returns-clause-steps g c node none at =

@@ -19,7 +19,7 @@ call_to_compact-requires-clause-up g c =
 pub returns-in_default-list_of_stops-clause-steps : goal.returns-in_default-list_of_stops-clause-steps
 returns-in_default-list_of_stops-clause-steps g c =
     let none : unless_up (world_of c.args.self.now) c.args.node None ≡ None = search rules in
-    inr (inl (inl none, refl, refl))
+    inr (inl (tt, inl none, refl, refl))
 
 pub returns-in-Done-clause-steps : goal.returns-in-Done-clause-steps
 returns-in-Done-clause-steps g c =

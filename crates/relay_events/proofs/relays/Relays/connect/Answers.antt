@@ -93,7 +93,7 @@ pub returns-in_default-reserve-clause-steps : goal.returns-in_default-reserve-cl
 returns-in_default-reserve-clause-steps g c =
     let old = world_of c.args.self.now in
     let none : unless_up old c.args.node None ≡ None = search rules in
-    inr (inl (inl none, refl, same_links old c.reserve.new.self.items c.reserve.ensures.items))
+    inr (inl (tt, inl none, refl, same_links old c.reserve.new.self.items c.reserve.ensures.items))
 
 pub returns-in_default-reserve-clause-happened : goal.returns-in_default-reserve-clause-happened
 returns-in_default-reserve-clause-happened g c =

@@ -29,7 +29,7 @@ first_work-requires g c =
     (subst (λ h. slice_get old.hosts c.args.node ≡ Some h) (sym same) its.1) (ap (λ (h : _). holds_up h.state) same ∙ its.2)
 
 pub returns-in-Err-clause-steps : goal.returns-in-Err-clause-steps
-returns-in-Err-clause-steps g c = inr (inl (inr tt, refl, refl))
+returns-in-Err-clause-steps g c = inr (inl (tt, inr tt, refl, refl))
 
 pub returns-in_default-clause-steps : goal.returns-in_default-clause-steps
 returns-in_default-clause-steps g c =

@@ -15,7 +15,7 @@ returns-in-Some-clause-steps g c =
     inl (down_first old c.args.node c.in-Some.fault is, refl)
 
 pub returns-in_default-room_for_work-clause-steps : goal.returns-in_default-room_for_work-clause-steps
-returns-in_default-room_for_work-clause-steps g c = inr (inl (inr tt, refl, c.room_for_work.ensures.world))
+returns-in_default-room_for_work-clause-steps g c = inr (inl (tt, inr tt, refl, c.room_for_work.ensures.world))
 
 pub returns-in_default-room_for_work-clause-happened : goal.returns-in_default-room_for_work-clause-happened
 returns-in_default-room_for_work-clause-happened g c =

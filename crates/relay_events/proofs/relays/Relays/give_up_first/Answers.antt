@@ -87,6 +87,7 @@ pub returns-in-NoRoom-clause-steps : goal.returns-in-NoRoom-clause-steps
 returns-in-NoRoom-clause-steps g c =
     let calls = c.in-NoRoom.ensures.called in
     inr (inl (
+      tt,
       inr tt,
       refl,
       called_same g.D.Disk.honest g.D.Disk.words (world_of c.args.self.now) (world_of c.call_to_give_up.new.self) c.args.node

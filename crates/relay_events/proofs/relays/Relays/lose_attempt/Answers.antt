@@ -1,8 +1,9 @@
 use Rattle.std.proofs.Common.{◌≤◌, ◌+◌, ◌-◌, length, subst, sym, ap, ◌∙◌, arith, rules}
 use Rattle.std.specs.Prelude.{vec_capacity, vec_len}
 use Rattle.relay_events.specs.Relays.{free_lines, world_of}
+use Rattle.relay_hosts.specs.Call.{IsWhyUntold}
 use Rattle.relay_hosts.specs.Room.{HasRoom}
-use Rattle.relay_events.proofs.ClientEndLemmas.{gone_fewer, gone_happened, gone_room, gone_running, has_at, has_gone, place_within}
+use Rattle.relay_events.proofs.ClientEndLemmas.{gone_fewer, gone_happened, gone_room, gone_running, has_at, has_gone_so, place_within}
 use Rattle.relay_events.proofs.LoseLemmas.{crashes_told, cut_short, ended_fewer, ended_happened, ended_room, ended_running, has_ended, ready_to_crash, restart_fewer, restart_happened, restart_running, room_for}
 use Rattle.relay_events.proofs.relays.Relays.lose_attempt.Goals as goal
 
@@ -68,12 +69,11 @@ set_fate-requires g c =
 
 pub returns-in-Gone-clause-told : goal.returns-in-Gone-clause-told
 returns-in-Gone-clause-told g c =
-    let called = c.in-Gone.ensures.called in (
-      has_gone g.D.Disk.honest g.D.Disk.words (world_of c.args.self.now) (world_of c.call_to_lose.new.self) c.args.number
-          c.client_end-end.result c.client_end-end.ensures called.was called.now called.was_at called.new_is
-          (world_of c.set_fate.new.self) called.tells.0 c.set_fate.ensures.world,
-      called.tells.1,
-    )
+    let called = c.in-Gone.ensures.called in
+    has_gone_so g.D.Disk.honest g.D.Disk.words (world_of c.args.self.now) (world_of c.call_to_lose.new.self) c.args.number
+    c.client_end-end.result c.client_end-end.ensures called.was called.now called.was_at called.new_is
+    (world_of c.set_fate.new.self) called.tells.0 c.set_fate.ensures.world
+    (λ of. IsWhyUntold g.D.Disk.honest g.D.Disk.words c.args.self.now.clock of.host.state of.slot c.in-Gone.why) called.tells.1
 
 pub returns-in-Gone-clause-happened : goal.returns-in-Gone-clause-happened
 returns-in-Gone-clause-happened g c =

@@ -1,13 +1,17 @@
 use Rattle.std.proofs.Common.{◌≤◌, ◌-◌, true, subst, sym, ap, ◌∙◌, arith, rules}
 use Rattle.std.specs.Prelude.{vec_capacity, vec_len}
+use Rattle.relay_world.specs.declared.link.Link.{Link}
+use Rattle.relay_world.specs.Steps.{waiting_down}
 use Rattle.relay_world.specs.World.{link_at}
+use Rattle.relay_hosts.specs.declared.calls.Read.TheVariants.{Gone}
+use Rattle.relay_hosts.specs.Call.{IsWhyUnread}
 use Rattle.relay_events.specs.Relays.{free_lines, world_of}
 use Rattle.relay_hosts.specs.Room.{HasRoom}
-use Rattle.relay_events.specs.Step.{Carries, Refuses}
+use Rattle.relay_events.specs.Step.{Carries, IsWhyDropped, Refuses}
 use Rattle.relay_events.proofs.BreakLemmas.{room_broken, running_broken, then_broken}
 use Rattle.relay_events.proofs.CarriedLemmas.{dropped_carries, tries_at}
-use Rattle.relay_events.proofs.ClientEndLemmas.{gone_happened, gone_room, gone_running, has_gone, place_within}
-use Rattle.relay_events.proofs.ReadDoneLemmas.{crash_carries, cut_short, done_carries, done_happened, done_room, done_running, has_more, ready_to_crash, restart_happened, restart_running, room_for}
+use Rattle.relay_events.proofs.ClientEndLemmas.{gone_happened, gone_room, gone_running, has_gone, has_gone_so, place_within}
+use Rattle.relay_events.proofs.ReadDoneLemmas.{crash_carries, cut_short, done_carries, done_happened, done_room, done_running, has_more, link_same, ready_to_crash, restart_happened, restart_running, room_for}
 use Rattle.relay_events.proofs.relays.Relays.read_replies.Goals as goal
 
 pub client_end-end-requires-clause-tries : goal.client_end-end-requires-clause-tries
@@ -85,14 +89,20 @@ break_off-requires g c =
 pub returns-in-Gone-clause-carries : goal.returns-in-Gone-clause-carries
 returns-in-Gone-clause-carries g c node waits =
     let called = c.in-Gone.ensures.called in
-    let gone = has_gone g.D.Disk.honest g.D.Disk.words (world_of c.args.self.now) (world_of c.call_to_read.new.self) c.args.number
-    c.client_end-end.result c.client_end-end.ensures called.was called.now called.was_at called.new_is
-    (world_of c.set_fate.new.self) called.reads.0 c.set_fate.ensures.world in
+    let same = link_same g.D.Disk.honest g.D.Disk.words (world_of c.args.self.now) (world_of c.call_to_read.new.self) c.args.number
+    c.args.count c.client_end-end.result c.client_end-end.ensures (Gone c.in-Gone.why) called in
+    let gone = has_gone_so g.D.Disk.honest g.D.Disk.words (world_of c.args.self.now) (world_of c.call_to_read.new.self)
+    c.args.number c.client_end-end.result c.client_end-end.ensures called.was called.now called.was_at called.new_is
+    (world_of c.set_fate.new.self) called.reads.0 c.set_fate.ensures.world
+    (λ of. IsWhyDropped g.D.Disk.honest g.D.Disk.words (world_of c.args.self.now) c.args.number c.args.count of true c.in-Gone.why)
+    (subst
+    (λ (l : Link). IsWhyUnread g.D.Disk.honest g.D.Disk.words c.args.self.now.clock called.was.state c.client_end-end.result.slot
+    (waiting_down c.args.count l) c.in-Gone.why) same called.reads.1) in
     subst
     (λ f. Carries g.D.Disk.honest g.D.Disk.words (world_of c.args.self.now) c.args.number node c.args.count
     (world_of c.break_off.new.self) (Refuses f)) (sym c.fault_of.ensures)
     (dropped_carries g.D.Disk.honest g.D.Disk.words (world_of c.args.self.now) (world_of c.set_fate.new.self)
-    (world_of c.break_off.new.self) c.args.number node c.args.count true c.in-Gone.why called.reads.1 waits gone
+    (world_of c.break_off.new.self) c.args.number node c.args.count true c.in-Gone.why waits gone.0 gone.1
     c.break_off.ensures.world)
 
 pub returns-in-Gone-clause-happened : goal.returns-in-Gone-clause-happened

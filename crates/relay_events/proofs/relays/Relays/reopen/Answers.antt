@@ -44,7 +44,7 @@ returns-clause-fewer g c =
 pub returns-in_default-clause-opened : goal.returns-in_default-clause-opened
 returns-in_default-clause-opened g c =
     reopened_without g.D.Disk.honest g.D.Disk.words (world_of c.args.self.now) (world_of c.open_host.new.self) c.args.node
-    c.in_default.ensures.world
+    c.down_is_not_refused.ensures c.requires.bound c.in_default.ensures.world
 
 pub returns-in_default-clause-room : goal.returns-in_default-clause-room
 returns-in_default-clause-room g c =

@@ -46,7 +46,7 @@ pub returns-in-Err-clause-steps : goal.returns-in-Err-clause-steps
 returns-in-Err-clause-steps g c =
     let old = world_of c.args.self.now in
     let none : send_fault old (whole_link old.links c.args.number) ≡ None = search rules in
-    inr (inl (inl none, refl, c.in-Err.ensures.err))
+    inr (inl (tt, inl none, refl, c.in-Err.ensures.err))
 
 pub returns-in-Err-clause-happened : goal.returns-in-Err-clause-happened
 returns-in-Err-clause-happened g c =

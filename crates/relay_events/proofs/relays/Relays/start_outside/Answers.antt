@@ -110,6 +110,7 @@ pub returns-in_default-clause-steps : goal.returns-in_default-clause-steps
 returns-in_default-clause-steps g c =
     let old = world_of c.args.self.now in
     inr (inl (
+      tt,
       inl (first_not_down old c.args.node c.args.message c.args.hop.now c.requires.first
           (none_is_down old old.hosts c.args.hop.now c.requires.none)),
       refl,

@@ -50,7 +50,7 @@ returns-then-len-node-clause-steps g c =
 pub returns-in_default-clause-steps : goal.returns-in_default-clause-steps
 returns-in_default-clause-steps g c =
     let within : c.args.node < length c.args.self.now.hosts.items = search rules in
-    inr (inl (inl (stop_may g.D.Disk.honest g.D.Disk.words (world_of c.args.self.now) c.args.node c.args.pick within), refl, refl))
+    inr (inl (tt, inl (stop_may g.D.Disk.honest g.D.Disk.words (world_of c.args.self.now) c.args.node c.args.pick within), refl, refl))
 
 pub returns-clause-steps : goal.returns-clause-steps
 returns-clause-steps g c =

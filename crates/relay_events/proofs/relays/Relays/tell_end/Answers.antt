@@ -28,8 +28,8 @@ returns-in-Gone-clause-carries g c node count runs =
     (λ f. Carries g.D.Disk.honest g.D.Disk.words (world_of c.args.self.now) c.args.number node count
     (world_of c.break_off.new.self) (Refuses f)) (sym c.fault_of.ensures)
     (dropped_carries g.D.Disk.honest g.D.Disk.words (world_of c.args.self.now) (world_of c.lose_attempt.new.self)
-    (world_of c.break_off.new.self) c.args.number node count false c.in-Gone.why c.in-Gone.ensures.told.1 runs
-    c.in-Gone.ensures.told.0 c.break_off.ensures.world)
+    (world_of c.break_off.new.self) c.args.number node count false c.in-Gone.why runs
+    c.in-Gone.ensures.told.0 c.in-Gone.ensures.told.1 c.break_off.ensures.world)
 
 pub returns-in-Gone-clause-happened : goal.returns-in-Gone-clause-happened
 returns-in-Gone-clause-happened g c =

@@ -59,6 +59,7 @@ returns-in_default-from_slice-clause-steps g c =
     ap (λ b. if b then None else Some fault.Down)
     (ap is_up named.host_at ∙ ap (λ (h : _). holds_up h.state) (sym same) ∙ up) in
     inr (inl (
+      tt,
       inl (first_not_down old c.args.node c.args.message c.args.hop.now c.requires.first
           (up_named old c.args.hop.now c.in-Some.to named is_up_there)),
       refl,
