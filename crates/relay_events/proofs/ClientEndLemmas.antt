@@ -82,9 +82,11 @@ module _ {D : Type 0} (honest : Type 0) (words : DiskWords D) (old called : Worl
         → P (attempt_of honest words old number end.place end.slot its runs.on was now was_is loses.before loses.runs.up)
         → (drops : DropsAttempt old new number) × P drops.of
     has_gone_so P so =
-        subst (λ (w : World D). (drops : DropsAttempt old w number) × P drops.of) (sym (set_is new Dropped sets))
-        (has_dropped honest words old number end.place end.slot its runs.on was now was_is (record its { fate = Dropped }) refl
-        loses, so)
+        subst (λ (w : World D). (drops : DropsAttempt old w number) × P drops.of) (sym (set_is new Dropped sets)) (
+          has_dropped honest words old number end.place end.slot its runs.on was now was_is (record its { fate = Dropped }) refl
+              loses,
+          so,
+        )
 
     pub gone_happened : HasHappened honest words old new
     gone_happened = one_happened honest words old new (DropsEvent number has_gone)
