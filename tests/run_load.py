@@ -21,8 +21,8 @@ sys.dont_write_bytecode = True
 
 from mail_checks import hand_in
 from relay_program import Difference, PATIENCE, free_port, same, until
-from running_relay import SOON, TIMES, Client, beside, clients_of, comes_to_rest, lines_of, no_later, number_of, play_rows
-from running_relay import resident, shim, slowest, token_of
+from running_relay import SOON, TIMES, Client, beside, clients_of, comes_to_rest, lines_of, no_later, number_of
+from running_relay import play_rows, resident, shim, slowest, token_of
 
 DUE = int(os.environ.get("DUE", 6300))
 THROUGH = int(os.environ.get("THROUGH", 2000))
