@@ -1,5 +1,6 @@
 -- What a call of its node makes of one host.
-use Rattle.std.specs.Prelude.{◌≡◌, ◌⊎◌, ℕ, ◌<◌, ◌≤◌, ◌^◌, Bool, true, false, List, [], ◌∷◌, ◌++◌, length, Option, None, Some}
+use Rattle.std.specs.Prelude.{◌≡◌, ◌⊎◌, ℕ, ◌<◌, ◌≤◌, ◌^◌, Bool, true, false, List, [], ◌∷◌, ◌++◌, length, Option, None}
+use Rattle.std.specs.Prelude.{Some}
 use Rattle.relay_disk.specs.Device.{DiskWords}
 use Rattle.relay_slots.specs.Slots.{OthersStay, slot_at}
 use Rattle.relay_server.specs.Dialogue.{Said}
@@ -145,7 +146,8 @@ module _ {D : Type 0} (honest : Type 0) (words : DiskWords D) where
       → HasNoRoomAtEnd node.config.host now told piece node.records))
   IsWhyUnread now (Down disk undecided) slot piece fault = ⊥
 
-  -- and why it loses one that was told of the loss of its link: there was no memory, or no room, for the outcome of that
+  -- and why it loses one that was told of the loss of its link: there was no memory, or no room, for the outcome of
+  -- that
   abbrev pub IsWhyUntold : ℕ → HostState D → ℕ → NodeFault → Type 0
   IsWhyUntold now (Up node) slot fault =
       (fault ≡ node_fault.NoMemory)

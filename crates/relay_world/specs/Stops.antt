@@ -222,8 +222,8 @@ pub record StaysDown {D : Type 0} (honest : Type 0) (words : DiskWords D) (old n
 abbrev pub StopsAgain : {D : Type 0} → Type 0 → DiskWords D → World D → World D → ℕ → Type 0
 StopsAgain honest words old new node = StaysDown honest words old new node
 
--- A node that is down couldn't be opened: its disks were refused, for this cause. That is a failure of the device, which
--- has counted it, want of memory, or the size of the spool, and of an honest disk never the octets.
+-- A node that is down couldn't be opened: its disks were refused, for this cause. That is a failure of the device,
+-- which has counted it, want of memory, or the size of the spool, and of an honest disk never the octets.
 pub record IsRefused {D : Type 0} (honest : Type 0) (words : DiskWords D) (old new : World D) (node : ℕ) : Type 0 where
   pub stays : StaysDown honest words old new node
   pub cause : Cause
