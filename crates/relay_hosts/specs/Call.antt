@@ -146,8 +146,7 @@ module _ {D : Type 0} (honest : Type 0) (words : DiskWords D) where
       → HasNoRoomAtEnd node.config.host now told piece node.records))
   IsWhyUnread now (Down disk undecided) slot piece fault = ⊥
 
-  -- and why it loses one that was told of the loss of its link: there was no memory, or no room, for the outcome of
-  -- that
+  -- and why it loses one that was told of the loss of its link: no memory was left for that outcome, or no room
   abbrev pub IsWhyUntold : ℕ → HostState D → ℕ → NodeFault → Type 0
   IsWhyUntold now (Up node) slot fault =
       (fault ≡ node_fault.NoMemory)
