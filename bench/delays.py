@@ -4,8 +4,8 @@
     bench/delays.py build/relayd [CROWD ..]
 
 The crowds are those of CROWDS below, or those that are named. MESSAGES (200) is how many messages a figure is of, DUE
-(100000) how many are due where a listing is measured. What the client waits for is the 250 behind its text, one message
-after another at one connection. Beside a crowd of next hops it is the way of a message to a next hop that answers.
+(100000) how many are due where a listing is measured. What the client waits for is the 250 that follows its text, one
+message after another at one connection; beside a crowd of next hops it is a message's way to a next hop that answers.
 """
 import contextlib
 import os

@@ -82,7 +82,7 @@ def a_full_device_closes_all_and_goes_on_with_room(field):
 
 
 def the_spool_stays_closed_while_there_is_no_room(field):
-    """Its room is tested behind 1, 2 and 4 seconds, and nothing is begun until there is some."""
+    """Its room is tested after 1, 2 and 4 seconds, and nothing is begun until there is some."""
     relay = field.relay()
     with relay.running(preexec_fn=without_signals) as process:
         hand_in(relay, LONG)
