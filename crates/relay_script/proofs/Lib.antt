@@ -1,6 +1,7 @@
 mod OctetLemmas
 mod TextLemmas
 mod NumberLemmas
+mod CutLemmas
 mod WordLemmas
 mod OperandLemmas
 mod LineLemmas

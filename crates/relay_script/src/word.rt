@@ -10,6 +10,7 @@ ghost use Rattle.relay_script.specs.Reading.Kind.{CountKind, NodeKind, NumberKin
 
 use crate::node_count::NodeCount;
 use crate::node_index::{MOST_NODES, NodeIndex};
+use bstr::ByteSlice;
 use relay_trace::Moment;
 use std::str;
 
@@ -27,15 +28,11 @@ pub(crate) fn behind<'a>(keyword: &[u8], text: &'a [u8]) -> Option<&'a [u8]>
 }
 
 /// The word before the first space, and what stands behind that space.
+#[tactic(auto, using(crate::proofs::CutLemmas::cut_is))]
 pub(crate) fn cut_word(text: &[u8]) -> Option<(&[u8], &[u8])>
     ensures { MatchOption result (HasNoSpace text.now) (λ parts. CutsWord text.now parts.0.now parts.1.now) }
 {
-    for (i, octet) in text.iter().enumerate() {
-        if *octet == b' ' {
-            return Some((&text[..i], &text[i + 1..]));
-        }
-    }
-    None
+    text.split_once_str(b" ")
 }
 
 /// The node of a letter.
