@@ -1,13 +1,7 @@
 //! `relayd`, a store-and-forward SMTP relay.
 #![tactic(auto)]
 
-mod descriptors;
-mod dispatch;
-mod setup;
-mod streams;
-
-use descriptors::hold_standard_streams;
-use dispatch::{command, refuse_streams, refuse_words};
+use relay_program::{command, hold_standard_streams, refuse_streams, refuse_words};
 use std::process::ExitCode;
 use std::{env, io};
 

@@ -2,10 +2,10 @@ ghost use Rattle.std.specs.Prelude.{◌≡◌, ◌≢◌, ◌⊎◌, [], ◌∷�
 ghost use Rattle.std.specs.IoError.{error_kind};
 ghost use Rattle.clap.specs.Words.{kind_of};
 ghost use Rattle.relay_arguments.specs.Arguments.{AreWrong, AskForPlay, AskForSession, faults_in};
-ghost use Rattle.relayd.specs.Play.{IsPlayedWhole};
-ghost use Rattle.relayd.specs.Session.{EndsAs};
+ghost use Rattle.relay_program.specs.Play.{IsPlayedWhole};
+ghost use Rattle.relay_program.specs.Session.{EndsAs};
 
-use crate::streams::session;
+use crate::session::session;
 use clap::Error;
 use clap::error::ErrorKind;
 use relay_arguments::{Subcommand, arguments};

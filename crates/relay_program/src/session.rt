@@ -1,8 +1,8 @@
 ghost use Rattle.std.specs.Prelude.{◌≡◌, [], IfOk, OnErr, OnOk};
 ghost use Rattle.relay_disk.specs.Memory.{memory_words};
 ghost use Rattle.relay_records.specs.Records.{Keeps};
-ghost use Rattle.relayd.specs.Session.{IsBegun, IsOpened, IsServed};
-ghost use Rattle.relayd.specs.Setup.{IsProfile};
+ghost use Rattle.relay_program.specs.Session.{IsBegun, IsOpened, IsServed};
+ghost use Rattle.relay_program.specs.Setup.{IsProfile};
 
 use crate::setup::{ADDRESS, configuration, moment};
 use relay_disk::{Disks, MemoryDisk};

@@ -10,7 +10,7 @@ use Rattle.relay_records.specs.Records.{Keeps}
 use Rattle.relay_node.specs.declared.node.Connected.{Connected}
 use Rattle.relay_node.specs.Node.{SeatHasSaid, NodeState, greeted_by}
 use Rattle.relay_links.specs.Accepted.{Accepts, Rule}
-use Rattle.relayd.specs.Setup.{IsProfile, session_limit, session_moment, session_peer, session_setup}
+use Rattle.relay_program.specs.Setup.{IsProfile, session_limit, session_moment, session_peer, session_setup}
 
 -- how the mail of a session is accepted
 abbrev pub session_rule : Rule

@@ -1,6 +1,6 @@
 ghost use Rattle.std.specs.Prelude.{◌≡◌, [], ◌∷◌, IfOk};
 ghost use Rattle.relay_routes.specs.Value.{IsHostName};
-ghost use Rattle.relayd.specs.Setup.{IsProfile, loopback_at, only_route, session_moment};
+ghost use Rattle.relay_program.specs.Setup.{IsProfile, loopback_at, only_route, session_moment};
 
 use relay_routes::{BareNewlines, Config, Hop, HostName, SpoolPath, Table};
 use relay_trace::Moment;

@@ -15,8 +15,8 @@ use Rattle.relay_links.specs.declared.fault.LinkFault.{LinkFault}
 use Rattle.relay_links.specs.declared.fault.LinkFault.TheVariants.{Input, Output, NoMemory, Full, Device}
 use Rattle.relay_links.specs.Accepted.{Accepts, Rule}
 use Rattle.relay_links.specs.Link.{HasBegun, HasServed, HaveCome, Leaves, Start, rule, start_at}
-use Rattle.relayd.specs.Session.{AreAnswered, IsBegun, IsServed, session_rule}
-use Rattle.relayd.specs.Setup.{IsProfile, session_moment, session_peer, session_setup}
+use Rattle.relay_program.specs.Session.{AreAnswered, IsBegun, IsServed, session_rule}
+use Rattle.relay_program.specs.Setup.{IsProfile, session_moment, session_peer, session_setup}
 
 -- what holds in any case holds on an error
 pub on_err : {T E : Type 0} (result : Result T E) (P : Type 0) → P → OnErr result P
