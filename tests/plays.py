@@ -1,9 +1,9 @@
 #!/usr/bin/env python3
 """Plays scripts of relays with `relayd play`: those of docs/plays/, whose output stands beside each, those of two nodes
 also with `nodes 2` and `nodes 3` before them; each refusal, in its order; faults of a script and of the streams; a
-message that goes round in a circle of two and of three nodes until it has too many Received fields; a stop whose telling
-stops the other node; spools that are written anew between any two lines; and how long circles, 10,000 carries, and 1,000
-messages among sixteen nodes take. It ends at the first difference.
+message that goes round in a circle of two and of three nodes until it has too many Received fields; a stop whose
+telling stops the other node; spools that are written anew between any two lines; and how long circles, 10,000 carries,
+and 1,000 messages among sixteen nodes take. It ends at the first difference.
 
     tests/plays.py build/relayd
 """

@@ -33,7 +33,7 @@ def paths_of(messages):
 
 
 class Hop:
-    """A next hop that treats its first connections each in a way of its own, and takes the mail of those that follow."""
+    """A next hop that treats its first connections each in a way of its own, and takes the mail of all others."""
 
     def __init__(self, *ways):
         self.ways, self.lock = list(ways), threading.Lock()

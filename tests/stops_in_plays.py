@@ -8,9 +8,9 @@ allow.
     tests/stops_in_plays.py build/relayd [all]
 
 A pick says what the device has kept of the octets that changed and weren't synced: 0 none of them, 1 all, 2 and 3 an
-octet 1 or 255 in place of each, 4 and more the first so many less 4. Of lost_reply.play the stops have each of 21 picks,
-and those before a compaction picks 0 and 1; of three_nodes.play all have picks 0 and 1. With `all` each script has each
-pick in both. The plays run side by side, as many as there are processors.
+octet 1 or 255 in place of each, 4 and more the first so many less 4. Of lost_reply.play the stops have each of 21
+picks, and those before a compaction picks 0 and 1; of three_nodes.play all have picks 0 and 1. With `all` each script
+has each pick in both. The plays run side by side, as many as there are processors.
 """
 import multiprocessing
 import os
