@@ -225,23 +225,28 @@ def late_mail_has_one_delayed_report_each(field):
             time.sleep(0.03)
             until("no report is queued", lambda: "<a@example.org>" not in [row[2] for row in relay.held()])
 
+    def late():
+        """The messages that are queued, without reports."""
+        return [row[0] for row in relay.held() if row[2] == "<c@example.net>"]
+
     with relay.running():
         for _ in range(count):
             hand_in(relay, recipients=("c@example.net",), rcpt=["NOTIFY=DELAY,FAILURE"])
-        numbers = [row[0] for row in relay.held()]
+        numbers = late()
+        same("how many are queued", len(numbers), count)
         until("a next hop that is left alone", lambda: lines_of(relay, "held off for 60 s"))
         pass_time(4 * HOUR - 600, 600)
         same("reports before four hours are over", gather(), {})
         pass_time(HOUR + 600, 600)
         # At most 14 connections fit into this time: at once, after 1, 2, 4, 8, 16 minutes, and then each half hour.
         until("reports after five hours", lambda: len(gather()) >= count - 14)
-        same("what is queued", [row[0] for row in relay.held()], numbers)
+        same("what is queued", late(), numbers)
         # The one that was tried last before that is due again four hours later, and overdue four hours after that.
         pass_time(9 * HOUR, HOUR // 2)
         until("a report for each", lambda: sorted(gather()) == numbers)
         pass_time(4 * HOUR, HOUR)
         same("reports of each message", {of: len(found) for of, found in gather().items()}, dict.fromkeys(numbers, 1))
-        same("what is queued", [row[0] for row in relay.held()], numbers)
+        same("what is queued", late(), numbers)
     for of, found in reports.items():
         [(number, message)] = found.items()
         status = fields(read_report(message, number, of), 1)
