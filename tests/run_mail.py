@@ -93,6 +93,70 @@ ENDS = {
 }
 
 
+class Late:
+    """Messages for a next hop that is away, whose senders asked to be told of a delay; and the reports of them."""
+
+    def __init__(self, field, count):
+        self.count, self.sink, self.reports = count, field.sink, {}
+        self.relay = field.relay(more={"example.net": ("away.example", free_port())})
+        self.clocks = Clocks(field, self.relay)
+
+    def hand_in_all(self):
+        for _ in range(self.count):
+            hand_in(self.relay, recipients=("c@example.net",), rcpt=["NOTIFY=DELAY,FAILURE"])
+        self.numbers = self.numbers_to("<c@example.net>")
+        same("how many are queued", len(self.numbers), self.count)
+        until("a next hop that is left alone", lambda: lines_of(self.relay, "held off for 60 s"))
+
+    def queued_to(self, path):
+        return [row for row in self.relay.held() if row[2] == path]
+
+    def numbers_to(self, path):
+        return [row[0] for row in self.queued_to(path)]
+
+    def reports_that_arrived(self):
+        """By the number of the message, and then by their own."""
+        for message in self.sink.take_all():
+            [of] = re.findall(rb"Delivery report of relay\.example for message (\d+)\.", message.content)
+            number = int(re.search(rb"Message-ID: <(\d+)@", message.content)[1])
+            self.reports.setdefault(int(of), {})[number] = message
+        return self.reports
+
+    def reports_made(self):
+        """The numbers of all reports, those that are queued too."""
+        queued = set(self.numbers_to("<a@example.org>"))
+        return queued.union(*self.reports_that_arrived().values())
+
+    def pass_time(self, seconds, step):
+        """Lets time pass in steps. A report that is on its way when the clock moves may be put off."""
+        for _ in range(seconds // step):
+            self.clocks.advance(step)
+            time.sleep(0.03)
+            ends = time.monotonic() + 1
+            while time.monotonic() < ends and any(row[3] <= self.clocks.now()
+                                                  for row in self.queued_to("<a@example.org>")):
+                time.sleep(0.01)
+
+    def deliver_reports(self):
+        for _ in range(24):
+            if len(self.reports_that_arrived()) < self.count:
+                self.pass_time(HOUR, HOUR)
+
+    def check_reports(self):
+        """Each message is queued, and has one report of a delay and no other."""
+        arrived = self.reports_that_arrived()
+        same("reports of each message", {of: len(found) for of, found in arrived.items()},
+             dict.fromkeys(self.numbers, 1))
+        same("reports in all", len(self.reports_made()), self.count)
+        same("what is queued", self.numbers_to("<c@example.net>"), self.numbers)
+        for of, found in arrived.items():
+            [(number, message)] = found.items()
+            status = fields(read_report(message, number, of), 1)
+            status.pop("Will-Retry-Until")
+            same("the recipient", status, {**FAILED, "Final-Recipient": "rfc822; c@example.net", "Action": "delayed",
+                                           "Status": "4.0.0"})
+
+
 # The rows. Each says in its name what holds.
 
 
@@ -203,56 +267,34 @@ def mail_whose_route_is_gone_is_reported(field):
                                                   "Status": "5.1.2"})
 
 
-def late_mail_has_one_delayed_report_each(field):
-    """Of 20 messages for a next hop that is away, some wait for hours without being tried, since it's left alone for
-    longer each time. Each sender who asked is told once that the mail is late, four hours after it came or later,
-    whether it was tried or not; the messages stay queued."""
-    count = 20
-    relay = field.relay(more={"example.net": ("away.example", free_port())})
-    clocks, reports = Clocks(field, relay), {}
+def late_mail_has_one_delayed_report(field):
+    """A message waits for five hours of the clock for a next hop that is away. Its sender, who asked, is told once that
+    it's late, and not again in the hours that follow; the message stays queued."""
+    late = Late(field, 1)
+    with late.relay.running():
+        late.hand_in_all()
+        late.pass_time(5 * HOUR, 5 * HOUR)
+        until("a report after five hours", lambda: len(late.reports_made()) == 1)
+        late.deliver_reports()
+        late.pass_time(15 * HOUR, HOUR)
+        late.check_reports()
 
-    def gather():
-        for message in field.sink.take_all():
-            [of] = re.findall(rb"Delivery report of relay\.example for message (\d+)\.", message.content)
-            number = int(re.search(rb"Message-ID: <(\d+)@", message.content)[1])
-            reports.setdefault(int(of), {})[number] = message
-        return reports
 
-    def pass_time(seconds, step):
-        """Lets time pass in steps, with no report under way at any of them."""
-        for _ in range(seconds // step):
-            clocks.advance(step)
-            time.sleep(0.03)
-            until("no report is queued", lambda: "<a@example.org>" not in [row[2] for row in relay.held()])
-
-    def late():
-        """The messages that are queued, without reports."""
-        return [row[0] for row in relay.held() if row[2] == "<c@example.net>"]
-
-    with relay.running():
-        for _ in range(count):
-            hand_in(relay, recipients=("c@example.net",), rcpt=["NOTIFY=DELAY,FAILURE"])
-        numbers = late()
-        same("how many are queued", len(numbers), count)
-        until("a next hop that is left alone", lambda: lines_of(relay, "held off for 60 s"))
-        pass_time(4 * HOUR - 600, 600)
-        same("reports before four hours are over", gather(), {})
-        pass_time(HOUR + 600, 600)
-        # At most 14 connections fit into this time: at once, after 1, 2, 4, 8, 16 minutes, and then each half hour.
-        until("reports after five hours", lambda: len(gather()) >= count - 14)
-        same("what is queued", late(), numbers)
-        # The one that was tried last before that is due again four hours later, and overdue four hours after that.
-        pass_time(9 * HOUR, HOUR // 2)
-        until("a report for each", lambda: sorted(gather()) == numbers)
-        pass_time(4 * HOUR, HOUR)
-        same("reports of each message", {of: len(found) for of, found in gather().items()}, dict.fromkeys(numbers, 1))
-        same("what is queued", late(), numbers)
-    for of, found in reports.items():
-        [(number, message)] = found.items()
-        status = fields(read_report(message, number, of), 1)
-        status.pop("Will-Retry-Until")
-        same("the recipient", status, {**FAILED, "Final-Recipient": "rfc822; c@example.net", "Action": "delayed",
-                                       "Status": "4.0.0"})
+def late_mail_that_is_never_tried_has_one_delayed_report_each(field):
+    """Of 20 messages for a next hop that is away, some wait for hours without being tried, since the next hop is left
+    alone for longer each time. Each sender who asked is told once that the mail is late, whether it was tried or not,
+    and none before four hours; the messages stay queued."""
+    late = Late(field, 20)
+    with late.relay.running():
+        late.hand_in_all()
+        late.pass_time(4 * HOUR - 600, 600)
+        same("reports before four hours are over", late.reports_made(), set())
+        # What is due four hours after its last attempt is overdue four hours later, and may wait for others then.
+        late.pass_time(10 * HOUR, HOUR // 2)
+        until("as many reports as messages", lambda: len(late.reports_made()) == 20)
+        late.deliver_reports()
+        late.pass_time(4 * HOUR, HOUR)
+        late.check_reports()
 
 
 def mail_flows_after_attempts_without_an_outcome(field):
@@ -368,7 +410,8 @@ ROWS = [
     a_trace_header_names_the_client_s_address,
     a_large_text_reaches_a_slow_next_hop_whole,
     mail_whose_route_is_gone_is_reported,
-    late_mail_has_one_delayed_report_each,
+    late_mail_has_one_delayed_report,
+    late_mail_that_is_never_tried_has_one_delayed_report_each,
     mail_flows_after_attempts_without_an_outcome,
     mail_flows_after_attempts_that_came_too_late,
     a_reply_from_before_a_reopening_ends_no_attempt,
