@@ -25,6 +25,7 @@ test:
 	TIMES=10 tests/run.py build/relayd
 	TIMES=10 tests/run_log.py build/relayd
 	TIMES=10 tests/run_hops.py build/relayd
+	TIMES=10 tests/run_mail.py build/relayd
 	TIMES=10 tests/run_faults.py build/relayd
 	TIMES=10 tests/run_load.py build/relayd
 	TIMES=10 tests/run_without_memory.py build/relayd

@@ -11,7 +11,7 @@ from relay_program import Difference, PATIENCE, same
 
 CONTENT = b"Subject: periods\r\n\r\n.\r\n..\r\n.a line\r\nend .\r\n...\r\n"
 MARK = re.compile(
-    rb"Received: from (\S+) \(\[127\.0\.0\.1\]\)\r\n"
+    rb"Received: from (\S+) \(\[([0-9.]+)\]\)\r\n"
     rb" by (\S+) with (E?SMTP) id (\d+);\r\n"
     rb" (.{31})\r\n"
 )
@@ -25,16 +25,17 @@ def hand_in(relay, content=CONTENT, recipients=("b@example.org",), mail=(), rcpt
         return client.sendmail("a@example.org", list(recipients), content, mail, rcpt)
 
 
-def behind_mark(stored, host, number, word="client.example"):
-    """What stands behind the time stamp line, which has to be of this host and number, and of these minutes."""
+def behind_mark(stored, host, number, word="client.example", address="127.0.0.1"):
+    """What stands behind the time stamp line, which has to be of this host and number, of a client of this word and
+    address, and of these minutes."""
     mark = MARK.match(stored)
     if not mark:
         raise Difference(f"no time stamp line begins {stored[:120]!r}")
-    wanted = (word.encode(), host.encode(), b"ESMTP", str(number).encode())
-    same("the time stamp line", mark.groups()[:4], wanted)
-    written = email.utils.parsedate_to_datetime(mark[5].decode()).timestamp()
+    wanted = (word.encode(), address.encode(), host.encode(), b"ESMTP", str(number).encode())
+    same("the time stamp line", mark.groups()[:5], wanted)
+    written = email.utils.parsedate_to_datetime(mark[6].decode()).timestamp()
     if abs(time.time() - written) > 300:
-        raise Difference(f"the time stamp line is of {mark[5].decode()}")
+        raise Difference(f"the time stamp line is of {mark[6].decode()}")
     return stored[mark.end():]
 
 

@@ -1,8 +1,9 @@
 #!/usr/bin/env python3
-"""Plays scripts of relays with `relayd play`: those of docs/plays/, whose output stands beside each, also with `nodes 2` before
-the first; each refusal, in its order; faults of a script and of the streams; a message that goes round in a circle of two and of
-three nodes until it has too many Received fields; a stop whose telling stops the other node; spools that are written anew between
-any two lines; and how long circles, 10,000 carries, and 1,000 messages among sixteen nodes take. It ends at the first difference.
+"""Plays scripts of relays with `relayd play`: those of docs/plays/, whose output stands beside each, those of two nodes
+also with `nodes 2` and `nodes 3` before them; each refusal, in its order; faults of a script and of the streams; a
+message that goes round in a circle of two and of three nodes until it has too many Received fields; a stop whose
+telling stops the other node; spools that are written anew between any two lines; and how long circles, 10,000 carries,
+and 1,000 messages among sixteen nodes take. It ends at the first difference.
 
     tests/plays.py build/relayd
 """
@@ -139,10 +140,11 @@ def refusals(program):
     ])
 
 
-def undone(program):
+def undone(program, first=""):
     """The stop of the play of a crash, by the pick that leaves the append out: the message is at its sender alone until
-    it is tried again, and then there is one copy, though a reply was lost."""
-    script = (PLAYS / "crash.play").read_text()
+    it is tried again, and then there is one copy, though a reply was lost. The script begins with the line that is
+    given, if any."""
+    script = first + (PLAYS / "crash.play").read_text()
     changed = script.replace("stop b 4 1\n", "stop b 4 0\n")
     same("whether the script has the stop", changed != script, True)
     status, out, errors = run(program, changed.encode())
@@ -273,9 +275,14 @@ def shown(script):
 
 
 def networks(program):
-    """The play of a lost reply by two nodes that `nodes` tells of, and the greeting of each of sixteen."""
-    script = PLAYS / "lost_reply.play"
-    same("nodes 2", run(program, b"nodes 2\n" + script.read_bytes()), (0, script.with_suffix(".seen").read_bytes(), b""))
+    """The plays of two nodes, by two or three that `nodes` tells of: a third node changes nothing of what is seen; and
+    the greeting of each of sixteen."""
+    for count in (2, 3):
+        for name in ("lost_reply.play", "crash.play", "late.play"):
+            script = PLAYS / name
+            found = run(program, f"nodes {count}\n".encode() + script.read_bytes())
+            same(f"nodes {count}, {name}", found, (0, script.with_suffix(".seen").read_bytes(), b""))
+        undone(program, f"nodes {count}\n")
     played(program, [("nodes 16", [])] + [(f"connect {one}", GREETED.format(at + 1, one)) for at, one in enumerate(LETTERS)])
 
 

@@ -55,7 +55,8 @@ def is_listening(port):
 
 
 class Relay:
-    """A relay whose spool stands in a folder. Its routes go from a domain to a next hop's name and port."""
+    """A relay whose spool stands in a folder. Its routes go from a domain to a next hop's name and port, and to its
+    address where that isn't 127.0.0.1."""
 
     def __init__(self, program, folder, routes, host="relay.example", **limits):
         self.program, self.folder = str(pathlib.Path(program).resolve()), pathlib.Path(folder)
@@ -71,8 +72,9 @@ class Relay:
         lines = [f'host = "{self.host}"', f'listen = "127.0.0.1:{self.port}"', f'spool = "{self.spool}"']
         lines += [f"{key} = {value}" for key, value in self.limits.items()]
         lines += ["[routes]"]
-        for domain, (name, port) in routes.items():
-            lines.append(f'"{domain}" = {{ name = "{name}", at = "127.0.0.1:{port}" }}')
+        for domain, (name, port, *address) in routes.items():
+            host = address[0] if address else "127.0.0.1"
+            lines.append(f'"{domain}" = {{ name = "{name}", at = "{host}:{port}" }}')
         self.file.write_text("\n".join(lines) + "\n")
 
     def forget(self):

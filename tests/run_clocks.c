@@ -1,5 +1,7 @@
-// Sets the clocks of the program that it is preloaded into: the wall clock by so many seconds as the file that SHIFT names
-// says, as it is asked for; the other goes FASTER times as fast, and waits for events are that much shorter.
+// Sets the clocks of the program that it is preloaded into. The file that SHIFT names holds the seconds by which the wall
+// clock is set, and the file that ADVANCE names those by which both clocks are ahead; they are read whenever a clock is
+// asked for. The monotonic clock goes FASTER times as fast, and waits for events are that much shorter; with ADVANCE
+// none lasts longer than 10 ms, so that the program sees that its clocks have moved.
 #define _GNU_SOURCE
 #include <fcntl.h>
 #include <stdlib.h>
@@ -14,11 +16,11 @@ static long faster(void)
 	return text ? atol(text) : 1;
 }
 
-// The seconds that the file says; none where there is no file.
-static long shift(void)
+// The seconds in the file that this variable names; none where there is no file.
+static long seconds_in(const char *variable)
 {
 	char text[32] = { 0 };
-	const char *name = getenv("SHIFT");
+	const char *name = getenv(variable);
 	int file = name ? (int)syscall(SYS_openat, AT_FDCWD, name, O_RDONLY) : -1;
 	if (file < 0)
 		return 0;
@@ -42,9 +44,11 @@ int clock_gettime(clockid_t clock, struct timespec *moment)
 {
 	int answer = (int)syscall(SYS_clock_gettime, clock, moment);
 	if (answer == 0 && clock == CLOCK_REALTIME)
-		moment->tv_sec += shift();
-	if (answer == 0 && clock == CLOCK_MONOTONIC)
+		moment->tv_sec += seconds_in("SHIFT") + seconds_in("ADVANCE");
+	if (answer == 0 && clock == CLOCK_MONOTONIC) {
 		speed_up(moment);
+		moment->tv_sec += seconds_in("ADVANCE");
+	}
 	return answer;
 }
 
@@ -52,5 +56,7 @@ int epoll_wait(int poll, struct epoll_event *events, int most, int timeout)
 {
 	if (timeout > 0)
 		timeout = (int)((timeout + faster() - 1) / faster());
+	if (timeout > 10 && getenv("ADVANCE"))
+		timeout = 10;
 	return (int)syscall(SYS_epoll_pwait, poll, events, most, timeout, NULL, 8);
 }

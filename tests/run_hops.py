@@ -10,8 +10,6 @@ environment (2 where it says nothing).
 import contextlib
 import re
 import socket
-import socketserver
-import struct
 import sys
 import threading
 import time
@@ -19,35 +17,12 @@ import time
 sys.dont_write_bytecode = True
 
 from relay_program import Difference, free_port, same, until
-from running_relay import SOON, Client, beside, clients_of, comes_to_rest, hop_that_hangs, lines_of, no_later
-from running_relay import play_rows, shim, slowest
-from smtp_sink import Listener
+from running_relay import SOON, Client, beside, clients_of, comes_to_rest, hop_that, hop_that_hangs, lines_of, no_later
+from running_relay import play_rows, reset, shim, slowest
 
 # How many next hops say nothing at once, and how many of these have a connection at most.
 SILENT = 63
 MOST_SILENT = 48
-
-
-class Answering(socketserver.BaseRequestHandler):
-    """A connection to a next hop of these rows."""
-
-    def handle(self):
-        with contextlib.suppress(OSError):
-            self.server.answer(self.request)
-
-
-@contextlib.contextmanager
-def hop_that(answer):
-    """A next hop that gives this its connections, side by side: its port."""
-    with Listener(("127.0.0.1", 0), Answering) as listener:
-        listener.answer = answer
-        thread = threading.Thread(target=listener.serve_forever, args=(0.02,))
-        thread.start()
-        try:
-            yield listener.server_address[1]
-        finally:
-            listener.shutdown()
-            thread.join()
 
 
 def drips(link):
@@ -141,12 +116,6 @@ class Narrow:
                 link.sendall(b"250 ok\r\n")
                 if line == b"QUIT\r\n":
                     return
-
-
-def reset(link):
-    """Closes a connection by a reset."""
-    link.setsockopt(socket.SOL_SOCKET, socket.SO_LINGER, struct.pack("ii", 1, 0))
-    link.close()
 
 
 @contextlib.contextmanager

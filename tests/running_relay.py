@@ -5,6 +5,8 @@ import pathlib
 import re
 import smtplib
 import socket
+import socketserver
+import struct
 import subprocess
 import sys
 import tempfile
@@ -12,7 +14,7 @@ import threading
 import time
 
 from relay_program import Difference, PATIENCE, Relay, same
-from smtp_sink import Sink
+from smtp_sink import Listener, Sink
 
 HERE = pathlib.Path(__file__).resolve().parent
 # What has to be prompt may take so many times as long, since others may be at work on the machine.
@@ -54,6 +56,34 @@ def shim(field, name, relay, **environment):
     built = field.folder / f"{name}.so"
     subprocess.run(["cc", "-shared", "-fPIC", "-O1", "-o", built, HERE / f"{name}.c"], check=True)
     relay.environment.update(LD_PRELOAD=str(built), **environment)
+
+
+class Clocks:
+    """The clocks of a relay, which a test moves."""
+
+    def __init__(self, field, relay):
+        self.files = {name: field.folder / f"{relay.folder.name}-{name}" for name in ("SHIFT", "ADVANCE")}
+        self.seconds = dict.fromkeys(self.files, 0)
+        shim(field, "run_clocks", relay, **{name: str(file) for name, file in self.files.items()})
+
+    def advance(self, seconds):
+        """Lets time pass: both clocks go forward."""
+        self.add("ADVANCE", seconds)
+
+    def set_by(self, seconds):
+        """Sets the wall clock alone, forward or back."""
+        self.add("SHIFT", seconds)
+
+    def add(self, name, seconds):
+        self.seconds[name] += seconds
+        # By a new name, so that nobody reads half a file.
+        written = self.files[name].with_suffix(".new")
+        written.write_text(str(self.seconds[name]))
+        os.replace(written, self.files[name])
+
+    def now(self):
+        """The relay's wall clock, in seconds."""
+        return time.time() + sum(self.seconds.values())
 
 
 def lines_of(relay, text):
@@ -189,6 +219,34 @@ def hop_that_falls_silent(*replies):
 
         with beside(take):
             yield listener.getsockname()[1]
+
+
+class Answering(socketserver.BaseRequestHandler):
+    """A connection to a next hop of these rows."""
+
+    def handle(self):
+        with contextlib.suppress(OSError):
+            self.server.answer(self.request)
+
+
+@contextlib.contextmanager
+def hop_that(answer):
+    """A next hop that gives this its connections, side by side: its port."""
+    with Listener(("127.0.0.1", 0), Answering) as listener:
+        listener.answer = answer
+        thread = threading.Thread(target=listener.serve_forever, args=(0.02,))
+        thread.start()
+        try:
+            yield listener.server_address[1]
+        finally:
+            listener.shutdown()
+            thread.join()
+
+
+def reset(link):
+    """Closes a connection by a reset."""
+    link.setsockopt(socket.SOL_SOCKET, socket.SO_LINGER, struct.pack("ii", 1, 0))
+    link.close()
 
 
 def slowest(client, count, path="b@example.org"):

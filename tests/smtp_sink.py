@@ -5,6 +5,7 @@ import dataclasses
 import socket
 import socketserver
 import threading
+import time
 
 CRLF = b"\r\n"
 
@@ -28,6 +29,11 @@ class Manners:
     hangs_up_at: str = ""
     # Whether no connection is greeted before the sink's `greet`.
     holds_greeting: bool = False
+    # How long it waits before each read, in seconds, and the most octets of a read.
+    pause: float = 0
+    read_size: int = 1 << 18
+    # The size of its receive buffer, in octets; 0 leaves it to the system.
+    receive_buffer: int = 0
 
 
 @dataclasses.dataclass
@@ -46,11 +52,12 @@ class Taken:
 class Reader:
     """Lines and octets of a socket."""
 
-    def __init__(self, link):
-        self.socket, self.held = link, bytearray()
+    def __init__(self, link, manners):
+        self.socket, self.manners, self.held = link, manners, bytearray()
 
     def more(self):
-        octets = self.socket.recv(1 << 18)
+        time.sleep(self.manners.pause)
+        octets = self.socket.recv(self.manners.read_size)
         if not octets:
             raise HungUp
         self.held += octets
@@ -90,7 +97,7 @@ class Conversation(socketserver.BaseRequestHandler):
         self.sink, self.manners = self.server.sink, self.server.sink.manners
         # Two replies behind each other wait for no acknowledgement.
         self.request.setsockopt(socket.IPPROTO_TCP, socket.TCP_NODELAY, 1)
-        self.reader = Reader(self.request)
+        self.reader = Reader(self.request, self.manners)
         self.mail, self.recipients, self.chunks = None, [], b""
         # The last message that it has taken.
         self.last = None
@@ -197,16 +204,19 @@ class Listener(socketserver.ThreadingTCPServer):
 
 
 class Sink:
-    """A sink on a port of 127.0.0.1, which listens as soon as it is made, until `close`."""
+    """A sink on a port of this address, which listens as soon as it is made, until `close`."""
 
-    def __init__(self, port=0, manners=None):
+    def __init__(self, port=0, manners=None, address="127.0.0.1"):
         self.manners = manners or Manners()
         self.messages, self.commands, self.breaches = [], [], []
         self.connections, self.changed = 0, threading.Condition()
         self.greets = threading.Event()
         if not self.manners.holds_greeting:
             self.greet()
-        self.listener = Listener(("127.0.0.1", port), Conversation)
+        self.listener = Listener((address, port), Conversation)
+        if self.manners.receive_buffer:
+            # Each connection has the listener's.
+            self.listener.socket.setsockopt(socket.SOL_SOCKET, socket.SO_RCVBUF, self.manners.receive_buffer)
         self.listener.sink = self
         self.port = self.listener.server_address[1]
         self.thread = threading.Thread(target=self.listener.serve_forever, args=(0.02,), daemon=True)

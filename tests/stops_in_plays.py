@@ -1,14 +1,19 @@
 #!/usr/bin/env python3
-"""Plays a script of docs/plays/ with a stop put in before each of its events in turn: of each node, at its first device call
-behind it, its second, and so on until no stop is met any more; and the same with a compaction of that node behind the stop. A
-script that doesn't say how many nodes play is played with two and with three. Each such play is judged by what it prints, as
-tests/random_plays.py judges: no acknowledged mail is lost, and there are no more copies than lost replies allow.
+"""Plays a script of docs/plays/ with a stop before each of its events in turn: of each node, at its first device call
+after that, its second, and so on until no stop is met; and the same with a compaction of that node after the stop. A
+script that doesn't say how many nodes there are is played with two and with three. Each play is judged by what it
+prints, as tests/random_plays.py judges: no acknowledged mail is lost, and there are no more copies than lost replies
+allow.
 
     tests/stops_in_plays.py build/relayd [all]
 
-The scripts are lost_reply.play and three_nodes.play, and what the device has kept of unsynced octets none or all of them; with `all` each script,
-and also other octets in their place, and parts.
+A pick says what the device has kept of the octets that changed and weren't synced: 0 none of them, 1 all, 2 and 3 an
+octet 1 or 255 in place of each, 4 and more the first so many less 4. Of lost_reply.play the stops have each of 21
+picks, and those before a compaction picks 0 and 1; of three_nodes.play all have picks 0 and 1. With `all` each script
+has each pick in both. The plays run side by side, as many as there are processors.
 """
+import multiprocessing
+import os
 import pathlib
 import sys
 
@@ -18,9 +23,10 @@ from random_plays import judged, nodes_of
 from relay_program import Difference, same
 
 PLAYS = pathlib.Path(__file__).resolve().parent.parent / "docs" / "plays"
-NAMES = ["lost_reply.play", "three_nodes.play"]
-PICKS = [0, 1]
-ALL_PICKS = [0, 1, 2, 3, 4, *range(20, 261, 16)]
+FEW_PICKS = [0, 1]
+ALL_PICKS = [0, 1, 2, 3, *range(4, 261, 16)]
+# The picks of the stops in a script, and of those before a compaction.
+PICKS = {"lost_reply.play": (ALL_PICKS, FEW_PICKS), "three_nodes.play": (FEW_PICKS, FEW_PICKS)}
 
 
 def events_of(script):
@@ -35,38 +41,43 @@ def is_met(program, events):
     return any(line.startswith("stopped") for lines in printed[:-len(ends)] for line in lines)
 
 
-def stops_before(program, events, at, node, pick, *behind):
-    """How many plays have a stop of this node before this event, and these events behind the stop."""
+def stops_before(program, events, at, node, pick, compacts):
+    """The number of plays with a stop of this node before this event, and with a compaction after it or without, in
+    which a node has stopped."""
+    compaction = [f"compact {node}"] if compacts else []
     for call in range(1, 100):
-        changed = [*events[:at], f"stop {node} {call} {pick}", *behind, *events[at:]]
+        changed = [*events[:at], f"stop {node} {call} {pick}", *compaction, *events[at:]]
         try:
             if not is_met(program, changed):
                 return call - 1
         except Difference as difference:
             raise Difference(f"{difference}\n" + "\n".join(changed)) from None
-    raise Difference(f"a node stops at each of 99 device calls behind event {at}")
+    raise Difference(f"a node stops at each of 99 device calls after event {at}")
 
 
-def stops_in(program, events, nodes, picks):
-    """How many plays have a stop of one of these nodes before one of these events."""
-    count = 0
+def kinds_of(events, picks, picks_before_compaction):
+    """Where stops are put, of which node and pick, and whether a compaction follows."""
     for at in range(1 if events[0].startswith("nodes") else 0, len(events)):
-        for node in nodes:
-            for pick in picks:
-                count += stops_before(program, events, at, node, pick)
-                count += stops_before(program, events, at, node, pick, f"compact {node}")
-    return count
+        for node in nodes_of(events):
+            yield from ((at, node, pick, False) for pick in picks)
+            yield from ((at, node, pick, True) for pick in picks_before_compaction)
 
 
-def main(program, picks=""):
+def main(program, which=""):
     program = str(pathlib.Path(program).resolve())
-    for script in sorted(PLAYS.glob("*.play") if picks == "all" else (PLAYS / name for name in NAMES)):
-        events = events_of(script)
-        for one in [events] if events[0].startswith("nodes") else [events, ["nodes 3", *events]]:
-            nodes = nodes_of(one)
-            count = stops_in(program, one, nodes, ALL_PICKS if picks == "all" else PICKS)
-            same(f"{script.name}: whether a node stopped", count > 0, True)
-            print(f"ok: {script.name} of {len(nodes)} nodes with a stop before each event: {count} plays in which a node stopped")
+    scripts = sorted(PLAYS.glob("*.play")) if which == "all" else [PLAYS / name for name in PICKS]
+    with multiprocessing.Pool(os.cpu_count()) as pool:
+        for script in scripts:
+            events = events_of(script)
+            picks = (ALL_PICKS, ALL_PICKS) if which == "all" else PICKS[script.name]
+            for one in [events] if events[0].startswith("nodes") else [events, ["nodes 3", *events]]:
+                tasks = [(program, one, *kind) for kind in kinds_of(one, *picks)]
+                counts = pool.starmap(stops_before, tasks, 4)
+                for pick in sorted({pick for some in picks for pick in some}):
+                    met = sum(count for task, count in zip(tasks, counts) if task[4] == pick)
+                    same(f"{script.name}: whether a node stopped with pick {pick}", met > 0, True)
+                print(f"ok: {script.name} of {len(nodes_of(one))} nodes with a stop before each event: "
+                      f"{sum(counts)} plays in which a node stopped")
 
 
 if __name__ == "__main__":
