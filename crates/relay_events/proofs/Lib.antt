@@ -19,6 +19,7 @@ mod GiveLemmas
 mod GiveUpLemmas
 mod HearLemmas
 mod HungLemmas
+mod LeakLemmas
 mod LoseLemmas
 mod LossLemmas
 mod NamedLemmas

@@ -36,11 +36,12 @@ module _ {D : Type 0} (honest : Type 0) (words : DiskWords D) where
   pub still_bound : honest → RunsKeepAll honest words → (old new : World D) → AreBound honest words old
       → HasHappened honest words old new → AreBound honest words new
   still_bound is_honest keeps old new bound happened =
-      let later = keeps is_honest happened.0 old new bound.lists bound.bound bound.once bound.linked happened.1 in
+      let later = keeps is_honest happened.0 old new bound.lists bound.bound bound.once bound.linked bound.sources happened.1 in
       record {
         lists = later.0;
         bound = later.1;
         once = later.2;
         linked = later.3;
+        sources = later.4;
         named = own_names old.hosts new.hosts (run_names honest words happened.0 old new happened.1) bound.named;
       }

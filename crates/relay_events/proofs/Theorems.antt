@@ -2,3 +2,4 @@
 pub use Rattle.relay_events.proofs.BoundLemmas.{there_too}
 pub use Rattle.relay_events.proofs.PlaceLemmas.{value_same}
 pub use Rattle.relay_events.proofs.RunLemmas.{both_happened}
+pub use Rattle.relay_events.proofs.LeakLemmas.{step_leaks_nothing}

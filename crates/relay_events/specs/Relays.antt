@@ -4,6 +4,7 @@ use Rattle.relay_disk.specs.Device.{DiskWords}
 use Rattle.relay_book.specs.declared.change.Change.{Change}
 use Rattle.relay_world.specs.Bound.{IsBound}
 use Rattle.relay_world.specs.HopLinks.{AreLinkedToHops}
+use Rattle.relay_world.specs.Lines.{HasSources}
 use Rattle.relay_world.specs.Once.{IsTriedOnce}
 use Rattle.relay_world.specs.World.{Host, World}
 use Rattle.relay_events.specs.declared.relays.Relays.{Relays}
@@ -30,12 +31,13 @@ HaveOwnNames {D} hosts =
     → host.config.host ≡ others.config.host → one ≡ other
 
 -- The relays are bound by lists of changes, try each place once at a time, and have the links that they are meant to
--- have, and names of their own.
+-- have, lines with their sources, and names of their own.
 pub record AreBound {D : Type 0} (honest : Type 0) (words : DiskWords D) (world : World D) : Type 0 where
   pub lists : List (List Change)
   pub bound : IsBound honest words world lists
   pub once : IsTriedOnce world lists
   pub linked : AreLinkedToHops world
+  pub sources : HasSources world lists
   pub named : HaveOwnNames world.hosts
 
 -- So they are between two events, and told of each break, with room for what is to come.

@@ -239,6 +239,7 @@ module _ {D : Type 0} (honest : Type 0) (words : DiskWords D) where
       bound = begun_is_bound;
       once = once (begun_with hosts) (no_lists hosts) (no_changes hosts) all_up refl refl;
       linked = linked (begun_with hosts) refl;
+      sources = tt;
     }
 
     pub begun_are_told : IsToldOfBreaks (begun_with hosts)

@@ -5,3 +5,4 @@ mod MarkLemmas
 mod NetworkLemmas
 mod ProfileLemmas
 mod RunLemmas
+pub mod Theorems

@@ -3,18 +3,30 @@ use Rattle.std.specs.Prelude.{List}
 use Rattle.relay_disk.specs.Device.{DiskWords}
 use Rattle.relay_book.specs.declared.change.Change.{Change}
 use Rattle.relay_world.specs.Bound.{IsBound}
-use Rattle.relay_world.specs.Growth.{HasGrown, ListsGrow}
+use Rattle.relay_world.specs.Growth.{AttemptsGrow, HasGrown, ListsGrow}
+use Rattle.relay_world.specs.HopLinks.{AreLinkedToHops}
+use Rattle.relay_world.specs.Lines.{HasSources}
+use Rattle.relay_world.specs.Once.{IsTriedOnce}
 use Rattle.relay_world.specs.Promise.{KeepsPromise}
 use Rattle.relay_world.specs.World.{World}
+use Rattle.relay_events.specs.Happened.{HasHappened}
 
--- Of the mail of relays behind a run: each node has a list of changes, which its spool holds, and which begins with
--- the one that it had; by these lists the promise is kept; and nothing that was recorded, told, written or read before
--- is gone.
+-- Of the mail of relays behind a run: each node has a list of changes, which its spool holds, and which begins with the
+-- one that it had, by which the relays were bound, tried each place once at a time, and had lines with their sources;
+-- by these lists the promise is kept; nothing that was recorded, told, written or read before is gone; the ends of
+-- links are whose they were, and a broken link stays as it is; and attempts have gone on, or have come to their ends.
+-- All of it has come by events of the world, each of which adds the accept or outcome that it leads to at the moment
+-- that the clock shows then.
 pub record KeepsItsPromise {D : Type 0} (honest : Type 0) (words : DiskWords D) (old new : World D) : Type 0 where
   pub lists : List (List Change)
   pub theirs : IsBound honest words new lists
   pub promise : KeepsPromise honest words new lists
   pub grown : HasGrown old new
+  pub attempts : AttemptsGrow old new
   pub before : List (List Change)
   pub were : IsBound honest words old before
+  pub once_before : IsTriedOnce old before
+  pub linked_before : AreLinkedToHops old
+  pub sources_before : HasSources old before
   pub longer : ListsGrow before lists
+  pub happened : HasHappened honest words old new

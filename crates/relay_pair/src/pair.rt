@@ -193,7 +193,10 @@ impl<D: Disk> Pair<D> {
 }
 
 impl<D: Reboot + Drop> Pair<D> {
-    /// One event happens. Where it is refused, nothing changes.
+    /// One event happens. Refused by its first fault, or for want of memory before a node is called, it changes
+    /// nothing. A node that refuses its part, for want of memory, of room or of a number, loses the session or the
+    /// attempt by that, and the link breaks. Where memory is wanting for what a node answers, it has heard or read all
+    /// the same, and where it is for an attempt, the link to its hop was opened: that link breaks too.
     pub fn step(&mut self, event: &Event) -> Result<Seen, PairFault>
         requires { D.Disk.honest }
         ensures steps { Steps D.Disk.honest D.Disk.words self.old event.now self.new result }
@@ -202,11 +205,12 @@ impl<D: Reboot + Drop> Pair<D> {
         self.relays.step(event)
     }
 
-    /// Events happen, one behind another, also behind one that is refused. Whatever they are, the promise of mail is
+    /// Events happen, one after another, also after one that is refused. Whatever they are, the promise of mail is
     /// kept.
     pub fn run(&mut self, events: &[Event])
         requires { D.Disk.honest }
         ensures steps { StepsEach D.Disk.honest D.Disk.words self.old events.now self.new }
+        ensures happened { HasHappened D.Disk.honest D.Disk.words self.old self.new }
         ensures promise { KeepsItsPromise D.Disk.honest D.Disk.words self.old self.new }
     {
         promise_is_kept::<D>();

@@ -1,5 +1,5 @@
 -- Scripts, line by line: where a line ends, and that lines are played one behind another.
-use Rattle.std.proofs.Common.{◌≡◌, ◌<◌, ◌+◌, ◌==◌, ℕ, zero, suc, Bool, true, false, List, [], ◌∷◌, ◌++◌, length, take, drop, get_or, Option, None, Some, MatchOption, refl, sym, ap, subst, ◌∙◌, arith, append_assoc, append-nil}
+use Rattle.std.proofs.Common.{◌≡◌, ◌<◌, ◌+◌, ◌==◌, ℕ, zero, suc, Bool, true, false, List, [], ◌∷◌, ◌++◌, length, take, drop, get_or, Option, None, Some, MatchOption, inl, inr, refl, sym, ap, subst, ◌∙◌, arith, append_assoc, append-nil}
 use Rattle.std.proofs.lemmas.Bool.{eqb-true, false_from_ne_true}
 use Rattle.std.proofs.lemmas.List.{take_all}
 use Rattle.std.proofs.Math.Numerals.{add-one}
@@ -12,7 +12,12 @@ use Rattle.relay_disk.specs.Device.{DiskWords}
 use Rattle.relay_disk.specs.declared.memory.MemoryDisk.{MemoryDisk}
 use Rattle.relay_world.specs.World.{World}
 use Rattle.relay_play.specs.declared.state.PlayState.{PlayState}
-use Rattle.relay_play.specs.Script.{HasNoLineFeed, HasNotBegun, HasPlayed, IsPlayed, IsRead, IsReadTo, PlaysAll, PlaysBlock, PlaysEach, PlaysLine, is_line_feed}
+use Rattle.relay_world.specs.Promise.{PromiseIsKept}
+use Rattle.relay_script.specs.declared.event.ScriptLine.{ScriptLine}
+use Rattle.relay_script.specs.declared.event.ScriptLine.TheVariants.{Skipped, Nodes, Event as Happens, Ledger, Marks, Copies, Lost}
+use Rattle.relay_pair.specs.Promise.{KeepsItsPromise}
+use Rattle.relay_pair.proofs.Theorems.{promise_on}
+use Rattle.relay_play.specs.Script.{Does, HasNoLineFeed, HasNotBegun, HasPlayed, IsPlayed, IsRead, IsReadTo, PlaysAll, PlaysBlock, PlaysEach, PlaysLine, StartsAs, is_line_feed}
 
 -- the front of octets, where no LF stands in it
 no_line_feed_in : (octets : List ℕ) (count : ℕ)
@@ -217,14 +222,68 @@ module _ (honest : Type 0) (words : DiskWords MemoryDisk) where
         subst (λ f. PlaysAll honest words first f last) (append_assoc front so_far.0 more.0) more.2,
       )
 
+  -- Of relays that began so, the promise is kept by what has happened since.
+  pub record IsPromised (first : PlayState) (now : World MemoryDisk) : Type 0 where
+    pub start : World MemoryDisk
+    pub starts : StartsAs honest words first start
+    pub promise : KeepsItsPromise honest words start now
+
+  module _ (is_honest : honest) (keeps : PromiseIsKept honest words) (first : PlayState) where
+    same_promised : (old now new : PlayState) → new ≡ now → now.pair ≡ old.pair → IsPromised first old.pair
+        → IsPromised first new.pair
+    same_promised old now new same pair was =
+        subst (λ (w : World MemoryDisk). IsPromised first w) (sym (ap (λ (p : PlayState). p.pair) same ∙ pair)) was
+
+    line_promised : (line : ScriptLine) (old new : PlayState) → Does honest words line old new → IsPromised first old.pair
+        → IsPromised first new.pair
+    line_promised Skipped old new does was = same_promised old old new does refl was
+    line_promised (Nodes count) old new does was =
+        record { start = new.pair; starts = inr (count, does.1); promise = does.2 }
+    line_promised (Happens event) old new does was = record {
+      start = was.start;
+      starts = was.starts;
+      promise = promise_on honest words is_honest keeps was.start old.pair new.pair was.promise does.1;
+    }
+    line_promised Ledger old new does was = same_promised old (record old { has_begun = true }) new does refl was
+    line_promised Marks old new does was = same_promised old (record old { has_begun = true }) new does refl was
+    line_promised (Copies node number place) old new does was =
+        same_promised old (record old { has_begun = true }) new does refl was
+    line_promised (Lost node number place) old new does was =
+        same_promised old (record old { has_begun = true }) new does refl was
+
+    lines_promised : (texts : List (List ℕ)) (old new : PlayState) → PlaysEach honest words texts old new
+        → IsPromised first old.pair → IsPromised first new.pair
+    lines_promised [] old new same was = same_promised old old new same refl was
+    lines_promised (text ∷ texts) old new plays was =
+        lines_promised texts plays.0 new plays.2 (line_promised plays.1.line old plays.0 plays.1.does was)
+
   -- a whole script, from relays to which nothing has happened
-  pub whole_played : (old new : Option (List ℕ)) (first last : PlayState) (begun : List ℕ) (world : World MemoryDisk)
+  pub whole_played : honest → PromiseIsKept honest words → (old new : Option (List ℕ)) (first last : PlayState)
+      (begun : List ℕ) (world : World MemoryDisk)
       → HasNotBegun honest words first → begun ≡ []
       → ((from : PlayState) (front : List ℕ) → HasPlayed honest words from front begun first
       → IsReadTo old new (λ octets. PlaysAll honest words from (front ++ octets) last))
       → world ≡ last.pair → IsReadTo old new (λ script. IsPlayed honest words script world)
-  whole_played old new first last begun world begins none plays its =
+  whole_played is_honest keeps old new first last begun world begins none plays its =
       let all =
       plays first [] (subst (λ b. HasPlayed honest words first [] b first) (sym none) (nothing_played first)) in
       let read = all.1 in
-      (all.0, (read.0, read.1, record { first = first; begins = begins; last = last; plays = read.2; world_is = its }))
+      let promised : IsPromised first last.pair =
+      lines_promised is_honest keeps first (slice_split is_line_feed read.0) first last read.2
+      (record { start = first.pair; starts = inl refl; promise = begins.promise }) in (
+        all.0,
+        (
+          read.0,
+          read.1,
+          record {
+            first = first;
+            begins = begins;
+            last = last;
+            plays = read.2;
+            world_is = its;
+            start = promised.start;
+            starts = promised.starts;
+            promise = subst (λ (w : World MemoryDisk). KeepsItsPromise honest words promised.start w) (sym its) promised.promise;
+          },
+        ),
+      )

@@ -1,5 +1,6 @@
 -- A script of a play: its lines, and what they do to relays.
-use Rattle.std.specs.Prelude.{◌≡◌, ◌<◌, ◌==◌, ℕ, Bool, true, false, List, [], ◌∷◌, ◌++◌, Option, None, Some, Result, ⊤}
+use Rattle.std.specs.Prelude.{◌≡◌, ◌⊎◌, ◌<◌, ◌==◌, ℕ, Bool, true, false, List, [], ◌∷◌, ◌++◌, Option, None, Some}
+use Rattle.std.specs.Prelude.{Result, ⊤}
 use Rattle.std.specs.List.{slice_split}
 use Rattle.std.specs.Io.KnownBytes.{Consumes, IsAtEnd}
 use Rattle.relay_disk.specs.Device.{DiskWords}
@@ -15,8 +16,10 @@ use Rattle.relay_events.specs.declared.event.Event.{Event}
 use Rattle.relay_events.specs.declared.event.Event.TheVariants.{Connect, Send, Carry, Break, Tick, Give, Compact, Stop}
 use Rattle.relay_events.specs.declared.fault.PairFault.{PairFault}
 use Rattle.relay_events.specs.declared.seen.Seen.{Seen}
+use Rattle.relay_events.specs.Happened.{HasHappened}
 use Rattle.relay_events.specs.Step.{Steps}
 use Rattle.relay_pair.specs.Begin.{HasBegunAsMany, HasBegunAsTwo}
+use Rattle.relay_pair.specs.Promise.{KeepsItsPromise}
 use Rattle.relay_play.specs.declared.state.PlayState.{PlayState}
 
 -- an octet ends a line
@@ -74,9 +77,10 @@ abbrev pub IsReadTo : Option (List ℕ) → Option (List ℕ) → (List ℕ → 
 IsReadTo old new IsOf = IsAtEnd new × IsRead old new IsOf
 
 module _ (honest : Type 0) (words : DiskWords MemoryDisk) where
-  -- two relays to which nothing has happened, by no line yet
+  -- two relays to which nothing has happened, by no line yet: they are as the promise has it
   pub record HasNotBegun (play : PlayState) : Type 0 where
     pub two : HasBegunAsTwo honest words play.pair
+    pub promise : KeepsItsPromise honest words play.pair play.pair
     pub nodes : play.nodes ≡ 2
     pub said : play.has_begun ≡ false
 
@@ -86,10 +90,11 @@ module _ (honest : Type 0) (words : DiskWords MemoryDisk) where
   Does Skipped old new = new ≡ old
   Does (Nodes count) old new =
       (old.has_begun ≡ false) × HasBegunAsMany honest words count new.pair
+      × KeepsItsPromise honest words new.pair new.pair
       × (new ≡ record old { pair = new.pair; nodes = count; has_begun = true })
   Does (Happens event) old new =
       ((answer : Result Seen PairFault) × Steps honest words old.pair (event_in event) new.pair answer)
-      × (new ≡ record old { pair = new.pair; has_begun = true })
+      × HasHappened honest words old.pair new.pair × (new ≡ record old { pair = new.pair; has_begun = true })
   Does Ledger old new = new ≡ record old { has_begun = true }
   Does Marks old new = new ≡ record old { has_begun = true }
   Does (Copies node number place) old new = new ≡ record old { has_begun = true }
@@ -111,13 +116,21 @@ module _ (honest : Type 0) (words : DiskWords MemoryDisk) where
   abbrev pub PlaysAll : PlayState → List ℕ → PlayState → Type 0
   PlaysAll first script last = PlaysEach (slice_split is_line_feed script) first last
 
-  -- These relays are those that a script leaves.
+  -- the relays to which all that a script says happens: the two, or as many as it says
+  abbrev pub StartsAs : PlayState → World MemoryDisk → Type 0
+  StartsAs first start = (start ≡ first.pair) ⊎ ((count : ℕ) × HasBegunAsMany honest words count start)
+
+  -- These relays are those that a script leaves. By all that has happened since they began they keep the promise of
+  -- mail.
   pub record IsPlayed (script : List ℕ) (world : World MemoryDisk) : Type 0 where
     pub first : PlayState
     pub begins : HasNotBegun first
     pub last : PlayState
     pub plays : PlaysAll first script last
     pub world_is : world ≡ last.pair
+    pub start : World MemoryDisk
+    pub starts : StartsAs first start
+    pub promise : KeepsItsPromise honest words start world
 
   -- Of a script that goes on, the lines that have ended were played, and the octets behind them are of one line.
   pub record HasPlayed (first : PlayState) (front begun : List ℕ) (now : PlayState) : Type 0 where

@@ -1,5 +1,6 @@
 //! An event of a script, and what is seen of it.
 ghost use Rattle.std.specs.Prelude.{◌≡◌, Result};
+ghost use Rattle.relay_events.specs.Happened.{HasHappened};
 ghost use Rattle.relay_events.specs.Step.{Steps};
 ghost use Rattle.relay_play.specs.Script.{event_in};
 
@@ -12,8 +13,9 @@ use std::io;
 /// An event happens to the relays. What is seen of it, or why it was refused, is added as a line, or a line for each
 /// node that has stopped. It fails where memory runs out.
 pub(crate) fn happen(pair: &mut Pair<MemoryDisk>, said: Said, out: &mut Vec<u8>) -> io::Result<()>
-    ensures { (answer : Result Seen PairFault) × Steps ⟦<MemoryDisk as Disk>⟧.honest ⟦<MemoryDisk as Disk>⟧.words
-        pair.old (event_in said) pair.new answer }
+    ensures steps { (answer : Result Seen PairFault) × Steps ⟦<MemoryDisk as Disk>⟧.honest
+        ⟦<MemoryDisk as Disk>⟧.words pair.old (event_in said) pair.new answer }
+    ensures happened { HasHappened ⟦<MemoryDisk as Disk>⟧.honest ⟦<MemoryDisk as Disk>⟧.words pair.old pair.new }
 {
     let event = event_of(said);
     match pair.step(&event) {

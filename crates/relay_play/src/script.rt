@@ -10,6 +10,7 @@ use crate::state::PlayState;
 use memchr::memchr;
 use relay_disk::{Disk, MemoryDisk};
 use relay_pair::Pair;
+use relay_world::passing::promise_is_kept;
 use std::alloc::Global;
 use std::io::{ErrorKind, Read, Write};
 
@@ -33,7 +34,8 @@ struct Player {
 /// before it reads on. The relays are two, or as many as the first line that says something tells (`nodes`). A line
 /// ends at LF, and the last one where the input does. It ends well only with the whole script read and played, and
 /// gives the relays as they stand then; else it ends at the first line that isn't one, or names a node that doesn't
-/// play, or at its 2^40th read as by a fault of the reader.
+/// play, or at its 2^40th read as by a fault of the reader. By all that has happened to the relays the promise of mail
+/// is kept.
 pub fn play<R: Read, W: Write>(
     alloc: Global,
     reader: &mut R,
@@ -42,6 +44,7 @@ pub fn play<R: Read, W: Write>(
     ensures { IfOk result (λ pair. IsReadTo (R.remaining reader.old) (R.remaining reader.new)
         (λ script. IsPlayed ⟦<MemoryDisk as Disk>⟧.honest ⟦<MemoryDisk as Disk>⟧.words script pair)) }
 {
+    promise_is_kept::<MemoryDisk>();
     let mut player = Player {
         alloc,
         play: PlayState::new(alloc)?,

@@ -1,5 +1,6 @@
 //! The relays of a play, and what a line of its script does to them.
 ghost use Rattle.std.specs.Prelude.{◌≡◌, ◌↔◌, IfOk, IsTrue, OnOk};
+ghost use Rattle.relay_pair.specs.Promise.{KeepsItsPromise};
 ghost use Rattle.relay_play.specs.Script.{Does, HasNotBegun, IsAmong, PlaysLine, named_in};
 
 use crate::fault::PlayFault;
@@ -28,7 +29,7 @@ impl PlayState {
         ensures { IfOk result (HasNotBegun ⟦<MemoryDisk as Disk>⟧.honest ⟦<MemoryDisk as Disk>⟧.words) }
     {
         Ok(PlayState {
-            pair: Pair::new(alloc)?,
+            pair: not_begun(Pair::new(alloc)?),
             nodes: NODES,
             has_begun: false,
         })
@@ -99,7 +100,7 @@ impl PlayState {
             return Err(PlayFault::Line(number));
         }
         let count = nodes.count();
-        self.pair = Pair::nodes(alloc, count)?;
+        self.pair = not_begun(Pair::nodes(alloc, count)?);
         self.nodes = count;
         self.has_begun = true;
         Ok(())
@@ -123,6 +124,15 @@ impl PlayState {
             ScriptLine::Skipped | ScriptLine::Nodes { .. } | ScriptLine::Event(_) => Ok(()),
         }
     }
+}
+
+/// Relays as they are. What a run of them promises is so before anything happens, by a run of no event.
+fn not_begun(mut pair: Pair<MemoryDisk>) -> Pair<MemoryDisk>
+    ensures same { result ≡ pair }
+    ensures promise { KeepsItsPromise ⟦<MemoryDisk as Disk>⟧.honest ⟦<MemoryDisk as Disk>⟧.words result result }
+{
+    pair.run(&[]);
+    pair
 }
 
 /// Octets in memory fail to be written by want of memory alone.

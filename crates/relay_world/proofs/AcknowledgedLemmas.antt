@@ -1,7 +1,7 @@
 -- What a node has acknowledged was added to its list of changes.
 use Rattle.std.proofs.Common.{◌≡◌, ◌<◌, ℕ, List, [], ◌∷◌, ◌++◌, length, take, drop, sym, subst, ap, ◌∙◌, arith}
 use Rattle.std.specs.Prelude.{slice_get}
-use Rattle.std.specs.List.{AllByRecursion}
+use Rattle.std.specs.List.{AllByRecursion, Contains}
 use Rattle.std.proofs.lemmas.List.{append_assoc, take-append-drop}
 use Rattle.std.proofs.lemmas.Option.{same_Some}
 use Rattle.relay_octets.specs.Beginning.{Begins}
@@ -18,8 +18,10 @@ use Rattle.relay_meeting.specs.Joined.{output_with}
 use Rattle.relay_book.specs.Marks.{Added, made_by}
 use Rattle.relay_node.specs.Queued.{queued_by, queued_in}
 use Rattle.relay_world.specs.Bound.{IsBound, IsServed, IsStored, IsStoredAs, ServesLink, StandsAt}
-use Rattle.relay_world.specs.Custody.{Acknowledged}
+use Rattle.relay_world.specs.Custody.{Acknowledged, AcknowledgedIsAccepted}
+use Rattle.relay_world.specs.Ledger.{accepts_on}
 use Rattle.relay_world.specs.World.{Host, World}
+use Rattle.relay_world.proofs.AmongLemmas.{all_by, found_in, in_found, in_map}
 use Rattle.relay_world.proofs.ClosingLemmas.{begins_dialogue}
 
 pub begins_on : {A : Type 0} (front mid whole : List A) → Begins front mid → Begins mid whole → Begins front whole
@@ -72,16 +74,16 @@ stored_added config peer changes number place offer stored within = (
 )
 
 module _ {D : Type 0} (honest : Type 0) (words : DiskWords D) (world : World D) (lists : List (List Change)) where
-  pub acknowledged_added : IsBound honest words world lists → (node : ℕ) (host : Host D) (changes : List Change)
-      → StandsAt world lists node host changes → (number places place : ℕ) → Acknowledged world node number places
-      → place < places → Added changes number place
-  acknowledged_added bound node host changes stands number places place told within =
+  -- what was acknowledged is among the queued offers of its link
+  acknowledged_queued : (bound : IsBound honest words world lists) → (node number places : ℕ)
+      → (told : Acknowledged world node number places) → (P : ℕ × Offered → Type 0)
+      → AllByRecursion P (queued_in (bound.servers told.on told.link told.end told.is_there told.serves).serves.said)
+      → P (number, told.offer)
+  acknowledged_queued bound node number places told P all =
       let served : IsServed world lists told.on told.link told.end = bound.servers told.on told.link told.end told.is_there told.serves in
       let serves : ServesLink served.host served.changes world.ledger told.on told.link told.end = served.serves in
       let its_host : told.host ≡ served.host =
       same_Some told.host served.host (sym told.found ∙ ap (λ n. slice_get world.hosts n) (sym told.its_node) ∙ served.stands.host_at) in
-      let its_list : served.changes ≡ changes =
-      same_Some served.changes changes (sym served.stands.list_at ∙ ap (λ n. slice_get lists n) told.its_node ∙ stands.list_at) in
       let dialogue : IsDialogue (setup_of_config served.host.config) told.said =
       subst (λ (h : Host D). IsDialogue (setup_of_config h.config) told.said) its_host told.dialogue in
       let input : Begins told.said.input serves.said.input =
@@ -90,10 +92,38 @@ module _ {D : Type 0} (honest : Type 0) (words : DiskWords D) (world : World D) 
       begins_dialogue (setup_of_config served.host.config) told.said serves.said serves.closing dialogue serves.dialogue
       serves.closes input
       (begins_on told.said.output told.link.down (output_with serves.said.output serves.closing) told.written serves.wrote) in
+      last_stored P (setup_of_config served.host.config) told.said serves.said told.answers told.offers number told.offer
+      dialogue serves.dialogue serves.numbered input output told.last_answer told.last_offer told.each all
+
+  pub acknowledged_added : IsBound honest words world lists → (node : ℕ) (host : Host D) (changes : List Change)
+      → StandsAt world lists node host changes → (number places place : ℕ) → Acknowledged world node number places
+      → place < places → Added changes number place
+  acknowledged_added bound node host changes stands number places place told within =
+      let served : IsServed world lists told.on told.link told.end = bound.servers told.on told.link told.end told.is_there told.serves in
+      let its_list : served.changes ≡ changes =
+      same_Some served.changes changes (sym served.stands.list_at ∙ ap (λ n. slice_get lists n) told.its_node ∙ stands.list_at) in
       let stored : IsStoredAs served.host.config told.end.peer served.changes number told.offer =
-      last_stored (IsStored served.host.config told.end.peer served.changes) (setup_of_config served.host.config)
-      told.said serves.said told.answers told.offers number told.offer dialogue serves.dialogue serves.numbered input output
-      told.last_answer told.last_offer told.each serves.stored in
+      acknowledged_queued bound node number places told (IsStored served.host.config told.end.peer served.changes)
+      served.serves.stored in
       let few : place < length told.offer.envelope.recipients = subst (λ n. place < n) told.places_are within in
       subst (λ l. Added l number place) its_list
       (stored_added served.host.config told.end.peer served.changes number place told.offer stored few)
+
+  -- and so among the accepts of its link
+  pub acknowledged_accepted : IsBound honest words world lists → (node number places : ℕ)
+      → (told : Acknowledged world node number places)
+      → Contains {X = ℕ × ℕ} (accepts_on told.on world.ledger) (number, places)
+  acknowledged_accepted bound node number places told =
+      let served : IsServed world lists told.on told.link told.end = bound.servers told.on told.link told.end told.is_there told.serves in
+      subst (λ n. Contains {X = ℕ × ℕ} (accepts_on told.on world.ledger) (number, n)) (sym told.places_are)
+      (acknowledged_queued bound node number places told
+      (λ one. Contains {X = ℕ × ℕ} (accepts_on told.on world.ledger) (one.0, length one.1.envelope.recipients))
+      (all_by _ (queued_in served.serves.said) (λ one has.
+      let found = found_in (queued_in served.serves.said) one has in
+      in_found (accepts_on told.on world.ledger) (one.0, length one.1.envelope.recipients) found.0
+      (ap (λ l. slice_get l found.0) served.serves.accepts
+      ∙ in_map (λ (o : ℕ × Offered). (o.0, length o.1.envelope.recipients)) (queued_in served.serves.said) found.0 one found.1))))
+
+pub acknowledged_is_accepted : {D : Type 0} (honest : Type 0) (words : DiskWords D) → AcknowledgedIsAccepted honest words
+acknowledged_is_accepted honest words world lists bound node number places told =
+    acknowledged_accepted honest words world lists bound node number places told

@@ -56,7 +56,7 @@ one_answered : (offer : Option (Offered × Answer)) → length (answers_in offer
 one_answered None = refl
 one_answered (Some offer) = refl
 
-turns_answered : (turns : List Turn) → length (answered_by turns) ≡ length (offered_by turns)
+pub turns_answered : (turns : List Turn) → length (answered_by turns) ≡ length (offered_by turns)
 turns_answered [] = refl
 turns_answered (turn ∷ turns) =
     let first = one_answered turn.offer in

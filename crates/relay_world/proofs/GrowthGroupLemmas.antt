@@ -1,5 +1,5 @@
 -- Links that a node hears and reads one behind another: what was recorded, told, written and read stays so.
-use Rattle.std.proofs.Common.{inl, inr, ℕ, List, [], ◌∷◌, ◌++◌, Option, None, Some, refl, sym, subst, ap, arith}
+use Rattle.std.proofs.Common.{inl, inr, ℕ, List, [], ◌∷◌, ◌++◌, Option, None, Some, refl, sym, subst, ap}
 use Rattle.relay_disk.specs.Device.{DiskWords}
 use Rattle.relay_node.specs.Node.{NodeState}
 use Rattle.relay_records.specs.Staged.{Row, no_row}
@@ -7,10 +7,10 @@ use Rattle.relay_world.specs.declared.attempt.Fate.TheVariants.{Replied}
 use Rattle.relay_world.specs.Growth.{HasGrown}
 use Rattle.relay_world.specs.Crashes.{let_go as lets_go}
 use Rattle.relay_world.specs.Groups.{AcceptsInto, AttemptDropped, HasHeardAll, HasHeardEach, HasHeardInto, HasReadInto, HasReopenedBehindGroup, HasTurnedTo, Heard, IsOpenedAgain, IsUp, OutcomeInto, Piece, Read, SessionEnded}
-use Rattle.relay_world.specs.Steps.{heard_link, unless_broken}
+use Rattle.relay_world.specs.Steps.{heard_link}
 use Rattle.relay_world.specs.World.{Up, World}
 use Rattle.relay_world.proofs.CrashRestLemmas.{hangs}
-use Rattle.relay_world.proofs.GrowthStepLemmas.{Octets, dropped, ended, grown, grown_on, let_go, octets_of, octets_same, read_octets, read_on, recorded, records_put, records_same, same_begins, same_ledger, stays}
+use Rattle.relay_world.proofs.GrowthStepLemmas.{Octets, dropped, ended, grown, grown_on, heard_grows, let_go, octets_of, octets_same, read_octets, read_on, recorded, records_put, records_same, same_ledger, stays}
 
 module _ {D : Type 0} (honest : Type 0) (words : DiskWords D) where
   heard_into : (at : ℕ) (old new : World D) (node : ℕ) (piece : Piece) (row left : Row)
@@ -19,12 +19,7 @@ module _ {D : Type 0} (honest : Type 0) (words : DiskWords D) where
     where
       octets : Octets old new
       octets = octets_of old new piece.number is.of.link (heard_link is.of.link is.of.end is.of.session is.received)
-          is.of.link_is is.links (record {
-            up = same_begins is.of.link.up;
-            down = (unless_broken is.of.link is.received.out.items, refl);
-            up_read = omega arith;
-            down_read = omega arith;
-          })
+          is.of.link_is is.links (heard_grows is.of.link is.of.end is.of.session is.received is.of.serves is.of.goes_on)
 
       by : (change : Option ℕ) → AcceptsInto honest words old new piece.number is.of is.after row left change
           → HasGrown old new
@@ -53,7 +48,7 @@ module _ {D : Type 0} (honest : Type 0) (words : DiskWords D) where
           recorded old new piece.number change is.of is.after (Replied change) ends.noted
           (record { hosts = ends.hosts; ledger = ends.ledger; attempts = ends.attempts }) octets
 
-  turned_to : (at : ℕ) (old new : World D) (node : ℕ) (piece : Piece) (row left : Row)
+  pub turned_to : (at : ℕ) (old new : World D) (node : ℕ) (piece : Piece) (row left : Row)
       → HasTurnedTo honest words at old new node piece row left → HasGrown old new
   turned_to at old new node piece row left (Heard hears) = heard_into at old new node piece row left hears
   turned_to at old new node piece row left (SessionEnded ends here same) = ended old new piece.number None ends
@@ -70,16 +65,22 @@ module _ {D : Type 0} (honest : Type 0) (words : DiskWords D) where
       grown_on old next new (turned_to at old next node piece row more first)
       (heard_each at next new node pieces more left others)
 
+  -- all that was heard and read has come into the spool
+  pub settled_grown : (old new : World D) (node : ℕ) (pieces : List Piece)
+      (is : HasHeardAll honest words old new node pieces) → HasGrown is.heard new
+  settled_grown old new node pieces is =
+      grown is.heard new
+      (stays is.heard new node is.staged.host (record is.staged.host { state = Up is.after }) is.staged.host_at is.hosts refl)
+      (same_ledger is.heard new is.rest.2) (octets_same is.heard new is.rest.0)
+
   pub heard_all : (old new : World D) (node : ℕ) (pieces : List Piece) → HasHeardAll honest words old new node pieces
       → HasGrown old new
   heard_all old new node pieces is =
       grown_on old is.heard new (heard_each old.clock old is.heard node pieces no_row is.row is.each)
-      (grown is.heard new
-      (stays is.heard new node is.staged.host (record is.staged.host { state = Up is.after }) is.staged.host_at is.hosts refl)
-      (same_ledger is.heard new is.rest.2) (octets_same is.heard new is.rest.0))
+      (settled_grown old new node pieces is)
 
   -- a node of the world that is opened again
-  opened_again : (world new : World D) (node : ℕ) (is : IsUp world node) (after : NodeState D)
+  pub opened_again : (world new : World D) (node : ℕ) (is : IsUp world node) (after : NodeState D)
       → IsOpenedAgain world new node is.host after → HasGrown world new
   opened_again world new node is after again =
       subst (λ w. HasGrown world w) (sym again.new_is)

@@ -6,18 +6,18 @@ use Rattle.relay_world.specs.declared.attempt.Fate.TheVariants.{Lost}
 use Rattle.relay_world.specs.declared.link.Link.{Link}
 use Rattle.relay_world.specs.Growth.{GrownListsBegin, HasGrown, LinkGrows, RunsGrow}
 use Rattle.relay_world.specs.Once.{BreaksOff, Drops, Ends, GivesUp, GoesOn, Happens, Hears, IsNotOpened, LetsGo, Loses, Opens, Reads, Reopens, Starts, Stops, StopsInGivingUp, StopsInHearing, StopsInLosing, StopsInReading, Ticks, Writes, Closes, HearsAll, ReopensBehindGroup}
-use Rattle.relay_world.specs.Steps.{heard_link, opened_link, unless_broken, without_note}
+use Rattle.relay_world.specs.Steps.{heard_link, opened_link, without_note}
 use Rattle.relay_world.specs.Stops.{cut_off_link}
 use Rattle.relay_world.specs.World.{Down, FromClient, FromNoHop, Up, World, link_at}
 use Rattle.relay_world.proofs.ClaimLemmas.{there_too}
 use Rattle.relay_world.proofs.GrowLemmas.{list_grown}
 use Rattle.relay_world.proofs.GrowthGroupLemmas.{heard_all, reopened_behind}
-use Rattle.relay_world.proofs.GrowthStepLemmas.{decided, dropped, dropped_at, ended, grown, grown_on, heard, let_go, octets_of, octets_put, octets_same, one_link, read_by, read_octets, recorded, records_put, records_same, same_begins, same_ledger, stays, written_grows}
+use Rattle.relay_world.proofs.GrowthStepLemmas.{begun_grows, broken_grows, cut_off_grows, decided, dropped, dropped_at, ended, grown, grown_on, heard, heard_grows, let_go, octets_of, octets_put, octets_same, one_link, read_by, read_octets, recorded, records_put, records_same, same_begins, same_ledger, stays, written_grows}
 use Rattle.relay_world.proofs.OpenLemmas.{number_within}
 use Rattle.relay_world.proofs.RecordLemmas.{outcome_taken}
 
 -- each event, in a line
-event_grows : {D : Type 0} (honest : Type 0) (words : DiskWords D) (old new : World D) → Happens honest words old new
+pub event_grows : {D : Type 0} (honest : Type 0) (words : DiskWords D) (old new : World D) → Happens honest words old new
     → HasGrown old new
 event_grows honest words old new (Opens node peer is) =
     grown old new (stays old new node is.host (record is.host { state = Up is.after }) is.host_at is.hosts refl)
@@ -27,16 +27,11 @@ event_grows honest words old new (Opens node peer is) =
     let within = number_within old.links (suc (length old.links)) was at in absurd (omega (arith, within))))
 event_grows honest words old new (Writes number octets is) =
     one_link old new is.links number is.link is.written is.new_is is.link_is is.put
-    (written_grows is.link is.written octets is.writes)
+    (written_grows is.link is.written octets is.whole is.writes)
 event_grows honest words old new (Hears number count is) =
     heard old new is.of.end.node number is.of.host is.after is.received.change is.of.host_at is.records
     (octets_of old new number is.of.link (heard_link is.of.link is.of.end is.of.session is.received) is.of.link_is is.links
-    (record {
-      up = same_begins is.of.link.up;
-      down = (unless_broken is.of.link is.received.out.items, refl);
-      up_read = omega arith;
-      down_read = omega arith;
-    }))
+    (heard_grows is.of.link is.of.end is.of.session is.received is.of.serves is.of.goes_on))
 event_grows honest words old new (HearsAll node pieces is) = heard_all honest words old new node pieces is
 event_grows honest words old new (Ends number is) = ended old new number None is
 event_grows honest words old new (Closes number reply is) = ended old new number (Some reply) is.ends
@@ -48,12 +43,8 @@ event_grows honest words old new (Loses number change is) =
     (outcome_taken old new number is.of is.after (Lost change) change is.records) (octets_same old new is.links)
 event_grows honest words old new (Drops number is) = dropped old new number is
 event_grows honest words old new (BreaksOff number is) =
-    one_link old new is.links number is.link (record is.link { broken = true }) is.new_is is.link_is is.put (record {
-      up = same_begins is.link.up;
-      down = same_begins is.link.down;
-      up_read = omega arith;
-      down_read = omega arith;
-    })
+    one_link old new is.links number is.link (record is.link { broken = true }) is.new_is is.link_is is.put
+    (broken_grows is.link)
 event_grows {D} honest words old new (Starts number message hop is) =
     grown old new
     (stays old new is.attempt.node is.host (record is.host { state = Up is.after }) is.host_at is.hosts refl)
@@ -66,12 +57,8 @@ event_grows {D} honest words old new (Starts number message hop is) =
         → LinkGrows was (record is.blank { client = Some (length old.attempts) })
     blank (inl there) was at =
         subst (λ l. LinkGrows l (record is.blank { client = Some (length old.attempts) }))
-        (same_Some is.blank was (sym there ∙ at)) (record {
-          up = same_begins is.blank.up;
-          down = same_begins is.blank.down;
-          up_read = omega arith;
-          down_read = omega arith;
-        })
+        (same_Some is.blank was (sym there ∙ at))
+        (begun_grows is.blank (length old.attempts) is.is_blank.client is.is_blank.whole)
     blank (inr fresh) was at =
         let within = number_within old.links number was at in
         let is_next = fresh.0 in
@@ -91,12 +78,8 @@ event_grows honest words old new (StopsInHearing number count is) =
     (record is.of.host { state = Down is.disk (Some (record { note = is.noted; origin = FromClient number })) }) is.of.host_at
     is.hosts refl)
     (same_ledger old new is.rest.1)
-    (octets_of old new number is.of.link (cut_off_link is.of.link is.of.end) is.of.link_is is.links (record {
-      up = same_begins is.of.link.up;
-      down = same_begins is.of.link.down;
-      up_read = omega arith;
-      down_read = omega arith;
-    }))
+    (octets_of old new number is.of.link (cut_off_link is.of.link is.of.end) is.of.link_is is.links
+    (cut_off_grows is.of.link is.of.end is.of.serves))
 event_grows honest words old new (StopsInReading number count is) = dropped_at old new number is.of is.stopped _ is.drops
 event_grows honest words old new (StopsInLosing number is) = dropped_at old new number is.of is.stopped _ is.drops
 event_grows honest words old new (StopsInGivingUp node message is) =

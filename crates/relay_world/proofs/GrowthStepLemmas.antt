@@ -1,25 +1,28 @@
 -- What changes of nodes and links leave of what was recorded, told, written and read.
-use Rattle.std.proofs.Common.{◌≡◌, ◌+◌, inl, inr, ℕ, true, List, [], ◌∷◌, ◌++◌, Option, None, Some, refl, sym, subst, ap, ◌∙◌, arith}
+use Rattle.std.proofs.Common.{◌≡◌, ◌+◌, inl, inr, ℕ, Bool, true, false, List, [], ◌∷◌, ◌++◌, Option, None, Some, refl, sym, subst, ap, ◌∙◌, arith}
 use Rattle.std.specs.Prelude.{slice_get}
-use Rattle.std.proofs.lemmas.Bool.{cases_eq}
+use Rattle.std.proofs.lemmas.Bool.{cases_eq, false≢true}
 use Rattle.std.proofs.lemmas.List.{append_assoc, append-nil}
-use Rattle.std.proofs.lemmas.Option.{same_Some}
+use Rattle.std.proofs.lemmas.Option.{none-some, same_Some}
 use Rattle.relay_octets.specs.Beginning.{Begins}
 use Rattle.relay_disk.specs.Device.{DiskWords}
 use Rattle.relay_lines.specs.Reply.{Reply, reply_text}
 use Rattle.relay_node.specs.Node.{NodeState}
+use Rattle.relay_node.specs.declared.receive.Received.{Received}
 use Rattle.relay_records.specs.Records.{Kept}
 use Rattle.relay_records.specs.declared.noted.Noted.{Noted}
 use Rattle.relay_attempts.specs.declared.reply.Replied.{Replied}
 use Rattle.relay_world.specs.declared.attempt.Fate.{Fate}
 use Rattle.relay_world.specs.declared.attempt.Fate.TheVariants.{Lost, Replied as RepliedBy}
 use Rattle.relay_world.specs.declared.link.Link.{Link}
-use Rattle.relay_world.specs.Growth.{HasGrown, LinkGrows}
+use Rattle.relay_world.specs.declared.link.ServerEnd.{ServerEnd}
+use Rattle.relay_world.specs.Growth.{EndStays, HasGrown, LinkGrows, StaysBroken}
 use Rattle.relay_world.specs.HangUp.{HangsUp}
-use Rattle.relay_world.specs.Steps.{AttemptOf, DropsAttempt, IsPut, IsPutAt, RecordsHeard, RecordsRead, WritesAs, read_link, unless_broken, without_note, EndsWith, ended_link, closed_down}
-use Rattle.relay_world.specs.Stops.{Decides, DropsAtStop, Finds, FindsOutcome, HasFound}
+use Rattle.relay_world.specs.Steps.{AttemptOf, DropsAttempt, IsPut, IsPutAt, RecordsHeard, RecordsRead, WritesAs, heard_link, read_link, session_after, unless_broken, without_note, EndsWith, ended_link, closed_down}
+use Rattle.relay_world.specs.Stops.{Decides, DropsAtStop, Finds, FindsOutcome, HasFound, cut_off_link}
 use Rattle.relay_world.specs.World.{Down, FromClient, FromLoss, FromNoHop, FromReplies, Host, Origin, Undecided, Up, World, link_at}
-use Rattle.relay_world.proofs.HangUpLemmas.{Loose, link_onward}
+use Rattle.relay_world.proofs.HangUpLemmas.{Loose, LooseServer, link_onward}
+use Rattle.relay_world.proofs.PieceLemmas.{written_broken}
 use Rattle.relay_world.proofs.RecordLemmas.{HasTakenOutcome, outcome_taken}
 
 pub same_begins : {A : Type 0} (xs : List A) → Begins xs xs
@@ -34,12 +37,114 @@ begins_on xs ys zs first second = (
   second.1 ∙ ap (λ l. l ++ second.0) first.1 ∙ append_assoc xs first.0 second.0,
 )
 
+-- a server end that is the same, or whose session is gone
+pub same_end : (end : Option ServerEnd) → EndStays end end
+same_end None = refl
+same_end (Some end) = inl refl
+
+end_gone : (was : Option ServerEnd) (end : ServerEnd) → was ≡ Some end → EndStays was (Some (record end { session = None }))
+end_gone was end is = subst (λ e. EndStays e (Some (record end { session = None }))) (sym is) (inr refl)
+
+session_on : (end : ServerEnd) (session : ℕ) (close : Bool) → end.session ≡ Some session
+    → EndStays (Some end) (Some (record end { session = session_after close session }))
+session_on end session true goes_on = inr refl
+session_on end session false goes_on = inl (ap (λ s. Some (record end { session = s })) (sym goes_on))
+
+end_heard : (was : Option ServerEnd) (end : ServerEnd) (session : ℕ) (close : Bool) → was ≡ Some end
+    → end.session ≡ Some session → EndStays was (Some (record end { session = session_after close session }))
+end_heard was end session close is goes_on =
+    subst (λ e. EndStays e (Some (record end { session = session_after close session }))) (sym is)
+    (session_on end session close goes_on)
+
+end_loose : (was now : Option ServerEnd) → LooseServer was now → EndStays was now
+end_loose was now (inl same) = subst (λ e. EndStays was e) (sym same) (same_end was)
+end_loose was now (inr gone) = subst (λ e. EndStays was e) (sym gone.2) (end_gone was gone.0 gone.1)
+
+-- on a broken link an end writes nothing
+silent : (link : Link) (front octets : List ℕ) → link.broken ≡ true → front ++ unless_broken link octets ≡ front
+silent link front octets is = ap (λ l. front ++ l) (written_broken link octets is) ∙ append-nil front
+
 pub same_link : (link : Link) → LinkGrows link link
 same_link link = record {
+  client = λ place is. is;
+  server = same_end link.server;
   up = same_begins link.up;
   down = same_begins link.down;
   up_read = omega arith;
   down_read = omega arith;
+  broken = λ is. record { broken = is; up = refl; down = refl };
+}
+
+-- a link that breaks, or of which more is read
+pub broken_grows : (link : Link) → LinkGrows link (record link { broken = true })
+broken_grows link = record {
+  client = λ place is. is;
+  server = same_end link.server;
+  up = same_begins link.up;
+  down = same_begins link.down;
+  up_read = omega arith;
+  down_read = omega arith;
+  broken = λ is. record { broken = refl; up = refl; down = refl };
+}
+
+read_up_grows : (link : Link) (used : ℕ) → LinkGrows link (record link { up_read = link.up_read + used })
+read_up_grows link used = record {
+  client = λ place is. is;
+  server = same_end link.server;
+  up = same_begins link.up;
+  down = same_begins link.down;
+  up_read = omega arith;
+  down_read = omega arith;
+  broken = λ is. record { broken = is; up = refl; down = refl };
+}
+
+read_down_grows : (link : Link) (used : ℕ) → LinkGrows link (record link { down_read = link.down_read + used })
+read_down_grows link used = record {
+  client = λ place is. is;
+  server = same_end link.server;
+  up = same_begins link.up;
+  down = same_begins link.down;
+  up_read = omega arith;
+  down_read = omega arith;
+  broken = λ is. record { broken = is; up = refl; down = refl };
+}
+
+-- a link on which a client begins that had none
+pub begun_grows : (link : Link) (place : ℕ) → link.client ≡ None → link.broken ≡ false
+    → LinkGrows link (record link { client = Some place })
+begun_grows link place none whole = record {
+  client = λ other is. absurd (none-some other (sym none ∙ is));
+  server = same_end link.server;
+  up = same_begins link.up;
+  down = same_begins link.down;
+  up_read = omega arith;
+  down_read = omega arith;
+  broken = λ is. absurd (false≢true (sym whole ∙ is));
+}
+
+-- a link that a session was heard on
+pub heard_grows : (link : Link) (end : ServerEnd) (session : ℕ) (received : Received) → link.server ≡ Some end
+    → end.session ≡ Some session → LinkGrows link (heard_link link end session received)
+heard_grows link end session received serves goes_on = record {
+  client = λ place is. is;
+  server = end_heard link.server end session received.close serves goes_on;
+  up = same_begins link.up;
+  down = (unless_broken link received.out.items, refl);
+  up_read = omega arith;
+  down_read = omega arith;
+  broken = λ is. record { broken = is; up = refl; down = silent link link.down received.out.items is };
+}
+
+-- a link whose session is gone as it breaks
+pub cut_off_grows : (link : Link) (end : ServerEnd) → link.server ≡ Some end → LinkGrows link (cut_off_link link end)
+cut_off_grows link end serves = record {
+  client = λ place is. is;
+  server = end_gone link.server end serves;
+  up = same_begins link.up;
+  down = same_begins link.down;
+  up_read = omega arith;
+  down_read = omega arith;
+  broken = λ is. record { broken = refl; up = refl; down = refl };
 }
 
 loose_grows : (was its : Link) → Loose was its → LinkGrows was its
@@ -47,24 +152,34 @@ loose_grows was its loose =
     let up = loose.up_read in
     let down = loose.down_read in
     record {
+      client = λ place is. loose.client ∙ is;
+      server = end_loose was.server its.server loose.server;
       up = begins_like was.up its.up loose.up;
       down = begins_like was.down its.down loose.down;
       up_read = omega (arith, up);
       down_read = omega (arith, down);
+      broken = λ is. record { broken = loose.broken is; up = loose.up; down = loose.down };
     }
 
-pub written_grows : (link written : Link) (octets : List ℕ) → WritesAs link octets written → LinkGrows link written
-written_grows link written octets (inl up) = subst (λ l. LinkGrows link l) (sym up.1) (record {
+pub written_grows : (link written : Link) (octets : List ℕ) → link.broken ≡ false → WritesAs link octets written
+    → LinkGrows link written
+written_grows link written octets whole (inl up) = subst (λ l. LinkGrows link l) (sym up.1) (record {
+  client = λ place is. is;
+  server = same_end link.server;
   up = (octets, refl);
   down = same_begins link.down;
   up_read = omega arith;
   down_read = omega arith;
+  broken = λ is. absurd (false≢true (sym whole ∙ is));
 })
-written_grows link written octets (inr down) = subst (λ l. LinkGrows link l) (sym down.1) (record {
+written_grows link written octets whole (inr down) = subst (λ l. LinkGrows link l) (sym down.1) (record {
+  client = λ place is. is;
+  server = same_end link.server;
   up = same_begins link.up;
   down = (octets, refl);
   up_read = omega arith;
   down_read = omega arith;
+  broken = λ is. absurd (false≢true (sym whole ∙ is));
 })
 
 module _ {D : Type 0} (old new : World D) where
@@ -155,10 +270,13 @@ module _ {D : Type 0} (old new : World D) where
       → IsPutAt old.links new.links number (read_link of.link replied) → Octets
   read_octets number of replied put =
       octets_of number of.link (read_link of.link replied) of.link_is put (record {
+        client = λ place is. is;
+        server = same_end of.link.server;
         up = (unless_broken of.link replied.out.items, refl);
         down = same_begins of.link.down;
         up_read = omega arith;
         down_read = omega arith;
+        broken = λ is. record { broken = is; up = silent of.link of.link.up replied.out.items is; down = refl };
       })
 
   pub read_on : (of_node : ℕ) (host : Host D) (after : NodeState D) → slice_get old.hosts of_node ≡ Some host
@@ -190,12 +308,7 @@ module _ {D : Type 0} (old new : World D) where
       (record of.host { state = Down drops.disk (Some (record { note = drops.noted; origin = origin })) }) of.host_at drops.hosts
       refl)
       (same_ledger drops.rest.0)
-      (octets_of number of.link (record of.link { broken = true }) of.link_is drops.links (record {
-        up = same_begins of.link.up;
-        down = same_begins of.link.down;
-        up_read = omega arith;
-        down_read = omega arith;
-      }))
+      (octets_of number of.link (record of.link { broken = true }) of.link_is drops.links (broken_grows of.link))
 
   found : (node : ℕ) (host : Host D) (after : NodeState D) (undecided : Undecided) → slice_get old.hosts node ≡ Some host
       → HasFound old new node host after undecided → HasGrown old new
@@ -207,22 +320,13 @@ module _ {D : Type 0} (old new : World D) where
     where
       outcome : (number place used : ℕ) (fate : Fate) → FindsOutcome old new number place used fate → Octets
       outcome number place used fate its =
-          octets_of number its.link (record its.link { down_read = its.link.down_read + used }) its.link_is its.links (record {
-            up = same_begins its.link.up;
-            down = same_begins its.link.down;
-            up_read = omega arith;
-            down_read = omega arith;
-          })
+          octets_of number its.link (record its.link { down_read = its.link.down_read + used }) its.link_is its.links
+          (read_down_grows its.link used)
 
       by : (origin : Origin) → Finds old new undecided.note origin → Octets
       by (FromClient number) its =
           octets_of number its.link (record its.link { up_read = its.link.up_read + undecided.note.used }) its.link_is its.links
-          (record {
-            up = same_begins its.link.up;
-            down = same_begins its.link.down;
-            up_read = omega arith;
-            down_read = omega arith;
-          })
+          (read_up_grows its.link undecided.note.used)
       by (FromReplies number place message) its =
           outcome number place undecided.note.used (RepliedBy undecided.note.number) its
       by (FromLoss number place message) its = outcome number place undecided.note.used (Lost undecided.note.number) its
@@ -249,6 +353,14 @@ module _ {D : Type 0} (old new : World D) where
         loose_grows was next.0 next.2,
       ))
 
+end_on : (was then now : Option ServerEnd) → EndStays was then → EndStays then now → EndStays was now
+end_on None then now first second = subst (λ e. EndStays e now) first second
+end_on (Some was) then now (inl same) second = subst (λ e. EndStays e now) same second
+end_on (Some was) then now (inr gone) second = elim (subst (λ e. EndStays e now) gone second) [
+  | inl same ↦ inr same
+  | inr still ↦ inr still
+]
+
 link_on : (was then now : Link) → LinkGrows was then → LinkGrows then now → LinkGrows was now
 link_on was then now first second =
     let up = first.up_read in
@@ -256,10 +368,16 @@ link_on was then now first second =
     let down = first.down_read in
     let more_down = second.down_read in
     record {
+      client = λ place is. second.client place (first.client place is);
+      server = end_on was.server then.server now.server first.server second.server;
       up = begins_on was.up then.up now.up first.up second.up;
       down = begins_on was.down then.down now.down first.down second.down;
       up_read = omega (arith, up, more_up);
       down_read = omega (arith, down, more_down);
+      broken = λ is.
+          let one : StaysBroken was then = first.broken is in
+          let other : StaysBroken then now = second.broken one.broken in
+          record { broken = other.broken; up = other.up ∙ one.up; down = other.down ∙ one.down };
     }
 
 pub grown_on : {D : Type 0} (old next new : World D) → HasGrown old next → HasGrown next new → HasGrown old new
@@ -280,14 +398,21 @@ closed_grows : (link : Link) (closing : Option Reply) → Begins link.down (clos
 closed_grows link None = same_begins link.down
 closed_grows link (Some reply) = (unless_broken link (reply_text reply), refl)
 
+closed_silent : (link : Link) (closing : Option Reply) → link.broken ≡ true → closed_down link closing ≡ link.down
+closed_silent link None is = refl
+closed_silent link (Some reply) is = silent link link.down (reply_text reply) is
+
 pub ended : {D : Type 0} (old new : World D) (number : ℕ) (closing : Option Reply) → EndsWith old new number closing
     → HasGrown old new
 ended old new number closing is =
     grown old new (stays old new is.of.end.node is.of.host (record is.of.host { state = Up is.after }) is.of.host_at is.hosts refl)
     (same_ledger old new is.rest.1)
     (octets_of old new number is.of.link (ended_link is.of.link is.of.end closing) is.of.link_is is.links (record {
+      client = λ place it. it;
+      server = end_gone is.of.link.server is.of.end is.of.serves;
       up = same_begins is.of.link.up;
       down = closed_grows is.of.link closing;
       up_read = omega arith;
       down_read = omega arith;
+      broken = λ it. record { broken = it; up = refl; down = closed_silent is.of.link closing it };
     }))

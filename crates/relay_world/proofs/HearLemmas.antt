@@ -1,5 +1,6 @@
 -- What a node hears of a link keeps a world bound.
-use Rattle.std.proofs.Common.{◌≡◌, ℕ, List, [], ◌∷◌, ◌++◌, Option, None, Some, sym, subst, ap, ◌∙◌, arith}
+use Rattle.std.proofs.Common.{◌≡◌, ℕ, Bool, true, false, List, [], ◌∷◌, ◌++◌, Option, None, Some, sym, subst, ap, ◌∙◌, arith}
+use Rattle.std.proofs.lemmas.Bool.{false≢true}
 use Rattle.std.proofs.lemmas.Option.{same_Some}
 use Rattle.relay_disk.specs.Device.{DiskWords}
 use Rattle.relay_server.specs.Dialogue.{Said}
@@ -7,7 +8,8 @@ use Rattle.relay_book.specs.declared.change.Change.{Change}
 use Rattle.relay_book.specs.declared.change.Change.TheVariants as change
 use Rattle.relay_records.specs.declared.noted.Noted.{Noted}
 use Rattle.relay_records.specs.Note.{IsNoted}
-use Rattle.relay_node.specs.Node.{Makes, Queues, Receives}
+use Rattle.relay_node.specs.Node.{Makes, Queues, Receives, SessionGoesOn}
+use Rattle.relay_slots.specs.Slots.{slot_at}
 use Rattle.relay_world.specs.Bound.{IsBound}
 use Rattle.relay_world.specs.Steps.{RecordsHeard, HasHeard, HearingKeeps, waiting_up, without_note}
 use Rattle.relay_world.specs.World.{World}
@@ -27,6 +29,15 @@ module _ {D : Type 0} (honest : Type 0) (words : DiskWords D) (old new : World D
         (waiting_up count heard.of.link) heard.of.before heard.after heard.received
     hears = heard.receives list said (its_node honest words old lists number bound heard.of).keeps
         (says_before honest words old lists number bound heard.of)
+
+    gone_by : (close : Bool) → SessionGoesOn heard.of.before.config heard.after.seats heard.of.session heard.of.end.peer
+        hears.later close → close ≡ true → slot_at heard.after.seats heard.of.session ≡ None
+    gone_by true goes is = goes.0
+    gone_by false goes is = absurd (false≢true is)
+
+    -- a session that has closed is gone
+    pub closed_gone : heard.received.close ≡ true → slot_at heard.after.seats heard.of.session ≡ None
+    closed_gone = gone_by heard.received.close hears.goes_on
 
     -- what was heard, where the node is left with this note
     abbrev talk_by : (noted : Option Noted)

@@ -1,5 +1,6 @@
 mod AcknowledgedLemmas
 mod ClosingLemmas
+mod WrittenLemmas
 mod CauseLemmas
 mod CustodyLemmas
 mod ContentLemmas
@@ -62,8 +63,16 @@ mod ReceivedLemmas
 mod ChainLemmas
 mod GrowthStepLemmas
 mod GrowthGroupLemmas
+mod GrowthAttemptLemmas
 mod GrowthLemmas
+mod DelayLemmas
+mod LineLemmas
+mod LineEventLemmas
+mod LineGroupLemmas
+mod LeakLemmas
+mod LeakEventLemmas
 mod PromiseLemmas
+mod UnsoundLemmas
 mod CrashLemmas
 mod CrashEndLemmas
 mod CrashRunLemmas

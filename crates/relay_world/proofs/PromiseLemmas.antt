@@ -12,6 +12,7 @@ use Rattle.relay_world.specs.declared.attempt.Attempt.{Attempt}
 use Rattle.relay_world.specs.declared.link.Link.{Link}
 use Rattle.relay_world.specs.Children.{IsAttempt}
 use Rattle.relay_world.specs.HopLinks.{AreLinkedToHops, IsLinkedToHop, LeadsTo}
+use Rattle.relay_world.specs.Lines.{HasSources}
 use Rattle.relay_world.specs.Once.{IsTriedOnce}
 use Rattle.relay_world.specs.Promise.{HasCome, HasEnded, IsHeld, IsPassedOn, KeepsPromise, PromiseIsKept}
 use Rattle.relay_world.specs.World.{Host, World}
@@ -20,14 +21,16 @@ use Rattle.relay_world.proofs.ChildrenLemmas.{at_most_one_child}
 use Rattle.relay_world.proofs.ContentLemmas.{content_is_kept}
 use Rattle.relay_world.proofs.CopiesLemmas.{copies_are_few}
 use Rattle.relay_world.proofs.CustodyLemmas.{custody_is_kept}
+use Rattle.relay_world.proofs.DelayLemmas.{delays_once}
 use Rattle.relay_world.proofs.GrowthLemmas.{grown_lists_begin, runs_grow}
 use Rattle.relay_world.proofs.LeavingLemmas.{leaving_is_caused}
 use Rattle.relay_world.proofs.PassingLemmas.{others_are_not_held}
-use Rattle.relay_world.proofs.RunLemmas.{runs_keep_all}
+use Rattle.relay_world.proofs.RunLemmas.{runs_keep_all, runs_keep_attempts}
 use Rattle.relay_world.proofs.TransferLemmas.{transferred_is_accepted}
 
 module _ {D : Type 0} (honest : Type 0) (words : DiskWords D) (world : World D) (lists : List (List Change))
-    (bound : IsBound honest words world lists) (once : IsTriedOnce world lists) (linked : AreLinkedToHops world) where
+    (bound : IsBound honest words world lists) (once : IsTriedOnce world lists) (linked : AreLinkedToHops world)
+    (sources : HasSources world lists) where
   custody : (node : ℕ) (host : Host D) (changes : List Change) → StandsAt world lists node host changes
       → KeepsCustody honest words world node host changes
   custody node host changes stands = custody_is_kept honest words world lists bound node host changes stands
@@ -76,16 +79,21 @@ module _ {D : Type 0} (honest : Type 0) (words : DiskWords D) (world : World D) 
     content = λ number place link attempt host changes accept is client at stands accepted.
         content_is_kept honest words world lists bound number place link attempt host changes accept is client at stands accepted;
     chains = short_chains honest words world lists bound;
+    once = once;
+    linked = linked;
+    sources = sources;
+    delays = λ node host changes stands. delays_once changes (bound.hosts node host changes stands).list.fitting;
   }
 
 pub promise_is_kept : {D : Type 0} (honest : Type 0) (words : DiskWords D)
     → ((disk : D) → words.may_leave disk (words.seen disk)) → PromiseIsKept honest words
-promise_is_kept honest words sees is count old new lists bound once linked happen =
-    let all = runs_keep_all honest words sees is count old new lists bound once linked happen in
+promise_is_kept honest words sees is count old new lists bound once linked sources happen =
+    let all = runs_keep_all honest words sees is count old new lists bound once linked sources happen in
     let grows = runs_grow honest words count old new happen in (
       all.0,
       all.1,
-      promise honest words new all.0 all.1 all.2 all.3,
+      promise honest words new all.0 all.1 all.2 all.3 all.4,
       grows,
+      runs_keep_attempts honest words sees is count old new lists bound happen,
       grown_lists_begin honest words old new lists all.0 bound all.1 grows,
     )

@@ -1,5 +1,5 @@
 -- A run of events keeps two relays bound, each place tried once, and the links of attempts as they are meant.
-use Rattle.std.proofs.Common.{◌≡◌, ℕ, zero, suc, List, [], Some, sym, subst, ap, ◌∙◌, None}
+use Rattle.std.proofs.Common.{◌≡◌, ℕ, zero, suc, List, [], Some, refl, sym, subst, ap, ◌∙◌, None}
 use Rattle.std.specs.Prelude.{slice_get}
 use Rattle.std.proofs.lemmas.Option.{none-some}
 use Rattle.relay_disk.specs.Device.{DiskWords}
@@ -8,7 +8,9 @@ use Rattle.relay_book.specs.declared.change.Change.TheVariants as change
 use Rattle.relay_book.specs.declared.change.Outcome.{Outcome}
 use Rattle.relay_book.specs.Marks.{change_at}
 use Rattle.relay_world.specs.Bound.{IsBound}
+use Rattle.relay_world.specs.Growth.{AttemptsGrow, RunsKeepAttempts}
 use Rattle.relay_world.specs.HopLinks.{AreLinkedToHops}
+use Rattle.relay_world.specs.Lines.{HasSources}
 use Rattle.relay_world.specs.Ledger.{accepts_on}
 use Rattle.relay_world.specs.Once.{BreaksOff, Drops, Ends, GivesUp, GoesOn, Happens, Hears, IsNotOpened, IsTriedOnce, LetsGo, Loses, OnceAtFirst, OnceIsKept, Opens, Reads, Reopens, RunsKeepAll, Starts, Stops, StopsInGivingUp, StopsInHearing, StopsInLosing, StopsInReading, Ticks, Writes, Closes, HearsAll, ReopensBehindGroup}
 use Rattle.relay_world.specs.World.{World}
@@ -22,7 +24,9 @@ use Rattle.relay_world.proofs.GroupLemmas.{hearing_all_keeps}
 use Rattle.relay_world.proofs.GroupOnceLemmas.{heard_all, reopened_behind}
 use Rattle.relay_world.proofs.HearLemmas.{hearing_keeps}
 use Rattle.relay_world.proofs.LoseLemmas.{dropping_keeps, losing_keeps}
+use Rattle.relay_world.proofs.GrowthAttemptLemmas.{attempts_on, attempts_same, event_attempts}
 use Rattle.relay_world.proofs.HopLinkLemmas.{hop_links_are_kept}
+use Rattle.relay_world.proofs.LineGroupLemmas.{sources_are_kept}
 use Rattle.relay_world.proofs.OpenLemmas.{opening_keeps}
 use Rattle.relay_world.proofs.OnceLemmas.{once_started}
 use Rattle.relay_world.proofs.OnceMoreLemmas.{let_go, ticked}
@@ -110,7 +114,7 @@ once_is_kept honest words old new lists later bound once (GoesOn node stays) now
     stayed_up honest words old new lists later bound once now node stays
 
 -- an event keeps a world bound, by lists that may have grown
-event_keeps : {D : Type 0} (honest : Type 0) (words : DiskWords D) (old new : World D) (lists : List (List Change))
+pub event_keeps : {D : Type 0} (honest : Type 0) (words : DiskWords D) (old new : World D) (lists : List (List Change))
     → ((disk : D) → words.may_leave disk (words.seen disk)) → honest → IsBound honest words old lists
     → Happens honest words old new → (later : List (List Change)) × IsBound honest words new later
 event_keeps honest words old new lists sees is bound (Opens node peer opens) =
@@ -162,14 +166,26 @@ event_keeps honest words old new lists sees is bound (GoesOn node stays) =
 
 pub runs_keep_all : {D : Type 0} (honest : Type 0) (words : DiskWords D)
     → ((disk : D) → words.may_leave disk (words.seen disk)) → RunsKeepAll honest words
-runs_keep_all honest words sees is zero old new lists bound once linked same = (
+runs_keep_all honest words sees is zero old new lists bound once linked sources same = (
   lists,
   subst (λ w. IsBound honest words w lists) (sym same) bound,
   subst (λ w. IsTriedOnce w lists) (sym same) once,
   subst (λ w. AreLinkedToHops w) (sym same) linked,
+  subst (λ w. HasSources w lists) (sym same) sources,
 )
-runs_keep_all honest words sees is (suc count) old new lists bound once linked happen =
+runs_keep_all honest words sees is (suc count) old new lists bound once linked sources happen =
     let after = event_keeps honest words old happen.0 lists sees is bound happen.1 in
     let still = once_is_kept honest words old happen.0 lists after.0 bound once happen.1 after.1 in
     let still_linked = hop_links_are_kept honest words old happen.0 linked happen.1 in
-    runs_keep_all honest words sees is count happen.0 new after.0 after.1 still still_linked happen.2
+    let still_told = sources_are_kept honest words old happen.0 lists after.0 bound once sources happen.1 after.1 in
+    runs_keep_all honest words sees is count happen.0 new after.0 after.1 still still_linked still_told happen.2
+
+-- and behind any number of them attempts have gone on, or have come to their ends
+pub runs_keep_attempts : {D : Type 0} (honest : Type 0) (words : DiskWords D)
+    → ((disk : D) → words.may_leave disk (words.seen disk)) → RunsKeepAttempts honest words
+runs_keep_attempts honest words sees is zero old new lists bound same =
+    subst (λ w. AttemptsGrow old w) (sym same) (attempts_same old old refl)
+runs_keep_attempts honest words sees is (suc count) old new lists bound happen =
+    let after = event_keeps honest words old happen.0 lists sees is bound happen.1 in
+    attempts_on old happen.0 new (event_attempts honest words old happen.0 lists bound happen.1)
+    (runs_keep_attempts honest words sees is count happen.0 new after.0 after.1 happen.2)

@@ -1,6 +1,7 @@
 -- Custody of each recipient that a node acknowledged (RFC 5321, section 6.1): it is held, or the next hop has taken it,
 -- or it has ended for a cause, and then the report that is due was queued in the same change.
-use Rattle.std.specs.Prelude.{◌≡◌, ◌↔◌, ℕ, zero, suc, ◌+◌, ◌<◌, ◌≤◌, List, [], ◌∷◌, ◌++◌, length, take, Some, Option}
+use Rattle.std.specs.Prelude.{◌≡◌, ◌↔◌, ℕ, zero, suc, ◌+◌, ◌<◌, ◌≤◌, false, List, [], ◌∷◌, ◌++◌, length, take, Some}
+use Rattle.std.specs.Prelude.{Option}
 use Rattle.std.specs.Prelude.{slice_get}
 use Rattle.std.specs.List.{Contains}
 use Rattle.relay_octets.specs.Beginning.{Begins}
@@ -26,6 +27,7 @@ use Rattle.relay_report.specs.Report.{Reported}
 use Rattle.relay_world.specs.declared.link.Link.{Link}
 use Rattle.relay_world.specs.declared.link.ServerEnd.{ServerEnd}
 use Rattle.relay_world.specs.Bound.{IsBound, StandsAt, StandsForUnlessDecided}
+use Rattle.relay_world.specs.Ledger.{accepts_on}
 use Rattle.relay_world.specs.World.{Down, Host, Undecided, Up, World, link_at}
 
 -- The node wrote on a link that a message of so many places is queued under this number: a dialogue with what it has
@@ -50,6 +52,21 @@ pub record Acknowledged {D : Type 0} (world : World D) (node number places : ℕ
   pub last_offer : said.offers ≡ offers ++ offer ∷ []
   pub each : length answers ≡ length offers
   pub places_are : places ≡ length offer.envelope.recipients
+
+-- What a node has acknowledged on a link is among the accepts that the ledger tells of there.
+abbrev pub AcknowledgedIsAccepted : {D : Type 0} → Type 0 → DiskWords D → Type 0
+AcknowledgedIsAccepted {D} honest words =
+    (world : World D) (lists : List (List Change)) → IsBound honest words world lists
+    → (node number places : ℕ) → (told : Acknowledged world node number places)
+    → Contains {X = ℕ × ℕ} (accepts_on told.on world.ledger) (number, places)
+
+-- And on a whole link each of these accepts was acknowledged.
+abbrev pub AcceptedIsAcknowledged : {D : Type 0} → Type 0 → DiskWords D → Type 0
+AcceptedIsAcknowledged {D} honest words =
+    (world : World D) (lists : List (List Change)) → IsBound honest words world lists
+    → (on : ℕ) (link : Link) (end : ServerEnd) → link_at world.links on ≡ Some link → link.server ≡ Some end
+    → link.broken ≡ false → (number places : ℕ)
+    → Contains {X = ℕ × ℕ} (accepts_on on world.ledger) (number, places) → Acknowledged world end.node number places
 
 -- why a place that was accepted at one moment leaves at another in this way by a verdict: it was taken; or it was
 -- refused, can't be sent, has no hop, or was tried for too long

@@ -11,6 +11,7 @@ pub mod Crashes
 pub mod Groups
 pub mod Children
 pub mod Passing
+pub mod Lines
 pub mod Once
 pub mod Transfers
 pub mod Causes
@@ -19,5 +20,8 @@ pub mod Forbidden
 pub mod Copies
 pub mod Chain
 pub mod Growth
+pub mod Unsound
+pub mod Leaks
+pub mod Delays
 pub mod Promise
 pub mod CrashRuns

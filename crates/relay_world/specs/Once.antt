@@ -25,6 +25,7 @@ use Rattle.relay_world.specs.Groups.{HasHeardAll, HasReopenedBehindGroup, Piece}
 use Rattle.relay_world.specs.HangUp.{HangsUp}
 use Rattle.relay_world.specs.Ledger.{accepts_on}
 use Rattle.relay_world.specs.HopLinks.{AreLinkedToHops}
+use Rattle.relay_world.specs.Lines.{HasSources}
 use Rattle.relay_world.specs.Passing.{Rules}
 use Rattle.relay_world.specs.Steps.{Breaks, CutsOff, DropsAttempt, EndsSession, HasGivenUp, HasHeard, HasLost}
 use Rattle.relay_world.specs.Steps.{HasOpened, HasRead, HasStarted, HasTicked, HasWritten}
@@ -152,16 +153,23 @@ abbrev pub HopLinksAreKept : {D : Type 0} → Type 0 → DiskWords D → Type 0
 HopLinksAreKept {D} honest words =
     (old new : World D) → AreLinkedToHops old → Happens honest words old new → AreLinkedToHops new
 
+-- And each event keeps it so that each line of the ledger has its source.
+abbrev pub SourcesAreKept : {D : Type 0} → Type 0 → DiskWords D → Type 0
+SourcesAreKept {D} honest words =
+    (old new : World D) (lists later : List (List Change)) → IsBound honest words old lists → IsTriedOnce old lists
+    → HasSources old lists → Happens honest words old new → IsBound honest words new later → HasSources new later
+
 -- so many events, one behind another, have made the other world of the one
 abbrev pub Happen : {D : Type 0} → Type 0 → DiskWords D → ℕ → World D → World D → Type 0
 Happen honest words zero old new = new ≡ old
 Happen {D} honest words (suc count) old new =
     (next : World D) × Happens honest words old next × Happen honest words count next new
 
--- Behind any number of events a bound world in which each place is tried once, and attempts have the links that they
--- are meant to have, is still all of that, where disks are honest.
+-- Behind any number of events a bound world in which each place is tried once, attempts have the links that they are
+-- meant to have, and lines their sources, is still all of that, where disks are honest.
 abbrev pub RunsKeepAll : {D : Type 0} → Type 0 → DiskWords D → Type 0
 RunsKeepAll {D} honest words =
     honest → (count : ℕ) (old new : World D) (lists : List (List Change)) → IsBound honest words old lists
-    → IsTriedOnce old lists → AreLinkedToHops old → Happen honest words count old new
+    → IsTriedOnce old lists → AreLinkedToHops old → HasSources old lists → Happen honest words count old new
     → (later : List (List Change)) × IsBound honest words new later × IsTriedOnce new later × AreLinkedToHops new
+    × HasSources new later

@@ -16,8 +16,10 @@ use Rattle.relay_world.specs.Children.{HasOneChild, IsAttempt, children_of}
 use Rattle.relay_world.specs.Content.{PassesOnly}
 use Rattle.relay_world.specs.Copies.{HasFewCopies}
 use Rattle.relay_world.specs.Custody.{Acknowledged, KeepsCustody, LeftFor}
-use Rattle.relay_world.specs.Growth.{HasGrown, ListsGrow}
+use Rattle.relay_world.specs.Delays.{DelaysOnce}
+use Rattle.relay_world.specs.Growth.{AttemptsGrow, HasGrown, ListsGrow}
 use Rattle.relay_world.specs.HopLinks.{AreLinkedToHops}
+use Rattle.relay_world.specs.Lines.{HasSources}
 use Rattle.relay_world.specs.Once.{Happen, IsTriedOnce}
 use Rattle.relay_world.specs.Passing.{NoChildHolds, RepliesGave}
 use Rattle.relay_world.specs.Transfers.{HasPassedOn}
@@ -78,13 +80,21 @@ pub record KeepsPromise {D : Type 0} (honest : Type 0) (words : DiskWords D) (wo
       → PassesOnly world lists number link host attempt accept
   -- mail that goes from node to node is accepted 100 times at most
   pub chains : KeepsChainsShort world lists
+  -- a place is tried once at a time, and by an attempt whose link leads to the node that its hop is, or to outside
+  pub once : IsTriedOnce world lists
+  pub linked : AreLinkedToHops world
+  -- each line of the ledger has its source
+  pub sources : HasSources world lists
+  -- a place is reported as delayed once
+  pub delays : (node : ℕ) (host : Host D) (changes : List Change) → StandsAt world lists node host changes
+      → DelaysOnce changes
 
 -- Behind any number of events, on honest disks, relays that were bound, tried each place once, and had the links that
--- they were meant to have keep the promise, and have all that they had recorded, told, written and read.
+-- they were meant to have, and lines with their sources, keep the promise, and have all that they had recorded, told,
+-- written and read, and the attempts that they had.
 abbrev pub PromiseIsKept : {D : Type 0} → Type 0 → DiskWords D → Type 0
 PromiseIsKept {D} honest words =
     honest → (count : ℕ) (old new : World D) (lists : List (List Change)) → IsBound honest words old lists
-    → IsTriedOnce old lists → AreLinkedToHops old → Happen honest words count old new
+    → IsTriedOnce old lists → AreLinkedToHops old → HasSources old lists → Happen honest words count old new
     → (later : List (List Change)) × IsBound honest words new later × KeepsPromise honest words new later
-    × HasGrown old new
-    × ListsGrow lists later
+    × HasGrown old new × AttemptsGrow old new × ListsGrow lists later

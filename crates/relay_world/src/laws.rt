@@ -1,6 +1,6 @@
 //! What follows for the mail of two relays that are bound, and which events keep them so.
 ghost use Rattle.relay_world.specs.Content.{ContentIsKept};
-ghost use Rattle.relay_world.specs.Custody.{CustodyIsKept};
+ghost use Rattle.relay_world.specs.Custody.{AcceptedIsAcknowledged, AcknowledgedIsAccepted, CustodyIsKept};
 ghost use Rattle.relay_world.specs.HangUp.{HangingUpEnds, HangingUpKeeps};
 ghost use Rattle.relay_world.specs.Stops.{DownIsNotRefused, ReopeningKeeps, StayingDownKeeps, StayingUpKeeps};
 ghost use Rattle.relay_world.specs.Stops.{StoppingGivingUpKeeps, StoppingHearingKeeps, StoppingKeeps};
@@ -17,6 +17,16 @@ use relay_disk::Disk;
 /// report.
 pub fn custody_is_kept<D: Disk>()
     ensures { CustodyIsKept D.honest D.words }
+{}
+
+/// What a node has acknowledged on a link it has accepted there.
+pub fn acknowledged_is_accepted<D: Disk>()
+    ensures { AcknowledgedIsAccepted D.honest D.words }
+{}
+
+/// And on a whole link it has acknowledged all that it has accepted there.
+pub fn accepted_is_acknowledged<D: Disk>()
+    ensures { AcceptedIsAcknowledged D.honest D.words }
 {}
 
 /// Of contents an attempt writes nothing but the stored text, and a further node stores it behind one new time stamp

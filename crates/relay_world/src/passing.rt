@@ -13,6 +13,8 @@ ghost use Rattle.relay_world.specs.Once.{HopLinksAreKept, OnceAtFirst, OnceIsKep
 ghost use Rattle.relay_world.specs.Passing.{AtMostOneChild, OthersAreNotHeld, TakenIsAccepted};
 ghost use Rattle.relay_world.specs.Promise.{PromiseIsKept};
 ghost use Rattle.relay_world.specs.Transfers.{TransferredIsAccepted};
+ghost use Rattle.relay_world.specs.Unsound.{ForgettingOutcomeBreaks, HealingBreaks, MisnamingBreaks};
+ghost use Rattle.relay_world.specs.Unsound.{StoppingIsFailing};
 
 use relay_disk::Disk;
 
@@ -53,8 +55,8 @@ pub fn hop_links_are_kept<D: Disk>()
     ensures { HopLinksAreKept D.honest D.words }
 {}
 
-/// Behind any number of events relays are still bound, each place is tried once, and attempts have the links that they
-/// are meant to have.
+/// Behind any number of events relays are still bound, each place is tried once, attempts have the links that they are
+/// meant to have, and each line of the ledger has its source.
 pub fn runs_keep_all<D: Disk>()
     ensures { RunsKeepAll D.honest D.words }
 {}
@@ -107,6 +109,26 @@ pub fn leading_elsewhere_breaks<D: Disk>()
     ensures { LeadingElsewhereBreaks D }
 {}
 
+/// A ledger in which a line names another link than its own, or none, has a line without a source.
+pub fn misnaming_breaks<D: Disk>()
+    ensures { MisnamingBreaks D }
+{}
+
+/// An attempt whose outcome is forgotten, or made another, breaks what events keep.
+pub fn forgetting_outcome_breaks<D: Disk>()
+    ensures { ForgettingOutcomeBreaks D }
+{}
+
+/// A broken link that is whole again, or on which more is written, breaks what events keep.
+pub fn healing_breaks<D: Disk>()
+    ensures { HealingBreaks D }
+{}
+
+/// A node that stops in a call does so since its device has failed.
+pub fn stopping_is_failing<D: Disk>()
+    ensures { StoppingIsFailing D.honest D.words }
+{}
+
 /// Of a message's place as many copies are made as one, and one for each reply that was lost, or fewer.
 pub fn copies_are_few<D: Disk>()
     ensures { CopiesAreFew D.honest D.words }
@@ -131,8 +153,8 @@ pub fn grown_lists_begin<D: Disk>()
 
 /// Behind any number of events each recipient that a node acknowledged, and each of a report, is held there, accepted
 /// by its next hop with the values that it has, or has ended for a cause with the report that is due; what a node's
-/// replies refused it doesn't hold; there is one copy at most, and one more for each lost reply; and nothing else was
-/// passed on.
+/// replies refused it doesn't hold; there is one copy at most, and one more for each lost reply; nothing else was
+/// passed on; each line of the ledger has its source; and attempts have gone on, or have come to their ends.
 pub fn promise_is_kept<D: Disk>()
     ensures { PromiseIsKept D.honest D.words }
 {}

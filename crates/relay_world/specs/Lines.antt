@@ -1,0 +1,73 @@
+-- Where the lines of the ledger come from: an accept from the node that serves its link; and what became of a place
+-- from the change that made it so, which is the outcome of the attempt on the line's link, or gives up places without a
+-- hop.
+use Rattle.std.specs.Prelude.{◌≡◌, ◌⊎◌, ℕ, suc, List, ◌∷◌, ◌++◌, length, Some, slice_get}
+use Rattle.std.specs.List.{AllByRecursion, Contains}
+use Rattle.relay_book.specs.declared.change.Change.{Change}
+use Rattle.relay_book.specs.declared.change.Change.TheVariants as change
+use Rattle.relay_book.specs.declared.change.Outcome.{Outcome}
+use Rattle.relay_book.specs.declared.change.Verdict.{Verdict}
+use Rattle.relay_book.specs.declared.change.Verdict.TheVariants.{NoRoute}
+use Rattle.relay_book.specs.declared.fate.PlaceStep.{PlaceStep}
+use Rattle.relay_world.specs.declared.attempt.Attempt.{Attempt}
+use Rattle.relay_world.specs.declared.attempt.Fate.TheVariants.{Replied, Lost}
+use Rattle.relay_world.specs.declared.line.Line.{Line}
+use Rattle.relay_world.specs.declared.line.Line.TheVariants.{Accepted, Became}
+use Rattle.relay_world.specs.declared.link.Link.{Link}
+use Rattle.relay_world.specs.declared.link.ServerEnd.{ServerEnd}
+use Rattle.relay_world.specs.Ledger.{Becomes, steps_by}
+use Rattle.relay_world.specs.World.{World, link_at}
+
+-- the change of this number makes the step of a place of a message, and queues a report under that number, or none (0)
+pub record IsMadeBy (changes : List Change) (number : ℕ) (step : PlaceStep) (message place report : ℕ) : Type 0 where
+  pub front : List Change
+  pub one : Change
+  pub behind : List Change
+  pub list : changes ≡ front ++ one ∷ behind
+  pub number_is : number ≡ suc (length front)
+  pub makes : Contains (steps_by front one) (Becomes step message place report)
+
+-- an attempt of the node for the message, on this link, has ended with the change of this number as its outcome
+pub record HasEndedOn {D : Type 0} (world : World D) (node message link number : ℕ) : Type 0 where
+  pub at : ℕ
+  pub attempt : Attempt
+  pub is_there : slice_get world.attempts at ≡ Some attempt
+  pub its_node : attempt.node ≡ node
+  pub its_message : attempt.message ≡ message
+  pub its_link : attempt.link ≡ link
+  pub ended : (attempt.fate ≡ Replied number) ⊎ (attempt.fate ≡ Lost number)
+
+-- the change is an outcome by which each of its places has no hop
+pub record SaysNoHop (one : Change) : Type 0 where
+  pub outcome : Outcome
+  pub is : one ≡ change.Outcome outcome
+  pub each : (place : ℕ) (verdict : Verdict) → Contains outcome.rulings (record { place = place; verdict = verdict })
+      → verdict ≡ NoRoute
+
+-- The node serves the link.
+pub record IsServedBy {D : Type 0} (world : World D) (node link : ℕ) : Type 0 where
+  pub its : Link
+  pub is_there : link_at world.links link ≡ Some its
+  pub end : ServerEnd
+  pub serves : its.server ≡ Some end
+  pub its_node : end.node ≡ node
+
+-- A change of the node's list makes the step, and it is the outcome of an attempt on the link; or the link is none, and
+-- the change gives up places without a hop.
+pub record ComesOfChange {D : Type 0} (world : World D) (lists : List (List Change)) (step : PlaceStep)
+    (node message place link report : ℕ) : Type 0 where
+  pub changes : List Change
+  pub list_at : slice_get lists node ≡ Some changes
+  pub number : ℕ
+  pub made : IsMadeBy changes number step message place report
+  pub cause : HasEndedOn world node message link number ⊎ ((link ≡ 0) × SaysNoHop made.one)
+
+-- where a line comes from
+abbrev pub HasSource : {D : Type 0} → World D → List (List Change) → Line → Type 0
+HasSource world lists (Accepted node number places link) = IsServedBy world node link
+HasSource world lists (Became step node message place link report) =
+    ComesOfChange world lists step node message place link report
+
+-- so it is of each line of the ledger
+abbrev pub HasSources : {D : Type 0} → World D → List (List Change) → Type 0
+HasSources world lists = AllByRecursion (HasSource world lists) world.ledger
