@@ -1,4 +1,5 @@
 mod BlockLemmas
+mod ExchangeLemmas
 mod HearingLemmas
 mod ShareLemmas
 mod LeftLemmas

@@ -1,6 +1,7 @@
 pub mod Table
 pub mod Channel
 pub mod Sessions
+pub mod Exchange
 pub mod Readiness
 pub mod Room
 pub mod Leaving
