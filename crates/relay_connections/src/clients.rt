@@ -1,6 +1,7 @@
 ghost use Rattle.std.specs.Prelude.{◌≡◌, ◌≤◌, ◌<◌, ◌↔◌, ℕ, IfErr, IfOk, IsTrue, true};
 ghost use Rattle.std.specs.Net.Addr.{ipv4_octets};
 ghost use Rattle.relay_slots.specs.Slots.{AreFree};
+ghost use Rattle.relay_connections.specs.Matched.{AreMatched, IsGreeted, Opens};
 ghost use Rattle.relay_connections.specs.Readiness.{IsLeftClient, clients_of};
 ghost use Rattle.relay_connections.specs.Room.{HasRoom, is_at};
 ghost use Rattle.relay_connections.specs.Table.{count_of_such, is_such};
@@ -8,7 +9,7 @@ ghost use Rattle.relay_connections.specs.Table.{count_of_such, is_such};
 use crate::channel::{Channel, Readiness};
 use crate::client::{Client, Intake, Next};
 use crate::clocks::Now;
-use crate::ending::{cut_off, drop_session};
+use crate::ending::{cut_off, dismiss, drop_session};
 use crate::hearing::{Answer, Hearing, Replied, hear_all};
 use crate::leaving::Leaving;
 use crate::stream::Stream;
@@ -111,26 +112,49 @@ impl<S: Stream + Drop> Clients<S> {
         peer: SocketAddrV4,
         now: &Now,
     ) -> Result<(), NodeFault>
+        ensures opens { AreMatched (clients_of self.old) relay.old
+            → Opens peer (clients_of self.old) (clients_of self.new) relay.new }
         ensures fault { IfErr result (λ fault. fault ≡ NodeFault.Stopped) }
     {
-        let mut channel = Channel::new(self.alloc, stream);
         let session = match relay.accept(peer.ip().octets()) {
             Ok(session) => session,
             Err(NodeFault::Stopped) => return Err(NodeFault::Stopped),
             Err(_) => return Ok(()),
         };
+        if let Some(client) = self.greet(registry, relay, session, stream, peer, now) {
+            self.clients.put(session, client);
+        }
+        Ok(())
+    }
+
+    /// Greets the client of a session that was opened for it. Where the system doesn't tell of its connection, or
+    /// memory runs out, the session is ended.
+    fn greet(
+        &self,
+        registry: &S::Registry,
+        relay: &mut Relay<FileDisk>,
+        session: usize,
+        stream: S,
+        peer: SocketAddrV4,
+        now: &Now,
+    ) -> Option<Box<Client<S>>>
+        ensures { IsGreeted session peer relay.old relay.new result }
+    {
+        let mut stream = stream;
+        // Replies are written whole, and wait for no more.
+        stream.set_nodelay();
+        let mut channel = Channel::new(self.alloc, stream);
         if channel.register(registry, session).is_err() {
-            let _ = relay.end_client(session);
-            return Ok(());
+            dismiss(relay, session);
+            return None;
         }
         let client = Client::new(channel, peer, self.timeout, now);
         let Ok(mut client) = Box::new(self.alloc, client) else {
-            let _ = relay.end_client(session);
-            return Ok(());
+            dismiss(relay, session);
+            return None;
         };
         client.flush(relay, session, self.timeout, now);
-        self.clients.put(session, client);
-        Ok(())
+        Some(client)
     }
 
     /// The system tells what the connection of a number may be ready for.

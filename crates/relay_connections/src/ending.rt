@@ -1,5 +1,6 @@
 //! How the session of a client ends where its connection does, or where the relay cuts it off.
 ghost use Rattle.std.specs.Prelude.{◌≡◌, IfErr, IfOk, false};
+ghost use Rattle.relay_connections.specs.Matched.{IsFreed};
 ghost use Rattle.relay_connections.specs.Sessions.{EndsAlone, IsCutOff, IsTold, LeavesWithAll};
 
 use crate::client::Next;
@@ -19,6 +20,17 @@ pub(crate) fn end_session(relay: &mut Relay<FileDisk>, session: usize) -> Result
         Ok(outbox) => Ok(Next::Leaves(outbox)),
         Err(NodeFault::Stopped) => Err(NodeFault::Stopped),
         Err(_) => Ok(Next::Gone),
+    }
+}
+
+/// Ends the session of a client that can't be served.
+pub(crate) fn dismiss(relay: &mut Relay<FileDisk>, session: usize)
+    ensures { IsFreed session relay.old relay.new }
+{
+    match relay.end_client(session) {
+        Ok(_) => {}
+        // A node that is stopped has no session any more, and a session that isn't known is none.
+        Err(_) => {}
     }
 }
 
