@@ -1,4 +1,6 @@
 mod BlockLemmas
+mod ExchangeLemmas
+mod MatchedLemmas
 mod HearingLemmas
 mod ShareLemmas
 mod LeftLemmas

@@ -1,19 +1,54 @@
 -- What callers see of a connection.
-use Rattle.std.specs.Prelude.{◌≡◌, ℕ, List, Bool}
+use Rattle.std.specs.Prelude.{◌≡◌, ℕ, List, [], Bool, Option, Some, drop}
+use Rattle.std.specs.Io.KnownBytes.{Appends, Consumes, IsAtEnd, Keeps, append_known, prepend_known}
 use Rattle.relay_connections.specs.declared.channel.Channel.{Channel}
+use Rattle.relay_connections.specs.declared.channel.End.TheVariants.{Input}
 
 -- what was read of it and isn't used yet
-abbrev pub unread_of : Channel → List ℕ
+abbrev pub unread_of : {S : Type 0} → Channel S → List ℕ
 unread_of channel = channel.block
 
 -- what is held back, to be written before all else
-abbrev pub held_of : Channel → List ℕ
+abbrev pub held_of : {S : Type 0} → Channel S → List ℕ
 held_of channel = channel.held
 
 -- it counts as ready to be written to
-abbrev pub is_writable : Channel → Bool
+abbrev pub is_writable : {S : Type 0} → Channel S → Bool
 is_writable channel = channel.ready.writes
 
--- what was read of it stays, and what is held back
-abbrev pub KeepsOctets : Channel → Channel → Type 0
-KeepsOctets old new = (unread_of new ≡ unread_of old) × (held_of new ≡ held_of old)
+-- the peer was told that nothing more is written
+abbrev pub is_shut : {S : Type 0} → Channel S → Bool
+is_shut channel = channel.is_shut
+
+-- what was read of it stays, what is held back, and its stream
+pub record KeepsOctets {S : Type 0} (old new : Channel S) : Type 0 where
+  pub unread : unread_of new ≡ unread_of old
+  pub held : held_of new ≡ held_of old
+  pub stream : new.stream ≡ old.stream
+  pub shut : is_shut new ≡ is_shut old
+
+-- What a stream has left of its input, and what it has taken of the output, where that is known.
+module _ {S : Type 0} (remaining contents : S → Option (List ℕ)) where
+  -- what is left of the input of a connection: what was read and isn't used yet, and then what its stream has left
+  abbrev pub input_left : Channel S → Option (List ℕ)
+  input_left channel = prepend_known (unread_of channel) (remaining channel.stream)
+
+  -- the output of a connection so far: what its stream has taken, and then what is held back
+  abbrev pub output_of : Channel S → Option (List ℕ)
+  output_of channel = append_known (contents channel.stream) (held_of channel)
+
+  -- where it counts as at its end, its stream has nothing left
+  abbrev pub IsEndTrue : Channel S → Type 0
+  IsEndTrue channel = channel.end ≡ Some Input → IsAtEnd (remaining channel.stream)
+
+  -- a call that writes nothing, nor takes from what is held
+  pub record KeepsOutput (old new : Channel S) : Type 0 where
+    pub held : held_of new ≡ held_of old
+    pub taken : contents new.stream ≡ contents old.stream
+    pub shut : is_shut new ≡ is_shut old
+
+  -- a call that reads nothing, nor takes from what was read
+  pub record KeepsInput (old new : Channel S) : Type 0 where
+    pub unread : unread_of new ≡ unread_of old
+    pub left : remaining new.stream ≡ remaining old.stream
+    pub ends : IsEndTrue old → IsEndTrue new

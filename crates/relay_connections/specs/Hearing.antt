@@ -20,12 +20,12 @@ use Rattle.relay_connections.specs.declared.client.Client.{Client}
 use Rattle.relay_connections.specs.declared.hearing.Hearing.{Hearing}
 
 -- a client has octets that its session may hear
-abbrev pub hears : Option (Box Client Global) → Bool
+abbrev pub hears : {S : Type 0} → Option (Box (Client S) Global) → Bool
 hears None = false
 hears (Some client) = client.value.hears
 
 -- so has the client of a number
-abbrev pub hears_at : List (Option (Box Client Global)) → ℕ → Bool
+abbrev pub hears_at : {S : Type 0} → List (Option (Box (Client S) Global)) → ℕ → Bool
 hears_at clients number = hears (slot_at clients number)
 
 -- so many numbers of slots, of which there are this many: one behind another from this one on, and 0 behind the last
@@ -34,12 +34,12 @@ turned slots number zero = []
 turned slots number (suc count) = number % slots ∷ turned slots (number + 1) count
 
 -- the numbers of all clients that have something to hear, from the first one on
-abbrev pub hearing_from : List (Option (Box Client Global)) → ℕ → List ℕ
+abbrev pub hearing_from : {S : Type 0} → List (Option (Box (Client S) Global)) → ℕ → List ℕ
 hearing_from clients first = filter (hears_at clients) (turned (length clients) first (length clients))
 
 -- a piece is the first lines of what was read of its own session's client and isn't used yet
-pub record IsOwn (clients : List (Option (Box Client Global))) (piece : Piece) : Type 0 where
-  pub client : Box Client Global
+pub record IsOwn {S : Type 0} (clients : List (Option (Box (Client S) Global))) (piece : Piece) : Type 0 where
+  pub client : Box (Client S) Global
   pub there : slot_at clients piece.session ≡ Some client
   pub octets : piece.octets.now ≡ share_of (unread_of client.value.channel)
 
@@ -48,8 +48,8 @@ session_of piece = piece.session
 
 -- Each session that has something to hear has heard octets of its own client, all of them in one call, and what came of
 -- that stands at its place; and so have attempts these replies, in the same call.
-pub record HearOwn (clients : List (Option (Box Client Global))) (first : ℕ) (replies : List ReplyPiece) (at : ℕ)
-    (old new : RelayState FileDisk) (hearing : Hearing) : Type 0 where
+pub record HearOwn {S : Type 0} (clients : List (Option (Box (Client S) Global))) (first : ℕ)
+    (replies : List ReplyPiece) (at : ℕ) (old new : RelayState FileDisk) (hearing : Hearing) : Type 0 where
   pub pieces : List Piece
   pub own : All (IsOwn clients) pieces
   pub sessions : hearing.sessions.items ≡ map session_of pieces

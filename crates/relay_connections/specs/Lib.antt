@@ -1,6 +1,8 @@
 pub mod Table
 pub mod Channel
 pub mod Sessions
+pub mod Exchange
+pub mod Matched
 pub mod Readiness
 pub mod Room
 pub mod Leaving

@@ -10,13 +10,13 @@ use Rattle.relay_connections.specs.declared.client.Client.{Client}
 use Rattle.relay_connections.specs.declared.clients.Clients.{Clients}
 
 -- the clients, each under the number of its session
-abbrev pub clients_of : Clients → List (Option (Box Client Global))
+abbrev pub clients_of : {S : Type 0} → Clients S → List (Option (Box (Client S) Global))
 clients_of clients = clients.clients
 
 -- the client of this number was left in mid-read, and nothing waits to be written to it
-pub record IsLeftClient {D : Type 0} (clients : List (Option (Box Client Global))) (relay : RelayState D) (number : ℕ)
-    : Type 0 where
-  pub client : Box Client Global
+pub record IsLeftClient {S D : Type 0} (clients : List (Option (Box (Client S) Global))) (relay : RelayState D)
+    (number : ℕ) : Type 0 where
+  pub client : Box (Client S) Global
   pub there : slot_at clients number ≡ Some client
   pub unread : unread_of client.value.channel ≢ []
   pub held : held_of client.value.channel ≡ []

@@ -10,10 +10,10 @@ use Rattle.relay_connections.specs.Readiness.{clients_of}
 use Rattle.relay_connections.specs.Table.{count_of, count_of_such}
 
 -- the client is at this IPv4 address
-abbrev pub is_at : List ℕ → Box Client Global → Bool
+abbrev pub is_at : {S : Type 0} → List ℕ → Box (Client S) Global → Bool
 is_at address client = bytes_eq (ipv4_octets (v4_ip client.value.peer)) address
 
 -- profile: fewer than 64 clients stand, and at this address fewer than may
-pub record HasRoom (address : List ℕ) (clients : Clients) : Type 0 where
+pub record HasRoom {S : Type 0} (address : List ℕ) (clients : Clients S) : Type 0 where
   pub alike : count_of_such (is_at address) (clients_of clients) < clients.most
   pub all : count_of (clients_of clients) < SLOT_COUNT

@@ -1,8 +1,9 @@
-ghost use Rattle.std.specs.Prelude.{◌≡◌, ◌↔◌, [], IsTrue, drop};
+ghost use Rattle.std.specs.Prelude.{◌≡◌, ◌↔◌, [], IsTrue, drop, length, IfOk, OnErr};
+ghost use Rattle.std.specs.Io.KnownBytes.{Consumes, IsAtEnd};
 
-use mio::net::TcpStream;
-use std::alloc::Global;
-use std::io::{self, Read};
+use crate::stream::Stream;
+use std::alloc::{AllocError, Global};
+use std::io;
 use std::marker::Model;
 
 /// How many octets are read of a connection at a time.
@@ -74,20 +75,30 @@ impl Block {
         }
     }
 
-    /// Reads the next octets of a stream, in the place of those that were read before, and tells how many; none are
-    /// the end of its input. It fails as the stream does, and where memory runs out.
-    pub(crate) fn fill(&mut self, alloc: Global, stream: &TcpStream) -> io::Result<usize> {
+    /// Reads the next octets of a stream, where all of those before are used, and tells how many; none are the end of
+    /// its input. It fails as the stream does, and where memory runs out.
+    pub(crate) fn fill<S: Stream>(&mut self, alloc: Global, stream: &mut S) -> io::Result<usize>
+        requires { self.old ≡ [] }
+        ensures came { Consumes (S.remaining stream.old) (S.remaining stream.new) self.new }
+        ensures count { IfOk result (λ count. count ≡ length self.new) }
+        ensures end { IfOk result (λ count. count ≡ 0 → IsAtEnd (S.remaining stream.new)) }
+        ensures fault { OnErr result (self.new ≡ []) }
+        ensures contents { S.contents stream.new ≡ S.contents stream.old }
+    {
         self.start = 0;
         self.end = 0;
         if self.octets.is_empty() {
-            self.octets = vec![in alloc; 0; BLOCK_SIZE]?;
+            self.octets = zeros(alloc, BLOCK_SIZE)?;
         }
-        let count = read(stream, self.octets.as_mut_slice())?;
-        self.end = count.min(self.octets.len());
+        let count = stream.try_read(self.octets.as_mut_slice())?;
+        self.end = count;
         Ok(count)
     }
 }
 
-fn read(mut stream: &TcpStream, into: &mut [u8]) -> io::Result<usize> {
-    stream.read(into)
+/// So many zeros.
+fn zeros(alloc: Global, count: usize) -> Result<Vec<u8>, AllocError>
+    ensures { IfOk result (λ zeros. length zeros.items ≡ count) }
+{
+    vec![in alloc; 0; count]
 }

@@ -1,14 +1,16 @@
-ghost use Rattle.std.specs.Prelude.{◌≡◌, ◌≢◌, ◌↔◌, ◌||◌, [], ◌++◌, IsTrue, Some, drop, false, true};
-ghost use Rattle.relay_connections.specs.Channel.{KeepsOctets, held_of, is_writable, unread_of};
+ghost use Rattle.std.specs.Prelude.{◌≡◌, ◌≢◌, ◌≤◌, ◌↔◌, ◌||◌, [], ◌++◌, IsTrue, Some, drop, false, length, take, true};
+ghost use Rattle.std.specs.Prelude.{MatchResult};
+ghost use Rattle.std.specs.Io.KnownBytes.{Appends, IsAtEnd, Keeps};
+ghost use Rattle.relay_connections.specs.Channel.{IsEndTrue, KeepsInput, KeepsOctets, KeepsOutput, held_of, input_left};
+ghost use Rattle.relay_connections.specs.Channel.{is_shut, is_writable, output_of, unread_of};
 
 use crate::block::{BLOCK_SIZE, Block};
 use crate::held::Held;
+use crate::stream::Stream;
 use mio::event::Event;
 use mio::net::TcpStream;
-use mio::{Interest, Registry, Token};
 use std::alloc::Global;
-use std::io::{self, ErrorKind, Write};
-use std::net::Shutdown;
+use std::io::{self, ErrorKind};
 
 /// What a connection may be ready for.
 #[derive(Clone, Copy, Debug)]
@@ -35,13 +37,15 @@ impl Readiness {
 /// A connection, with what was read of it and isn't used, up to 65,536 octets; with what is held back to be written
 /// before all else, up to 4,096; and with what it may be ready for. The system tells of a change once: so a connection
 /// counts as ready from then on, up to the read or write that would have to wait. No call waits.
-pub struct Channel {
+pub struct Channel<S = TcpStream> {
     alloc: Global,
-    stream: TcpStream,
+    stream: S,
     /// What is written before all else.
     held: Held,
     /// The system tells of it.
     is_registered: bool,
+    /// The peer was told that nothing more is written.
+    is_shut: bool,
     ready: Readiness,
     /// What it ends with: its input has come to its end, or a call has failed.
     end: Option<End>,
@@ -58,13 +62,14 @@ pub enum End {
 }
 
 // Written out, so that what drops a connection calls this, and doesn't look into its stream.
-impl Drop for Channel {
+impl<S: Drop> Drop for Channel<S> {
     fn drop(self) {
         let Channel {
             alloc: _,
             stream: _stream,
             held: _held,
             is_registered: _,
+            is_shut: _,
             ready: _,
             end: _,
             block: _block,
@@ -72,18 +77,22 @@ impl Drop for Channel {
     }
 }
 
-impl Channel {
+impl<S: Stream> Channel<S> {
     /// The connection of this stream. It is written to at once, and read when the system tells that it may be.
-    pub fn new(alloc: Global, stream: TcpStream) -> Self
+    pub fn new(alloc: Global, stream: S) -> Self
+        ensures stream { result.stream ≡ stream }
         ensures unread { unread_of result ≡ [] }
         ensures held { held_of result ≡ [] }
         ensures writes { is_writable result ≡ true }
+        ensures open { is_shut result ≡ false }
+        ensures end { IsEndTrue S.remaining S.contents result }
     {
         Channel {
             alloc,
             stream,
             held: Held::new(alloc),
             is_registered: false,
+            is_shut: false,
             ready: Readiness {
                 reads: false,
                 writes: true,
@@ -96,29 +105,25 @@ impl Channel {
 
     /// Has the system tell of it under this token from now on, also of what it is ready for already. It fails where the
     /// system refuses that.
-    pub fn register(&mut self, registry: &Registry, token: usize) -> io::Result<()>
-        ensures octets { KeepsOctets self.old self.new }
+    pub fn register(&mut self, registry: &S::Registry, token: usize) -> io::Result<()>
+        ensures input { KeepsInput S.remaining S.contents self.old self.new }
+        ensures output { KeepsOutput S.remaining S.contents self.old self.new }
         ensures writes { is_writable self.new ≡ is_writable self.old }
     {
-        if self.is_registered {
-            return registry.reregister(&mut self.stream, Token(token), both_ways());
-        }
-        registry.register(&mut self.stream, Token(token), both_ways())?;
+        self.stream.register(registry, token, self.is_registered)?;
         self.is_registered = true;
         Ok(())
     }
 
     /// Whether the connection that was begun has come about, or why it hasn't.
     pub fn has_connected(&self) -> io::Result<bool> {
-        match self.stream.take_error()? {
-            Some(error) => Err(error),
-            None => Ok(self.stream.peer_addr().is_ok()),
-        }
+        self.stream.has_connected()
     }
 
     /// The system tells what it may be ready for.
     pub fn note(&mut self, ready: Readiness)
         ensures octets { KeepsOctets self.old self.new }
+        ensures end { self.new.end ≡ self.old.end }
         ensures writes { is_writable self.new ≡ is_writable self.old || ready.writes }
     {
         self.ready.reads |= ready.reads;
@@ -129,6 +134,7 @@ impl Channel {
     /// It counts as not ready to be written to, until the system tells that it is.
     pub fn awaits_writing(&mut self)
         ensures octets { KeepsOctets self.old self.new }
+        ensures end { self.new.end ≡ self.old.end }
         ensures writes { is_writable self.new ≡ false }
     {
         self.ready.writes = false;
@@ -136,7 +142,8 @@ impl Channel {
 
     /// How it has ended, where it has and all that was read is used.
     pub fn end(&self) -> Option<End>
-        ensures { result ≡ Some End.Input → unread_of self.now ≡ [] }
+        ensures used { result ≡ Some End.Input → unread_of self.now ≡ [] }
+        ensures end { (end : End) → result ≡ Some end → self.now.end ≡ Some end }
     {
         match self.end {
             Some(End::Broken) => Some(End::Broken),
@@ -153,10 +160,19 @@ impl Channel {
         self.block.piece()
     }
 
+    /// Whether all that was read is used.
+    pub(crate) fn is_used(&self) -> bool
+        ensures { IsTrue result ↔ (unread_of self.now ≡ []) }
+    {
+        self.block.is_empty()
+    }
+
     /// So many octets of that are used; where there are fewer, all.
     pub fn used(&mut self, count: usize)
         ensures used { unread_of self.new ≡ drop count (unread_of self.old) }
-        ensures held { held_of self.new ≡ held_of self.old }
+        ensures left { self.new.stream ≡ self.old.stream }
+        ensures end { self.new.end ≡ self.old.end }
+        ensures output { KeepsOutput S.remaining S.contents self.old self.new }
     {
         self.block.used(count);
     }
@@ -186,12 +202,16 @@ impl Channel {
     pub fn fill(&mut self) -> bool
         ensures unread { unread_of self.old ≢ [] → self.new ≡ self.old }
         ensures none { unread_of self.old ≢ [] → result ≡ false }
-        ensures held { held_of self.new ≡ held_of self.old }
+        ensures input { Keeps (input_left S.remaining S.contents self.old)
+            (input_left S.remaining S.contents self.new) }
+        ensures came { unread_of self.old ≡ [] → IsTrue result ↔ (unread_of self.new ≢ []) }
+        ensures end { IsEndTrue S.remaining S.contents self.old → IsEndTrue S.remaining S.contents self.new }
+        ensures output { KeepsOutput S.remaining S.contents self.old self.new }
     {
         if !self.ready.reads || self.end.is_some() || !self.block.is_empty() {
             return false;
         }
-        match self.block.fill(self.alloc, &self.stream) {
+        match self.block.fill(self.alloc, &mut self.stream) {
             Ok(0) => {
                 self.end = Some(End::Input);
                 false
@@ -213,6 +233,7 @@ impl Channel {
 
     fn note_read_fault(&mut self, kind: ErrorKind)
         ensures octets { KeepsOctets self.old self.new }
+        ensures end { IsEndTrue S.remaining S.contents self.old → IsEndTrue S.remaining S.contents self.new }
     {
         match kind {
             ErrorKind::WouldBlock => self.ready.reads = false,
@@ -232,15 +253,23 @@ impl Channel {
     /// memory runs out.
     pub(crate) fn hold(&mut self, octets: &[u8]) -> bool
         ensures held { result ≡ true → held_of self.new ≡ held_of self.old ++ octets.now }
+        ensures stream { self.new.stream ≡ self.old.stream }
+        ensures input { KeepsInput S.remaining S.contents self.old self.new }
+        ensures shut { is_shut self.new ≡ is_shut self.old }
         ensures same { result ≡ false → self.new ≡ self.old }
     {
         self.held.push(octets)
     }
 
     /// Writes what is held, and of these octets behind it what goes at once; it tells how many of these are done with:
-    /// they are written, or held.
+    /// they are written, or held. Where the peer was told that nothing more is written, nothing is.
     pub fn write(&mut self, octets: &[u8]) -> usize
-        ensures unread { unread_of self.new ≡ unread_of self.old }
+        ensures output { Appends (output_of S.remaining S.contents self.old) (output_of S.remaining S.contents self.new)
+            (take result octets.now) }
+        ensures within { result ≤ length octets.now }
+        ensures input { KeepsInput S.remaining S.contents self.old self.new }
+        ensures shut { is_shut self.new ≡ is_shut self.old }
+        ensures silent { is_shut self.old ≡ true → S.contents self.new.stream ≡ S.contents self.old.stream }
     {
         if self.held.is_empty() {
             return self.write_now(octets);
@@ -258,34 +287,48 @@ impl Channel {
 
     /// Writes of what is held what goes at once.
     fn write_held(&mut self)
-        ensures unread { unread_of self.new ≡ unread_of self.old }
+        ensures output { Keeps (output_of S.remaining S.contents self.old) (output_of S.remaining S.contents self.new) }
+        ensures input { KeepsInput S.remaining S.contents self.old self.new }
+        ensures shut { is_shut self.new ≡ is_shut self.old }
+        ensures silent { is_shut self.old ≡ true → self.new ≡ self.old }
     {
         if !self.can_write() {
             return;
         }
-        let answer = write(&self.stream, self.held.as_slice());
+        let answer = self.stream.try_write(self.held.as_slice());
         let count = self.written(answer);
         self.held.wrote(count);
     }
 
-    /// Writes of these octets what goes at once, and tells how many.
+    /// Writes of these octets what goes at once, and tells how many, where none are held.
     fn write_now(&mut self, octets: &[u8]) -> usize
-        ensures unread { unread_of self.new ≡ unread_of self.old }
+        requires { held_of self.old ≡ [] }
+        ensures output { Appends (output_of S.remaining S.contents self.old) (output_of S.remaining S.contents self.new)
+            (take result octets.now) }
+        ensures within { result ≤ length octets.now }
+        ensures input { KeepsInput S.remaining S.contents self.old self.new }
+        ensures held { held_of self.new ≡ held_of self.old }
+        ensures shut { is_shut self.new ≡ is_shut self.old }
+        ensures silent { is_shut self.old ≡ true → self.new ≡ self.old }
     {
         if octets.is_empty() || !self.can_write() {
             return 0;
         }
-        let answer = write(&self.stream, octets);
+        let answer = self.stream.try_write(octets);
         self.written(answer)
     }
 
-    fn can_write(&self) -> bool {
-        self.ready.writes && self.end != Some(End::Broken)
+    fn can_write(&self) -> bool
+        ensures { is_shut self.now ≡ true → result ≡ false }
+    {
+        self.ready.writes && !self.is_shut && self.end != Some(End::Broken)
     }
 
     /// How many octets a write has taken, and whether another may follow.
     fn written(&mut self, answer: io::Result<usize>) -> usize
-        ensures unread { unread_of self.new ≡ unread_of self.old }
+        ensures octets { KeepsOctets self.old self.new }
+        ensures end { IsEndTrue S.remaining S.contents self.old → IsEndTrue S.remaining S.contents self.new }
+        ensures count { MatchResult answer (λ count. result ≡ count) (λ _. result ≡ 0) }
     {
         match answer {
             Ok(0) => {
@@ -302,6 +345,7 @@ impl Channel {
 
     fn note_write_fault(&mut self, kind: ErrorKind)
         ensures octets { KeepsOctets self.old self.new }
+        ensures end { IsEndTrue S.remaining S.contents self.old → IsEndTrue S.remaining S.contents self.new }
     {
         match kind {
             ErrorKind::WouldBlock => self.ready.writes = false,
@@ -311,16 +355,13 @@ impl Channel {
     }
 
     /// Tells the peer that nothing more is written.
-    pub(crate) fn shut_down(&self) {
-        // A connection that is gone has nobody to tell.
-        let _ = self.stream.shutdown(Shutdown::Write);
+    pub(crate) fn shut_down(&mut self)
+        ensures input { KeepsInput S.remaining S.contents self.old self.new }
+        ensures held { held_of self.new ≡ held_of self.old }
+        ensures taken { S.contents self.new.stream ≡ S.contents self.old.stream }
+        ensures shut { is_shut self.new ≡ true }
+    {
+        self.stream.shut_down();
+        self.is_shut = true;
     }
-}
-
-fn write(mut stream: &TcpStream, octets: &[u8]) -> io::Result<usize> {
-    stream.write(octets)
-}
-
-fn both_ways() -> Interest {
-    Interest::READABLE | Interest::WRITABLE
 }

@@ -1,16 +1,19 @@
 //! The connection of a client, and what is done with it at a turn.
-ghost use Rattle.std.specs.Prelude.{◌≡◌, ◌≢◌, [], IfErr, IfOk, false, true};
+ghost use Rattle.std.specs.Prelude.{◌≡◌, ◌≢◌, ◌↔◌, ℕ, List, [], None, Some, Err, IfErr, IfOk, false, true};
+ghost use Rattle.std.specs.Io.KnownBytes.{Keeps};
 ghost use Rattle.relay_loop.specs.Outboxes.{unwritten_at};
-ghost use Rattle.relay_connections.specs.Channel.{held_of, unread_of};
-ghost use Rattle.relay_connections.specs.Sessions.{EndsAlone, IsCutOff, IsTold, LeavesWithAll};
+ghost use Rattle.relay_connections.specs.Channel.{KeepsInput, KeepsOutput, held_of, output_of, unread_of};
+ghost use Rattle.relay_connections.specs.Exchange.{Hands, IsHanded, IsRead, Uses};
+ghost use Rattle.relay_connections.specs.Sessions.{EndsAlone};
 
 use crate::channel::{Channel, End};
 use crate::clocks::Now;
+use crate::ending::{drop_session, end_session};
+use crate::stream::Stream;
 use relay_disk::FileDisk;
 use relay_log::Log;
-use relay_loop::{Closing, Heard, Outbox, Relay, closing_line};
+use relay_loop::{Heard, Outbox, Relay};
 use relay_node::NodeFault;
-use std::alloc::Global;
 use std::net::SocketAddrV4;
 
 /// How many seconds a session may last without mail that is accepted.
@@ -29,8 +32,8 @@ const WRITE_LIMIT: usize = 16;
 const SPOOL_FULL: &[u8] = b"452 spool full";
 
 /// The connection of a client, which stands under its session's number.
-pub(crate) struct Client {
-    pub(crate) channel: Channel,
+pub(crate) struct Client<S> {
+    pub(crate) channel: Channel<S>,
     pub(crate) peer: SocketAddrV4,
     /// Octets were read that its session hasn't heard yet, and may hear.
     pub(crate) hears: bool,
@@ -52,7 +55,7 @@ pub(crate) struct Client {
 }
 
 // Written out, so that what drops it calls this, and doesn't look into its connection.
-impl Drop for Client {
+impl<S: Drop> Drop for Client<S> {
     fn drop(self) {
         let Client {
             channel: _channel,
@@ -88,9 +91,12 @@ pub struct Intake {
     pub closed: bool,
 }
 
-impl Client {
+impl<S: Stream> Client<S> {
     /// A client that has just connected, and may be idle for so many seconds.
-    pub(crate) fn new(channel: Channel, peer: SocketAddrV4, timeout: u64, now: &Now) -> Self {
+    pub(crate) fn new(channel: Channel<S>, peer: SocketAddrV4, timeout: u64, now: &Now) -> Self
+        ensures channel { result.channel ≡ channel }
+        ensures peer { result.peer ≡ peer }
+    {
         Client {
             channel,
             peer,
@@ -105,7 +111,9 @@ impl Client {
     }
 
     /// Its connection alone.
-    pub(crate) fn into_channel(self) -> Channel {
+    pub(crate) fn into_channel(self) -> Channel<S>
+        ensures { result ≡ self.channel }
+    {
         let Client {
             channel,
             peer: _,
@@ -132,7 +140,8 @@ impl Client {
 
     /// It may be idle for as long as at its beginning from now on.
     fn wait_anew(&mut self, timeout: u64, now: &Now)
-        ensures { self.new.channel ≡ self.old.channel }
+        ensures channel { self.new.channel ≡ self.old.channel }
+        ensures peer { self.new.peer ≡ self.old.peer }
     {
         self.idle_deadline = now.behind(timeout);
         self.crowded_deadline = now.behind(CROWDED_SECONDS);
@@ -145,15 +154,35 @@ impl Client {
         session: usize,
         timeout: u64,
         now: &Now,
-    ) {
+    )
+        ensures hands { Hands S.remaining S.contents session relay.old relay.new self.old.channel self.new.channel }
+        ensures peer { self.new.peer ≡ self.old.peer }
+    {
         for _ in 0..WRITE_LIMIT {
-            let count = self.channel.write(relay.to_client(session));
-            if count == 0 || relay.to_client(session).len() < count {
+            if !self.write(relay, session, timeout, now) {
                 return;
             }
-            relay.wrote_to_client(session, count);
-            self.wait_anew(timeout, now);
         }
+    }
+
+    /// Writes what waits for it once. It tells whether some of that is done with.
+    fn write(
+        &mut self,
+        relay: &mut Relay<FileDisk>,
+        session: usize,
+        timeout: u64,
+        now: &Now,
+    ) -> bool
+        ensures hands { Hands S.remaining S.contents session relay.old relay.new self.old.channel self.new.channel }
+        ensures peer { self.new.peer ≡ self.old.peer }
+    {
+        let count = self.channel.write(relay.to_client(session));
+        if count == 0 {
+            return false;
+        }
+        relay.wrote_to_client(session, count);
+        self.wait_anew(timeout, now);
+        true
     }
 
     /// Whether octets wait to be written to it.
@@ -173,18 +202,38 @@ impl Client {
 
     /// Holds what waits for it back, where more of what was read is heard at this turn: what that leads to goes in the
     /// same write. Where it is too much to be held, it is written at once as far as that goes.
-    fn hold(&mut self, relay: &mut Relay<FileDisk>, session: usize, timeout: u64, now: &Now) {
-        if self.channel.piece().is_empty() || !self.channel.hold(relay.to_client(session)) {
+    fn hold(&mut self, relay: &mut Relay<FileDisk>, session: usize, timeout: u64, now: &Now)
+        ensures hands { Hands S.remaining S.contents session relay.old relay.new self.old.channel self.new.channel }
+        ensures peer { self.new.peer ≡ self.old.peer }
+    {
+        if self.channel.is_used() || !self.hold_back(relay, session) {
             self.flush(relay, session, timeout, now);
         } else {
-            let count = relay.to_client(session).len();
-            relay.wrote_to_client(session, count);
             self.wait_anew(timeout, now);
         }
     }
 
+    /// Holds what waits for it back, and tells whether.
+    fn hold_back(&mut self, relay: &mut Relay<FileDisk>, session: usize) -> bool
+        ensures hands { Hands S.remaining S.contents session relay.old relay.new self.old.channel self.new.channel }
+        ensures same { result ≡ false → (self.new ≡ self.old) × (relay.new ≡ relay.old) }
+        ensures peer { self.new.peer ≡ self.old.peer }
+    {
+        if !self.channel.hold(relay.to_client(session)) {
+            return false;
+        }
+        let count = relay.to_client(session).len();
+        relay.wrote_to_client(session, count);
+        true
+    }
+
     /// Writes the replies that were held back, since what they tell of stands, though nothing comes behind them.
-    pub(crate) fn give_held(&mut self) {
+    pub(crate) fn give_held(&mut self)
+        ensures output { Keeps (output_of S.remaining S.contents self.old.channel)
+            (output_of S.remaining S.contents self.new.channel) }
+        ensures input { KeepsInput S.remaining S.contents self.old.channel self.new.channel }
+        ensures peer { self.new.peer ≡ self.old.peer }
+    {
         let _none = self.channel.write(&[]);
     }
 
@@ -197,7 +246,11 @@ impl Client {
         timeout: u64,
         now: &Now,
     ) -> Result<Option<Next>, NodeFault>
+        ensures read { IfOk result
+            (IsRead S.remaining S.contents session relay.old relay.new self.old.channel self.new.channel) }
+        ensures ended { IfErr result (λ _. EndsAlone session relay.old relay.new) }
         ensures fault { IfErr result (λ fault. fault ≡ NodeFault.Stopped) }
+        ensures peer { self.new.peer ≡ self.old.peer }
     {
         self.flush(relay, session, timeout, now);
         if self.channel.end() == Some(End::Broken) {
@@ -209,7 +262,7 @@ impl Client {
         if self.channel.fill() {
             self.note_read(timeout, now);
         }
-        if !self.channel.piece().is_empty() {
+        if !self.channel.is_used() {
             return Ok(None);
         }
         match self.channel.end() {
@@ -220,11 +273,14 @@ impl Client {
 
     /// Whether it has octets for its session to hear, which may do so.
     pub(crate) fn has_more(&self, relay: &Relay<FileDisk>, session: usize) -> bool {
-        !self.channel.piece().is_empty() && relay.to_client(session).is_empty()
+        !self.channel.is_used() && relay.to_client(session).is_empty()
     }
 
     /// A block was read.
-    fn note_read(&mut self, timeout: u64, now: &Now) {
+    fn note_read(&mut self, timeout: u64, now: &Now)
+        ensures channel { self.new.channel ≡ self.old.channel }
+        ensures peer { self.new.peer ≡ self.old.peer }
+    {
         let piece = self.channel.piece();
         let is_first = self.unanswered == 0;
         let has_line_end = piece.contains(&b'\n');
@@ -252,7 +308,16 @@ impl Client {
         intake: &mut Intake,
         log: &mut Log<'_, Vec<u8>>,
     ) -> Result<Next, NodeFault>
-        ensures fault { IfErr result (λ fault. fault ≡ NodeFault.Stopped) }
+        ensures used { IfOk heard (λ heard. Uses S.remaining heard.used self.old.channel self.new.channel) }
+        ensures stays { IfOk heard (λ heard. heard.last ≡ None → IfOk result (λ next. next ≡ Next.Stays)
+            × IsHanded S.remaining S.contents session relay.old relay.new self.old.channel self.new.channel) }
+        ensures leaves { IfOk heard (λ heard. (last : List ℕ) → heard.last ≡ Some last
+            → IfOk result (λ next. next ≡ Next.Leaves last) × (relay.new ≡ relay.old)
+            × KeepsOutput S.remaining S.contents self.old.channel self.new.channel) }
+        ensures gone { IfErr heard (λ _. IfOk result (λ next. next ≡ Next.Gone) × (relay.new ≡ relay.old)) }
+        ensures fault { (result ≡ Err NodeFault.Stopped) ↔ (heard ≡ Err NodeFault.Stopped) }
+        ensures other { IfErr result (λ fault. fault ≡ NodeFault.Stopped) }
+        ensures peer { self.new.peer ≡ self.old.peer }
     {
         let Heard { used, change, last } = match heard {
             Ok(heard) => heard,
@@ -304,60 +369,4 @@ fn tells_full(replies: &[u8]) -> bool {
     replies
         .split(|octet| *octet == b'\n')
         .any(|line| line.starts_with(SPOOL_FULL))
-}
-
-/// Ends the session of a client whose input has come to its end. What waits is still written.
-fn end_session(relay: &mut Relay<FileDisk>, session: usize) -> Result<Next, NodeFault>
-    ensures ends { EndsAlone session relay.old relay.new }
-    ensures next { IfOk result (LeavesWithAll relay.old session) }
-    ensures fault { IfErr result (λ fault. fault ≡ NodeFault.Stopped) }
-    ensures stopped { IfErr result (λ _. relay.old.node.records.spool.live ≡ false) }
-{
-    match relay.end_client(session) {
-        Ok(outbox) => Ok(Next::Leaves(outbox)),
-        Err(NodeFault::Stopped) => Err(NodeFault::Stopped),
-        Err(_) => Ok(Next::Gone),
-    }
-}
-
-/// Ends the session of a client whose connection is broken.
-pub(crate) fn drop_session(relay: &mut Relay<FileDisk>, session: usize) -> Result<Next, NodeFault>
-    ensures ends { EndsAlone session relay.old relay.new }
-    ensures next { IfOk result (λ next. next ≡ Next.Gone) }
-    ensures fault { IfErr result (λ fault. fault ≡ NodeFault.Stopped) }
-    ensures stopped { IfErr result (λ _. relay.old.node.records.spool.live ≡ false) }
-{
-    match relay.end_client(session) {
-        Err(NodeFault::Stopped) => Err(NodeFault::Stopped),
-        _ => Ok(Next::Gone),
-    }
-}
-
-/// Ends the session of a client that is late. It is told so where it has taken all that was written before; else it
-/// takes nothing, and is told nothing more.
-pub(crate) fn cut_off(
-    alloc: Global,
-    relay: &mut Relay<FileDisk>,
-    session: usize,
-) -> Result<Next, NodeFault>
-    ensures ends { EndsAlone session relay.old relay.new }
-    ensures next { IfOk result (IsCutOff relay.old session) }
-    ensures fault { IfErr result (λ fault. fault ≡ NodeFault.Stopped) }
-    ensures stopped { IfErr result (λ _. relay.old.node.records.spool.live ≡ false) }
-{
-    match relay.end_client(session) {
-        Ok(outbox) if outbox.is_empty() => Ok(farewell(alloc, relay)),
-        Err(NodeFault::Stopped) => Err(NodeFault::Stopped),
-        _ => Ok(Next::Gone),
-    }
-}
-
-/// The last octets of a client that is late.
-fn farewell(alloc: Global, relay: &Relay<FileDisk>) -> Next
-    ensures { IsTold relay.now.node.config.host result }
-{
-    match closing_line(alloc, &relay.node().config().host, Closing::Timeout) {
-        Ok(line) => Next::Leaves(Outbox::new(line)),
-        Err(_) => Next::Gone,
-    }
 }

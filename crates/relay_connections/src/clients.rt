@@ -1,17 +1,19 @@
 ghost use Rattle.std.specs.Prelude.{◌≡◌, ◌≤◌, ◌<◌, ◌↔◌, ℕ, IfErr, IfOk, IsTrue, true};
 ghost use Rattle.std.specs.Net.Addr.{ipv4_octets};
 ghost use Rattle.relay_slots.specs.Slots.{AreFree};
+ghost use Rattle.relay_connections.specs.Matched.{AreMatched, IsGreeted, Opens};
 ghost use Rattle.relay_connections.specs.Readiness.{IsLeftClient, clients_of};
 ghost use Rattle.relay_connections.specs.Room.{HasRoom, is_at};
 ghost use Rattle.relay_connections.specs.Table.{count_of_such, is_such};
 
 use crate::channel::{Channel, Readiness};
-use crate::client::{Client, Intake, Next, cut_off, drop_session};
+use crate::client::{Client, Intake, Next};
 use crate::clocks::Now;
+use crate::ending::{cut_off, dismiss, drop_session};
 use crate::hearing::{Answer, Hearing, Replied, hear_all};
 use crate::leaving::Leaving;
+use crate::stream::Stream;
 use crate::table::{Table, holds, turned};
-use mio::Registry;
 use mio::net::TcpStream;
 use relay_disk::FileDisk;
 use relay_limits::Limits;
@@ -23,7 +25,7 @@ use std::alloc::{AllocError, Global};
 use std::net::{Ipv4Addr, SocketAddrV4};
 
 /// Whether the client in a slot is at an address.
-fn is_at(slot: &Option<Box<Client>>, address: [u8; 4]) -> bool
+fn is_at<S>(slot: &Option<Box<Client<S>>>, address: [u8; 4]) -> bool
     ensures { result ≡ is_such (is_at address) slot.now }
 {
     match slot {
@@ -33,10 +35,10 @@ fn is_at(slot: &Option<Box<Client>>, address: [u8; 4]) -> bool
 }
 
 /// The connections of clients, up to 64, each under its session's number, which is its token too.
-pub struct Clients {
+pub struct Clients<S = TcpStream> {
     alloc: Global,
     // In boxes, so that a walk over the slots touches little memory, and a client isn't copied where it is taken out.
-    clients: Table<Box<Client>>,
+    clients: Table<Box<Client<S>>>,
     /// The most of one address.
     most: usize,
     /// How many seconds one may be idle.
@@ -51,7 +53,7 @@ pub struct Clients {
 const CROWD: usize = 48;
 
 // Written out, so that what drops them calls this, and doesn't look into each.
-impl Drop for Clients {
+impl<S: Drop> Drop for Clients<S> {
     fn drop(self) {
         let Clients {
             alloc: _,
@@ -64,7 +66,7 @@ impl Drop for Clients {
     }
 }
 
-impl Clients {
+impl<S: Stream + Drop> Clients<S> {
     /// None, within these limits. It fails where memory runs out.
     pub fn new(alloc: Global, limits: &Limits) -> Result<Self, AllocError>
         ensures { IfOk result (λ clients. AreFree (clients_of clients)) }
@@ -104,34 +106,55 @@ impl Clients {
     /// unheard. Only a device that failed is a fault.
     pub fn open(
         &mut self,
-        registry: &Registry,
+        registry: &S::Registry,
         relay: &mut Relay<FileDisk>,
-        stream: TcpStream,
+        stream: S,
         peer: SocketAddrV4,
         now: &Now,
     ) -> Result<(), NodeFault>
+        ensures opens { AreMatched (clients_of self.old) relay.old
+            → Opens peer (clients_of self.old) (clients_of self.new) relay.new }
         ensures fault { IfErr result (λ fault. fault ≡ NodeFault.Stopped) }
     {
-        // Replies are written whole, and wait for no more.
-        let _ = stream.set_nodelay(true);
-        let mut channel = Channel::new(self.alloc, stream);
         let session = match relay.accept(peer.ip().octets()) {
             Ok(session) => session,
             Err(NodeFault::Stopped) => return Err(NodeFault::Stopped),
             Err(_) => return Ok(()),
         };
+        if let Some(client) = self.greet(registry, relay, session, stream, peer, now) {
+            self.clients.put(session, client);
+        }
+        Ok(())
+    }
+
+    /// Greets the client of a session that was opened for it. Where the system doesn't tell of its connection, or
+    /// memory runs out, the session is ended.
+    fn greet(
+        &self,
+        registry: &S::Registry,
+        relay: &mut Relay<FileDisk>,
+        session: usize,
+        stream: S,
+        peer: SocketAddrV4,
+        now: &Now,
+    ) -> Option<Box<Client<S>>>
+        ensures { IsGreeted session peer relay.old relay.new result }
+    {
+        let mut stream = stream;
+        // Replies are written whole, and wait for no more.
+        stream.set_nodelay();
+        let mut channel = Channel::new(self.alloc, stream);
         if channel.register(registry, session).is_err() {
-            let _ = relay.end_client(session);
-            return Ok(());
+            dismiss(relay, session);
+            return None;
         }
         let client = Client::new(channel, peer, self.timeout, now);
         let Ok(mut client) = Box::new(self.alloc, client) else {
-            let _ = relay.end_client(session);
-            return Ok(());
+            dismiss(relay, session);
+            return None;
         };
         client.flush(relay, session, self.timeout, now);
-        self.clients.put(session, client);
-        Ok(())
+        Some(client)
     }
 
     /// The system tells what the connection of a number may be ready for.
@@ -161,10 +184,10 @@ impl Clients {
     /// that failed is a fault.
     pub fn serve(
         &mut self,
-        registry: &Registry,
+        registry: &S::Registry,
         relay: &mut Relay<FileDisk>,
         replies: &[ReplyPiece<'_>],
-        leaving: &mut Leaving,
+        leaving: &mut Leaving<S>,
         now: &Now,
         log: &mut Log<'_, Vec<u8>>,
     ) -> Result<(Intake, Option<Replied>), NodeFault>
@@ -209,10 +232,10 @@ impl Clients {
     fn hear(
         &mut self,
         holds: bool,
-        registry: &Registry,
+        registry: &S::Registry,
         relay: &mut Relay<FileDisk>,
         replies: &[ReplyPiece<'_>],
-        leaving: &mut Leaving,
+        leaving: &mut Leaving<S>,
         now: &Now,
         intake: &mut Intake,
         log: &mut Log<'_, Vec<u8>>,
@@ -245,9 +268,9 @@ impl Clients {
     fn read_one(
         &mut self,
         number: usize,
-        registry: &Registry,
+        registry: &S::Registry,
         relay: &mut Relay<FileDisk>,
-        leaving: &mut Leaving,
+        leaving: &mut Leaving<S>,
         now: &Now,
         intake: &mut Intake,
         log: &mut Log<'_, Vec<u8>>,
@@ -276,9 +299,9 @@ impl Clients {
         number: usize,
         heard: Answer,
         holds: bool,
-        registry: &Registry,
+        registry: &S::Registry,
         relay: &mut Relay<FileDisk>,
-        leaving: &mut Leaving,
+        leaving: &mut Leaving<S>,
         now: &Now,
         intake: &mut Intake,
         log: &mut Log<'_, Vec<u8>>,
@@ -326,11 +349,11 @@ impl Clients {
     fn settle(
         &mut self,
         number: usize,
-        client: Box<Client>,
+        client: Box<Client<S>>,
         next: Next,
-        registry: &Registry,
+        registry: &S::Registry,
         relay: &mut Relay<FileDisk>,
-        leaving: &mut Leaving,
+        leaving: &mut Leaving<S>,
         now: &Now,
         intake: &mut Intake,
         log: &mut Log<'_, Vec<u8>>,

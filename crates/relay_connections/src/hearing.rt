@@ -7,6 +7,7 @@ ghost use Rattle.relay_connections.specs.Hearing.{HearOwn, IsOwn, hearing_from, 
 use crate::client::Client;
 use crate::clocks::Now;
 use crate::share::share;
+use crate::stream::Stream;
 use relay_disk::FileDisk;
 use relay_loop::{Answered, Group, Heard, Piece, Relay, ReplyPiece};
 use relay_node::{NodeFault, Noted};
@@ -36,9 +37,9 @@ pub struct Replied {
 /// Lets all sessions that have something to hear do so in one call, the first of them first, and behind them the
 /// attempts of next hops that have replied, so that the mail they bring and the outcomes of attempts come into the
 /// spool behind one pair of syncs. It answers nothing where no memory is left for that; nothing was heard then.
-pub(crate) fn hear_all(
+pub(crate) fn hear_all<S: Stream>(
     alloc: Global,
-    clients: &[Option<Box<Client>>],
+    clients: &[Option<Box<Client<S>>>],
     first: usize,
     replies: &[ReplyPiece<'_>],
     relay: &mut Relay<FileDisk>,
@@ -73,9 +74,9 @@ pub(crate) fn hear_all(
 }
 
 /// The first lines of each client whose session has something to hear, the first of them first.
-fn pieces_of(
+fn pieces_of<S: Stream>(
     alloc: Global,
-    clients: &[Option<Box<Client>>],
+    clients: &[Option<Box<Client<S>>>],
     first: usize,
 ) -> Result<Vec<Piece<'_>>, AllocError>
     requires { first < 64 }
@@ -98,7 +99,7 @@ fn pieces_of(
 }
 
 /// The client of a number, where there is one.
-fn client_at(clients: &[Option<Box<Client>>], number: usize) -> Option<&Box<Client>>
+fn client_at<S>(clients: &[Option<Box<Client<S>>>], number: usize) -> Option<&Box<Client<S>>>
     ensures { MatchOption result (slot_at clients.now number ≡ None)
         (λ client. slot_at clients.now number ≡ Some client.now) }
 {

@@ -7,8 +7,9 @@ ghost use Rattle.relay_connections.specs.Table.{count_of, count_of_such, is_such
 
 use crate::channel::{Channel, End, Readiness};
 use crate::clocks::Now;
+use crate::stream::Stream;
 use crate::table::{Table, holds};
-use mio::Registry;
+use mio::net::TcpStream;
 use relay_loop::Outbox;
 use relay_slots::SLOT_COUNT;
 use std::alloc::{AllocError, Global};
@@ -19,9 +20,12 @@ const DRAIN_SECONDS: u64 = 1;
 /// Where so many connections are leaving, one that had no session is closed at once.
 const MOST_STRANGERS: usize = SLOT_COUNT / 2;
 
+/// The token of the first of them.
+const FIRST_TOKEN: usize = 2 * SLOT_COUNT;
+
 /// A connection that is leaving.
-struct Leaver {
-    channel: Channel,
+struct Leaver<S> {
+    channel: Channel<S>,
     /// The last octets, which wait to be written.
     outbox: Outbox,
     /// Whether they are written, and the peer was told that nothing more comes.
@@ -33,7 +37,7 @@ struct Leaver {
 }
 
 // Written out, so that what drops it calls this, and doesn't look into its connection.
-impl Drop for Leaver {
+impl<S: Drop> Drop for Leaver<S> {
     fn drop(self) {
         let Leaver {
             channel: _channel,
@@ -46,7 +50,7 @@ impl Drop for Leaver {
 }
 
 /// Whether the connection in a slot goes to the place of a number.
-fn goes_to(slot: &Option<Box<Leaver>>, place: usize) -> bool
+fn goes_to<S>(slot: &Option<Box<Leaver<S>>>, place: usize) -> bool
     ensures { result ≡ is_such (goes_to place) slot.now }
 {
     match slot {
@@ -56,15 +60,15 @@ fn goes_to(slot: &Option<Box<Leaver>>, place: usize) -> bool
 }
 
 /// The connections that are leaving, up to 64.
-pub struct Leaving {
+pub struct Leaving<S = TcpStream> {
     alloc: Global,
-    leavers: Table<Box<Leaver>>,
+    leavers: Table<Box<Leaver<S>>>,
     /// How many seconds their last octets wait to be written.
     seconds: u64,
 }
 
 // Written out, so that what drops them calls this, and doesn't look into each.
-impl Drop for Leaving {
+impl<S: Drop> Drop for Leaving<S> {
     fn drop(self) {
         let Leaving {
             alloc: _,
@@ -76,8 +80,10 @@ impl Drop for Leaving {
 
 impl Leaving {
     /// The token of the first of them; those of the others follow, in the order of their numbers.
-    pub const FIRST_TOKEN: usize = 2 * SLOT_COUNT;
+    pub const FIRST_TOKEN: usize = FIRST_TOKEN;
+}
 
+impl<S: Stream + Drop> Leaving<S> {
     /// None, whose last octets will wait for so many seconds at most. It fails where memory runs out.
     pub fn new(alloc: Global, seconds: u64) -> Result<Self, AllocError> {
         Ok(Leaving {
@@ -92,8 +98,8 @@ impl Leaving {
     /// closed behind that.
     pub fn take(
         &mut self,
-        registry: &Registry,
-        channel: Channel,
+        registry: &S::Registry,
+        channel: Channel<S>,
         outbox: Outbox,
         place: Option<usize>,
         now: &Now,
@@ -109,7 +115,7 @@ impl Leaving {
         let Some(number) = self.leavers.free() else {
             return;
         };
-        let token = Leaving::FIRST_TOKEN.saturating_add(number);
+        let token = FIRST_TOKEN.saturating_add(number);
         if leaver.channel.register(registry, token).is_err() {
             return;
         }
@@ -205,7 +211,7 @@ impl Leaving {
     }
 }
 
-impl Leaver {
+impl<S: Stream> Leaver<S> {
     /// Writes what goes, and tells the peer where that was all.
     fn write(&mut self, now: &Now) {
         if self.is_shut {

@@ -2,7 +2,7 @@
 ghost use Rattle.std.specs.Prelude.{◌≡◌, ◌≤◌, ◌<◌, ◌+◌, ◌-◌, ◌%◌, ◌^◌, ℕ, None, Some, IfOk, MatchOption, is_some};
 ghost use Rattle.std.specs.Prelude.{length};
 ghost use Rattle.std.specs.Prelude.{min, slice_set};
-ghost use Rattle.relay_slots.specs.Slots.{AreFree, HasPlaces, IsFull, IsLeastFree, slot_at};
+ghost use Rattle.relay_slots.specs.Slots.{AreFree, HasPlaces, IsFull, IsLeastFree, OthersStay, slot_at};
 ghost use Rattle.relay_slots.specs.declared.slots.TheConstants.{SLOT_COUNT};
 ghost use Rattle.relay_connections.specs.Table.{AreFreeFrom, count_of};
 
@@ -98,6 +98,8 @@ impl<T: Drop> Table<T> {
         ensures stands { number < length self.old
             → self.new ≡ slice_set self.old number (Some value) }
         ensures behind { length self.old ≤ number → self.new ≡ self.old }
+        ensures there { number < SLOT_COUNT → slot_at self.new number ≡ Some value }
+        ensures others { OthersStay self.old self.new number }
     {
         if number < self.slots.as_slice().len() {
             self.slots.put(number, value);

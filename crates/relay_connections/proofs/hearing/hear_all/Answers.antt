@@ -5,7 +5,7 @@ use Rattle.relay_connections.specs.Hearing.{session_of}
 use Rattle.relay_connections.proofs.hearing.hear_all.Goals as goal
 
 pub returns-in-Ok-read_all-clause-own : goal.returns-in-Ok-read_all-clause-own
-returns-in-Ok-read_all-clause-own c = record {
+returns-in-Ok-read_all-clause-own g c = record {
   pieces = c.in-Ok.pieces.items;
   own = c.in-Ok.ensures.own;
   sessions = c.in-Ok-sessions_of.ensures ∙ ap (map session_of) c.as_slice.ensures.value;

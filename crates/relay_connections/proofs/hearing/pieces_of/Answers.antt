@@ -10,7 +10,7 @@ use Rattle.relay_connections.proofs.hearing.pieces_of.Goals as goal
 use Rattle.relay_connections.proofs.hearing.pieces_of.Goals.{in-Some+then-deref+in_ok-push, in-Some+else-deref, in_default}
 
 pub loop-step-preserved : goal.loop-step-preserved
-loop-step-preserved c =
+loop-step-preserved g c =
     let clients = c.args.clients.now in
     let number = (c.args.first + c.loop-step.step) % length clients in
     let before = c.loop-step.pieces.items in

@@ -8,7 +8,7 @@ use Rattle.relay_connections.proofs.clients.Clients.count_at.Goals as goal
 use Rattle.relay_connections.proofs.clients.Clients.count_at.Goals.{else-is_at, then-is_at}
 
 pub loop-number-preserved : goal.loop-number-preserved
-loop-number-preserved c =
+loop-number-preserved g c =
     let such = is_at c.args.address in
     let slots = c.standing-standing.result.now in
     let number = c.loop-number.number in
@@ -21,7 +21,7 @@ loop-number-preserved c =
     ]
 
 pub returns : goal.returns
-returns c =
+returns g c =
     let such = is_at c.args.address in
     let slots = c.standing-standing.result.now in
     none_left such slots c.loop-number.number c.loop-number.count c.loop-number-test.false c.loop-number.invariant.1

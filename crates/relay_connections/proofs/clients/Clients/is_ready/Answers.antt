@@ -6,10 +6,10 @@ use Rattle.relay_connections.proofs.clients.Clients.is_ready.Goals as goal
 use Rattle.relay_connections.proofs.clients.Clients.is_ready.Goals.{in-Some+else-is_ready, in_default}
 
 pub loop-number-init : goal.loop-number-init
-loop-number-init c = λ number below left. absurd (omega (arith, below))
+loop-number-init g c = λ number below left. absurd (omega (arith, below))
 
 pub loop-number-preserved : goal.loop-number-preserved
-loop-number-preserved c =
+loop-number-preserved g c =
     let there = stands_there c.standing-slot-items.result.now c.loop-number.number c.slot-item.result c.loop-number-test.true c.slot-item.is in
     none_more (IsLeftClient c.args.self.now.clients c.args.relay.now) c.loop-number.number c.loop-number.invariant (λ left.
     let found : c.slot-item.result ≡ Some left.client = sym there ∙ c.standing-slot-items.ensures.slots c.loop-number.number ∙ left.there in
@@ -24,7 +24,7 @@ loop-number-preserved c =
     ])
 
 pub returns : goal.returns
-returns c = λ number left.
+returns g c = λ number left.
     absurd (none_at_all c.standing-slot-items.result.now (IsLeftClient c.args.self.now.clients c.args.relay.now) c.loop-number.number c.loop-number-test.false
     (λ other here. some_there c.standing-slot-items.result.now c.args.self.now.clients other here.client (c.standing-slot-items.ensures.slots other) here.there)
     c.loop-number.invariant number left)

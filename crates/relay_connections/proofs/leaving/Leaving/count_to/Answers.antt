@@ -8,7 +8,7 @@ use Rattle.relay_connections.proofs.leaving.Leaving.count_to.Goals as goal
 use Rattle.relay_connections.proofs.leaving.Leaving.count_to.Goals.{else-goes_to, then-goes_to}
 
 pub loop-number-preserved : goal.loop-number-preserved
-loop-number-preserved c =
+loop-number-preserved g c =
     let such = goes_to c.args.place in
     let slots = c.standing-standing.result.now in
     let number = c.loop-number.number in
@@ -21,7 +21,7 @@ loop-number-preserved c =
     ]
 
 pub returns : goal.returns
-returns c =
+returns g c =
     let such = goes_to c.args.place in
     let slots = c.standing-standing.result.now in
     none_left such slots c.loop-number.number c.loop-number.count c.loop-number-test.false c.loop-number.invariant.1

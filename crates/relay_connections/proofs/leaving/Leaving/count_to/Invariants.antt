@@ -5,5 +5,5 @@ use Rattle.relay_connections.specs.Table.{count_of_such}
 use Rattle.relay_connections.proofs.leaving.Leaving.count_to.Given as goal
 
 abbrev pub invariant-loop-number : goal.invariant-loop-number
-invariant-loop-number l = (l.count ≤ l.number)
+invariant-loop-number g l = (l.count ≤ l.number)
     × (l.count + count_of_such (goes_to l.place) (drop l.number l.standing) ≡ count_of_such (goes_to l.place) l.standing)

@@ -3,4 +3,4 @@ use Rattle.std.proofs.Common.{◌≤◌}
 use Rattle.relay_connections.proofs.leaving.Leaving.next_deadline.Given as goal
 
 abbrev pub invariant-loop-slot : goal.invariant-loop-slot
-invariant-loop-slot l = l.next ≤ l.otherwise
+invariant-loop-slot g l = l.next ≤ l.otherwise

@@ -1,0 +1,27 @@
+-- The session is open, and then its client stands, or it is ended again.
+use Rattle.std.proofs.Common.{[], ap, ◌∙◌}
+use Rattle.std.specs.Net.Addr.{ipv4_octets}
+use Rattle.std.specs.Net.Socket.{v4_ip}
+use Rattle.relay_connections.specs.Matched.{IsOfPeer}
+use Rattle.relay_connections.proofs.MatchedLemmas.{greeted_none, is_live, opens_freed, opens_one}
+use Rattle.relay_connections.proofs.clients.Clients.open.Goals as goal
+
+pub returns-in-Some-clause-opens : goal.returns-in-Some-clause-opens
+returns-in-Some-clause-opens g c = λ matched.
+    let mid = c.accept.new.self in
+    let session = c.in-Ok.session in
+    let talks = c.in-Ok.ensures.talks [] in
+    let seat : IsOfPeer mid.node.seats session (ipv4_octets (v4_ip c.args.peer)) = record { seat = talks.seat.seat; there = talks.seat.at; same = talks.seat.peer_is ∙ c.octets.ensures ∙ ap ipv4_octets c.ip.ensures } in
+    let live = is_live c.args.relay.now mid session c.in-Ok.ensures.records c.in-Ok.ensures.stopped.1 in
+    opens_one c.args.peer c.args.self.now.clients c.args.relay.now mid c.greet.new.relay session talks.waiting talks.connection seat c.in-Ok.ensures.free c.in-Ok.ensures.only live matched
+    c.put.new.self c.in-Some.client c.in-Some.ensures.0 c.in-Some.ensures.1 (c.put.ensures.there c.in-Ok.ensures.free.within) c.put.ensures.others
+
+pub returns-in_default-clause-opens : goal.returns-in_default-clause-opens
+returns-in_default-clause-opens g c = λ matched.
+    let mid = c.accept.new.self in
+    let session = c.in-Ok.session in
+    let talks = c.in-Ok.ensures.talks [] in
+    let seat : IsOfPeer mid.node.seats session (ipv4_octets (v4_ip c.args.peer)) = record { seat = talks.seat.seat; there = talks.seat.at; same = talks.seat.peer_is ∙ c.octets.ensures ∙ ap ipv4_octets c.ip.ensures } in
+    let live = is_live c.args.relay.now mid session c.in-Ok.ensures.records c.in-Ok.ensures.stopped.1 in
+    opens_freed c.args.peer c.args.self.now.clients c.args.relay.now mid c.greet.new.relay session talks.waiting talks.connection seat c.in-Ok.ensures.free c.in-Ok.ensures.only live matched
+    (greeted_none session c.args.peer mid c.greet.new.relay c.greet.result c.greet.ensures c.in_default.not-Some)

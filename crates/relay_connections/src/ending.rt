@@ -1,0 +1,77 @@
+//! How the session of a client ends where its connection does, or where the relay cuts it off.
+ghost use Rattle.std.specs.Prelude.{◌≡◌, IfErr, IfOk, false};
+ghost use Rattle.relay_connections.specs.Matched.{IsFreed};
+ghost use Rattle.relay_connections.specs.Sessions.{EndsAlone, IsCutOff, IsTold, LeavesWithAll};
+
+use crate::client::Next;
+use relay_disk::FileDisk;
+use relay_loop::{Closing, Outbox, Relay, closing_line};
+use relay_node::NodeFault;
+use std::alloc::Global;
+
+/// Ends the session of a client whose input has come to its end. What waits is still written.
+pub(crate) fn end_session(relay: &mut Relay<FileDisk>, session: usize) -> Result<Next, NodeFault>
+    ensures ends { EndsAlone session relay.old relay.new }
+    ensures next { IfOk result (LeavesWithAll relay.old session) }
+    ensures fault { IfErr result (λ fault. fault ≡ NodeFault.Stopped) }
+    ensures stopped { IfErr result (λ _. relay.old.node.records.spool.live ≡ false) }
+{
+    match relay.end_client(session) {
+        Ok(outbox) => Ok(Next::Leaves(outbox)),
+        Err(NodeFault::Stopped) => Err(NodeFault::Stopped),
+        Err(_) => Ok(Next::Gone),
+    }
+}
+
+/// Ends the session of a client that can't be served.
+pub(crate) fn dismiss(relay: &mut Relay<FileDisk>, session: usize)
+    ensures { IsFreed session relay.old relay.new }
+{
+    match relay.end_client(session) {
+        Ok(_) => {}
+        // A node that is stopped has no session any more, and a session that isn't known is none.
+        Err(_) => {}
+    }
+}
+
+/// Ends the session of a client whose connection is broken.
+pub(crate) fn drop_session(relay: &mut Relay<FileDisk>, session: usize) -> Result<Next, NodeFault>
+    ensures ends { EndsAlone session relay.old relay.new }
+    ensures next { IfOk result (λ next. next ≡ Next.Gone) }
+    ensures fault { IfErr result (λ fault. fault ≡ NodeFault.Stopped) }
+    ensures stopped { IfErr result (λ _. relay.old.node.records.spool.live ≡ false) }
+{
+    match relay.end_client(session) {
+        Err(NodeFault::Stopped) => Err(NodeFault::Stopped),
+        _ => Ok(Next::Gone),
+    }
+}
+
+/// Ends the session of a client that is late. It is told so where it has taken all that was written before; else it
+/// takes nothing, and is told nothing more.
+pub(crate) fn cut_off(
+    alloc: Global,
+    relay: &mut Relay<FileDisk>,
+    session: usize,
+) -> Result<Next, NodeFault>
+    ensures ends { EndsAlone session relay.old relay.new }
+    ensures next { IfOk result (IsCutOff relay.old session) }
+    ensures fault { IfErr result (λ fault. fault ≡ NodeFault.Stopped) }
+    ensures stopped { IfErr result (λ _. relay.old.node.records.spool.live ≡ false) }
+{
+    match relay.end_client(session) {
+        Ok(outbox) if outbox.is_empty() => Ok(farewell(alloc, relay)),
+        Err(NodeFault::Stopped) => Err(NodeFault::Stopped),
+        _ => Ok(Next::Gone),
+    }
+}
+
+/// The last octets of a client that is late.
+fn farewell(alloc: Global, relay: &Relay<FileDisk>) -> Next
+    ensures { IsTold relay.now.node.config.host result }
+{
+    match closing_line(alloc, &relay.node().config().host, Closing::Timeout) {
+        Ok(line) => Next::Leaves(Outbox::new(line)),
+        Err(_) => Next::Gone,
+    }
+}

@@ -1,0 +1,77 @@
+//! A stream without a system, for tests: a reader and a writer that give and take in parts, as a script says.
+ghost use Rattle.std.specs.Prelude.{◌≡◌, ◌≤◌, ◌<◌, IfOk};
+
+use crate::stream::Stream;
+use std::io::{self, Error, ErrorKind, Read, Write};
+
+/// A stream that gives what its reader gives, and writes to its writer. Each read and each write takes the next number
+/// of the script: so many octets go at most, and at a 0 it would have to wait. Behind the script all go.
+#[derive(Drop)]
+pub struct ScriptedStream<R, W> {
+    pub reader: R,
+    pub writer: W,
+    script: Vec<usize>,
+    /// How many numbers of the script are used.
+    step: usize,
+}
+
+impl<R, W> ScriptedStream<R, W> {
+    /// Nothing was read or written yet.
+    pub fn new(reader: R, writer: W, script: Vec<usize>) -> Self
+        ensures reader { result.reader ≡ reader }
+        ensures writer { result.writer ≡ writer }
+    {
+        ScriptedStream {
+            reader,
+            writer,
+            script,
+            step: 0,
+        }
+    }
+}
+
+/// How many octets go by the next number of a script, where there is room for so many.
+fn next(script: &[usize], step: &mut usize, room: usize) -> io::Result<usize>
+    ensures within { IfOk result (λ count. count ≤ room) }
+    ensures some { IfOk result (λ count. 0 < room → 0 < count) }
+{
+    let most = match script.get(*step) {
+        Some(most) => *most,
+        None => return Ok(room),
+    };
+    *step = step.saturating_add(1);
+    if most == 0 {
+        return Err(Error::from(ErrorKind::WouldBlock));
+    }
+    Ok(room.min(most))
+}
+
+impl<R: Read, W: Write> Stream for ScriptedStream<R, W> {
+    type Registry = ();
+
+    ghost remaining = { λ stream. R.remaining stream.reader };
+
+    ghost contents = { λ stream. W.contents stream.writer };
+
+    fn try_read(&mut self, into: &mut [u8]) -> io::Result<usize> {
+        let count = next(self.script.as_slice(), &mut self.step, into.len())?;
+        self.reader.read(&mut into[..count])
+    }
+
+    fn try_write(&mut self, octets: &[u8]) -> io::Result<usize> {
+        let count = next(self.script.as_slice(), &mut self.step, octets.len())?;
+        self.writer.write(&octets[..count])
+    }
+
+    fn set_nodelay(&mut self) {}
+
+    fn shut_down(&mut self) {}
+
+    fn has_connected(&self) -> io::Result<bool> {
+        Ok(true)
+    }
+
+    fn register(&mut self, _registry: &(), _token: usize, _again: bool) -> io::Result<()> {
+        Ok(())
+    }
+}
