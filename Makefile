@@ -39,15 +39,15 @@ test:
 	tests/stops_in_plays.py build/relayd
 	tests/hostile_octets.py build/relayd
 	tests/each_allocation_refused.sh build/relayd
-	tests/records_of_a_generator.py crates/relay_book_tests/out/relay_book_tests
-	tests/book_without_memory.sh crates/relay_book_tests/out/relay_book_tests
+	tests/records_of_a_generator.py crates/relay_rows_tests/out/relay_rows_tests
+	tests/book_without_memory.sh crates/relay_rows_tests/out/relay_rows_tests
 	tests/dialogues_of_a_node.sh crates/relay_node_tests/out/relay_node_tests
 	tests/attempts_of_a_node.py crates/relay_node_tests/out/relay_node_tests
 	tests/node_without_memory.sh crates/relay_node_tests/out/relay_node_tests
 	tests/hub_without_memory.sh crates/relay_node_tests/out/relay_node_tests
 	tests/groups_without_memory.sh crates/relay_node_tests/out/relay_node_tests
-	tests/spool_on_a_file.sh crates/relay_book_tests/out/relay_book_tests
-	tests/reports_read_by_python.py crates/relay_book_tests/out/relay_book_tests
+	tests/spool_on_a_file.sh crates/relay_rows_tests/out/relay_rows_tests
+	tests/reports_read_by_python.py crates/relay_rows_tests/out/relay_rows_tests
 	tail -n 1 build/gate.log
 
 # Compiles the relay without its proofs, and shows a message's way through it, over sockets of this machine. It leaves

@@ -3,7 +3,7 @@
 # it, the program applies the change again, and each later row is to come out as if nothing had happened; else it says that
 # memory ran out, ends with status 1, and has written a beginning of the rows.
 #
-#   tests/book_without_memory.sh crates/relay_book_tests/out/relay_book_tests
+#   tests/book_without_memory.sh crates/relay_rows_tests/out/relay_rows_tests
 set -euo pipefail
 cd "$(dirname "$0")/.."
 
@@ -18,9 +18,13 @@ fail() {
 }
 
 # The rows of the first file that change the book and ask it. Without the others a run takes a few milliseconds.
-rows=crates/relay_book_tests/data/rows.in
+rows=crates/relay_rows_tests/data/rows.in
 grep -E '^(apply|held|due)' $rows > "$room/rows.in"
-head -n "$(wc -l < $rows)" crates/relay_book_tests/stdout | grep -E '^(apply|held|due)' > "$room/wanted"
+# What comes of that file stands in the program's output behind the rows of others.
+outcomes=crates/relay_rows_tests/stdout
+first=$(grep -nFm 1 "$(head -n 1 $rows) => " $outcomes | cut -d : -f 1)
+last=$((first + $(wc -l < $rows) - 1))
+sed -n "$first,${last}p" $outcomes | grep -E '^(apply|held|due)' > "$room/wanted"
 : > "$room/octets.in"
 : > "$room/snapshots.in"
 : > "$room/delay.in"
@@ -31,7 +35,7 @@ answered=0
 for ((number = 1; number <= 10000; number++)); do
     rm -f "$room/refused"
     status=0
-    REFUSE=$number REFUSED=$room/refused LD_PRELOAD=$room/refuse.so "$program" "$room" \
+    REFUSE=$number REFUSED=$room/refused LD_PRELOAD=$room/refuse.so "$program" books "$room" \
         > "$room/out" 2> "$room/errors" || status=$?
     [ -e "$room/refused" ] || break
     refused=$((refused + 1))

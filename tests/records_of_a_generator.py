@@ -2,7 +2,7 @@
 """Makes 1,000 records by a fixed generator, about half of them accepts and half outcomes, with up to 100 recipients or
 rulings each. The program decodes each record and encodes its change again, and is to find the same octets.
 
-    tests/records_of_a_generator.py crates/relay_book_tests/out/relay_book_tests
+    tests/records_of_a_generator.py crates/relay_rows_tests/out/relay_rows_tests
 """
 import pathlib
 import subprocess
@@ -95,7 +95,7 @@ def main():
         for name in ["octets.in", "snapshots.in", "delay.in", "reports.in"]:
             (pathlib.Path(room) / name).touch()
         (pathlib.Path(room) / "rows.in").write_text("".join(f"decode {it.hex()}\n" for it in records))
-        run = subprocess.run([sys.argv[1], room], check=True, capture_output=True, text=True)
+        run = subprocess.run([sys.argv[1], "books", room], check=True, capture_output=True, text=True)
     for place, (record, line) in enumerate(zip(records, run.stdout.splitlines(), strict=True), 1):
         if line != f"decode {record.hex()} => a record of {len(record)}":
             sys.exit(f"records_of_a_generator: record {place} comes otherwise: {line}")

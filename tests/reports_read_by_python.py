@@ -2,7 +2,7 @@
 """Reads each report that the program writes with Python's email package: a multipart/report of three parts, with the
 fields that the records of its row fill in, and the parts that the program itself takes it apart to.
 
-    tests/reports_read_by_python.py crates/relay_book_tests/out/relay_book_tests
+    tests/reports_read_by_python.py crates/relay_rows_tests/out/relay_rows_tests
 """
 import datetime
 import email
@@ -12,7 +12,7 @@ import subprocess
 import sys
 import pathlib
 
-DATA = pathlib.Path(__file__).resolve().parent.parent / "crates/relay_book_tests/data"
+DATA = pathlib.Path(__file__).resolve().parent.parent / "crates/relay_rows_tests/data"
 HOST = "relay.example"
 # How long a place waits before it is late, and before it fails, in seconds; the last moment that a date shows.
 LATENESS, PATIENCE, LAST_SECOND = 14_400, 432_000, 253_370_764_799
@@ -134,7 +134,7 @@ def check(row, text, sizes):
 
 
 def main():
-    written = subprocess.run([sys.argv[1], str(DATA)], check=True, capture_output=True, text=True).stdout.splitlines()
+    written = subprocess.run([sys.argv[1], "books", str(DATA)], check=True, capture_output=True, text=True).stdout.splitlines()
     rows = (DATA / "reports.in").read_text().splitlines()
     count = 0
     # What comes of these rows is written last.

@@ -1,12 +1,13 @@
 //! The rows of lines, commands and replies, and those of bodies.
+use crate::answer::{Answer, RowsFault, print_row};
 use crate::body_row::{self, BodyRow};
-use crate::row::Row;
+use crate::play::Play;
+use crate::row::{Row, octets_in};
 use crate::verdict::verdict_of;
 use relay_body::BodyFault;
 use relay_lines::{LINE_LIMIT, LineBuffer, LineFault, ReplyFault};
 use relay_octets::{Octets, find_crlf};
-use std::alloc::{AllocError, Global};
-use std::test::Fail;
+use std::fmt::Display;
 use std::{fs, mem};
 
 const LINE_FAULTS: [LineFault; 5] = [
@@ -25,77 +26,96 @@ const REPLY_FAULTS: [ReplyFault; 4] = [
 ];
 
 /// Plays each row of lines and of bodies, and says what comes of what no row shows.
-pub fn show_lines(rt: &HostRuntime) -> Result<(), Fail> {
-    let alloc = rt.alloc();
+pub fn show_lines(rt: &HostRuntime) -> Result<(), RowsFault> {
     let rows = fs::read_to_string(rt, "lines.in")?;
     for line in rows.as_str().lines() {
-        show(rt, alloc, line)?;
+        show_row(rt, line)?;
     }
+    show_bodies(rt)?;
+    show_calls(rt)
+}
+
+fn show_bodies(rt: &HostRuntime) -> Result<(), RowsFault> {
     let bodies = fs::read_to_string(rt, "bodies.in")?;
     for line in bodies.as_str().lines() {
-        show_body(rt, alloc, line)?;
+        show_body(rt, line)?;
     }
-    say_texts(rt)?;
-    say_calls(rt, alloc)
+    Ok(())
 }
 
 /// Plays a row, and prints what it comes to.
-fn show(rt: &HostRuntime, alloc: Global, line: &str) -> Result<(), Fail> {
-    match Row::read(alloc, line)? {
-        Some(row) => {
-            let verdict = verdict_of(alloc, &row.play, row.wanted.as_slice())?;
-            println!(rt; "{}: {verdict}", row.name)?;
-        }
-        None => println!(rt; "{line}: no row")?,
+fn show_row(rt: &HostRuntime, line: &str) -> Result<(), RowsFault> {
+    let mut answer = Answer::new(rt.alloc());
+    let row = Row::read(line);
+    match row.play(&mut answer) {
+        Some(play) => tell_verdict(&mut answer, &play, row.wanted),
+        None => answer.say("no row"),
     }
-    Ok(())
+    print_row(rt, row.name, ": ", &answer)
+}
+
+/// Tells what a play comes to.
+fn tell_verdict(answer: &mut Answer, play: &Play, wanted: &str) {
+    let wanted = octets_in(answer, wanted);
+    match verdict_of(answer.alloc, play, wanted.as_slice()) {
+        Ok(verdict) => answer.show(&verdict),
+        Err(_) => answer.stop(RowsFault::NoMemory),
+    }
 }
 
 /// Plays a row of bodies, and prints what it comes to.
-fn show_body(rt: &HostRuntime, alloc: Global, line: &str) -> Result<(), Fail> {
-    match BodyRow::read(alloc, line)? {
-        Some(row) => {
-            let verdict = body_row::verdict_of(alloc, &row)?;
-            println!(rt; "{}: {verdict}", row.name)?;
-        }
-        None => println!(rt; "{line}: no row")?,
+fn show_body(rt: &HostRuntime, line: &str) -> Result<(), RowsFault> {
+    let mut answer = Answer::new(rt.alloc());
+    let row = BodyRow::read(line);
+    match row.play(&mut answer) {
+        Some(play) => body_row::tell_verdict(&mut answer, &play, row.wanted),
+        None => answer.say("no row"),
     }
-    Ok(())
+    print_row(rt, row.name, ": ", &answer)
 }
 
-/// Says the text of each fault.
-fn say_texts(rt: &HostRuntime) -> Result<(), Fail> {
+/// Says the text of each fault, and what comes of the calls that no row makes.
+fn show_calls(rt: &HostRuntime) -> Result<(), RowsFault> {
+    let mut answer = Answer::new(rt.alloc());
     for fault in LINE_FAULTS {
-        println!(rt; "fault: {fault}")?;
+        tell_fault(&mut answer, &fault);
     }
     for fault in REPLY_FAULTS {
-        println!(rt; "fault: {fault}")?;
+        tell_fault(&mut answer, &fault);
     }
-    Ok(println!(rt; "fault: {}", BodyFault::NoMemory)?)
+    tell_fault(&mut answer, &BodyFault::NoMemory);
+    answer.say("octets: ");
+    tell_octets(&mut answer);
+    answer.say("\na line of 10,000,000 octets: ");
+    answer.say(hold_long_line());
+    print_row(rt, "", "", &answer)
 }
 
-/// Says what comes of the calls that no row makes.
-fn say_calls(rt: &HostRuntime, alloc: Global) -> Result<(), Fail> {
-    println!(rt; "octets: {}", handle_octets(alloc)?)?;
-    Ok(println!(rt; "a line of 10,000,000 octets: {}", hold_long_line())?)
+/// Tells the line of a fault.
+fn tell_fault(answer: &mut Answer, fault: &impl Display) {
+    answer.say("fault: ");
+    answer.show(fault);
+    answer.say("\n");
 }
 
-/// Each call on octets, once.
-fn handle_octets(alloc: Global) -> Result<&'static str, AllocError> {
-    let mut octets = Octets::from_slice(alloc, b"a\r")?;
-    octets.push_slice(b"\nb")?;
-    let are_there = octets.as_slice() == b"a\r\nb".as_slice()
-        && octets.len() == 4
-        && !octets.is_empty();
+/// Makes each call on octets once, and tells whether each answers as it is to.
+fn tell_octets(answer: &mut Answer) {
+    let mut octets = octets_in(answer, "a\\r");
+    let pushed = octets.push_slice(b"\nb");
+    answer.note(pushed);
+    let are_there = has_text(&octets) && octets.len() == 4 && !octets.is_empty();
     let has_end = find_crlf(octets.as_slice()) == Some(1);
-    let again = Octets::new(octets.into_vec());
-    let is_same = again.as_slice() == b"a\r\nb".as_slice();
-    let is_none = Octets::from_slice(alloc, b"")?.is_empty();
-    Ok(if are_there && has_end && is_same && is_none {
+    let is_same = has_text(&Octets::new(octets.into_vec()));
+    let is_none = octets_in(answer, "").is_empty();
+    answer.say(if are_there && has_end && is_same && is_none {
         "as written down"
     } else {
         "differ"
-    })
+    });
+}
+
+fn has_text(octets: &Octets) -> bool {
+    octets.as_slice() == b"a\r\nb".as_slice()
 }
 
 /// Feeds a line of 1,000 pieces of 10,000 octets, and then a short one.

@@ -3,6 +3,7 @@ ghost use Rattle.relay_body.specs.Gathering.{gathered_of};
 ghost use Rattle.relay_body.specs.DotReading.{HasRead, IsDone};
 ghost use Rattle.relay_rows_tests.specs.Player.{ReadsChunk, found_of};
 
+use crate::answer::{Answer, RowsFault};
 use crate::cutting::Cutting;
 use relay_body::{
     BodyFault, ChunkReader, DotReader, Gathered, ends_in_line_end, plain, write_dots,
@@ -43,35 +44,37 @@ enum Kind {
 impl BodyPlay {
     /// Reads the fields of a row.
     pub fn read(
-        alloc: Global,
+        answer: &mut Answer,
         kind: &str,
         limit: &str,
         sizes: &str,
         octets: Octets,
-    ) -> Result<Option<BodyPlay>, AllocError> {
+    ) -> Option<BodyPlay> {
         let limit = limit.parse::<usize>().unwrap_or(0);
         let kind = match kind {
             "BDAT" => Kind::Chunks {
                 limit,
-                sizes: sizes_of(alloc, sizes)?,
+                sizes: sizes_in(answer, sizes),
             },
             "DATA" => Kind::DotText { limit },
             "WRITE" => Kind::Writer,
-            _ => return Ok(None),
+            _ => return None,
         };
-        Ok(Some(BodyPlay { kind, octets }))
+        Some(BodyPlay { kind, octets })
     }
 }
 
 /// The sizes, which stand between commas. A word that is none is left out.
-fn sizes_of(alloc: Global, text: &str) -> Result<Vec<u32>, AllocError> {
-    let mut sizes = Vec::new(alloc);
+fn sizes_in(answer: &mut Answer, text: &str) -> Vec<u32> {
+    let mut sizes = Vec::new(answer.alloc);
     for word in text.split(',') {
-        if let Ok(size) = word.parse::<u32>() {
-            sizes.push(size)?;
+        if let Ok(size) = word.parse::<u32>()
+            && sizes.push(size).is_err()
+        {
+            answer.stop(RowsFault::NoMemory);
         }
     }
-    Ok(sizes)
+    sizes
 }
 
 /// What is found, as a text: how many octets were used, and what has come of them.
@@ -103,23 +106,15 @@ enum Found {
 
 impl Found {
     fn text(&self, alloc: Global) -> Result<Octets, AllocError> {
-        match self {
-            Found::Open(used) => {
-                let text = format!(in alloc; "{used} open")?;
-                Octets::from_slice(alloc, text.as_bytes())
-            }
-            Found::Done(used, Gathered::TooLarge) => {
-                let text = format!(in alloc; "{used} too large")?;
-                Octets::from_slice(alloc, text.as_bytes())
-            }
-            Found::Done(used, Gathered::Whole(content)) => {
-                let text = format!(in alloc; "{used} whole:")?;
-                let mut text = Octets::from_slice(alloc, text.as_bytes())?;
-                text.push_slice(content.as_slice())?;
-                Ok(text)
-            }
-            Found::PlainDiffers => Octets::from_slice(alloc, PLAIN_DIFFERS),
-        }
+        let (used, words, content): (usize, &str, &[u8]) = match self {
+            Found::Open(used) => (*used, " open", b""),
+            Found::Done(used, Gathered::TooLarge) => (*used, " too large", b""),
+            Found::Done(used, Gathered::Whole(content)) => (*used, " whole:", content.as_slice()),
+            Found::PlainDiffers => return Octets::from_slice(alloc, PLAIN_DIFFERS),
+        };
+        let mut text = format!(in alloc; "{used}{words}")?.into_bytes();
+        text.extend_from_slice(content)?;
+        Ok(Octets::new(text))
     }
 }
 

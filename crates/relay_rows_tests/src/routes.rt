@@ -1,78 +1,94 @@
 //! What comes of a row of routes: a configuration, of which `;` between spaces ends a line; a file with one; or
 //! a file and a path, whose hop is looked up.
+use crate::answer::{Answer, RowsFault};
 use relay_envelope::{Path, PathBuf};
-use relay_routes::{BareNewlines, Config, Hop, HostName, Table};
-use std::alloc::{AllocError, Global};
-use std::test::Fail;
-use std::{fs, str};
+use relay_routes::{BareNewlines, Config, Hop, Table};
+use std::fs;
 
 /// Tells what comes of the lines, of the file, or of the file and the path that a row gives.
-pub fn tell_routes(rt: &HostRuntime, text: &mut String, given: &str) -> Result<(), Fail> {
-    let alloc = rt.alloc();
+pub fn tell_routes(rt: &HostRuntime, answer: &mut Answer, given: &str) {
     let (word, rest) = given.split_once(' ').unwrap_or((given, ""));
     match word {
-        "TEXT" => tell_config(alloc, text, document_of(alloc, rest)?.as_str()),
-        "FILE" => tell_config(alloc, text, fs::read_to_string(rt, rest)?.as_str()),
+        "TEXT" => {
+            let document = document_of(answer, rest);
+            tell_config(answer, document.as_str());
+        }
+        "FILE" => {
+            let document = file(rt, answer, rest);
+            tell_config(answer, document.as_str());
+        }
         name => {
-            let document = fs::read_to_string(rt, name)?;
-            tell_hop_of(alloc, text, document.as_str(), rest.as_bytes())
+            let document = file(rt, answer, name);
+            tell_hop_of(answer, document.as_str(), rest.as_bytes());
+        }
+    }
+}
+
+/// The text of a file.
+fn file(rt: &HostRuntime, answer: &mut Answer, name: &str) -> String {
+    match fs::read_to_string(rt, name) {
+        Ok(text) => text,
+        Err(_) => {
+            answer.stop(RowsFault::Stream);
+            String::new(answer.alloc)
         }
     }
 }
 
 /// The lines of a row, each with its end.
-fn document_of(alloc: Global, lines: &str) -> Result<String, AllocError> {
-    let mut document = String::new(alloc);
-    for line in lines.split(" ; ") {
-        document.push_str(line)?;
-        document.push_str("\n")?;
-    }
-    Ok(document)
-}
-
-/// What is printed of a rule of bare line ends: nothing where they pass.
-fn words_of(rule: BareNewlines) -> &'static str {
-    match rule {
-        BareNewlines::Pass => "",
-        BareNewlines::Refuse => " refuse",
-    }
-}
-
-/// What a configuration says: its values without the routes, and whether it refuses bare line ends, or its fault.
-fn tell_config(alloc: Global, text: &mut String, document: &str) -> Result<(), Fail> {
-    match Config::read(alloc, document) {
-        Ok(config) => {
-            let rule = words_of(config.bare_newlines);
-            let host = text_of(&config.host)?;
-            let (listen, spool) = (config.listen, config.spool.as_str());
-            let (content, limit) = (config.max_content, config.spool_limit);
-            Ok(write!(text, "{host} {listen} {spool} {content} {limit}{rule}")?)
+fn document_of(answer: &mut Answer, lines: &str) -> String {
+    match lines.replace(answer.alloc, " ; ", "\n") {
+        Ok(document) => document,
+        Err(_) => {
+            answer.stop(RowsFault::NoMemory);
+            String::new(answer.alloc)
         }
-        Err(fault) => Ok(write!(text, "{fault}")?),
     }
 }
 
-/// The hop of a path by a configuration, and that of the path as it is stored where that is another.
-fn tell_hop_of(alloc: Global, text: &mut String, document: &str, path: &[u8]) -> Result<(), Fail> {
-    match (Config::read(alloc, document), Path::read(path)) {
-        (Ok(config), Some(path)) => tell_both_hops(alloc, text, &config.routes, path),
-        (Ok(_), None) => Ok(text.push_str("no path")?),
-        (Err(fault), _) => Ok(write!(text, "{fault}")?),
+/// Tells what a configuration says: its values without the routes, and whether it refuses bare line ends, or its fault.
+fn tell_config(answer: &mut Answer, document: &str) {
+    match Config::read(answer.alloc, document) {
+        Ok(config) => tell_values(answer, &config),
+        Err(fault) => answer.show(&fault),
     }
 }
 
-fn tell_both_hops(
-    alloc: Global,
-    text: &mut String,
-    routes: &Table,
-    path: Path<'_>,
-) -> Result<(), Fail> {
-    let stored = PathBuf::new(alloc, path)?;
+fn tell_values(answer: &mut Answer, config: &Config) {
+    answer.read_text(config.host.as_slice());
+    answer.say(" ");
+    answer.show(&config.listen);
+    answer.say(" ");
+    answer.say(config.spool.as_str());
+    answer.count(" ", config.max_content as u64);
+    answer.count(" ", config.spool_limit);
+    if matches!(config.bare_newlines, BareNewlines::Refuse) {
+        answer.say(" refuse");
+    }
+}
+
+/// Tells the hop of a path by a configuration, and that of the path as it is stored where that is another.
+fn tell_hop_of(answer: &mut Answer, document: &str, path: &[u8]) {
+    match Config::read(answer.alloc, document) {
+        Ok(config) => match Path::read(path) {
+            Some(path) => tell_both_hops(answer, &config.routes, path),
+            None => answer.say("no path"),
+        },
+        Err(fault) => answer.show(&fault),
+    }
+}
+
+fn tell_both_hops(answer: &mut Answer, routes: &Table, path: Path<'_>) {
     let own = routes.hop(&path);
-    if are_one(routes, own, routes.hop_at(&stored)) {
-        tell_hop(text, own)
-    } else {
-        Ok(text.push_str("two hops")?)
+    match PathBuf::new(answer.alloc, path) {
+        Ok(stored) => {
+            if are_one(routes, own, routes.hop_at(&stored)) {
+                tell_hop(answer, own);
+            } else {
+                answer.say("two hops");
+            }
+        }
+        Err(_) => answer.stop(RowsFault::NoMemory),
     }
 }
 
@@ -88,13 +104,13 @@ fn are_one(routes: &Table, one: Option<&Hop>, other: Option<&Hop>) -> bool {
     }
 }
 
-fn tell_hop(text: &mut String, hop: Option<&Hop>) -> Result<(), Fail> {
+fn tell_hop(answer: &mut Answer, hop: Option<&Hop>) {
     match hop {
-        Some(hop) => Ok(write!(text, "{} {}", text_of(&hop.name)?, hop.at)?),
-        None => Ok(text.push_str("none")?),
+        Some(hop) => {
+            answer.read_text(hop.name.as_slice());
+            answer.say(" ");
+            answer.show(&hop.at);
+        }
+        None => answer.say("none"),
     }
-}
-
-fn text_of(name: &HostName) -> Result<&str, Fail> {
-    Ok(str::from_utf8(name.as_slice())?)
 }

@@ -1,109 +1,112 @@
 //! What comes of a row of scripts: `LINE` and a line of a script, or `TEXT` and octets in decimal, of which the
 //! text that spells them is written.
+use crate::answer::{Answer, RowsFault, print_row};
 use relay_script::{Event, MOST_NODES, NodeIndex, ScriptLine, push_text, script_line};
-use std::alloc::{AllocError, Global};
-use std::str;
-use std::test::Fail;
 
 /// Names each node.
-pub fn say_nodes(rt: &HostRuntime) -> Result<(), Fail> {
+pub fn say_nodes(rt: &HostRuntime) -> Result<(), RowsFault> {
+    let mut answer = Answer::new(rt.alloc());
     for index in 0..MOST_NODES {
+        if index > 0 {
+            answer.say("\n");
+        }
         let node = NodeIndex::new(index);
-        println!(rt; "node {}: {}", node.index(), char::from(node.letter()))?;
+        tell_node(&mut answer, "node ", node);
+        answer.say(": ");
+        answer.show(&char::from(node.letter()));
     }
-    Ok(())
+    print_row(rt, "", "", &answer)
 }
 
 /// Tells what comes of a row.
-pub fn tell_script(alloc: Global, text: &mut String, given: &str) -> Result<(), Fail> {
+pub fn tell_script(answer: &mut Answer, given: &str) {
     let (word, rest) = given.split_once(' ').unwrap_or((given, ""));
     match word {
-        "LINE" => match script_line(alloc, rest.as_bytes())? {
-            Some(said) => Ok(tell_line(text, &said)?),
-            None => Ok(text.push_str("none")?),
+        "LINE" => match script_line(answer.alloc, rest.as_bytes()) {
+            Ok(Some(said)) => tell_line(answer, &said),
+            Ok(None) => answer.say("none"),
+            Err(_) => answer.stop(RowsFault::NoMemory),
         },
-        "TEXT" => tell_text(alloc, text, rest),
-        _ => Ok(text.push_str("no row")?),
+        "TEXT" => tell_text(answer, rest),
+        _ => answer.say("no row"),
     }
 }
 
 /// What was said.
-fn tell_line(text: &mut String, said: &ScriptLine) -> Result<(), AllocError> {
+fn tell_line(answer: &mut Answer, said: &ScriptLine) {
     match said {
-        ScriptLine::Skipped => text.push_str("skipped"),
-        ScriptLine::Nodes { count } => write!(text, "{} nodes", count.count()),
-        ScriptLine::Event(event) => tell_event(text, event),
-        ScriptLine::Ledger => text.push_str("ledger"),
-        ScriptLine::Marks => text.push_str("marks"),
+        ScriptLine::Skipped => answer.say("skipped"),
+        ScriptLine::Nodes { count } => {
+            answer.count("", count.count() as u64);
+            answer.say(" nodes");
+        }
+        ScriptLine::Event(event) => tell_event(answer, event),
+        ScriptLine::Ledger => answer.say("ledger"),
+        ScriptLine::Marks => answer.say("marks"),
         ScriptLine::Copies {
             node,
             number,
             place,
-        } => tell_place(text, "copies", *node, *number, *place),
+        } => tell_place(answer, "copies of node ", *node, *number, *place),
         ScriptLine::Lost {
             node,
             number,
             place,
-        } => tell_place(text, "lost replies", *node, *number, *place),
+        } => tell_place(answer, "lost replies of node ", *node, *number, *place),
     }
 }
 
 /// What is asked of a place.
-fn tell_place(
-    text: &mut String,
-    what: &str,
-    node: NodeIndex,
-    number: u64,
-    place: u64,
-) -> Result<(), AllocError> {
-    let node = node.index();
-    write!(
-        text,
-        "{what} of node {node}, number {number}, place {place}"
-    )
+fn tell_place(answer: &mut Answer, what: &str, node: NodeIndex, number: u64, place: u64) {
+    tell_node(answer, what, node);
+    answer.count(", number ", number);
+    answer.count(", place ", place);
 }
 
 /// What happens.
-fn tell_event(text: &mut String, event: &Event) -> Result<(), AllocError> {
+fn tell_event(answer: &mut Answer, event: &Event) {
     match event {
-        Event::Connect { node } => tell_of_node(text, "connect", *node),
-        Event::Send { link, text: octets } => tell_send(text, *link, octets.as_slice()),
+        Event::Connect { node } => tell_node(answer, "connect node ", *node),
+        Event::Send { link, text: octets } => tell_send(answer, *link, octets.as_slice()),
         Event::Carry { link, node, count } => {
-            write!(
-                text,
-                "carry link {link}, node {}, count {count}",
-                node.index()
-            )
+            answer.count("carry link ", *link);
+            tell_node(answer, ", node ", *node);
+            answer.count(", count ", *count);
         }
-        Event::Break { link } => write!(text, "break link {link}"),
-        Event::Tick { moment } => write!(text, "tick {}", moment.seconds()),
-        Event::Give { node } => tell_of_node(text, "give", *node),
-        Event::Compact { node } => tell_of_node(text, "compact", *node),
+        Event::Break { link } => answer.count("break link ", *link),
+        Event::Tick { moment } => answer.count("tick ", moment.seconds()),
+        Event::Give { node } => tell_node(answer, "give node ", *node),
+        Event::Compact { node } => tell_node(answer, "compact node ", *node),
         Event::Stop { node, calls, pick } => {
-            tell_of_node(text, "stop", *node)?;
-            write!(text, ", calls {calls}, pick {pick}")
+            tell_node(answer, "stop node ", *node);
+            answer.count(", calls ", *calls);
+            answer.count(", pick ", *pick);
         }
     }
 }
 
-fn tell_of_node(text: &mut String, what: &str, node: NodeIndex) -> Result<(), AllocError> {
-    write!(text, "{what} node {}", node.index())
+/// Tells a node's number behind these words.
+fn tell_node(answer: &mut Answer, words: &str, node: NodeIndex) {
+    answer.count(words, node.index() as u64);
 }
 
 /// The octets that are written on a link, in decimal.
-fn tell_send(text: &mut String, link: u64, octets: &[u8]) -> Result<(), AllocError> {
-    write!(text, "send link {link}:")?;
+fn tell_send(answer: &mut Answer, link: u64, octets: &[u8]) {
+    answer.count("send link ", link);
+    answer.say(":");
     for octet in octets {
-        write!(text, " {octet}")?;
+        answer.count(" ", u64::from(*octet));
     }
-    Ok(())
 }
 
 /// The text that spells octets, which stand in decimal.
-fn tell_text(alloc: Global, text: &mut String, octets: &str) -> Result<(), Fail> {
-    let mut spelled = Vec::new(alloc);
-    for word in octets.split(" ") {
-        push_text(&mut spelled, &[word.parse::<u8>()?])?;
+fn tell_text(answer: &mut Answer, octets: &str) {
+    let mut spelled = Vec::new(answer.alloc);
+    for word in octets.split(' ') {
+        match word.parse::<u8>() {
+            Ok(octet) => answer.note(push_text(&mut spelled, &[octet])),
+            Err(_) => answer.stop(RowsFault::Row),
+        }
     }
-    Ok(text.push_str(str::from_utf8(spelled.as_slice())?)?)
+    answer.read_text(spelled.as_slice());
 }

@@ -2,7 +2,7 @@ use crate::comparison::Verdict;
 use crate::meeting::mark::written_behind;
 use crate::meeting::transcript::{End, Transcript};
 use crate::meeting::verdict_text::verdict_lines;
-use relay_client::{Attempt, Driven, MailObject};
+use relay_client::{Attempt, Driven, MailObject, Verdicts};
 use relay_envelope::Envelope;
 use std::alloc::{AllocError, Global};
 
@@ -53,43 +53,56 @@ impl<'a> AttemptPlay<'a> {
     }
 
     /// Gives the next octets of the server, which begin behind so many.
-    fn give(&mut self, start: usize, piece: &[u8]) -> Result<(), AllocError> {
+    fn give(&mut self, start: usize, piece: &[u8]) {
         let had_ended = self.verdicts.is_some();
-        let driven = self.feed(piece)?;
-        let has_ended = driven.verdicts.is_some();
-        let is_used = if had_ended {
-            driven.used == 0 && !has_ended
-        } else if has_ended && self.transcript.end == End::Reply {
-            start.saturating_add(driven.used) == self.transcript.said.len()
-        } else {
-            driven.used == piece.len()
-        };
-        self.take(driven)?;
-        let is_written = self.is_written_behind(start.saturating_add(piece.len()));
-        self.is_right = self.is_right && is_written && is_used;
-        Ok(())
-    }
-
-    /// The attempt reads octets of the server.
-    fn feed(&mut self, piece: &[u8]) -> Result<Driven, AllocError> {
         let mail = MailObject {
             envelope: self.envelope,
             stored_text: self.transcript.text.as_slice(),
         };
-        self.attempt.feed(&mail, piece)
+        match self.attempt.feed(&mail, piece) {
+            Ok(driven) => {
+                let is_used = self.is_used(&driven, had_ended, start, piece.len());
+                self.take(driven);
+                let is_written = self.is_written_behind(start.saturating_add(piece.len()));
+                self.is_right = self.is_right && is_written && is_used;
+            }
+            Err(_) => self.is_right = false,
+        }
+    }
+
+    /// Whether as much is used as is to be of a piece of so many octets.
+    fn is_used(&self, driven: &Driven, had_ended: bool, start: usize, length: usize) -> bool {
+        let has_ended = driven.verdicts.is_some();
+        if had_ended {
+            driven.used == 0 && !has_ended
+        } else if has_ended && self.transcript.end == End::Reply {
+            start.saturating_add(driven.used) == self.transcript.said.len()
+        } else {
+            driven.used == length
+        }
     }
 
     /// Takes what came of a feed.
-    fn take(&mut self, driven: Driven) -> Result<(), AllocError> {
+    fn take(&mut self, driven: Driven) {
         let Driven {
             used: _,
             out,
             verdicts,
         } = driven;
-        if let Some(verdicts) = verdicts {
-            self.verdicts = Some(verdict_lines(self.alloc, verdicts)?);
+        if self.written.extend_from_slice(out.as_slice()).is_err() {
+            self.is_right = false;
         }
-        self.written.extend_from_slice(out.as_slice())
+        if let Some(verdicts) = verdicts {
+            self.end(verdicts);
+        }
+    }
+
+    /// Ends with these verdicts.
+    fn end(&mut self, verdicts: Verdicts) {
+        match verdict_lines(self.alloc, verdicts) {
+            Ok(lines) => self.verdicts = Some(lines),
+            Err(_) => self.is_right = false,
+        }
     }
 
     /// Whether behind so many octets of the server that is written which is to be.
@@ -103,20 +116,29 @@ impl<'a> AttemptPlay<'a> {
     }
 
     /// Ends the play, and says whether all came as it is written down.
-    fn is_as_written(&mut self) -> Result<bool, AllocError> {
+    fn is_as_written(&mut self) -> bool {
         if self.transcript.end == End::Loss {
-            let verdicts = self.attempt.broken()?;
-            self.verdicts = Some(verdict_lines(self.alloc, verdicts)?);
+            match self.attempt.broken() {
+                Ok(verdicts) => self.end(verdicts),
+                Err(_) => self.is_right = false,
+            }
         }
-        let is_told = match &self.verdicts {
+        self.is_right && self.is_told() && self.has_written()
+    }
+
+    /// Whether the verdicts are those that are written down.
+    fn is_told(&self) -> bool {
+        match &self.verdicts {
             Some(verdicts) => {
                 self.transcript.end != End::None
                     && are_equal(verdicts.as_slice(), self.transcript.verdicts.as_slice())
             }
             None => self.transcript.end == End::None,
-        };
-        let is_all = are_equal(self.written.as_slice(), self.transcript.written.as_slice());
-        Ok(self.is_right && is_told && is_all)
+        }
+    }
+
+    fn has_written(&self) -> bool {
+        are_equal(self.written.as_slice(), self.transcript.written.as_slice())
     }
 }
 
@@ -125,14 +147,14 @@ fn are_equal(one: &[u8], other: &[u8]) -> bool {
     one == other
 }
 
-/// Plays a transcript once for each cutting. One without a MAIL comes to nothing.
-pub fn verdict_of(alloc: Global, transcript: &Transcript) -> Result<Option<Verdict>, AllocError> {
-    let Some(envelope) = &transcript.envelope else {
-        return Ok(None);
-    };
+/// Plays a transcript once for each cutting.
+pub fn verdict_of(
+    alloc: Global,
+    transcript: &Transcript,
+    envelope: &Envelope,
+) -> Result<Verdict, AllocError> {
     let said = all_said(alloc, transcript)?;
-    let verdict = verdict_of_cuts(alloc, transcript, envelope, said.as_slice())?;
-    Ok(Some(verdict))
+    verdict_of_cuts(alloc, transcript, envelope, said.as_slice())
 }
 
 /// What the server says up to the end and behind it.
@@ -150,12 +172,11 @@ fn verdict_of_cuts(
     said: &[u8],
 ) -> Result<Verdict, AllocError> {
     for place in 0..=said.len() {
-        let (front, rest) = said.split_at(place);
-        if !is_right_in_two(AttemptPlay::new(alloc, transcript, envelope)?, front, rest)? {
+        if !is_right_in_two(AttemptPlay::new(alloc, transcript, envelope)?, said, place) {
             return Ok(Verdict::DiffersAt(place));
         }
     }
-    if is_right_by_octets(AttemptPlay::new(alloc, transcript, envelope)?, said)? {
+    if is_right_by_octets(AttemptPlay::new(alloc, transcript, envelope)?, said) {
         Ok(Verdict::Equal)
     } else {
         Ok(Verdict::DiffersOctetByOctet)
@@ -163,20 +184,16 @@ fn verdict_of_cuts(
 }
 
 /// Whether all comes as it is written down in two pieces.
-fn is_right_in_two(
-    mut play: AttemptPlay<'_>,
-    front: &[u8],
-    rest: &[u8],
-) -> Result<bool, AllocError> {
-    play.give(0, front)?;
-    play.give(front.len(), rest)?;
+fn is_right_in_two(mut play: AttemptPlay<'_>, said: &[u8], place: usize) -> bool {
+    play.give(0, said.get(..place).unwrap_or(&[]));
+    play.give(place, said.get(place..).unwrap_or(&[]));
     play.is_as_written()
 }
 
 /// Whether all comes as it is written down octet by octet.
-fn is_right_by_octets(mut play: AttemptPlay<'_>, said: &[u8]) -> Result<bool, AllocError> {
+fn is_right_by_octets(mut play: AttemptPlay<'_>, said: &[u8]) -> bool {
     for (place, octet) in said.iter().enumerate() {
-        play.give(place, &[*octet])?;
+        play.give(place, &[*octet]);
     }
     play.is_as_written()
 }

@@ -6,87 +6,77 @@ use relay_lines::ReplyReader;
 use relay_server::Offer;
 use std::alloc::{AllocError, Global};
 
-/// Whether the offer has MAIL's values, the recipients with a hop, in order and with their parameters, and the text.
-pub fn is_child(
-    alloc: Global,
-    errand: &Errand,
-    row: Row,
-    offer: &Offer<'_>,
-) -> Result<bool, AllocError> {
-    let is_mail = are_equal_mails(alloc, offer.envelope, &errand.envelope)?;
-    let are_wanted = are_wanted(
-        alloc,
-        row,
-        errand.envelope.recipients.as_slice(),
-        offer.envelope.recipients.as_slice(),
-    )?;
-    Ok(is_mail && are_wanted && offer.content == errand.text.as_slice())
+/// Whether the offer has MAIL's values, the recipients with a hop, in order and with their parameters, and the text. It
+/// isn't so where memory ran out.
+pub fn is_child(alloc: Global, errand: &Errand, row: Row<'_>, offer: &Offer<'_>) -> bool {
+    offer.content == errand.text.as_slice()
+        && are_equal_mails(alloc, offer.envelope, &errand.envelope) == Ok(true)
+        && are_wanted(
+            alloc,
+            row,
+            errand.envelope.recipients.as_slice(),
+            offer.envelope.recipients.as_slice(),
+        )
 }
 
 /// Whether they have one reverse-path and the same parameters.
 fn are_equal_mails(alloc: Global, one: &Envelope, other: &Envelope) -> Result<bool, AllocError> {
     let one = write_mail(alloc, one)?;
-    let other = write_mail(alloc, other)?;
-    Ok(one.as_slice() == other.as_slice())
+    Ok(one.as_slice() == write_mail(alloc, other)?.as_slice())
 }
 
 /// Whether those that are offered are the recipients with a hop.
 fn are_wanted(
     alloc: Global,
-    row: Row,
+    row: Row<'_>,
     recipients: &[Recipient],
     offered: &[Recipient],
-) -> Result<bool, AllocError> {
+) -> bool {
     let mut found = 0usize;
     for (place, recipient) in recipients.iter().enumerate() {
         if row.goes(place) {
-            match offered.get(found) {
-                Some(one) => {
-                    if !are_equal(alloc, one, recipient)? {
-                        return Ok(false);
-                    }
-                }
-                None => return Ok(false),
+            if !is_wanted(alloc, recipient, offered.get(found)) {
+                return false;
             }
             found = found.saturating_add(1);
         }
     }
-    Ok(found == offered.len())
+    found == offered.len()
+}
+
+fn is_wanted(alloc: Global, recipient: &Recipient, offered: Option<&Recipient>) -> bool {
+    match offered {
+        Some(offered) => are_equal(alloc, recipient, offered) == Ok(true),
+        None => false,
+    }
 }
 
 /// Whether they have one path and the same parameters.
 fn are_equal(alloc: Global, one: &Recipient, other: &Recipient) -> Result<bool, AllocError> {
     let one = write_rcpt(alloc, one)?;
-    let other = write_rcpt(alloc, other)?;
-    Ok(one.as_slice() == other.as_slice())
+    Ok(one.as_slice() == write_rcpt(alloc, other)?.as_slice())
 }
 
 /// Whether of the replies that these octets begin with those behind the first three are to all RCPTs, by the server's
 /// table.
-pub fn are_rcpts(alloc: Global, row: Row, octets: &[u8]) -> Result<bool, AllocError> {
-    let codes = codes_in(alloc, octets)?;
-    for place in 0..usize::from(row.recipients) {
-        let wanted: u16 = if row.goes(place) { 250 } else { 550 };
-        if codes.get(place.saturating_add(3)).copied() != Some(wanted) {
-            return Ok(false);
+pub fn are_rcpts(alloc: Global, row: Row<'_>, octets: &[u8]) -> bool {
+    let mut reader = ReplyReader::new(alloc);
+    let mut used = 0usize;
+    for number in 0..usize::from(row.recipients).saturating_add(3) {
+        let Some((count, code)) = next_code(&mut reader, octets.get(used..).unwrap_or(&[])) else {
+            return false;
+        };
+        used = used.saturating_add(count);
+        if 3 <= number && code != code_of(row, number - 3) {
+            return false;
         }
     }
-    Ok(true)
+    true
 }
 
-/// The codes of the whole replies that the octets begin with.
-fn codes_in(alloc: Global, octets: &[u8]) -> Result<Vec<u16>, AllocError> {
-    let mut reader = ReplyReader::new(alloc);
-    let mut codes = Vec::new(alloc);
-    let mut used = 0usize;
-    for _ in 0..octets.len() {
-        let Some((count, code)) = next_code(&mut reader, octets.get(used..).unwrap_or(&[])) else {
-            break;
-        };
-        codes.push(code)?;
-        used = used.saturating_add(count);
-    }
-    Ok(codes)
+/// The code of the reply to the RCPT of this place.
+fn code_of(row: Row<'_>, place: usize) -> u16 {
+    if row.goes(place) { 250 } else { 550 }
 }
 
 /// The code of the whole reply that the octets begin with, and how many it has.

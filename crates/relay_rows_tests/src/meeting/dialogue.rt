@@ -3,13 +3,12 @@ ghost use Rattle.relay_rows_tests.specs.Played.{Plays};
 ghost use Rattle.relay_server.specs.Setup.{setup_of_config};
 ghost use Rattle.relay_rows_tests.specs.Transcript.{IsTranscript};
 
+use crate::answer::RowsFault;
 use crate::comparison::Verdict;
 use crate::meeting::play::Play;
 use relay_routes::Config;
 use std::alloc::{AllocError, Global};
 use std::fs;
-use std::rt::Files;
-use std::test::Fail;
 
 /// A dialogue that is written down.
 pub struct Dialogue {
@@ -35,12 +34,13 @@ impl Drop for Dialogue {
 impl Dialogue {
     /// Reads the dialogue of this name: the client's octets from `NAME.in`, the replies from
     /// `NAME.ref`, and the offers from `NAME.offers`.
-    pub fn read<R: Files + Alloc<A = Global>>(rt: &R, name: &str) -> Result<Self, Fail> {
-        let alloc = rt.alloc();
+    pub fn read(rt: &HostRuntime, name: &str) -> Result<Self, RowsFault> {
+        let input = file(rt, name, "in")?;
+        let replies = file(rt, name, "ref")?;
         Ok(Dialogue {
-            input: fs::read(rt, format!(in alloc; "{name}.in")?.as_str())?,
-            replies: fs::read(rt, format!(in alloc; "{name}.ref")?.as_str())?,
-            offers: fs::read(rt, format!(in alloc; "{name}.offers")?.as_str())?,
+            input,
+            replies,
+            offers: file(rt, name, "offers")?,
         })
     }
 
@@ -100,4 +100,10 @@ impl Dialogue {
     {
         play.replies() == self.replies.as_slice() && play.offers() == self.offers.as_slice()
     }
+}
+
+/// One of the files of a dialogue.
+fn file(rt: &HostRuntime, name: &str, end: &str) -> Result<Vec<u8>, RowsFault> {
+    let path = format!(in rt.alloc(); "{name}.{end}")?;
+    Ok(fs::read(rt, path.as_str())?)
 }

@@ -31,7 +31,7 @@ pub struct Meeting<'a> {
     pub alloc: Global,
     pub config: &'a Config,
     pub errand: &'a Errand,
-    pub row: Row,
+    pub row: Row<'a>,
 }
 
 /// A session and an attempt, and what each has written and read.
@@ -49,6 +49,8 @@ pub struct Ends<'a> {
     is_closed: bool,
     /// The verdicts that replies led to.
     verdicts: Option<Verdicts>,
+    /// Memory ran out, and something didn't come.
+    is_short: bool,
 }
 
 // Written out, so that each exit that drops the ends calls this, and doesn't look into their parts.
@@ -64,6 +66,7 @@ impl Drop for Ends<'_> {
             are_children: _,
             is_closed: _,
             verdicts: _verdicts,
+            is_short: _,
         } = self;
     }
 }
@@ -85,8 +88,9 @@ impl<'a> Ends<'a> {
             are_children: true,
             is_closed: false,
             verdicts: None,
+            is_short: false,
         };
-        ends.down.write(greeting.as_slice())?;
+        ends.down.write(greeting.as_slice());
         Ok(ends)
     }
 
@@ -109,35 +113,34 @@ impl<'a> Ends<'a> {
     }
 
     /// Lets the ends read in turn until there is nothing more.
-    pub fn take_turns(&mut self, cutting: Cutting) -> Result<(), AllocError> {
+    pub fn take_turns(&mut self, cutting: Cutting) {
         for _ in 0..TURNS {
-            let has_heard = self.read(End::Server, cutting)?;
-            let has_read = self.read(End::Client, cutting)?;
+            let has_heard = self.read(End::Server, cutting);
+            let has_read = self.read(End::Client, cutting);
             if !has_heard && !has_read {
                 break;
             }
         }
-        Ok(())
     }
 
     /// Cuts this end off at each place where its pieces end: before it reads the next one, the other end reads all that
     /// came, and then all must be as it is for ends of which this one reads nothing more. It answers how often this was
     /// so, or that something else came.
-    pub fn count_cuts(&mut self, end: End, cutting: Cutting) -> Result<Option<usize>, AllocError> {
+    pub fn count_cuts(&mut self, end: End, cutting: Cutting) -> Option<usize> {
         let mut count = 0usize;
         for _ in 0..TURNS {
-            self.let_other_read(end, cutting)?;
-            if !self.are_lawful()? {
-                return Ok(None);
+            self.let_other_read(end, cutting);
+            if !self.are_lawful() {
+                return None;
             }
             if self.is_cut(end, cutting) {
                 count = count.saturating_add(1);
             }
-            if !self.read(end, cutting)? {
+            if !self.read(end, cutting) {
                 break;
             }
         }
-        Ok(Some(count))
+        Some(count)
     }
 
     /// Whether what this end has read ends where pieces end.
@@ -149,21 +152,20 @@ impl<'a> Ends<'a> {
     }
 
     /// Lets the other end read all that there is.
-    fn let_other_read(&mut self, end: End, cutting: Cutting) -> Result<(), AllocError> {
+    fn let_other_read(&mut self, end: End, cutting: Cutting) {
         let other = match end {
             End::Server => End::Client,
             End::Client => End::Server,
         };
         for _ in 0..TURNS {
-            if !self.read(other, cutting)? {
+            if !self.read(other, cutting) {
                 break;
             }
         }
-        Ok(())
     }
 
     /// Lets an end read the next piece, and says whether there was one.
-    fn read(&mut self, end: End, cutting: Cutting) -> Result<bool, AllocError> {
+    fn read(&mut self, end: End, cutting: Cutting) -> bool {
         match end {
             End::Server => self.hear(cutting),
             End::Client => self.listen(cutting),
@@ -171,9 +173,9 @@ impl<'a> Ends<'a> {
     }
 
     /// The client reads a piece.
-    fn listen(&mut self, cutting: Cutting) -> Result<bool, AllocError> {
+    fn listen(&mut self, cutting: Cutting) -> bool {
         if self.verdicts.is_some() {
-            return Ok(false);
+            return false;
         }
         let piece = self.down.piece(cutting);
         let has_read = !piece.is_empty();
@@ -181,13 +183,15 @@ impl<'a> Ends<'a> {
             envelope: &self.meeting.errand.envelope,
             stored_text: self.meeting.errand.text.as_slice(),
         };
-        let driven = self.attempt.feed(&mail, piece)?;
-        self.take(driven)?;
-        Ok(has_read)
+        match self.attempt.feed(&mail, piece) {
+            Ok(driven) => self.take(driven),
+            Err(_) => self.is_short = true,
+        }
+        has_read
     }
 
     /// Takes what came of a feed of the client.
-    fn take(&mut self, driven: Driven) -> Result<(), AllocError> {
+    fn take(&mut self, driven: Driven) {
         let Driven {
             used,
             out,
@@ -195,53 +199,63 @@ impl<'a> Ends<'a> {
         } = driven;
         self.down.pass(used);
         self.verdicts = verdicts;
-        self.up.write(out.as_slice())
+        self.up.write(out.as_slice());
     }
 
     /// The server reads a piece.
-    fn hear(&mut self, cutting: Cutting) -> Result<bool, AllocError> {
+    fn hear(&mut self, cutting: Cutting) -> bool {
         if self.is_closed {
-            return Ok(false);
+            return false;
         }
-        let piece = Vec::from_slice(self.meeting.alloc, self.up.piece(cutting))?;
-        self.up.pass(piece.len());
-        self.give(piece.as_slice())?;
-        Ok(!piece.is_empty())
+        match Vec::from_slice(self.meeting.alloc, self.up.piece(cutting)) {
+            Ok(piece) => {
+                self.up.pass(piece.len());
+                self.give(piece.as_slice());
+                !piece.is_empty()
+            }
+            Err(_) => {
+                self.is_short = true;
+                false
+            }
+        }
     }
 
     /// Gives the server octets, and answers the offers on the way.
-    fn give(&mut self, piece: &[u8]) -> Result<(), AllocError> {
+    fn give(&mut self, piece: &[u8]) {
         let mut used = 0usize;
         for _ in 0..piece.len() {
-            let (count, next) = self.feed(piece.get(used..).unwrap_or(&[]))?;
+            let (count, next) = self.feed(piece.get(used..).unwrap_or(&[]));
             used = used.saturating_add(count);
             match next {
-                Next::More => return Ok(()),
+                Next::More => return,
                 Next::Close => {
                     self.is_closed = true;
-                    return Ok(());
+                    return;
                 }
-                Next::Offer => self.meet_offer()?,
+                Next::Offer => {
+                    self.count_offer();
+                    self.answer();
+                }
             }
         }
-        Ok(())
     }
 
     /// The server reads octets. It answers how many it has used, and what comes next.
-    fn feed(&mut self, octets: &[u8]) -> Result<(usize, Next), AllocError> {
-        let fed = self.session.feed(&self.meeting.config.routes, octets)?;
-        self.down.write(fed.out.as_slice())?;
-        Ok((fed.used, fed.next))
-    }
-
-    /// Counts the offer that is open, and answers it.
-    fn meet_offer(&mut self) -> Result<(), AllocError> {
-        self.count_offer()?;
-        self.answer()
+    fn feed(&mut self, octets: &[u8]) -> (usize, Next) {
+        match self.session.feed(&self.meeting.config.routes, octets) {
+            Ok(fed) => {
+                self.down.write(fed.out.as_slice());
+                (fed.used, fed.next)
+            }
+            Err(_) => {
+                self.is_short = true;
+                (0, Next::Close)
+            }
+        }
     }
 
     /// Counts the offer that is open, and looks whether it is the errand's one child.
-    fn count_offer(&mut self) -> Result<(), AllocError> {
+    fn count_offer(&mut self) {
         let Meeting {
             alloc,
             config: _,
@@ -249,40 +263,47 @@ impl<'a> Ends<'a> {
             row,
         } = self.meeting;
         let Some(offer) = self.session.offer() else {
-            return Ok(());
+            return;
         };
-        let is_child = is_child(alloc, errand, row, &offer)?
-            && are_rcpts(alloc, row, self.down.octets_read())?;
+        let is_child = is_child(alloc, errand, row, &offer)
+            && are_rcpts(alloc, row, self.down.octets_read());
         self.are_children = self.are_children && is_child;
         self.offers = self.offers.saturating_add(1);
-        Ok(())
     }
 
     /// Answers the offer that is open, as the row says.
-    fn answer(&mut self) -> Result<(), AllocError> {
+    fn answer(&mut self) {
         let answer = match self.meeting.row.answer {
             Some(number) => Answer::Queued(number),
             None => Answer::Full,
         };
         let Some(_) = self.session.offer() else {
-            return Ok(());
+            return;
         };
-        let out = self.session.answer(answer)?;
-        self.down.write(out.as_slice())
+        match self.session.answer(answer) {
+            Ok(out) => self.down.write(out.as_slice()),
+            Err(_) => self.is_short = true,
+        }
     }
 
     /// Whether all is as it must be, of ends of which one may be cut off: what was said begins what ends that are not
     /// cut off say, there is at most the one offer that may come, and the verdicts are the table's. Where no reply has
-    /// ended the attempt, all places may be tried again.
-    pub fn are_lawful(&self) -> Result<bool, AllocError> {
+    /// ended the attempt, all places may be tried again. It isn't so where memory ran out.
+    pub fn are_lawful(&self) -> bool {
         let row = self.meeting.row;
-        let are_said = self.up.is_wanted() && self.down.is_wanted();
+        let are_said = self.up.is_wanted() && self.down.is_wanted() && !self.is_short;
         let are_offers = self.are_children && self.offers <= row.offers;
-        let are_told = match &self.verdicts {
+        are_said && are_offers && self.are_told(row)
+    }
+
+    fn are_told(&self, row: Row<'_>) -> bool {
+        match &self.verdicts {
             Some(verdicts) => self.offers == row.offers && are_by_table(row, verdicts.as_slice()),
-            None => are_all_later(row, self.attempt.broken()?.as_slice()),
-        };
-        Ok(are_said && are_offers && are_told)
+            None => match self.attempt.broken() {
+                Ok(verdicts) => are_all_later(row, verdicts.as_slice()),
+                Err(_) => false,
+            },
+        }
     }
 
     /// Whether the two have said all, and as many offers were made as there are to be.

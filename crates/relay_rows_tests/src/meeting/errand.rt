@@ -1,7 +1,7 @@
-use crate::meeting::row::{Row, Text};
+use crate::answer::RowsFault;
+use crate::meeting::row::Row;
 use relay_envelope::{Envelope, Recipient, read_mail, read_rcpt};
 use std::alloc::{AllocError, Global};
-use std::test::Fail;
 
 /// The most octets of a content that the server takes.
 const CONTENT_LIMIT: usize = 2000;
@@ -35,70 +35,74 @@ impl Drop for Errand {
 
 impl Errand {
     /// The errand of a row.
-    pub fn of_row(alloc: Global, row: Row) -> Result<Self, Fail> {
-        let envelope = envelope_of(alloc)?;
+    pub fn of_row(alloc: Global, row: Row<'_>) -> Result<Self, RowsFault> {
         let mut errand = Errand {
-            envelope,
-            text: text_of_row(alloc, row.text)?,
+            envelope: envelope_of(alloc)?,
+            text: Vec::new(alloc),
             places: Vec::new(alloc),
         };
-        for place in 0..row.recipients {
-            errand.add_place(alloc, place, row.goes(usize::from(place)))?;
-        }
+        errand.push_text(row.text)?;
+        errand.add_places(alloc, row)?;
         Ok(errand)
     }
 
-    /// Adds a recipient, whom the server has a hop for or not, and the place of it.
-    fn add_place(&mut self, alloc: Global, place: u8, goes: bool) -> Result<(), Fail> {
-        let recipient = recipient_of(alloc, place, goes)?;
-        self.envelope.recipients.push(recipient)?;
-        self.places.push(place)?;
+    /// Adds a recipient, whom the server has a hop for or not, and the place of it, for each place of the row.
+    fn add_places(&mut self, alloc: Global, row: Row<'_>) -> Result<(), RowsFault> {
+        for place in 0..row.recipients {
+            let recipient = recipient_of(alloc, place, row.goes(usize::from(place)))?;
+            self.envelope.recipients.push(recipient)?;
+            push_place(&mut self.places, place)?;
+        }
+        Ok(())
+    }
+
+    /// Adds the text of this name: `lines` and `circling` end in CR LF, and else it goes as a chunk; the server takes
+    /// less than `too_many_lines` and `too_many_octets`, and none with 100 `Received:` fields.
+    fn push_text(&mut self, name: &str) -> Result<(), AllocError> {
+        match name {
+            "lines" => self.push_count(LINES, 1),
+            "octets" => self.push_count(OCTETS, 1),
+            "too_many_lines" => self.push_count(b"line\r\n", CONTENT_LIMIT / 5),
+            "too_many_octets" => self.push_count(b"octet", CONTENT_LIMIT / 4),
+            "circling" => self.push_circling(b"\r\n"),
+            _ => self.push_circling(b"\r\nend"),
+        }
+    }
+
+    /// Adds 100 `Received:` fields, and what stands behind them.
+    fn push_circling(&mut self, behind: &[u8]) -> Result<(), AllocError> {
+        self.push_count(b"received:\r\n", 100)?;
+        self.push_count(behind, 1)
+    }
+
+    /// Adds the octets so often.
+    fn push_count(&mut self, octets: &[u8], count: usize) -> Result<(), AllocError> {
+        for _ in 0..count {
+            self.text.extend_from_slice(octets)?;
+        }
         Ok(())
     }
 }
 
 /// The envelope without a recipient.
-fn envelope_of(alloc: Global) -> Result<Envelope, Fail> {
-    let Ok(mail) = read_mail(b"<sender@client.example> RET=HDRS ENVID=e+2B1") else {
-        return Err(Fail::new("MAIL was refused"));
-    };
-    Ok(Envelope::new(alloc, mail)?)
+fn envelope_of(alloc: Global) -> Result<Envelope, RowsFault> {
+    match read_mail(b"<sender@client.example> RET=HDRS ENVID=e+2B1") {
+        Ok(mail) => Ok(Envelope::new(alloc, mail)?),
+        Err(_) => Err(RowsFault::Row),
+    }
 }
 
 /// The recipient of a place, whom the server has a hop for or not.
-fn recipient_of(alloc: Global, place: u8, goes: bool) -> Result<Recipient, Fail> {
+fn recipient_of(alloc: Global, place: u8, goes: bool) -> Result<Recipient, RowsFault> {
     let domain = if goes { "example.org" } else { "example.net" };
     let text = format!(in alloc; "<r{place}@{domain}> NOTIFY=FAILURE ORCPT=rfc822;r{place}")?;
-    let Ok(rcpt) = read_rcpt(text.as_bytes()) else {
-        return Err(Fail::new("RCPT was refused"));
-    };
-    Ok(Recipient::new(alloc, rcpt)?)
-}
-
-/// The text of this kind.
-fn text_of_row(alloc: Global, kind: Text) -> Result<Vec<u8>, AllocError> {
-    let mut text = Vec::new(alloc);
-    match kind {
-        Text::Lines => text.extend_from_slice(LINES)?,
-        Text::Octets => text.extend_from_slice(OCTETS)?,
-        Text::TooManyLines => push_count(&mut text, b"line\r\n", CONTENT_LIMIT / 5)?,
-        Text::TooManyOctets => push_count(&mut text, b"octet", CONTENT_LIMIT / 4)?,
-        Text::Circling => push_circling(&mut text, b"\r\n")?,
-        Text::CirclingOctets => push_circling(&mut text, b"\r\nend")?,
+    match read_rcpt(text.as_bytes()) {
+        Ok(rcpt) => Ok(Recipient::new(alloc, rcpt)?),
+        Err(_) => Err(RowsFault::Row),
     }
-    Ok(text)
 }
 
-/// Adds 100 `Received:` fields, and what stands behind them.
-fn push_circling(text: &mut Vec<u8>, behind: &[u8]) -> Result<(), AllocError> {
-    push_count(text, b"received:\r\n", 100)?;
-    text.extend_from_slice(behind)
-}
-
-/// Adds the octets so often.
-fn push_count(text: &mut Vec<u8>, octets: &[u8], count: usize) -> Result<(), AllocError> {
-    for _ in 0..count {
-        text.extend_from_slice(octets)?;
-    }
-    Ok(())
+/// Adds a place.
+fn push_place(places: &mut Vec<u8>, place: u8) -> Result<(), AllocError> {
+    Ok(places.push(place)?)
 }

@@ -1,7 +1,7 @@
 //! The host `relay.example` in several configurations.
+use crate::answer::RowsFault;
 use relay_routes::Config;
 use std::alloc::Global;
-use std::test::Fail;
 
 /// One domain, and contents of up to 1,048,576 octets, as where nothing is said of them.
 pub const USUAL: &str = r#"
@@ -58,9 +58,9 @@ max_content = 2000
 "#;
 
 /// The configuration that a text says.
-pub fn configuration(alloc: Global, text: &str) -> Result<Config, Fail> {
+pub fn configuration(alloc: Global, text: &str) -> Result<Config, RowsFault> {
     match Config::read(alloc, text) {
         Ok(config) => Ok(config),
-        Err(_) => Err(Fail::new("the configuration was refused")),
+        Err(_) => Err(RowsFault::Row),
     }
 }

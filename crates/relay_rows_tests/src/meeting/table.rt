@@ -6,7 +6,7 @@ use relay_book::Verdict;
 const NO_ROUTE: &[u8] = b"no route";
 
 /// Whether each place without a hop was refused, and the others have the last verdict.
-pub fn are_by_table(row: Row, verdicts: &[Verdict]) -> bool {
+pub fn are_by_table(row: Row<'_>, verdicts: &[Verdict]) -> bool {
     for (place, verdict) in verdicts.iter().enumerate() {
         let is_right = if row.goes(place) {
             is_last(verdict, row.last)
@@ -21,7 +21,7 @@ pub fn are_by_table(row: Row, verdicts: &[Verdict]) -> bool {
 }
 
 /// Whether each place may be tried again.
-pub fn are_all_later(row: Row, verdicts: &[Verdict]) -> bool {
+pub fn are_all_later(row: Row<'_>, verdicts: &[Verdict]) -> bool {
     for verdict in verdicts {
         if !is_last(verdict, Last::Later) {
             return false;

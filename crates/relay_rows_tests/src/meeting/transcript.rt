@@ -1,3 +1,4 @@
+use crate::answer::RowsFault;
 use crate::meeting::escape::push_unescaped;
 use crate::meeting::mark::Mark;
 use relay_envelope::{Envelope, Recipient, read_mail, read_rcpt};
@@ -77,17 +78,17 @@ impl Transcript {
         }
     }
 
-    /// Takes a line of the transcript, and says whether it is one.
-    pub fn take(&mut self, alloc: Global, line: &str) -> Result<bool, AllocError> {
+    /// Takes a line of the transcript.
+    pub fn take(&mut self, alloc: Global, line: &str) -> Result<(), RowsFault> {
         let (word, rest) = line.split_once(' ').unwrap_or((line, ""));
         let text = rest.as_bytes();
         let taken = match word {
             "name" => self.name.push_str(rest),
             "host" => push_unescaped(&mut self.host, text),
-            "mail" => return self.take_mail(alloc, text),
-            "rcpt" => return self.take_rcpt(alloc, text),
+            "mail" => self.take_mail(alloc, text),
+            "rcpt" => self.take_rcpt(alloc, text),
             "text" => push_unescaped(&mut self.text, text),
-            "place" => self.take_place(rest),
+            "place" => push_place(&mut self.places, rest),
             "S" => push_line(&mut self.said, text),
             "s" => push_unescaped(&mut self.said, text),
             "B" => push_line(&mut self.behind, text),
@@ -98,36 +99,29 @@ impl Transcript {
                 self.end = end_of(rest);
                 Ok(())
             }
-            _ => return Ok(false),
+            _ => return Err(RowsFault::Row),
         };
-        taken?;
-        Ok(true)
+        Ok(taken?)
     }
 
-    fn take_place(&mut self, text: &str) -> Result<(), AllocError> {
-        self.places.push(text.parse::<u8>().unwrap_or(255))?;
+    /// Takes what stands behind the colon of MAIL. Without that there is no envelope.
+    fn take_mail(&mut self, alloc: Global, text: &[u8]) -> Result<(), AllocError> {
+        self.envelope = match read_mail(text) {
+            Ok(mail) => Some(Envelope::new(alloc, mail)?),
+            Err(_) => None,
+        };
         Ok(())
     }
 
-    /// Takes what stands behind the colon of MAIL.
-    fn take_mail(&mut self, alloc: Global, text: &[u8]) -> Result<bool, AllocError> {
-        let Ok(mail) = read_mail(text) else {
-            return Ok(false);
-        };
-        self.envelope = Some(Envelope::new(alloc, mail)?);
-        Ok(true)
-    }
-
-    /// Takes what stands behind the colon of RCPT.
-    fn take_rcpt(&mut self, alloc: Global, text: &[u8]) -> Result<bool, AllocError> {
-        let Ok(rcpt) = read_rcpt(text) else {
-            return Ok(false);
-        };
-        let Some(envelope) = &mut self.envelope else {
-            return Ok(false);
-        };
-        envelope.recipients.push(Recipient::new(alloc, rcpt)?)?;
-        Ok(true)
+    /// Takes what stands behind the colon of RCPT. Where that is none, there is no envelope.
+    fn take_rcpt(&mut self, alloc: Global, text: &[u8]) -> Result<(), AllocError> {
+        match (read_rcpt(text), &mut self.envelope) {
+            (Ok(rcpt), Some(envelope)) => envelope.recipients.push(Recipient::new(alloc, rcpt)?),
+            _ => {
+                self.envelope = None;
+                Ok(())
+            }
+        }
     }
 
     /// Takes what is to be written behind what was said so far.
@@ -150,6 +144,11 @@ fn end_of(word: &str) -> End {
         "loss" => End::Loss,
         _ => End::None,
     }
+}
+
+/// Puts the place that a text writes behind others.
+fn push_place(places: &mut Vec<u8>, text: &str) -> Result<(), AllocError> {
+    Ok(places.push(text.parse::<u8>().unwrap_or(255))?)
 }
 
 /// Puts the octets of a line behind what stands in `out`.

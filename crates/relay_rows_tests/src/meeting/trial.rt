@@ -43,8 +43,8 @@ impl Display for Outcome {
 /// Lets the ends of a row meet, whole and in each cutting.
 pub fn outcome_of(meeting: Meeting<'_>) -> Result<Outcome, AllocError> {
     let mut ends = Ends::new(meeting, None)?;
-    ends.take_turns(Cutting { size: 1, rest: 0 })?;
-    if !ends.are_done() || !ends.are_lawful()? {
+    ends.take_turns(Cutting { size: 1, rest: 0 });
+    if !ends.are_done() || !ends.are_lawful() {
         return Ok(Outcome::DiffersWhole(1));
     }
     let said = Said {
@@ -83,8 +83,8 @@ fn outcome_beside<'a>(
 /// Whether all is as it must be where nothing is cut off.
 fn is_whole<'a>(meeting: Meeting<'a>, said: Said<'a>, size: usize) -> Result<bool, AllocError> {
     let mut ends = Ends::new(meeting, Some(said))?;
-    ends.take_turns(Cutting { size, rest: 0 })?;
-    Ok(ends.are_done() && ends.are_lawful()?)
+    ends.take_turns(Cutting { size, rest: 0 });
+    Ok(ends.are_done() && ends.are_lawful())
 }
 
 /// At how many places this end was cut off, and all was as it must be: none, where something else came.
@@ -97,7 +97,7 @@ fn count_cuts<'a>(
     let mut count = 0usize;
     for rest in 0..size {
         let mut ends = Ends::new(meeting, Some(said))?;
-        match ends.count_cuts(end, Cutting { size, rest })? {
+        match ends.count_cuts(end, Cutting { size, rest }) {
             Some(cuts) => count = count.saturating_add(cuts),
             None => return Ok(0),
         }

@@ -1,4 +1,4 @@
-use std::alloc::{AllocError, Global};
+use std::alloc::Global;
 
 /// How octets come: in pieces of at most so many, which end at each place that leaves this rest.
 #[derive(Clone, Copy)]
@@ -55,12 +55,15 @@ impl<'a> Wire<'a> {
     }
 
     /// Writes on.
-    pub fn write(&mut self, out: &[u8]) -> Result<(), AllocError> {
+    pub fn write(&mut self, out: &[u8]) {
         if let Some(wanted) = self.wanted {
             let rest = wanted.get(self.octets.len()..).unwrap_or(&[]);
             self.is_wanted = self.is_wanted && rest.starts_with(out);
         }
-        self.octets.extend_from_slice(out)
+        // What isn't there isn't what is to be written.
+        if self.octets.extend_from_slice(out).is_err() {
+            self.is_wanted = false;
+        }
     }
 
     /// The next piece that is there.

@@ -1,7 +1,7 @@
 //! Octets written in hexadecimal.
 ghost use Rattle.std.specs.Prelude.{◌<◌, IfSome};
 
-use std::alloc::{AllocError, Global};
+use crate::answer::Answer;
 
 /// The value of a digit in lower case.
 fn digit(octet: u8) -> Option<u8>
@@ -15,19 +15,19 @@ fn digit(octet: u8) -> Option<u8>
 }
 
 /// The octets that a text writes, two digits each. What is no digit, and a last one alone, are passed over.
-pub fn octets_of(alloc: Global, text: &str) -> Result<Vec<u8>, AllocError> {
-    let mut octets = Vec::new(alloc);
+pub fn octets_of(answer: &mut Answer, text: &str) -> Vec<u8> {
+    let mut octets = Vec::new(answer.alloc);
     let mut first: Option<u8> = None;
     for octet in text.as_bytes() {
         if let Some(low) = digit(*octet) {
             match first {
                 None => first = Some(low),
                 Some(high) => {
-                    octets.push(high.wrapping_mul(16).wrapping_add(low))?;
+                    answer.push(&mut octets, high.wrapping_mul(16).wrapping_add(low));
                     first = None;
                 }
             }
         }
     }
-    Ok(octets)
+    octets
 }

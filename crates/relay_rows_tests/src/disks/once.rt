@@ -2,32 +2,31 @@
 //! many and goes on. `create` and `open` are the calls, and `append OCTETS` and `compact OCTETS`, which `open` goes
 //! before. It answers what the call answers, and how many bodies the same disks open to behind that, or the fault of
 //! that opening.
-use crate::disks::answer::tell_answer;
+use crate::answer::Answer;
 use crate::disks::calls::{append, compact};
 use crate::disks::octets::octets_of;
 use relay_disk::{Disks, MemoryDisk, OnceDisk};
 use relay_spool::{Opened, Spool, SpoolFault};
-use std::alloc::{AllocError, Global};
+use std::alloc::Global;
 
 /// Two disks of which one call fails.
 type FailingDisks = Disks<OnceDisk<MemoryDisk>>;
 
 /// Takes the step, and tells what it answers.
-pub fn fail_once(
-    alloc: Global,
-    disks: Disks<MemoryDisk>,
-    calls: u64,
-    call: &str,
-    came: &mut String,
-) -> Result<(), AllocError> {
+pub fn fail_once(answer: &mut Answer, disks: Disks<MemoryDisk>, calls: u64, call: &str) {
     let (name, octets) = call.split_once(' ').unwrap_or((call, "-"));
-    let octets = octets_of(alloc, octets)?;
-    let (disks, answer) = take(alloc, failing(disks, calls), name, octets);
-    let opened = count_bodies(alloc, bare(disks));
-    tell_answer(came, answer)?;
-    match opened {
-        Ok(count) => write!(came, ": {count} bodies"),
-        Err(fault) => write!(came, ": {fault}"),
+    let octets = octets_of(answer, octets);
+    let (disks, done) = take(answer.alloc, failing(disks, calls), name, octets);
+    answer.done(done);
+    match count_bodies(answer.alloc, bare(disks)) {
+        Ok(count) => {
+            answer.count(": ", count as u64);
+            answer.say(" bodies");
+        }
+        Err(fault) => {
+            answer.say(": ");
+            answer.show(&fault);
+        }
     }
 }
 

@@ -1,0 +1,81 @@
+//! A disk over a real file.
+use relay_disk::{Disk, DiskFault, FileDisk};
+use std::fs;
+use std::os::unix::fs::PermissionsExt;
+
+/// The file that the rows are about.
+pub const PATH: &str = "relay_disk_test_file";
+
+/// Whether a second disk finds what a first one wrote.
+pub fn keeps_what_was_written(rt: &HostRuntime) -> bool {
+    let Ok(mut disk) = FileDisk::open(rt, PATH) else {
+        return false;
+    };
+    writes(&mut disk) && is_found(rt)
+}
+
+fn is_found(rt: &HostRuntime) -> bool {
+    match FileDisk::open(rt, PATH) {
+        Ok(mut disk) => finds(&mut disk),
+        Err(_) => false,
+    }
+}
+
+/// A disk on an empty file takes two writes, a cut and a sync.
+fn writes(disk: &mut FileDisk) -> bool {
+    disk.size() == Ok(0)
+        && disk.write_at(0, b"relayed") == Ok(())
+        && disk.write_at(2, b"LAY") == Ok(())
+        && disk.cut(6) == Ok(())
+        && disk.sync() == Ok(())
+        && disk.failures() == 0
+}
+
+/// A disk finds what they left, and counts a read past the end as a failure.
+fn finds(disk: &mut FileDisk) -> bool {
+    let mut octets = [0u8; 4];
+    disk.size() == Ok(6)
+        && disk.read(2, &mut octets) == Ok(())
+        && octets == *b"LAYe"
+        && disk.read(3, &mut octets) == Err(DiskFault::Device)
+        && disk.failures() == 1
+}
+
+/// Whether a new file is its owner's alone.
+pub fn is_its_owners_alone(rt: &HostRuntime) -> bool {
+    FileDisk::open(rt, PATH).is_ok() && mode(rt) == Some(0o600)
+}
+
+fn mode(rt: &HostRuntime) -> Option<u32> {
+    Some(fs::metadata(rt, PATH).ok()?.permissions().mode() & 0o777)
+}
+
+/// Whether a disk gets its file for itself; nothing where it can't be asked.
+fn locks(disk: &FileDisk) -> Option<bool> {
+    disk.try_lock().ok()
+}
+
+/// Whether the second of two disks gets the file where the first, which may lock it twice, is dropped.
+pub fn is_locked_by_one_disk_at_a_time(rt: &HostRuntime) -> bool {
+    match FileDisk::open(rt, PATH) {
+        Ok(second) => is_held_by_another(rt, &second) && locks(&second) == Some(true),
+        Err(_) => false,
+    }
+}
+
+/// Whether a disk doesn't get its file while another, which may lock it twice, is there.
+fn is_held_by_another(rt: &HostRuntime, second: &FileDisk) -> bool {
+    match FileDisk::open(rt, PATH) {
+        Ok(first) => {
+            locks(&first) == Some(true)
+                && locks(&first) == Some(true)
+                && locks(second) == Some(false)
+        }
+        Err(_) => false,
+    }
+}
+
+/// Whether a path in no folder is refused.
+pub fn is_refused_in_no_folder(rt: &HostRuntime) -> bool {
+    FileDisk::open(rt, "no_such_folder/file").is_err()
+}
