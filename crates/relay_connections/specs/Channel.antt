@@ -1,6 +1,6 @@
 -- What callers see of a connection.
-use Rattle.std.specs.Prelude.{◌≡◌, ℕ, List, [], Bool, Option, Some, drop}
-use Rattle.std.specs.Io.KnownBytes.{Appends, Consumes, IsAtEnd, Keeps, append_known, prepend_known}
+use Rattle.std.specs.Prelude.{◌≡◌, ℕ, List, Bool, Option, Some}
+use Rattle.std.specs.Io.KnownBytes.{IsAtEnd, append_known, prepend_known}
 use Rattle.relay_connections.specs.declared.channel.Channel.{Channel}
 use Rattle.relay_connections.specs.declared.channel.End.TheVariants.{Input}
 

@@ -103,6 +103,13 @@ impl<S: Stream> Channel<S> {
         }
     }
 
+    /// Its stream.
+    pub fn stream(&self) -> &S
+        ensures { result.now ≡ self.now.stream }
+    {
+        &self.stream
+    }
+
     /// Has the system tell of it under this token from now on, also of what it is ready for already. It fails where the
     /// system refuses that.
     pub fn register(&mut self, registry: &S::Registry, token: usize) -> io::Result<()>

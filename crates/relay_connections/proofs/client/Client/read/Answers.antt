@@ -1,5 +1,5 @@
 -- A session whose connection has ended: what it had said, and its client hasn't got, comes back.
-use Rattle.std.proofs.Common.{rules, ◌≡◌, ◌≢◌, [], Some, None, refl, sym, ap, ◌∙◌, subst}
+use Rattle.std.proofs.Common.{rules, ◌≡◌, [], Some, refl, sym, ap, ◌∙◌, subst}
 use Rattle.relay_connections.specs.Channel.{unread_of}
 use Rattle.relay_connections.specs.Exchange.{IsRead}
 use Rattle.relay_connections.proofs.ExchangeLemmas.{read_end, some_is_not_none}
