@@ -1,5 +1,5 @@
 -- Relays that have just begun are bound.
-use Rattle.std.proofs.Common.{◌≡◌, ℕ, zero, suc, Bool, true, false, Option, List, [], ◌∷◌, ◌++◌, map, length, Some, ◌<◌, ◌≤◌, ◌+◌, refl, sym, subst, ap, ◌∙◌, arith, inl, inr}
+use Rattle.std.proofs.Common.{◌≡◌, ℕ, zero, suc, Bool, true, false, Option, None, List, [], ◌∷◌, ◌++◌, map, length, Some, ◌<◌, ◌≤◌, ◌+◌, refl, sym, subst, ap, ◌∙◌, arith, inl, inr}
 use Rattle.std.specs.Prelude.{codes, slice_get}
 use Rattle.std.proofs.Math.ListN.{get_or}
 use Rattle.std.specs.Option.{is_some}
@@ -15,6 +15,8 @@ use Rattle.relay_world.specs.Bound.{StateKeeps, HostKeeps, IsBound}
 use Rattle.relay_world.specs.Ledger.{steps_of}
 use Rattle.relay_world.specs.World.{Down, HostState, Host, Undecided, Up, link_at}
 use Rattle.relay_node.specs.Node.{NodeState}
+use Rattle.relay_slots.specs.Slots.{AreFree, slot_at}
+use Rattle.relay_world.specs.Leaks.{NothingLeaks}
 use Rattle.relay_world.specs.Once.{OnceAtFirst}
 use Rattle.relay_world.specs.HopLinks.{HopLinksAtFirst}
 use Rattle.relay_pair.specs.Begin.{AreNew}
@@ -50,6 +52,16 @@ no_changes : {D : Type 0} (hosts : List (Host D)) (node : ℕ) (changes : List C
 no_changes [] node changes list = absurd (none_there node changes list)
 no_changes (host ∷ hosts) zero changes list = sym (same_Some nothing changes list)
 no_changes (host ∷ hosts) (suc node) changes list = no_changes hosts node changes list
+
+-- no slot of a free table is taken
+free_none : {A : Type 0} (slots : List (Option A)) → AreFree slots → (number : ℕ) → slot_at slots number ≡ None
+free_none [] free number = refl
+free_none (None ∷ slots) free zero = refl
+free_none (None ∷ slots) free (suc number) = free_none slots free number
+free_none (Some value ∷ slots) free number = absurd free
+
+same_node : {D : Type 0} (one other : NodeState D) → Up one ≡ Up other → one ≡ other
+same_node one other same = cc
 
 -- whether a state is up
 abbrev is_up : {D : Type 0} → HostState D → Bool
@@ -240,6 +252,19 @@ module _ {D : Type 0} (honest : Type 0) (words : DiskWords D) where
       once = once (begun_with hosts) (no_lists hosts) (no_changes hosts) all_up refl refl;
       linked = linked (begun_with hosts) refl;
       sources = tt;
+    }
+
+    -- and no seat is taken yet, nor a number
+    pub begun_leak_nothing : NothingLeaks (begun_with hosts)
+    begun_leak_nothing = record {
+      seats = λ node host standing at up session taken.
+          let new = there node host at in
+          absurd (taken (subst (λ (s : NodeState D). slot_at s.seats session ≡ None)
+          (same_node new.is.node standing (sym new.is.up ∙ up)) (free_none new.is.node.seats new.is.idle.free session)));
+      runs = λ node host standing at up slot taken.
+          let new = there node host at in
+          absurd (taken (subst (λ (s : NodeState D). slot_at s.attempts slot ≡ None)
+          (same_node new.is.node standing (sym new.is.up ∙ up)) (free_none new.is.node.attempts new.is.idle.none_runs slot)));
     }
 
     pub begun_are_told : IsToldOfBreaks (begun_with hosts)

@@ -5,3 +5,4 @@ pub mod Network
 pub mod Profiles
 pub mod Promise
 pub mod Run
+pub mod Sound

@@ -12,6 +12,7 @@ ghost use Rattle.relay_pair.specs.Promise.{KeepsItsPromise};
 ghost use Rattle.relay_pair.specs.Run.{StepsEach};
 ghost use Rattle.relay_routes.specs.declared.config.Config.{Config as Configuration};
 ghost use Rattle.relay_world.specs.Copies.{lost_replies_of};
+ghost use Rattle.relay_world.specs.Leaks.{NothingLeaks};
 
 use crate::copies::count_copies;
 use crate::lost::lost_replies;
@@ -22,7 +23,10 @@ use relay_disk::{Disk, Disks, MemoryDisk, Reboot};
 use relay_events::{Event, PairFault, Relays, Seen};
 use relay_hosts::Host;
 use relay_routes::Config;
-use relay_world::passing::{hop_links_at_first, once_at_first, promise_is_kept};
+use relay_world::passing::{
+    crashing_happens, hop_links_at_first, once_at_first, promise_is_kept, resting_crash_happens,
+    runs_keep_all,
+};
 use relay_world::{Attempt, Line, Link};
 use std::alloc::{AllocError, Global};
 use std::marker::Model;
@@ -40,14 +44,15 @@ impl<D: Disk + Drop> Drop for Pair<D> {
 }
 
 impl<D: Disk> Model for Pair<D> {
-    ghost use Rattle.relay_events.specs.Relays.{AreInOrder, world_of};
+    ghost use Rattle.relay_events.specs.Relays.{world_of};
+    ghost use Rattle.relay_pair.specs.Sound.{IsSound};
     ghost use Rattle.relay_world.specs.World.{World};
 
     ghost Value = { World D };
 
     ghost view = { λ pair. world_of pair.relays };
 
-    ghost invariant = { λ pair. AreInOrder D.honest D.words pair.relays };
+    ghost invariant = { λ pair. IsSound D.honest D.words pair.relays };
 }
 
 impl Pair<MemoryDisk> {
@@ -184,6 +189,14 @@ impl<D: Disk> Pair<D> {
         lost_replies(self.relays.attempts.as_slice(), node, message, place)
     }
 
+    /// Between two events no node of a pair that is up keeps a seat without a link on which its session goes on, or a
+    /// number of an attempt without one that runs.
+    fn leaks_nothing(&self)
+        ensures { NothingLeaks self.now }
+    {
+        let _relays = &self.relays;
+    }
+
     /// The relays of a pair are bound between two events.
     fn is_bound(&self)
         ensures { AreBound D.honest D.words self.now }
@@ -201,7 +214,11 @@ impl<D: Reboot + Drop> Pair<D> {
         requires { D.Disk.honest }
         ensures steps { Steps D.Disk.honest D.Disk.words self.old event.now self.new result }
         ensures happened { HasHappened D.Disk.honest D.Disk.words self.old self.new }
+        ensures leaks { NothingLeaks self.new }
     {
+        runs_keep_all::<D>();
+        crashing_happens::<D>();
+        resting_crash_happens::<D>();
         self.relays.step(event)
     }
 
@@ -212,11 +229,13 @@ impl<D: Reboot + Drop> Pair<D> {
         ensures steps { StepsEach D.Disk.honest D.Disk.words self.old events.now self.new }
         ensures happened { HasHappened D.Disk.honest D.Disk.words self.old self.new }
         ensures promise { KeepsItsPromise D.Disk.honest D.Disk.words self.old self.new }
+        ensures leaks { NothingLeaks self.new }
     {
         promise_is_kept::<D>();
         self.is_bound();
         for event in events {
             let _ = self.step(event);
         }
+        self.leaks_nothing();
     }
 }
