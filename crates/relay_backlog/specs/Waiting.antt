@@ -1,5 +1,6 @@
 -- Lines of a log that wait for their reader, and those that were dropped since nobody has taken what waits.
-use Rattle.std.specs.Prelude.{ℕ, suc, ◌+◌, ◌-◌, ◌^◌, nat_le, ◌==◌, ◌&&◌, min, Bool, true, false, List, [], ◌∷◌, ◌++◌, length, if◌then◌else◌}
+use Rattle.std.specs.Prelude.{ℕ, suc, ◌+◌, ◌-◌, ◌^◌, nat_le, ◌==◌, ◌&&◌, min, Bool, true, false}
+use Rattle.std.specs.Prelude.{List, [], ◌∷◌, ◌++◌, length, if◌then◌else◌}
 
 -- the octets that wait, and how many lines were dropped after them
 pub record Waiting : Type 0 where
@@ -41,4 +42,5 @@ behind_octet octet (line ∷ lines) = (octet ∷ line) ∷ lines
 -- the octets, cut after each LF
 abbrev pub lines_of : List ℕ → List (List ℕ)
 lines_of [] = []
-lines_of (octet ∷ octets) = if octet == 10 then (octet ∷ []) ∷ lines_of octets else behind_octet octet (lines_of octets)
+lines_of (octet ∷ octets) =
+    if octet == 10 then (octet ∷ []) ∷ lines_of octets else behind_octet octet (lines_of octets)

@@ -12,8 +12,8 @@ use std::rt::Files;
 /// Who may read and write the file: its owner alone, as the files of the spool.
 const OWNER_ALONE: u32 = 0o600;
 
-/// The file of a ballast. Unlike a spool's file it can be used after a failed sync: it holds zeros, and each test begins
-/// by cutting it to nothing. It remembers the system's error of the last call that failed.
+/// The file of a ballast. Unlike a file of a spool it can be used after a failed sync: it holds zeros, and each test
+/// begins by cutting it to nothing. It remembers the system's error of the last call that failed.
 #[derive(Drop)]
 pub struct RoomFile {
     file: File,
