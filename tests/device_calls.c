@@ -1,7 +1,9 @@
 // Writes down each call of the device of the program that it is preloaded into, a line each in the file that CALLS
 // names, and lets some fail: the sync of the number in FAILED_SYNC, the write of the number in FULL_WRITE for want of
 // space, and the write of the number in HALF_WRITE does half. They are counted from 1, and a folder's syncs aren't, nor
-// what is done with the file that keeps room beside a spool.
+// what is done with the file that keeps room beside a spool. Where HEAD_WRITE is set, the first write of the gate of a
+// head fails: it was done where that says "done". While the file that FAILED_ROOM names is there, all fails that is done
+// with the file that keeps room.
 #define _GNU_SOURCE
 #include <errno.h>
 #include <fcntl.h>
@@ -43,6 +45,16 @@ static int is_chosen(const char *variable, long number)
 	return chosen && atol(chosen) == number;
 }
 
+// Whether a call of this file fails since it is the one that keeps room.
+static int has_no_room(int file)
+{
+	const char *name = getenv("FAILED_ROOM");
+	if (!name || !keeps_room(file) || syscall(SYS_faccessat, AT_FDCWD, name, F_OK) != 0)
+		return 0;
+	errno = EIO;
+	return 1;
+}
+
 int open(const char *name, int flags, ...)
 {
 	va_list words;
@@ -60,9 +72,18 @@ int open(const char *name, int flags, ...)
 
 ssize_t pwrite(int file, const void *octets, size_t count, off_t place)
 {
-	static long number = 0;
+	static long number = 0, heads = 0;
+	if (has_no_room(file))
+		return -1;
 	if (keeps_room(file))
 		return syscall(SYS_pwrite64, file, octets, count, place);
+	if (getenv("HEAD_WRITE") && count == 1 && place == 8 && heads++ == 0) {
+		if (strcmp(getenv("HEAD_WRITE"), "done") == 0)
+			syscall(SYS_pwrite64, file, octets, count, place);
+		note("write of a head's gate: failed\n");
+		errno = EIO;
+		return -1;
+	}
 	number++;
 	if (is_chosen("FULL_WRITE", number)) {
 		note("write %zu octets at %lld: no space\n", count, (long long)place);
@@ -83,6 +104,8 @@ static int sync_by(long call, int file)
 		note("sync folder\n");
 		return syscall(call, file);
 	}
+	if (has_no_room(file))
+		return -1;
 	if (keeps_room(file))
 		return syscall(call, file);
 	number++;
@@ -103,4 +126,9 @@ int fsync(int file)
 int fdatasync(int file)
 {
 	return sync_by(SYS_fdatasync, file);
+}
+
+int ftruncate(int file, off_t size)
+{
+	return has_no_room(file) ? -1 : syscall(SYS_ftruncate, file, size);
 }

@@ -8,6 +8,7 @@ With the names of rows it runs these alone. What has to be prompt may take as ma
 environment (2 where it says nothing).
 """
 import contextlib
+import errno
 import os
 import re
 import resource
@@ -20,7 +21,7 @@ import time
 sys.dont_write_bytecode = True
 
 from mail_checks import hand_in
-from relay_program import Difference, PATIENCE, same, until
+from relay_program import Difference, PATIENCE, free_port, same, until
 from running_relay import SOON, TEXT, TIMEOUT, Client, beside, clients_of, comes_to_rest, greeted, hop_that_falls_silent
 from running_relay import lines_of, number_of, play_rows, shim
 
@@ -66,13 +67,13 @@ def a_full_device_closes_all_and_goes_on_with_room(field):
         fill(process, relay)
         same("a message without room", refused_or_lost(clients[0]), True)
         same("what the others hear", [client.rest() for client in clients[1:]], [b"", b""])
-        until("a line of it", lambda: len(lines_of(relay, "device failed")) == 1)
+        until("a line of it", lambda: len(lines_of(relay, "device-failed")) == 1)
         # Who comes meanwhile is told so.
         with Client(relay) as client:
             same("what a client hears", client.rest(), NO_ROOM)
         empty(process)
         until("a greeting", lambda: greeted(relay))
-        same("a line that it is open", len(lines_of(relay, "spool opened again")), 1)
+        until("a line that it is open", lambda: len(lines_of(relay, "spool opened again")) == 1)
         with Client(relay) as client:
             client.begin()
             client.hand_in()
@@ -98,7 +99,7 @@ def the_spool_stays_closed_while_there_is_no_room(field):
                 same("what a client hears", client.rest(), NO_ROOM)
             time.sleep(0.5)
         comes_to_rest(process, "without room")
-        same("lines of it", len(lines_of(relay, "device failed")), 1)
+        same("lines of it", len(lines_of(relay, "device-failed")), 1)
         empty(process)
         until("a greeting", lambda: greeted(relay))
         hand_in(relay)
@@ -230,7 +231,7 @@ def a_disk_that_stays_full_for_ten_minutes_copies_nothing_twice_over(field):
                 time.sleep(0.2)
             comes_to_rest(process, "on a full disk")
             same("messages that came thrice", came_thrice(field), [])
-            failures = len(lines_of(relay, "device failed"))
+            failures = len(lines_of(relay, "device-failed"))
             if failures > 3:
                 raise Difference(f"the device fails {failures} times")
             others.unlink()
@@ -271,8 +272,92 @@ def what_was_answered_stays_behind_a_full_device(field):
         same("numbers that were given twice", len(answered) - len(set(answered)), 0)
         gone = {int(re.search(rb" id (\d+);", message.content)[1]) for message in field.sink.take_all()}
         same("messages that were lost", set(answered) - gone, set())
-        if not lines_of(relay, "device failed"):
+        if not lines_of(relay, "device-failed"):
             raise Difference("the device hasn't failed")
+
+
+def told(relay, text):
+    """What the lines of the log say in which a text stands, behind their moments."""
+    return [line.split(" relayd: ", 1)[1] for line in lines_of(relay, text)]
+
+
+def a_failure_has_one_line_with_its_reason_and_file(field):
+    """The reason is the system's, as a test write beside the spool has met it; one line tells when there is room."""
+    with small_disk(field, 16 * 1024) as (relay, others):
+        if relay is None:
+            return
+        with relay.running():
+            take_room(others, 0)
+            same("a message without room", takes(relay, 300), False)
+            until("a line of it", lambda: told(relay, "device-failed"))
+            reason, seconds = os.strerror(errno.ENOSPC), 1
+            same("it", told(relay, "device-failed"),
+                 [f'device-failed reason="{reason}" file={relay.spool} retry-in={seconds}s'])
+            until("a greeting", lambda: greeted(relay), 60)
+            same("lines of its end, without room", told(relay, "shortage-ended"), [])
+            others.unlink()
+            until("a line of its end", lambda: told(relay, "shortage-ended"), 60)
+            until("mail of any size", lambda: takes(relay, 300), 60)
+            same("lines of its end", told(relay, "shortage-ended"), ["shortage-ended"])
+            same("lines of failures", len(told(relay, "device-failed")), 1)
+        field.sink.take_all()
+
+
+def a_reason_that_was_not_seen_is_left_out(field):
+    """One write of the spool fails, and none beside it."""
+    relay = field.relay()
+    shim(field, "device_calls", relay, CALLS=str(field.folder / "calls"), FULL_WRITE="1")
+    with relay.running():
+        with Client(relay) as client:
+            client.begin()
+            same("a message", refused_or_lost(client), True)
+        until("a line of it", lambda: told(relay, "device-failed"))
+        same("it", told(relay, "device-failed"), [f"device-failed file={relay.spool} retry-in=1s"])
+        until("a greeting", lambda: greeted(relay))
+        lines = [f"device-failed file={relay.spool} retry-in=1s", "spool opened again", "shortage-ended"]
+        until("the lines then", lambda: told(relay, "s") == lines)
+        hand_in(relay)
+        field.arrived(1)
+
+
+def a_file_that_keeps_room_and_fails_ends_nothing(field):
+    """It counts as no room, for which the relay waits."""
+    relay, failing = field.relay(), field.folder / "failing"
+    shim(field, "device_calls", relay, CALLS=str(field.folder / "calls"), FULL_WRITE="1", FAILED_ROOM=str(failing))
+    with relay.running():
+        failing.touch()
+        with Client(relay) as client:
+            client.begin()
+            same("a message", refused_or_lost(client), True)
+        until("a line of it", lambda: told(relay, "device-failed"))
+        same("it", told(relay, "device-failed"),
+             [f'device-failed reason="{os.strerror(errno.EIO)}" file={relay.spool} retry-in=1s'])
+        # Its first two tests fail.
+        time.sleep(4)
+        with Client(relay) as client:
+            same("what a client hears", client.rest(), NO_ROOM)
+        failing.unlink()
+        until("a greeting", lambda: greeted(relay))
+        hand_in(relay)
+        field.arrived(1)
+
+
+def a_compaction_whose_last_write_is_said_to_have_failed_ends_nothing(field):
+    """It was done, or it wasn't: either way the spool opens again and holds what it did."""
+    for write in ("done", "lost"):
+        relay = field.relay(write, spool_limit=10000, more={"example.net": ("away.example", free_port())})
+        shim(field, "device_calls", relay, CALLS=str(field.folder / f"{write}-calls"), HEAD_WRITE=write)
+        with relay.running():
+            with clients_of(relay, 1) as [client]:
+                kept = client.hand_in("c@example.net")
+                client.hand_in(text=b"Subject: long\r\n\r\n" + b"x" * 6000 + b"\r\n.\r\n")
+                field.arrived(1)
+                until("a line of it", lambda: told(relay, "device-failed"))
+            same(f"{write}: it", told(relay, "device-failed"), [f"device-failed file={relay.second} retry-in=1s"])
+            until("a greeting", lambda: greeted(relay))
+            same(f"{write}: what is queued", [row[0] for row in relay.held()], [kept])
+            hand_in(relay)
+            field.arrived(1)
 
 
 def a_sync_that_fails_ends_it(field):
@@ -444,6 +529,10 @@ ROWS = [
     what_doesnt_fit_costs_others_nothing,
     a_disk_that_stays_full_for_ten_minutes_copies_nothing_twice_over,
     what_was_answered_stays_behind_a_full_device,
+    a_failure_has_one_line_with_its_reason_and_file,
+    a_reason_that_was_not_seen_is_left_out,
+    a_file_that_keeps_room_and_fails_ends_nothing,
+    a_compaction_whose_last_write_is_said_to_have_failed_ends_nothing,
     a_sync_that_fails_ends_it,
     a_clock_that_is_set_holds_up_nothing_else,
     what_was_put_off_is_tried_at_its_moment,

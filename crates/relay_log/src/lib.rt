@@ -9,7 +9,6 @@ mod hop_link;
 mod log;
 mod replies;
 mod run_line;
-mod stamp;
 
 pub use attempt_line::Attempt;
 pub use client_line::{Connection, Messages};
@@ -17,3 +16,4 @@ pub use client_writer::ClientWriter;
 pub use hop_link::{HopReader, HopWriter, Loss, Why};
 pub use log::Log;
 pub use replies::{Deferral, Replies};
+pub use run_line::DeviceFailure;

@@ -2,10 +2,10 @@
 use crate::attempt_line::{Attempt, attempt_text};
 use crate::client_line::{Connection, client_text, unserved_text};
 use crate::run_line::{
-    accepted_text, awaits_address_text, cut_off_text, device_failed_text, held_off_text,
-    opened_again_text, refused_text, spool_full_text,
+    DeviceFailure, accepted_text, awaits_address_text, cut_off_text, device_failed_text,
+    held_off_text, opened_again_text, refused_text, shortage_ended_text, spool_full_text,
 };
-use crate::stamp::write_stamp;
+use relay_backlog::write_stamp;
 use relay_book::Message;
 use relay_disk::Disk;
 use relay_lines::word::all_shown;
@@ -127,10 +127,17 @@ impl<'a, E: Write> Log<'a, E> {
         }
     }
 
-    /// Says that the device has failed, and for how many seconds its spool is left alone.
-    pub fn device_failed(&mut self, seconds: u64) {
+    /// Logs that the device has failed.
+    pub fn device_failed(&mut self, failure: &DeviceFailure<'_>) {
         if self.speaks {
-            self.say(device_failed_text(self.alloc, seconds));
+            self.say(device_failed_text(self.alloc, failure));
+        }
+    }
+
+    /// Logs that there is room again on a disk that was short of it.
+    pub fn shortage_ended(&mut self) {
+        if self.speaks {
+            self.say(shortage_ended_text(self.alloc));
         }
     }
 

@@ -102,13 +102,71 @@ pub(crate) fn spool_full_text(alloc: Global) -> io::Result<Vec<u8>> {
     Ok(text)
 }
 
-/// Says that the device has failed, and for how many seconds its spool is left alone.
-pub(crate) fn device_failed_text(alloc: Global, seconds: u64) -> io::Result<Vec<u8>> {
+/// What is known of a failure of a device.
+#[derive(Clone, Copy, Debug, Drop)]
+pub struct DeviceFailure<'a> {
+    /// The system's error, where one was seen.
+    pub reason: Option<io::Error>,
+    /// The file on which a call has failed, where that is known.
+    pub file: Option<&'a str>,
+    /// After how many seconds its spool is tried again.
+    pub retry_in: u64,
+}
+
+/// Tells of a failure of a device:
+/// `device-failed reason="No space left on device" file=/var/spool/relayd/a retry-in=1s`.
+pub(crate) fn device_failed_text(
+    alloc: Global,
+    failure: &DeviceFailure<'_>,
+) -> io::Result<Vec<u8>> {
     let mut text = Vec::new(alloc);
-    write!(
-        text,
-        "relayd: device failed: no connections, and the spool is opened again behind {seconds} s"
-    )?;
+    write!(text, "relayd: device-failed")?;
+    if let Some(reason) = failure.reason {
+        let said = format!(in alloc; "{reason}")?;
+        write!(text, " reason=")?;
+        write_value(&mut text, without_number(said.as_bytes()))?;
+    }
+    if let Some(file) = failure.file {
+        write!(text, " file=")?;
+        write_value(&mut text, file.as_bytes())?;
+    }
+    write!(text, " retry-in={}s", failure.retry_in)?;
+    Ok(text)
+}
+
+/// The text of a system's error without the number that follows it.
+fn without_number(said: &[u8]) -> &[u8] {
+    match said.split(|octet| *octet == b'(').next() {
+        Some(words) => words.trim_ascii(),
+        None => said,
+    }
+}
+
+/// Writes a value: as it is where it has graphic octets alone and no quote, and else in quotes, in which a backslash
+/// stands in front of a quote and of a backslash.
+fn write_value(text: &mut Vec<u8>, value: &[u8]) -> io::Result<()> {
+    if !value.is_empty() && value.iter().all(is_plain) {
+        return text.write_all(value);
+    }
+    text.push(b'"')?;
+    for octet in value {
+        if matches!(*octet, b'"' | b'\\') {
+            text.push(b'\\')?;
+        }
+        text.push(*octet)?;
+    }
+    text.push(b'"')?;
+    Ok(())
+}
+
+fn is_plain(octet: &u8) -> bool {
+    octet.is_ascii_graphic() && *octet != b'"'
+}
+
+/// Tells that there is room again.
+pub(crate) fn shortage_ended_text(alloc: Global) -> io::Result<Vec<u8>> {
+    let mut text = Vec::new(alloc);
+    write!(text, "relayd: shortage-ended")?;
     Ok(text)
 }
 

@@ -50,7 +50,7 @@ pub fn test_room<D: Disk>(disk: &mut D, size: usize) -> Result<usize, DiskFault>
 }
 
 /// Writes zeros on an empty disk, up to so many, as far as that goes: how many are there.
-fn write_zeros<D: Disk>(disk: &mut D, most: usize) -> usize
+pub(crate) fn write_zeros<D: Disk>(disk: &mut D, most: usize) -> usize
     requires { D.honest → D.words.seen disk.old ≡ [] }
     ensures there { D.honest → result ≤ length (D.words.seen disk.new) }
     ensures time { D.honest → Lasts D.words disk.old disk.new }

@@ -2,7 +2,9 @@
 #![tactic(auto)]
 
 mod ballast;
+mod room_file;
 mod standing;
 
 pub use ballast::{ballast_size, give_up, test_room};
+pub use room_file::RoomFile;
 pub use standing::Standing;

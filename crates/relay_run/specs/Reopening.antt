@@ -1,8 +1,9 @@
 -- When the spool of a device that has failed is opened again, and when it isn't.
-use Rattle.std.specs.Prelude.{◌⊎◌, ℕ, ◌*◌, ◌≤◌, min, IsTrue}
+use Rattle.std.specs.Prelude.{◌≡◌, ◌⊎◌, ℕ, ◌*◌, ◌≤◌, min, IsTrue, MatchOption}
 use Rattle.relay_disk.specs.declared.disks.Disks.{Disks}
 use Rattle.relay_disk.specs.declared.file.FileDisk.{FileDisk}
 use Rattle.relay_disk.specs.File.{sync_failed}
+use Rattle.relay_run.specs.declared.known.Known.{Known}
 
 -- a sync of one of the two files has failed since it was opened
 abbrev pub HasFailedToSync : Disks FileDisk → Type 0
@@ -16,3 +17,15 @@ next_pause seconds = min (seconds * 2) 60
 pub record HasAll (next size found_next found_size : ℕ) : Type 0 where
   pub changes : next ≤ found_next
   pub octets : size ≤ found_size
+
+-- A compaction adds no change, and it is done or it isn't: the spool has the size from before, or the one that this
+-- leaves.
+pub record IsEither (next size left found_next found_size : ℕ) : Type 0 where
+  pub changes : found_next ≡ next
+  pub octets : (found_size ≡ size) ⊎ (found_size ≡ left)
+
+-- what is opened again may be the spool of which this is known
+abbrev pub IsWhole : Known → ℕ → ℕ → Type 0
+IsWhole known found_next found_size =
+    MatchOption known.compacted (HasAll known.next_number known.size found_next found_size)
+    (λ left. IsEither known.next_number known.size left found_next found_size)

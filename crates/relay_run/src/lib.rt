@@ -3,7 +3,10 @@
 #![tactic(auto)]
 
 mod door;
+mod failures;
+mod known;
 mod reopening;
+mod reporter;
 mod room;
 mod serving;
 mod shell;

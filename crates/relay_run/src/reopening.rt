@@ -1,17 +1,18 @@
 //! A spool whose device has failed is opened again, on the files that are open and locked already.
-ghost use Rattle.std.specs.Prelude.{ℕ, ◌≡◌, ◌↔◌, IfErr, IfOk, IsErr, IsTrue};
-ghost use Rattle.relay_run.specs.Reopening.{HasAll, HasFailedToSync, next_pause};
+ghost use Rattle.std.specs.Prelude.{ℕ, ◌≡◌, IfErr, IfOk, IsErr};
+ghost use Rattle.relay_run.specs.Reopening.{HasFailedToSync, IsWhole, next_pause};
 ghost use Rattle.relay_run.specs.Room.{MayStart};
 
 use crate::door::Door;
+use crate::failures::Failures;
+use crate::known::Known;
+use crate::reporter::Reporter;
 use crate::room::Room;
 use relay_disk::{Disk, Disks, FileDisk};
 use relay_files::Fault;
-use relay_log::Log;
 use relay_loop::Relay;
 use relay_node::{Node, NotOpened, NotReopened};
 use relay_routes::Config;
-use relay_trace::clock_moment;
 use std::alloc::{AllocError, Global};
 use std::io::Write;
 use std::rt::Clock;
@@ -40,6 +41,8 @@ pub(crate) struct Pauses {
     seconds: u64,
     /// How many octets the spool had when it was opened last.
     opened_size: usize,
+    /// Which calls had failed then.
+    failures: Failures,
 }
 
 impl Pauses {
@@ -48,6 +51,7 @@ impl Pauses {
         Pauses {
             seconds: FIRST_PAUSE,
             opened_size: size,
+            failures: Failures::none(),
         }
     }
 
@@ -94,37 +98,6 @@ enum Opening {
     Failed(Closed),
 }
 
-/// What was known of a spool behind the last turn that went well. What a failed call was to add counts as added in the
-/// relay itself, so that isn't asked.
-#[derive(Clone, Copy, Debug)]
-pub(crate) struct Known {
-    /// The number of the next change.
-    next_number: u64,
-    /// How many octets it has.
-    size: usize,
-}
-
-impl Known {
-    /// What a relay knows of its spool.
-    pub(crate) fn of(relay: &Relay<FileDisk>) -> Self
-        ensures number { result.next_number ≡ relay.now.node.records.queue.next }
-        ensures size { result.size ≡ relay.now.node.records.spool.size }
-    {
-        let node = relay.node();
-        Known {
-            next_number: node.next_number(),
-            size: node.size(),
-        }
-    }
-
-    /// Whether what was opened has all that was known.
-    fn is_all_in(&self, found: &Known) -> bool
-        ensures { IsTrue result ↔ HasAll self.now.next_number self.now.size found.now.next_number found.now.size }
-    {
-        self.next_number <= found.next_number && self.size <= found.size
-    }
-}
-
 /// Why a spool is opened again.
 #[derive(Clone, Copy, Debug)]
 pub(crate) enum Why {
@@ -134,30 +107,25 @@ pub(crate) enum Why {
     Renewed,
 }
 
-/// Opens the spool of a relay again, which has to have all that was known: where its device has failed, when a test
+/// Opens the spool of a relay again, which has to be what was known of it: where its device has failed, when a test
 /// finds room, and else at once. All connections are dropped. A sync that has failed is a fault.
 pub(crate) fn reopen<C: Clock, E: Write>(
-    alloc: Global,
-    clock: &C,
+    reporter: &mut Reporter<'_, C, E>,
     relay: Relay<FileDisk>,
     known: Known,
     why: Why,
     door: &mut Door,
     room: &mut Room,
     pauses: &mut Pauses,
-    quiet: bool,
-    errors: &mut E,
 ) -> Result<Relay<FileDisk>, Fault>
     ensures synced { HasFailedToSync relay.node.records.spool.disk → IsErr result }
-    ensures whole { IfOk result (λ opened. HasAll known.next_number known.size
-        opened.node.records.queue.next opened.node.records.spool.size) }
+    ensures whole { IfOk result (λ opened. IsWhole known opened.node.records.queue.next
+        opened.node.records.spool.size) }
     ensures tested { why ≡ Why.Failed → IfOk result (λ _. MayStart room.new known.size) }
 {
     match why {
-        Why::Failed => open_again(
-            alloc, clock, relay, known, door, room, pauses, quiet, errors,
-        ),
-        Why::Renewed => open_bounded(alloc, relay, known, room),
+        Why::Failed => open_again(reporter, relay, known, door, room, pauses),
+        Why::Renewed => open_bounded(reporter.alloc, relay, known, room),
     }
 }
 
@@ -167,28 +135,25 @@ pub(crate) fn reopen<C: Clock, E: Write>(
 /// fault at once, since octets may be lost then that were written; so is a spool that holds something else than it did,
 /// or less.
 fn open_again<C: Clock, E: Write>(
-    alloc: Global,
-    clock: &C,
+    reporter: &mut Reporter<'_, C, E>,
     relay: Relay<FileDisk>,
     known: Known,
     door: &mut Door,
     room: &mut Room,
     pauses: &mut Pauses,
-    quiet: bool,
-    errors: &mut E,
 ) -> Result<Relay<FileDisk>, Fault>
     ensures synced { HasFailedToSync relay.node.records.spool.disk → IsErr result }
-    ensures whole { IfOk result (λ opened. HasAll known.next_number known.size
-        opened.node.records.queue.next opened.node.records.spool.size) }
+    ensures whole { IfOk result (λ opened. IsWhole known opened.node.records.queue.next
+        opened.node.records.spool.size) }
     ensures tested { IfOk result (λ _. MayStart room.new known.size) }
 {
-    pauses.note_failure(known.size);
+    pauses.note_failure(known.size());
     let mut closed = Closed::of(relay.into_node());
+    let failed = pauses.failures.side(&closed.disks);
     sync(&mut closed.disks)?;
-    room.fail()?;
-    wait_for_room(
-        alloc, clock, closed, known, door, room, pauses, quiet, errors,
-    )
+    let reason = room.fail();
+    reporter.device_failed(reason, failed, &closed.config, pauses.seconds);
+    wait_for_room(reporter, closed, known, door, room, pauses)
 }
 
 /// Opens the spool of a relay under the limit that the room sets it. All connections are dropped. A sync that has
@@ -200,8 +165,8 @@ pub(crate) fn open_bounded(
     room: &mut Room,
 ) -> Result<Relay<FileDisk>, Fault>
     ensures synced { HasFailedToSync relay.node.records.spool.disk → IsErr result }
-    ensures whole { IfOk result (λ opened. HasAll known.next_number known.size
-        opened.node.records.queue.next opened.node.records.spool.size) }
+    ensures whole { IfOk result (λ opened. IsWhole known opened.node.records.queue.next
+        opened.node.records.spool.size) }
 {
     let mut closed = Closed::of(relay.into_node());
     sync(&mut closed.disks)?;
@@ -215,8 +180,8 @@ fn open_at_once(
     known: Known,
     room: &mut Room,
 ) -> Result<Relay<FileDisk>, Fault>
-    ensures { IfOk result (λ opened. HasAll known.next_number known.size
-        opened.node.records.queue.next opened.node.records.spool.size) }
+    ensures { IfOk result (λ opened. IsWhole known opened.node.records.queue.next
+        opened.node.records.spool.size) }
 {
     let mut closed = closed;
     closed.bound(room)?;
@@ -228,38 +193,30 @@ fn open_at_once(
 
 /// Opens a spool as soon as its device doesn't fail and there is room.
 fn wait_for_room<C: Clock, E: Write>(
-    alloc: Global,
-    clock: &C,
+    reporter: &mut Reporter<'_, C, E>,
     closed: Closed,
     known: Known,
     door: &mut Door,
     room: &mut Room,
     pauses: &mut Pauses,
-    quiet: bool,
-    errors: &mut E,
 ) -> Result<Relay<FileDisk>, Fault>
     requires { ¬ MayStart room.old known.size }
-    ensures whole { IfOk result (λ opened. HasAll known.next_number known.size
-        opened.node.records.queue.next opened.node.records.spool.size) }
+    ensures whole { IfOk result (λ opened. IsWhole known opened.node.records.queue.next
+        opened.node.records.spool.size) }
     ensures tested { IfOk result (λ _. MayStart room.new known.size) }
 {
     let mut closed = closed;
-    let line = refusal(alloc, &closed.config)?;
-    for times in 0..u64::MAX {
-        let seconds = pauses.next();
-        if times == 0 {
-            let mut log = Log::stamped(alloc, errors, !quiet, clock_moment(clock));
-            log.device_failed(seconds);
-        }
-        pause(clock, seconds, door, line.as_slice());
-        room.test(known.size)?;
-        if room.may_start(known.size) {
+    let line = refusal(reporter.alloc, &closed.config)?;
+    for _ in 0..u64::MAX {
+        pause(reporter.clock, pauses.next(), door, line.as_slice());
+        room.test(known.size());
+        if room.may_start(known.size()) {
             closed.bound(room)?;
-            match closed.open(alloc)? {
+            pauses.failures = Failures::of(&closed.disks);
+            match closed.open(reporter.alloc)? {
                 Opening::Done(relay) => {
                     pauses.opened_size = relay.node().size();
-                    let mut log = Log::stamped(alloc, errors, !quiet, clock_moment(clock));
-                    log.opened_again();
+                    reporter.opened_again(room.is_short());
                     return unless_less(known, relay, room);
                 }
                 Opening::Failed(again) => closed = again,
@@ -270,17 +227,17 @@ fn wait_for_room<C: Clock, E: Write>(
     Err(Fault::Device)
 }
 
-/// The relay, unless its spool has less than was known.
+/// The relay, unless its spool isn't what was known.
 fn unless_less(
     known: Known,
     relay: Relay<FileDisk>,
     room: &mut Room,
 ) -> Result<Relay<FileDisk>, Fault>
-    ensures whole { IfOk result (λ opened. HasAll known.next_number known.size
-        opened.node.records.queue.next opened.node.records.spool.size) }
+    ensures whole { IfOk result (λ opened. IsWhole known opened.node.records.queue.next
+        opened.node.records.spool.size) }
     ensures stays { (size : ℕ) → MayStart room.old size → MayStart room.new size }
 {
-    if !known.is_all_in(&Known::of(&relay)) {
+    if !known.is_in(&Known::of(&relay)) {
         return Err(Fault::Device);
     }
     room.opened();

@@ -1,13 +1,14 @@
 //! The file beside the spool that keeps room for outcomes, and what is known of the room on its disk.
-ghost use Rattle.std.specs.Prelude.{ℕ, ◌≡◌, ◌≤◌, ◌↔◌, IsTrue, OnOk};
+ghost use Rattle.std.specs.Prelude.{ℕ, ◌≡◌, ◌≤◌, ◌↔◌, IsTrue};
 
 use relay_connections::Now;
-use relay_disk::{DiskFault, FileDisk};
+use relay_disk::DiskFault;
 use relay_files::Fault;
-use relay_room::{Standing, ballast_size, give_up, test_room};
+use relay_room::{RoomFile, Standing, ballast_size, give_up, test_room};
 use relay_routes::Config;
 use std::alloc::Global;
 use std::fs::File;
+use std::io;
 use std::rt::Files;
 
 /// How many seconds lie between two tests of the room, while a relay is short of it.
@@ -16,9 +17,9 @@ const TEST_SECONDS: u64 = 5;
 /// How many seconds attempts that run have to end, once there is room again: then the spool is opened under its limit.
 const DRAIN_SECONDS: u64 = 5;
 
-/// The room on the disk of a spool.
+/// The room on the disk of a spool. A fault of its file ends nothing: it counts as no ballast, and as no room.
 pub(crate) struct Room {
-    disk: FileDisk,
+    file: RoomFile,
     /// How many octets the ballast has.
     size: u32,
     /// The limit of the spool, as it is configured.
@@ -37,7 +38,7 @@ pub(crate) struct Room {
 impl Drop for Room {
     fn drop(self) {
         let Room {
-            disk: _disk,
+            file: _file,
             size: _,
             configured: _,
             standing: _,
@@ -60,9 +61,9 @@ impl Room {
         config: &Config,
     ) -> Result<Self, Fault> {
         let path = format!(in alloc; "{}.room", config.spool.as_str())?;
-        match FileDisk::open(files, path.as_str()) {
-            Ok(disk) => Ok(Room {
-                disk,
+        match RoomFile::open(files, path.as_str()) {
+            Ok(file) => Ok(Room {
+                file,
                 size: ballast_size(config.max_content),
                 configured: config.spool_limit,
                 standing: Standing::untested(),
@@ -74,48 +75,53 @@ impl Room {
         }
     }
 
-    /// The device has failed: the ballast is given up, and nothing is known of the room.
-    pub(crate) fn fail(&mut self) -> Result<(), Fault>
+    /// The device has failed: the ballast is given up, and nothing is known of the room. The system's error of a test
+    /// write in the file beside the spool comes back, made before that file gives its octets up: the call that failed
+    /// has told nobody of its own. None where the test write succeeds.
+    pub(crate) fn fail(&mut self) -> Option<io::Error>
         ensures standing { self.new.standing ≡ standing_at_failure self.old.standing self.old.size }
         ensures held { (size : ℕ) → ¬ MayStart self.new size }
     {
         self.standing = self.standing.behind_failure(self.size as usize);
         self.renewal = u64::MAX;
-        match give_up(&mut self.disk) {
-            Ok(()) => Ok(()),
-            Err(DiskFault::Device) => Err(Fault::Device),
-        }
+        let reason = self.file.reason(self.size as usize);
+        // What it can't give up is no ballast either.
+        let _ = give_up(&mut self.file);
+        reason
     }
 
-    /// Tests the room beside a spool of so many octets, where the relay is short of it.
-    pub(crate) fn test(&mut self, spool_size: usize) -> Result<(), Fault>
-        ensures standing { OnOk result (IsTested self.old self.new) }
+    /// Tests the room beside a spool of so many octets, where the relay is short of it. A fault of the file counts as
+    /// no room.
+    pub(crate) fn test(&mut self, spool_size: usize)
+        ensures standing { IsTested self.old self.new }
     {
         if self.standing == Standing::Roomy {
-            return Ok(());
+            return;
         }
-        match test_room(&mut self.disk, self.size as usize) {
-            Ok(room) => {
-                self.standing = self.standing.behind_test(room, self.size as usize);
-                self.tested_size = spool_size;
-                Ok(())
-            }
-            Err(DiskFault::Device) => Err(Fault::Device),
-        }
+        let size = self.size as usize;
+        let room = match test_room(&mut self.file, size) {
+            Ok(room) => room,
+            Err(DiskFault::Device) => 0,
+        };
+        self.standing = self.standing.behind_test(room, size);
+        self.tested_size = spool_size;
     }
 
-    /// Tests the room where that is due. Once there is enough, no attempt begins for a while, and then the spool is to
-    /// be opened under its configured limit, if it has another.
-    pub(crate) fn look(&mut self, spool_size: usize, limit: u64, now: &Now) -> Result<(), Fault> {
+    /// Tests the room where that is due: whether the shortage has ended. Then no attempt begins for a while, and the
+    /// spool is to be opened under its configured limit, if it has another.
+    pub(crate) fn look(&mut self, spool_size: usize, limit: u64, now: &Now) -> bool {
         if !self.is_short() || now.tick < self.next_test {
-            return Ok(());
+            return false;
         }
-        self.test(spool_size)?;
+        self.test(spool_size);
         self.next_test = now.behind(TEST_SECONDS);
-        if !self.is_short() && limit != self.configured {
+        if self.is_short() {
+            return false;
+        }
+        if limit != self.configured {
             self.renewal = now.behind(DRAIN_SECONDS);
         }
-        Ok(())
+        true
     }
 
     /// Whether the relay is short of room.

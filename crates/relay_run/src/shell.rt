@@ -1,13 +1,15 @@
-ghost use Rattle.std.specs.Prelude.{◌≡◌, ◌≤◌, ◌-◌, ◌↔◌, ℕ, true, IfOk, IsErr, IsTrue};
+ghost use Rattle.std.specs.Prelude.{◌≡◌, ◌≤◌, ◌-◌, ◌↔◌, ℕ, None, true, IfOk, IsErr, IsTrue};
 ghost use Rattle.relay_connections.specs.Readiness.{IsLeftClient, clients_of};
 ghost use Rattle.relay_next_hops.specs.Lanes.{next_due_of};
 ghost use Rattle.relay_next_hops.specs.Readiness.{IsLeftHop, hops_of};
-ghost use Rattle.relay_run.specs.Reopening.{HasAll, HasFailedToSync};
+ghost use Rattle.relay_run.specs.Reopening.{HasFailedToSync, IsWhole};
 ghost use Rattle.relay_run.specs.Room.{MayStart};
 ghost use Rattle.relay_run.specs.declared.shell.TheConstants.{LONGEST_WAIT};
 
 use crate::door::Door;
-use crate::reopening::{Known, Pauses, Why, reopen};
+use crate::known::Known;
+use crate::reopening::{Pauses, Why, reopen};
+use crate::reporter::Reporter;
 use crate::room::Room;
 use crate::tidying::Tidying;
 use mio::event::Event;
@@ -91,18 +93,15 @@ impl Shell {
 
     /// The same relay with its spool opened again: once its device, where that has failed, has room, or else at once,
     /// under its configured limit. All connections are closed but the listener, at which clients are told so meanwhile.
-    /// A sync that has failed is a fault, and so is a spool that has less than before.
+    /// A sync that has failed is a fault, and so is a spool that isn't the one from before.
     pub(crate) fn reopened<C: Clock, E: Write>(
         self,
-        alloc: Global,
-        clock: &C,
+        reporter: &mut Reporter<'_, C, E>,
         why: Why,
-        quiet: bool,
-        errors: &mut E,
     ) -> Result<Self, Fault>
         ensures synced { HasFailedToSync self.relay.node.records.spool.disk → IsErr result }
-        ensures whole { IfOk result (λ shell. HasAll self.known.next_number self.known.size
-            shell.relay.node.records.queue.next shell.relay.node.records.spool.size) }
+        ensures whole { IfOk result (λ shell. IsWhole self.known shell.relay.node.records.queue.next
+            shell.relay.node.records.spool.size) }
         ensures tested { why ≡ Why.Failed → IfOk result (λ shell. MayStart shell.room self.known.size) }
     {
         let Shell {
@@ -126,16 +125,13 @@ impl Shell {
         let mut pauses = pauses;
         let mut room = room;
         let relay = reopen(
-            alloc,
-            clock,
+            reporter,
             relay,
             known,
             why,
             &mut door,
             &mut room,
             &mut pauses,
-            quiet,
-            errors,
         )?;
         let known = Known::of(&relay);
         Ok(Shell {
@@ -156,6 +152,7 @@ impl Shell {
     pub(crate) fn note_known(&mut self)
         ensures number { self.new.known.next_number ≡ self.old.relay.node.records.queue.next }
         ensures size { self.new.known.size ≡ self.old.relay.node.records.spool.size }
+        ensures compacted { self.new.known.compacted ≡ None }
     {
         self.known = Known::of(&self.relay);
     }
@@ -208,7 +205,9 @@ impl Shell {
         log: &mut Log<'_, Vec<u8>>,
     ) -> Result<(), Fault> {
         let node = self.relay.node();
-        self.room.look(node.size(), node.config().spool_limit, now)?;
+        if self.room.look(node.size(), node.config().spool_limit, now) {
+            log.shortage_ended();
+        }
         self.door.admit(
             registry,
             &mut self.relay,
@@ -233,10 +232,12 @@ impl Shell {
             return Ok(());
         }
         let node = self.relay.node();
-        if !self.room.has_room_for(node.compacted_size(), node.size()) {
+        let left = node.compacted_size();
+        if !self.room.has_room_for(left, node.size()) {
             self.tidying.pause(now);
             return Ok(());
         }
+        self.known = self.known.compacting(left);
         let is_quiet = !self.is_ready(now);
         if self.tidying.tidy(&mut self.relay, is_quiet, now, log)? {
             self.room.note_compacted();

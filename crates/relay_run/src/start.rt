@@ -1,6 +1,7 @@
 //! What a relay begins with.
 use crate::door::Door;
-use crate::reopening::{Known, open_bounded};
+use crate::known::Known;
+use crate::reopening::open_bounded;
 use crate::room::Room;
 use mio::Registry;
 use relay_disk::FileDisk;
@@ -60,7 +61,7 @@ pub(crate) fn locked_relay<F: Files<File = File>>(
 ) -> Result<(Relay<FileDisk>, Room), Fault> {
     let node = locked_node(alloc, files, config)?;
     let mut room = Room::open(alloc, files, node.config())?;
-    room.test(node.size())?;
+    room.test(node.size());
     let Ok(relay) = Relay::new(alloc, node) else {
         return Err(Fault::NoMemory);
     };

@@ -2,6 +2,7 @@
 ghost use Rattle.std.specs.Prelude.{IfOk};
 
 use crate::reopening::Why;
+use crate::reporter::Reporter;
 use crate::shell::Shell;
 use mio::{Events, Poll};
 use relay_connections::Now;
@@ -62,18 +63,19 @@ fn behind_turn<R: Clock, E: Write>(
     quiet: bool,
     errors: &mut E,
 ) -> Result<Shell, Fault> {
-    match end {
-        Ok(()) if shell.is_renewed(&Now::of(rt)) => shell.reopened(
-            alloc,
-            rt,
-            Why::Renewed,
-            quiet,
-            errors,
-        ),
-        Ok(()) => Ok(shell),
-        Err(Fault::Device) => shell.reopened(alloc, rt, Why::Failed, quiet, errors),
-        Err(fault) => Err(fault),
-    }
+    let why = match end {
+        Ok(()) if shell.is_renewed(&Now::of(rt)) => Why::Renewed,
+        Ok(()) => return Ok(shell),
+        Err(Fault::Device) => Why::Failed,
+        Err(fault) => return Err(fault),
+    };
+    let mut reporter = Reporter {
+        alloc,
+        clock: rt,
+        quiet,
+        errors,
+    };
+    shell.reopened(&mut reporter, why)
 }
 
 /// A turn, whose lines of the log are written then; and what keeps the spool small behind it, which may take a while,

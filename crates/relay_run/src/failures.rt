@@ -1,0 +1,39 @@
+//! Which file of a spool has failed.
+use relay_disk::{Disk, Disks, FileDisk, Side};
+
+/// How many calls on each file of a spool had failed at some time.
+#[derive(Clone, Copy, Debug)]
+pub(crate) struct Failures {
+    first: u64,
+    second: u64,
+}
+
+impl Failures {
+    /// No call has failed.
+    pub(crate) fn none() -> Self {
+        Failures {
+            first: 0,
+            second: 0,
+        }
+    }
+
+    /// The calls that have failed on these files.
+    pub(crate) fn of(disks: &Disks<FileDisk>) -> Self {
+        Failures {
+            first: disks.first.failures(),
+            second: disks.second.failures(),
+        }
+    }
+
+    /// The file on which a call has failed since then, if one has.
+    pub(crate) fn side(&self, disks: &Disks<FileDisk>) -> Option<Side> {
+        let now = Failures::of(disks);
+        if self.first != now.first {
+            Some(Side::First)
+        } else if self.second != now.second {
+            Some(Side::Second)
+        } else {
+            None
+        }
+    }
+}

@@ -1,0 +1,78 @@
+//! What is known of a spool, which is to be there when it is opened again.
+ghost use Rattle.std.specs.Prelude.{◌≡◌, ◌↔◌, IsTrue, None, Some};
+ghost use Rattle.relay_run.specs.Reopening.{HasAll, IsEither, IsWhole};
+
+use relay_disk::FileDisk;
+use relay_loop::Relay;
+
+/// What was known of a spool after the last turn that went well. What a failed call was to add counts as added in the
+/// relay itself, so that isn't asked.
+#[derive(Clone, Copy, Debug)]
+pub(crate) struct Known {
+    /// The number of the next change.
+    next_number: u64,
+    /// How many octets it has.
+    size: usize,
+    /// How many octets it has once it is compacted, where that may have begun since.
+    compacted: Option<usize>,
+}
+
+impl Known {
+    /// What a relay knows of its spool.
+    pub(crate) fn of(relay: &Relay<FileDisk>) -> Self
+        ensures number { result.next_number ≡ relay.now.node.records.queue.next }
+        ensures size { result.size ≡ relay.now.node.records.spool.size }
+        ensures compacted { result.compacted ≡ None }
+    {
+        let node = relay.node();
+        Known {
+            next_number: node.next_number(),
+            size: node.size(),
+            compacted: None,
+        }
+    }
+
+    /// The same, where the spool is to be compacted next, which leaves so many octets.
+    pub(crate) fn compacting(self, left: usize) -> Self
+        ensures number { result.next_number ≡ self.next_number }
+        ensures size { result.size ≡ self.size }
+        ensures compacted { result.compacted ≡ Some left }
+    {
+        Known {
+            compacted: Some(left),
+            ..self
+        }
+    }
+
+    /// How many octets the spool has.
+    pub(crate) fn size(&self) -> usize
+        ensures { result ≡ self.now.size }
+    {
+        self.size
+    }
+
+    /// Whether what was opened may be that spool.
+    pub(crate) fn is_in(&self, found: &Known) -> bool
+        ensures { IsTrue result ↔ IsWhole self.now found.now.next_number found.now.size }
+    {
+        match self.compacted {
+            None => self.is_all_in(found),
+            Some(left) => self.is_either(left, found),
+        }
+    }
+
+    /// Whether what was opened has all that was known.
+    fn is_all_in(&self, found: &Known) -> bool
+        ensures { IsTrue result ↔ HasAll self.now.next_number self.now.size found.now.next_number found.now.size }
+    {
+        self.next_number <= found.next_number && self.size <= found.size
+    }
+
+    /// Whether what was opened is the spool from before a compaction or from after it.
+    fn is_either(&self, left: usize, found: &Known) -> bool
+        ensures { IsTrue result ↔ IsEither self.now.next_number self.now.size left
+            found.now.next_number found.now.size }
+    {
+        self.next_number == found.next_number && (found.size == self.size || found.size == left)
+    }
+}

@@ -1,0 +1,68 @@
+//! Lines of the log about a spool that isn't open.
+use relay_disk::Side;
+use relay_log::{DeviceFailure, Log};
+use relay_routes::Config;
+use relay_trace::clock_moment;
+use std::alloc::{AllocError, Global};
+use std::io::{self, Write};
+use std::rt::Clock;
+
+/// What writes lines of the log between two turns, with the time at which each is written.
+#[derive(Drop)]
+pub(crate) struct Reporter<'a, C: Clock, E: Write> {
+    pub(crate) alloc: Global,
+    pub(crate) clock: &'a C,
+    pub(crate) quiet: bool,
+    pub(crate) errors: &'a mut E,
+}
+
+impl<'a, C: Clock, E: Write> Reporter<'a, C, E> {
+    /// Tells that the device has failed: by this error, where one was seen, on this file of the spool, where that is
+    /// known, which is tried again after so many seconds.
+    pub(crate) fn device_failed(
+        &mut self,
+        reason: Option<io::Error>,
+        side: Option<Side>,
+        config: &Config,
+        seconds: u64,
+    ) {
+        // Without memory for its name the line is written without it.
+        let file = match file_name(self.alloc, config, side) {
+            Ok(file) => file,
+            Err(_) => None,
+        };
+        let failure = DeviceFailure {
+            reason,
+            file: match &file {
+                Some(name) => Some(name.as_str()),
+                None => None,
+            },
+            retry_in: seconds,
+        };
+        let moment = clock_moment(self.clock);
+        Log::stamped(self.alloc, self.errors, !self.quiet, moment).device_failed(&failure);
+    }
+
+    /// Tells that the spool is open again, and that there is room again where it isn't short of it.
+    pub(crate) fn opened_again(&mut self, is_short: bool) {
+        let moment = clock_moment(self.clock);
+        let mut log = Log::stamped(self.alloc, self.errors, !self.quiet, moment);
+        log.opened_again();
+        if !is_short {
+            log.shortage_ended();
+        }
+    }
+}
+
+/// The name of a file of the spool.
+fn file_name(
+    alloc: Global,
+    config: &Config,
+    side: Option<Side>,
+) -> Result<Option<String>, AllocError> {
+    match side {
+        Some(Side::First) => Ok(Some(config.spool.as_str().to_string(alloc)?)),
+        Some(Side::Second) => Ok(Some(format!(in alloc; "{}.2", config.spool.as_str())?)),
+        None => Ok(None),
+    }
+}
