@@ -1,22 +1,26 @@
 #!/usr/bin/env python3
 """Runs `relayd run` over 127.0.0.1 and reads its log: the lines of next hops that are away, of clients that are cut off
-or sent away, of a spool that is full or written anew, and of what came of each recipient. It ends at the first
-difference.
+or sent away, of a spool that is full or written anew, and of what came of each recipient; and lets nobody read it. It
+ends at the first difference.
 
     tests/run_log.py build/relayd [ROW..]
 
 With the names of rows it runs these alone. What has to be prompt may take as many times as long as TIMES says in the
 environment (2 where it says nothing).
 """
+import contextlib
+import os
 import re
 import sys
+import threading
 import time
 
 sys.dont_write_bytecode = True
 
 from mail_checks import hand_in, read_report
 from relay_program import Difference, PATIENCE, free_port, same, until
-from running_relay import SOON, TIMEOUT, TOO_MANY, Client, clients_of, lines_of, play_rows, shim
+from running_relay import SOON, TIMEOUT, TOO_MANY, Client, clients_of, lines_of, no_later, play_rows, shim
+from running_relay import slowest
 from spool_files import bodies_of
 
 MOMENT = re.compile(r"\d{4}-\d\d-\d\dT\d\d:\d\d:\d\dZ ")
@@ -196,6 +200,94 @@ def a_spool_that_is_written_anew_has_a_line(field):
         raise Difference(f"{before} octets, and then {now}")
 
 
+@contextlib.contextmanager
+def unread_log(relay):
+    """A relay whose log goes to a pipe that nobody reads, and the end of it for who will."""
+    end, log = os.pipe()
+    try:
+        process = relay.begin(stderr=log)
+    finally:
+        os.close(log)
+    with open(end, "rb") as lines:
+        try:
+            yield process, lines
+        finally:
+            process.kill()
+            process.communicate()
+
+
+def flood(client, messages):
+    """Hands in so many messages for a hundred recipients each, which makes their lines long."""
+    paths = [f"{'x' * 60}{number}@example.org" for number in range(100)]
+    asks = b"".join(f"RCPT TO:<{path}>\r\n".encode() for path in paths)
+    for _ in range(messages):
+        client.link.sendall(b"MAIL FROM:<a@example.org>\r\n" + asks + b"DATA\r\n")
+        same("the replies", [client.reply()[:4] for _ in range(102)], ["250 "] * 101 + ["354 "])
+        same("the reply", client.say(text_of(10))[:4], "250 ")
+
+
+def a_log_that_nobody_reads_stops_no_mail(field):
+    """More than a pipe and 1 MiB hold: lines are dropped, mail goes on as fast, and a line tells how many they are as
+    soon as somebody reads."""
+    relay, messages = field.relay(spool_limit=1 << 30), 200
+    with unread_log(relay) as (process, lines), clients_of(relay, 1) as [client]:
+        alone = slowest(client, 10)
+        flood(client, messages)
+        field.sink.wait_for(messages + 10, 60)
+        no_later(client, alone, 10, "a log that nobody reads")
+        until("an empty list", lambda: relay.held() == [])
+        read = []
+        reader = threading.Thread(target=lambda: [read.append(line.decode().rstrip("\n")) for line in lines])
+        reader.start()
+        until("a line of those that were dropped", lambda: [line for line in list(read) if "log-dropped" in line])
+        last = client.hand_in()
+        until("what came of the last", lambda: f"message {last} next.example" in read[-1])
+        process.kill()
+        reader.join()
+    same("lines without a moment", [line for line in read if not MOMENT.match(line)], [])
+    [place] = [place for place, line in enumerate(read) if "log-dropped" in line]
+    dropped = int(re.fullmatch(r"relayd: log-dropped lines=(\d+)", MOMENT.sub("", read[place]))[1])
+    # Two lines each: that it was accepted, and what came of it.
+    same("lines, and dropped ones", len(read) - 1 + dropped, 2 * (messages + 21))
+    same("the lines behind them", [line.split()[2:4] for line in read[place + 1:]], [["message", str(last)]] * 2)
+    field.sink.take_all()
+
+
+def who_reads_the_log_misses_no_line(field):
+    """Of thousands of messages of eight clients at once."""
+    relay, each = field.relay(spool_limit=1 << 30), 400
+    with relay.running(), clients_of(relay, 8) as clients:
+        numbers = []
+        threads = [threading.Thread(target=lambda client=client: numbers.extend(client.hand_in() for _ in range(each)))
+                   for client in clients]
+        for thread in threads:
+            thread.start()
+        for thread in threads:
+            thread.join()
+        field.sink.wait_for(8 * each, 120)
+        until("all lines", lambda: len(told(relay, "next.example")) == 8 * each)
+    for text in ("accepted", "next.example"):
+        found = [int(line.split()[2]) for line in told(relay, text)]
+        same(f"messages with a line of {text}", sorted(found), sorted(numbers))
+    same("messages", len(numbers), 8 * each)
+    same("dropped ones", told(relay, "dropped"), [])
+    field.sink.take_all()
+
+
+def a_log_that_nobody_reads_stops_no_end(field):
+    """A relay whose device has lost a sync ends, though its last line finds no reader, and a little later."""
+    relay = field.relay(spool_limit=1 << 30)
+    shim(field, "device_calls", relay, CALLS=str(field.folder / "calls"), FAILED_SYNC="25")
+    with unread_log(relay) as (process, _), clients_of(relay, 1) as [client]:
+        with contextlib.suppress(Difference, OSError):
+            flood(client, 20)
+        begun = time.monotonic()
+        same("its end", process.wait(PATIENCE), 1)
+        if time.monotonic() > begun + 1 + SOON:
+            raise Difference(f"it ends after {time.monotonic() - begun:.1f} s")
+    field.sink.take_all()
+
+
 ROWS = [
     a_next_hop_that_is_away_is_left_alone_for_longer_each_time,
     a_client_that_is_cut_off_has_a_line,
@@ -206,6 +298,9 @@ ROWS = [
     a_full_spool_has_a_line_once_a_minute,
     a_full_spool_is_noted_where_quit_stands_behind_the_mail,
     a_spool_that_is_written_anew_has_a_line,
+    a_log_that_nobody_reads_stops_no_mail,
+    who_reads_the_log_misses_no_line,
+    a_log_that_nobody_reads_stops_no_end,
 ]
 
 

@@ -9,11 +9,12 @@ use crate::session::session;
 use clap::Error;
 use clap::error::ErrorKind;
 use relay_arguments::{Subcommand, arguments};
+use relay_backlog::LogWriter;
 use relay_files::{compact, init, list};
 use relay_play::{PlayFault, play};
 use relay_run::run;
 use relay_service::{ServeOptions, push, serve};
-use std::alloc::Global;
+use std::alloc::{AllocError, Global};
 use std::convert::AsStr;
 use std::fmt::Display;
 use std::fs::File;
@@ -22,6 +23,10 @@ use std::net::{Net, TcpListener, TcpStream};
 use std::rt::{Clock, Files};
 use std::sync::Wait;
 use std::thread::Threads;
+use std::time::Duration;
+
+/// How many seconds the lines that still wait may take at the end of a relay that stays up.
+const LOG_SECONDS: u64 = 1;
 
 /// The status of a run that did what it was asked for.
 const DONE: u8 = 0;
@@ -35,6 +40,7 @@ const WRONG_ARGUMENTS: u8 = 2;
 /// Runs the subcommand that the words name, the program's own name first, and answers the status
 /// for the system: 0 done, 1 a fault, with one line on `errors`, 2 wrong arguments, with the
 /// argument reader's text on `errors`. `--help` writes that reader's text on `writer`, and is done.
+/// What `run` logs goes to `log`, from a thread of its own: two writers of one stream.
 pub fn command<
     S: AsStr,
     F: Files<File = File>
@@ -42,11 +48,23 @@ pub fn command<
         + Net<Listener = TcpListener, Stream = TcpStream>
         + Threads
         + Wait
-        + Sync,
+        + Sync
+        + Send
+        + Copy
+        + 'static,
     R: Read,
     W: Write,
     E: Write,
->(alloc: Global, system: &F, words: &[S], reader: &mut R, writer: &mut W, errors: &mut E) -> u8
+    L: Write + Send + Drop + 'static,
+>(
+    alloc: Global,
+    system: &F,
+    words: &[S],
+    reader: &mut R,
+    writer: &mut W,
+    errors: &mut E,
+    log: L,
+) -> u8
     ensures session { AskForSession (map S.text words.now)
         → EndsAs result (R.remaining reader.old) (R.remaining reader.new) (W.contents writer.old)
         (W.contents writer.new) }
@@ -66,10 +84,9 @@ pub fn command<
         Ok(Subcommand::Init(file)) => ended(init(alloc, system, file), errors),
         Ok(Subcommand::List(file)) => ended(list(alloc, system, file, writer), errors),
         Ok(Subcommand::Compact(file)) => ended(compact(alloc, system, file, writer), errors),
-        Ok(Subcommand::Run { file, quiet }) => {
-            let end = run(alloc, system, file, quiet, writer, errors);
-            ended(end, errors)
-        }
+        Ok(Subcommand::Run { file, quiet }) => run_apart_from_its_log(
+            alloc, system, file, quiet, writer, errors, log,
+        ),
         Ok(
             Subcommand::Serve {
                 file,
@@ -90,6 +107,38 @@ pub fn command<
             ended(end, errors)
         }
         Err(error) => explain(&error, writer, errors),
+    }
+}
+
+/// Runs a relay that stays up, whose lines another thread writes to `log`, the line of its fault too: who doesn't read
+/// them doesn't stop it. At its end the lines that wait are written, for a second at most. Where no thread can be had
+/// all lines go to `errors` from this one.
+fn run_apart_from_its_log<
+    F: Files<File = File>
+        + Clock
+        + Net<Listener = TcpListener, Stream = TcpStream>
+        + Threads
+        + Wait
+        + Send
+        + Copy
+        + 'static,
+    W: Write,
+    E: Write,
+    L: Write + Send + Drop + 'static,
+>(alloc: Global, system: &F, file: &str, quiet: bool, writer: &mut W, errors: &mut E, log: L) -> u8
+    ensures { result ≡ 1 }
+{
+    match LogWriter::start(alloc, *system, log) {
+        Ok(mut lines) => {
+            let end = run(alloc, system, file, quiet, writer, &mut lines);
+            let status = ended(end, &mut lines);
+            lines.finish(Duration::from_secs(LOG_SECONDS));
+            status
+        }
+        Err(AllocError) => {
+            let end = run(alloc, system, file, quiet, writer, errors);
+            ended(end, errors)
+        }
     }
 }
 

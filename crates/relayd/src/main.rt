@@ -18,6 +18,7 @@ fn main(rt: HostRuntime) -> ExitCode {
             &mut rt.stdin(),
             &mut rt.stdout(),
             &mut rt.stderr(),
+            rt.stderr(),
         ),
         Err(error) => refuse_words(&error, &mut rt.stderr()),
     };
