@@ -1,7 +1,64 @@
--- What is due next at the next hops.
-use Rattle.std.specs.Prelude.{ℕ}
+-- What is due at the next hops, by lanes: the place of each, how many of its attempts run, and its tasks.
+use Rattle.std.specs.Prelude.{◌≡◌, ◌⊎◌, ◌==◌, ℕ, true, List, [], ◌∷◌, Option, None, Some, slice_get, option_map, Contains}
+use Rattle.std.specs.List.{list_any}
+use Rattle.std.specs.Option.{option_map_or}
+use Rattle.std.specs.declared.net.socket_addr.SocketAddrV4.{SocketAddrV4}
+use Rattle.relay_next_hops.specs.declared.lane.Task.{Task}
+use Rattle.relay_next_hops.specs.declared.lanes.Lanes.{Lanes}
 use Rattle.relay_next_hops.specs.declared.next_hops.NextHops.{NextHops}
+use Rattle.relay_next_hops.specs.Paces.{RunAsBefore}
 
 -- the tick at which something is due that isn't listed, as the node has told
 abbrev pub next_due_of : NextHops → ℕ
 next_due_of next_hops = next_hops.lanes.next_due
+
+-- what is due for the lane of a number, in the order in which it is begun; nothing where there is no such lane
+abbrev pub tasks_at : Lanes → ℕ → List Task
+tasks_at lanes number = option_map_or (λ lane. lane.tasks.items) (slice_get lanes.lanes.items number) []
+
+-- the message of the first of these tasks, if there is one
+abbrev pub first_message : List Task → Option ℕ
+first_message tasks = option_map (λ task. task.message) (slice_get tasks 0)
+
+-- each lane keeps its place
+abbrev pub KeepsPlaces : Lanes → Lanes → Type 0
+KeepsPlaces old new = new.places ≡ old.places
+
+-- each lane keeps its place, and as many of its attempts run as before
+pub record KeepsCounts (old new : Lanes) : Type 0 where
+  pub places : new.places ≡ old.places
+  pub runs : RunAsBefore old.paces new.paces
+
+-- no place is known, nothing is listed, and all of it is to be
+pub record IsNew (most : ℕ) (lanes : Lanes) : Type 0 where
+  pub limit : lanes.most ≡ most
+  pub places : lanes.places ≡ []
+  pub paces : lanes.paces ≡ []
+  pub tasks : lanes.lanes.items ≡ []
+  pub unroutable : lanes.unroutable.items ≡ []
+  pub first_listing : lanes.next_number ≡ 0
+  pub stale : lanes.is_stale ≡ true
+  pub opened : lanes.is_open ≡ true
+
+-- No lane loses its place, and as many attempts of each lane run as before; lanes may have come.
+pub record ListsMore (old new : Lanes) : Type 0 where
+  pub places : (number : ℕ) (place : SocketAddrV4) → slice_get old.places number ≡ Some place
+      → slice_get new.places number ≡ Some place
+  pub runs : RunAsBefore old.paces new.paces
+
+-- the message waits to be given up, or all that is due is to be listed anew
+abbrev pub IsListedUnroutable : ℕ → Lanes → Type 0
+IsListedUnroutable message lanes = Contains lanes.unroutable.items message ⊎ (lanes.is_stale ≡ true)
+
+-- each message that waits to be given up still does, or all that is due is to be listed anew
+abbrev pub KeepsListed : Lanes → Lanes → Type 0
+KeepsListed old new = (message : ℕ) → IsListedUnroutable message old → IsListedUnroutable message new
+
+-- The task is the first of its lane again. Where it isn't, its message is listed anyway, or all that is due is, or there
+-- is no such lane.
+abbrev pub IsPutBack : ℕ → Task → Lanes → Lanes → Type 0
+IsPutBack lane task old new =
+    (tasks_at new lane ≡ task ∷ tasks_at old lane)
+    ⊎ (list_any (λ message. message == task.message) old.queued.left ≡ true)
+    ⊎ (new.is_stale ≡ true)
+    ⊎ (slice_get old.lanes.items lane ≡ None)

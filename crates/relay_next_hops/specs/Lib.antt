@@ -1,4 +1,12 @@
+pub mod Places
+pub mod Paces
 pub mod Lanes
+pub mod Errands
+pub mod Counts
+pub mod Hearing
+pub mod Losses
+pub mod Starting
+pub mod Tables
 pub mod Spares
 pub mod Readiness
 pub mod Phases

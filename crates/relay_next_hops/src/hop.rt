@@ -1,49 +1,27 @@
 //! The connection to a next hop, and what is done with it at a turn.
-ghost use Rattle.std.specs.Prelude.{◌≡◌, ◌≢◌, ℕ, [], Some, true};
+ghost use Rattle.std.specs.Prelude.{◌≡◌, ◌≢◌, ℕ, [], IfOk, IsOk, None, Ok, Some, drop, false, true};
 ghost use Rattle.relay_loop.specs.Outboxes.{unwritten_at};
 ghost use Rattle.relay_connections.specs.Channel.{unread_of};
+ghost use Rattle.relay_next_hops.specs.Errands.{KeepsErrand, StartsFor};
+ghost use Rattle.relay_next_hops.specs.Hearing.{IsAnswered, hearing_of};
 
-use crate::lane::Task;
+use crate::errand::{Aim, Course, Errand};
+use crate::hearing::{has_ended, was_left};
 use crate::phase::Phase;
 use relay_connections::{Channel, End, Now};
 use relay_disk::FileDisk;
 use relay_files::Fault;
-use relay_log::{Deferral, Loss, Replies};
-use relay_loop::{Answered, Outbox, Relay};
+use relay_log::{Loss, Replies};
+use relay_loop::{Answered, Relay};
 use relay_node::{NodeFault, Noted};
 use relay_routes::HostName;
-use relay_trace::Moment;
 use std::alloc::Global;
-use std::net::SocketAddrV4;
 
 /// How many seconds a next hop may take octet by octet to answer what was written to it.
 const ANSWER_SECONDS: u64 = 30 * 60;
 
 /// How many writes a connection has at a turn, where each takes a part alone.
 const WRITE_LIMIT: usize = 16;
-
-/// Where a connection goes, and since when its message is there.
-#[derive(Clone, Copy, Debug)]
-pub(crate) struct Aim {
-    /// The number of the lane.
-    pub(crate) lane: usize,
-    /// The lane's place.
-    pub(crate) at: SocketAddrV4,
-    /// Other connections to the place stood when it was begun.
-    pub(crate) beside: bool,
-    /// When the message was accepted, where that is known.
-    pub(crate) accepted: Option<Moment>,
-}
-
-impl Aim {
-    /// How many seconds ago the message was accepted, where that is known.
-    pub(crate) fn age(&self, now: &Now) -> Option<u64> {
-        match self.accepted {
-            Some(moment) => Some(now.moment.seconds().saturating_sub(moment.seconds())),
-            None => None,
-        }
-    }
-}
 
 /// The connection to a next hop for a message. It has an attempt of the node once the next hop has begun to greet.
 pub(crate) struct Hop {
@@ -88,73 +66,6 @@ impl Drop for Hop {
     }
 }
 
-/// What a connection was made for, and what has come of it.
-pub(crate) struct Errand {
-    pub(crate) aim: Aim,
-    pub(crate) message: u64,
-    pub(crate) name: HostName,
-    /// The attempt's number, where it has begun.
-    pub(crate) attempt: Option<usize>,
-    /// The next hop has said something.
-    pub(crate) has_spoken: bool,
-    /// The next hop has greeted by 2yz.
-    pub(crate) is_welcome: bool,
-    /// The last that the next hop put off.
-    pub(crate) deferral: Option<Deferral>,
-}
-
-// Written out, so that what drops it calls this, and doesn't look into its parts.
-impl Drop for Errand {
-    fn drop(self) {
-        let Errand {
-            aim: _,
-            message: _,
-            name: _name,
-            attempt: _,
-            has_spoken: _,
-            is_welcome: _,
-            deferral: _deferral,
-        } = self;
-    }
-}
-
-impl Errand {
-    /// The message, and the name of its next hop.
-    pub(crate) fn into_task(self) -> Task {
-        let (message, hop, _deferral) = self.into_told();
-        Task { message, hop }
-    }
-
-    /// What is told of it: the message, the next hop, and what that put off last.
-    pub(crate) fn into_told(self) -> (u64, HostName, Option<Deferral>) {
-        let Errand {
-            aim: _,
-            message,
-            name,
-            attempt: _,
-            has_spoken: _,
-            is_welcome: _,
-            deferral,
-        } = self;
-        (message, name, deferral)
-    }
-}
-
-/// What becomes of the connection to a next hop behind a turn.
-#[derive(Drop)]
-pub(crate) enum Course {
-    /// It stays.
-    Stays,
-    /// Its attempt has ended, and these are its last octets, with the note of its outcome.
-    Ended(Outbox, Option<Noted>),
-    /// It is lost.
-    Lost(Loss),
-    /// The next hop serves other connections, and takes no more of them. Its attempt hasn't begun.
-    TurnedAway,
-    /// The message isn't due there any more, or there is no memory or no number to say what has come of it.
-    Void,
-}
-
 impl Hop {
     /// A connection that is being made for a message. Where it `tells`, what puts the message off is kept in mind.
     pub(crate) fn new(
@@ -165,7 +76,11 @@ impl Hop {
         name: HostName,
         tells: bool,
         now: &Now,
-    ) -> Self {
+    ) -> Self
+        ensures aim { result.aim ≡ aim }
+        ensures errand { (result.message ≡ message) × (result.name ≡ name) }
+        ensures none { (result.attempt ≡ None) × (result.hears ≡ false) }
+    {
         Hop {
             channel,
             aim,
@@ -183,7 +98,11 @@ impl Hop {
     }
 
     /// Its connection, and what is told of it.
-    pub(crate) fn into_parts(self) -> (Channel, Errand) {
+    pub(crate) fn into_parts(self) -> (Channel, Errand)
+        ensures aim { result.1.aim ≡ self.aim }
+        ensures errand { (result.1.message ≡ self.message) × (result.1.name ≡ self.name) }
+        ensures attempt { result.1.attempt ≡ self.attempt }
+    {
         let Hop {
             channel,
             aim,
@@ -227,21 +146,43 @@ impl Hop {
         relay: &mut Relay<FileDisk>,
         is_shared: bool,
         now: &Now,
-    ) -> Result<Course, Fault> {
+    ) -> Result<Course, Fault>
+        ensures errand { KeepsErrand self.old self.new }
+        ensures keeps { self.old.attempt ≢ None → self.new.attempt ≡ self.old.attempt }
+        ensures starts { self.old.attempt ≡ None → self.new.attempt ≢ None
+            → StartsFor now.now.moment self.old.message self.old.name self.new.attempt relay.old relay.new }
+    {
         self.hears = false;
-        let course = match self.attempt {
-            Some(attempt) => self.exchange(relay, attempt, now),
-            None if self.phase == Phase::Connecting => self.connect(now),
-            None => self.await_greeting(relay, is_shared, now)?,
-        };
+        let course = self.go_on(relay, is_shared, now)?;
         if self.hears {
             return Ok(course);
         }
         Ok(self.unless_late(course, now))
     }
 
+    /// Makes the connection, awaits the greeting, writes what waits, or reads.
+    fn go_on(
+        &mut self,
+        relay: &mut Relay<FileDisk>,
+        is_shared: bool,
+        now: &Now,
+    ) -> Result<Course, Fault>
+        ensures errand { KeepsErrand self.old self.new }
+        ensures keeps { self.old.attempt ≢ None → self.new.attempt ≡ self.old.attempt }
+        ensures starts { self.old.attempt ≡ None → self.new.attempt ≢ None
+            → StartsFor now.now.moment self.old.message self.old.name self.new.attempt relay.old relay.new }
+    {
+        match self.attempt {
+            Some(attempt) => Ok(self.exchange(relay, attempt, now)),
+            None if self.phase == Phase::Connecting => Ok(self.connect(now)),
+            None => self.await_greeting(relay, is_shared, now),
+        }
+    }
+
     /// The attempt that may hear what was read, where there is something.
-    pub(crate) fn hearing(&self) -> Option<usize> {
+    pub(crate) fn hearing(&self) -> Option<usize>
+        ensures { result ≡ hearing_of self.now }
+    {
         if self.hears { self.attempt } else { None }
     }
 
@@ -266,7 +207,10 @@ impl Hop {
     }
 
     /// Waits for the greeting, once the connection has come about.
-    fn connect(&mut self, now: &Now) -> Course {
+    fn connect(&mut self, now: &Now) -> Course
+        ensures errand { KeepsErrand self.old self.new }
+        ensures attempt { self.new.attempt ≡ self.old.attempt }
+    {
         if !self.channel.may_write() {
             return Course::Stays;
         }
@@ -292,7 +236,11 @@ impl Hop {
         relay: &mut Relay<FileDisk>,
         is_shared: bool,
         now: &Now,
-    ) -> Result<Course, Fault> {
+    ) -> Result<Course, Fault>
+        ensures errand { KeepsErrand self.old self.new }
+        ensures starts { self.old.attempt ≡ None → self.new.attempt ≢ None
+            → StartsFor now.now.moment self.old.message self.old.name self.new.attempt relay.old relay.new }
+    {
         if !self.channel.fill() {
             return Ok(match self.channel.end() {
                 Some(_) => Course::Lost(Loss::Cut),
@@ -308,7 +256,11 @@ impl Hop {
     }
 
     /// Begins the attempt, which may hear what was read.
-    fn begin(&mut self, relay: &mut Relay<FileDisk>, now: &Now) -> Result<Course, Fault> {
+    fn begin(&mut self, relay: &mut Relay<FileDisk>, now: &Now) -> Result<Course, Fault>
+        ensures errand { KeepsErrand self.old self.new }
+        ensures starts { self.old.attempt ≡ None → self.new.attempt ≢ None
+            → StartsFor now.now.moment self.old.message self.old.name self.new.attempt relay.old relay.new }
+    {
         match relay.start(self.message, &self.name, now.moment) {
             Ok(started) => {
                 self.attempt = Some(started.attempt);
@@ -323,7 +275,10 @@ impl Hop {
     }
 
     /// Writes what waits, or else reads what its attempt may hear.
-    fn exchange(&mut self, relay: &mut Relay<FileDisk>, attempt: usize, now: &Now) -> Course {
+    fn exchange(&mut self, relay: &mut Relay<FileDisk>, attempt: usize, now: &Now) -> Course
+        ensures errand { KeepsErrand self.old self.new }
+        ensures attempt { self.new.attempt ≡ self.old.attempt }
+    {
         self.flush(relay, attempt, now);
         if self.channel.end() == Some(End::Broken) {
             return Course::Lost(Loss::Cut);
@@ -346,16 +301,42 @@ impl Hop {
         }
     }
 
+    /// Takes what came of the octets that its attempt has heard, or lets it hear them alone where they were left unread.
+    pub(crate) fn take_answer(
+        &mut self,
+        relay: &mut Relay<FileDisk>,
+        attempt: usize,
+        answer: Result<Answered, NodeFault>,
+        noted: Option<Noted>,
+        now: &Now,
+    ) -> Result<Course, Fault>
+        ensures errand { KeepsErrand self.old self.new }
+        ensures uses { result ≡ Ok Course.Stays → IsAnswered answer (Some self.old) (Some self.new) }
+    {
+        if was_left(&answer) {
+            self.hear_alone(relay, attempt, now)
+        } else {
+            Ok(self.answer(relay, attempt, answer, noted, now))
+        }
+    }
+
     /// Takes what came of the octets that its attempt has heard, and writes what they lead to at once as far as that
     /// goes. Where they end the attempt, the note is that of its outcome.
-    pub(crate) fn answer(
+    fn answer(
         &mut self,
         relay: &mut Relay<FileDisk>,
         attempt: usize,
         answered: Result<Answered, NodeFault>,
         noted: Option<Noted>,
         now: &Now,
-    ) -> Course {
+    ) -> Course
+        ensures errand { KeepsErrand self.old self.new }
+        ensures attempt { self.new.attempt ≡ self.old.attempt }
+        ensures hears { self.new.hears ≡ false }
+        ensures used { result ≡ Course.Stays → IfOk answered (λ answered. (answered.last ≡ None)
+            × (unread_of self.new.channel ≡ drop answered.used (unread_of self.old.channel))) }
+        ensures fault { result ≡ Course.Stays → IsOk answered }
+    {
         self.hears = false;
         // At a fault the attempt is gone, and its message stays due.
         let Ok(answered) = answered else {
@@ -377,12 +358,17 @@ impl Hop {
     }
 
     /// Lets its attempt hear what was read by a call of its own.
-    pub(crate) fn hear_alone(
+    fn hear_alone(
         &mut self,
         relay: &mut Relay<FileDisk>,
         attempt: usize,
         now: &Now,
-    ) -> Result<Course, Fault> {
+    ) -> Result<Course, Fault>
+        ensures errand { KeepsErrand self.old self.new }
+        ensures attempt { self.new.attempt ≡ self.old.attempt }
+        ensures used { result ≡ Ok Course.Stays → (used : ℕ)
+            × (unread_of self.new.channel ≡ drop used (unread_of self.old.channel)) }
+    {
         let answered = relay.reply(attempt, self.channel.piece(), now.moment);
         if answered.as_ref().err() == Some(&NodeFault::Stopped) {
             return Err(Fault::Device);
@@ -396,13 +382,22 @@ impl Hop {
     }
 
     /// It has as long from now on as what it is waited for may take.
-    fn wait_on(&mut self, relay: &Relay<FileDisk>, attempt: usize, now: &Now) {
+    fn wait_on(&mut self, relay: &Relay<FileDisk>, attempt: usize, now: &Now)
+        ensures errand { KeepsErrand self.old self.new }
+        ensures attempt { self.new.attempt ≡ self.old.attempt }
+        ensures channel { (self.new.channel ≡ self.old.channel) × (self.new.hears ≡ self.old.hears) }
+    {
         let writes = !relay.to_hop(attempt).is_empty();
         self.idle_deadline = now.behind(self.phase.seconds(writes));
     }
 
     /// Writes what waits for the next hop as far as that goes at once.
-    fn flush(&mut self, relay: &mut Relay<FileDisk>, attempt: usize, now: &Now) {
+    fn flush(&mut self, relay: &mut Relay<FileDisk>, attempt: usize, now: &Now)
+        ensures errand { KeepsErrand self.old self.new }
+        ensures attempt { self.new.attempt ≡ self.old.attempt }
+        ensures unread { unread_of self.new.channel ≡ unread_of self.old.channel }
+        ensures hears { self.new.hears ≡ self.old.hears }
+    {
         for _ in 0..WRITE_LIMIT {
             let count = self.channel.write(relay.to_hop(attempt));
             if count == 0 || relay.to_hop(attempt).len() < count {
@@ -412,21 +407,5 @@ impl Hop {
             self.wait_on(relay, attempt, now);
             self.answer_deadline = now.behind(ANSWER_SECONDS);
         }
-    }
-}
-
-/// Whether the attempt of an answer has ended, with an outcome.
-pub(crate) fn has_ended(answer: &Result<Answered, NodeFault>) -> bool {
-    match answer {
-        Ok(answered) => answered.change.is_some(),
-        Err(_) => false,
-    }
-}
-
-/// Whether a reply was left unread, since the call took no more.
-pub(crate) fn was_left(answer: &Result<Answered, NodeFault>) -> bool {
-    match answer {
-        Ok(answered) => answered.used == 0 && answered.last.is_none(),
-        Err(_) => false,
     }
 }

@@ -1,19 +1,24 @@
-ghost use Rattle.std.specs.Prelude.{◌≡◌, ◌≤◌, ℕ, IfOk, true};
-ghost use Rattle.relay_slots.specs.Slots.{AreFree};
+ghost use Rattle.std.specs.Prelude.{◌≡◌, ◌<◌, ◌≤◌, ℕ, IfErr, IfOk, List, None, OnOk, length, true};
+ghost use Rattle.relay_routes.specs.Routes.{Route};
+ghost use Rattle.relay_slots.specs.Slots.{AreFree, OthersStay, slot_at};
+ghost use Rattle.relay_limits.specs.declared.pace.Pace.{Pace};
+ghost use Rattle.relay_next_hops.specs.Counts.{CountsMatch, CountsMatchWith};
+ghost use Rattle.relay_next_hops.specs.Errands.{AreAimed, IsAimed, PutsFor, left_of};
+ghost use Rattle.relay_next_hops.specs.Lanes.{KeepsCounts};
 ghost use Rattle.relay_next_hops.specs.Readiness.{IsLeftHop};
 
 use crate::ending::conclude;
-use crate::hop::{Aim, Course, Hop, has_ended, was_left};
+use crate::errand::{Aim, Course};
+use crate::hop::Hop;
 use crate::lane::Task;
 use crate::lanes::Lanes;
 use mio::Registry;
 use mio::net::TcpStream;
-use relay_connections::{Channel, Leaving, Now, Readiness, Replied, Table, holds, turned};
+use relay_connections::{Channel, Leaving, Now, Readiness, Table, holds, turned};
 use relay_disk::FileDisk;
 use relay_files::Fault;
-use relay_log::{Log, Loss};
-use relay_loop::{Answered, Relay, ReplyPiece};
-use relay_node::{NodeFault, Noted};
+use relay_log::Log;
+use relay_loop::Relay;
 use relay_routes::HostName;
 use relay_slots::SLOT_COUNT;
 use std::alloc::{AllocError, Global};
@@ -23,16 +28,12 @@ use std::net::{Net, SocketAddr, SocketAddrV4};
 /// The most connections that are lost at a turn. Each takes two syncs, for which clients wait.
 const MOST_LOSSES: usize = 4;
 
-/// The most attempts that hear their replies alone at a turn, where the call for all took no more. Each may take two
-/// syncs.
-const MOST_ALONE: usize = 4;
-
 /// The connections to next hops, up to 64.
 pub(crate) struct Hops {
-    alloc: Global,
-    hops: Table<Hop>,
+    pub(crate) alloc: Global,
+    pub(crate) hops: Table<Hop>,
     /// Which is served first at the next turn.
-    first: usize,
+    pub(crate) first: usize,
 }
 
 // Written out, so that what drops them calls this, and doesn't look into each.
@@ -99,8 +100,11 @@ impl Hops {
     }
 
     /// Closes all connections.
-    pub(crate) fn clear(&mut self) {
-        for number in 0..SLOT_COUNT {
+    pub(crate) fn clear(&mut self)
+        ensures { AreFree self.new.hops }
+    {
+        let count = self.hops.standing().len();
+        for number in 0..count {
             let _hop = self.hops.take(number);
         }
     }
@@ -112,15 +116,19 @@ impl Hops {
         registry: &Registry,
         number: usize,
         task: Task,
-        aim: Aim,
+        aim: &Aim,
         tells: bool,
         now: &Now,
-    ) -> Result<(), (Task, io::Error)> {
+    ) -> Result<(), (Task, io::Error)>
+        ensures made { number < length self.old.hops
+            → OnOk result (PutsFor aim.now task.message task.hop number self.old.hops self.new.hops) }
+        ensures failed { IfErr result (λ refused. (refused.0 ≡ task) × (self.new ≡ self.old)) }
+    {
         let token = Hops::FIRST_TOKEN.saturating_add(number);
         match connecting(self.alloc, net, registry, token, aim.at) {
             Ok(channel) => {
                 let (message, name) = task.into_parts();
-                let hop = Hop::new(self.alloc, channel, aim, message, name, tells, now);
+                let hop = Hop::new(self.alloc, channel, *aim, message, name, tells, now);
                 self.hops.put(number, hop);
                 Ok(())
             }
@@ -129,7 +137,10 @@ impl Hops {
     }
 
     /// The system tells what the connection of a number may be ready for.
-    pub(crate) fn note(&mut self, number: usize, ready: Readiness) {
+    pub(crate) fn note(&mut self, number: usize, ready: Readiness)
+        ensures counts { (paces : List Pace) → CountsMatch self.old.hops paces → CountsMatch self.new.hops paces }
+        ensures aimed { (routes : List Route) → AreAimed routes self.old.hops → AreAimed routes self.new.hops }
+    {
         if let Some(taken) = self.hops.take(number) {
             let mut hop = taken;
             hop.channel.note(ready);
@@ -147,7 +158,11 @@ impl Hops {
         leaving: &mut Leaving,
         now: &Now,
         log: &mut Log<'_, Vec<u8>>,
-    ) -> Result<bool, Fault> {
+    ) -> Result<bool, Fault>
+        ensures counts { CountsMatch self.old.hops lanes.old.paces
+            → OnOk result (CountsMatch self.new.hops lanes.new.paces) }
+        ensures aimed { (routes : List Route) → AreAimed routes self.old.hops → AreAimed routes self.new.hops }
+    {
         let mut closed: usize = 0;
         let count = self.hops.standing().len();
         for step in 0..count {
@@ -177,7 +192,11 @@ impl Hops {
         leaving: &mut Leaving,
         now: &Now,
         log: &mut Log<'_, Vec<u8>>,
-    ) -> Result<bool, Fault> {
+    ) -> Result<bool, Fault>
+        ensures counts { CountsMatch self.old.hops lanes.old.paces
+            → OnOk result (CountsMatch self.new.hops lanes.new.paces) }
+        ensures aimed { (routes : List Route) → AreAimed routes self.old.hops → AreAimed routes self.new.hops }
+    {
         let Some(taken) = self.hops.take(number) else {
             return Ok(false);
         };
@@ -185,16 +204,14 @@ impl Hops {
         let had_spoken = hop.has_spoken;
         let is_shared = lanes.is_shared(&hop.aim);
         let course = hop.attend(relay, is_shared, now)?;
-        if hop.has_spoken && !had_spoken {
-            lanes.answered(hop.aim.lane);
-        }
+        note_spoken(&hop, had_spoken, lanes);
         self.settle(
             number, hop, course, registry, relay, lanes, leaving, now, log,
         )
     }
 
     /// Puts a connection where it belongs behind what was done with it. It tells whether it stays.
-    fn settle(
+    pub(crate) fn settle(
         &mut self,
         number: usize,
         hop: Hop,
@@ -205,146 +222,27 @@ impl Hops {
         leaving: &mut Leaving,
         now: &Now,
         log: &mut Log<'_, Vec<u8>>,
-    ) -> Result<bool, Fault> {
-        if matches!(&course, Course::Stays) {
-            self.hops.put(number, hop);
-            return Ok(true);
-        }
-        let ended = hop.into_parts();
-        conclude(registry, relay, lanes, leaving, ended, course, now, log)?;
-        Ok(false)
-    }
-
-    /// What was read of each of them whose attempt may hear it, the first of them first. It fails where memory runs
-    /// out.
-    pub(crate) fn replies(&self) -> Result<Vec<ReplyPiece<'_>>, AllocError> {
-        let mut replies = Vec::new(self.alloc);
-        let hops = self.hops.standing();
-        for step in 0..hops.len() {
-            if let Some(Some(hop)) = hops.get(turned(self.first, step, hops.len())) {
-                if let Some(attempt) = hop.hearing() {
-                    replies.push(ReplyPiece {
-                        attempt,
-                        octets: hop.channel.piece(),
-                    })?;
-                }
+    ) -> Result<bool, Fault>
+        ensures own { slot_at self.old.hops number ≡ None → number < length self.old.hops
+            → slot_at self.new.hops number ≡ left_of course hop }
+        ensures others { OthersStay self.old.hops self.new.hops number }
+        ensures first { self.new.first ≡ self.old.first }
+        ensures counts { CountsMatchWith hop self.old.hops lanes.old.paces → slot_at self.old.hops number ≡ None
+            → number < length self.old.hops → OnOk result (CountsMatch self.new.hops lanes.new.paces) }
+        ensures aimed { (routes : List Route) → IsAimed routes hop → AreAimed routes self.old.hops
+            → AreAimed routes self.new.hops }
+    {
+        match course {
+            Course::Stays => {
+                self.hops.put(number, hop);
+                Ok(true)
+            }
+            course => {
+                let ended = hop.into_parts();
+                conclude(registry, relay, lanes, leaving, ended, course, now, log)?;
+                Ok(false)
             }
         }
-        Ok(replies)
-    }
-
-    /// Takes what came of the replies, in the order in which they were told. It tells whether a connection was closed.
-    /// Where clients have brought so much that replies were left unread, a few are heard even so, each time others.
-    /// Where no memory was left to hear them, the first of them is lost.
-    pub(crate) fn answer(
-        &mut self,
-        replied: Option<Replied>,
-        registry: &Registry,
-        relay: &mut Relay<FileDisk>,
-        lanes: &mut Lanes,
-        leaving: &mut Leaving,
-        now: &Now,
-        log: &mut Log<'_, Vec<u8>>,
-    ) -> Result<bool, Fault> {
-        let Some(Replied { answered, notes }) = replied else {
-            return self.lose_one(registry, relay, lanes, leaving, now, log);
-        };
-        // The outcomes of attempts come behind the mail of clients.
-        let others = notes.len().saturating_sub(count_ended(answered.as_slice()));
-        let mut notes = notes.into_iter().skip(others);
-        let mut answers = answered.into_iter();
-        let mut alone = MOST_ALONE;
-        let mut closed = false;
-        let count = self.hops.standing().len();
-        for step in 0..count {
-            let number = turned(self.first, step, count);
-            let Some(attempt) = self.hearing_at(number) else {
-                continue;
-            };
-            let Some(answer) = answers.next() else {
-                return Ok(closed);
-            };
-            let noted = if has_ended(&answer) {
-                notes.next()
-            } else {
-                None
-            };
-            if was_left(&answer) {
-                if alone == 0 {
-                    continue;
-                }
-                alone -= 1;
-            }
-            closed |= !self.answer_one(
-                number, attempt, answer, noted, registry, relay, lanes, leaving, now, log,
-            )?;
-        }
-        Ok(closed)
-    }
-
-    /// The attempt of a number that may hear what was read, where there is one.
-    fn hearing_at(&self, number: usize) -> Option<usize> {
-        match self.hops.standing().get(number) {
-            Some(Some(hop)) => hop.hearing(),
-            _ => None,
-        }
-    }
-
-    /// Takes what came of the reply to the attempt of a number, which hears it now where it was left unread. It tells
-    /// whether its connection stays.
-    fn answer_one(
-        &mut self,
-        number: usize,
-        attempt: usize,
-        answer: Result<Answered, NodeFault>,
-        noted: Option<Noted>,
-        registry: &Registry,
-        relay: &mut Relay<FileDisk>,
-        lanes: &mut Lanes,
-        leaving: &mut Leaving,
-        now: &Now,
-        log: &mut Log<'_, Vec<u8>>,
-    ) -> Result<bool, Fault> {
-        let Some(taken) = self.hops.take(number) else {
-            return Ok(false);
-        };
-        let mut hop = taken;
-        let course = if was_left(&answer) {
-            hop.hear_alone(relay, attempt, now)?
-        } else {
-            hop.answer(relay, attempt, answer, noted, now)
-        };
-        self.settle(
-            number, hop, course, registry, relay, lanes, leaving, now, log,
-        )
-    }
-
-    /// Gives the first of those up whose attempts may hear something, since no memory is left. It tells whether there
-    /// was one.
-    fn lose_one(
-        &mut self,
-        registry: &Registry,
-        relay: &mut Relay<FileDisk>,
-        lanes: &mut Lanes,
-        leaving: &mut Leaving,
-        now: &Now,
-        log: &mut Log<'_, Vec<u8>>,
-    ) -> Result<bool, Fault> {
-        let count = self.hops.standing().len();
-        for step in 0..count {
-            let number = turned(self.first, step, count);
-            if self.hearing_at(number).is_none() {
-                continue;
-            }
-            let Some(hop) = self.hops.take(number) else {
-                return Ok(false);
-            };
-            let ended = hop.into_parts();
-            let lost = Course::Lost(Loss::Cut);
-            conclude(registry, relay, lanes, leaving, ended, lost, now, log)?;
-            return Ok(true);
-        }
-        Ok(false)
     }
 
     /// Whether one is left with something to be done at once.
@@ -392,7 +290,11 @@ fn connecting<N: Net>(
     Ok(channel)
 }
 
-/// How many of these attempts have ended with an outcome.
-fn count_ended(answers: &[Result<Answered, NodeFault>]) -> usize {
-    answers.iter().filter(|answer| has_ended(answer)).count()
+/// Takes note where the next hop of a connection has said something for the first time.
+fn note_spoken(hop: &Hop, had_spoken: bool, lanes: &mut Lanes)
+    ensures counts { KeepsCounts lanes.old lanes.new }
+{
+    if hop.has_spoken && !had_spoken {
+        lanes.answered(hop.aim.lane);
+    }
 }

@@ -1,13 +1,11 @@
-ghost use Rattle.std.specs.Prelude.{◌≡◌, [], ◌++◌, None, IfSome, option_to_list};
-ghost use Rattle.relay_limits.specs.Pace.{MayBegin};
+//! What is due for the next hops at one place.
+ghost use Rattle.std.specs.Prelude.{◌≡◌, ◌↔◌, [], ◌∷◌, ◌++◌, IsTrue, None, false, option_map, option_to_list};
+ghost use Rattle.std.specs.Prelude.{slice_get};
 
-use relay_connections::Now;
-use relay_limits::Pace;
 use relay_routes::HostName;
 use std::alloc::Global;
 use std::collections::VecDeque;
 use std::mem;
-use std::net::SocketAddrV4;
 
 /// A message that is due, and the next hop that it is for.
 pub(crate) struct Task {
@@ -27,17 +25,16 @@ impl Drop for Task {
 
 impl Task {
     /// The message, and the name of its next hop.
-    pub(crate) fn into_parts(self) -> (u64, HostName) {
+    pub(crate) fn into_parts(self) -> (u64, HostName)
+        ensures { result ≡ (self.message, self.hop) }
+    {
         let Task { message, hop } = self;
         (message, hop)
     }
 }
 
-/// What is due for the next hops at one place, and how many connections to it there are.
+/// What is due for the next hops at one place, in the order in which it is begun.
 pub(crate) struct Lane {
-    pub(crate) at: SocketAddrV4,
-    /// How many connections there are, and whether the place is left alone.
-    pub(crate) pace: Pace,
     tasks: VecDeque<Task>,
     /// What was due before the lane was emptied.
     bygone: VecDeque<Task>,
@@ -47,8 +44,6 @@ pub(crate) struct Lane {
 impl Drop for Lane {
     fn drop(self) {
         let Lane {
-            at: _,
-            pace: _,
             tasks: _tasks,
             bygone: _bygone,
         } = self;
@@ -56,11 +51,11 @@ impl Drop for Lane {
 }
 
 impl Lane {
-    /// Nothing is due for this place yet.
-    pub(crate) fn new(alloc: Global, at: SocketAddrV4) -> Self {
+    /// Nothing is due yet. It takes no memory.
+    pub(crate) fn new(alloc: Global) -> Self
+        ensures { result.tasks.items ≡ [] }
+    {
         Lane {
-            at,
-            pace: Pace::new(),
             tasks: VecDeque::new(alloc),
             bygone: VecDeque::new(alloc),
         }
@@ -75,7 +70,9 @@ impl Lane {
     }
 
     /// Lets go of what was due before, up to so much.
-    pub(crate) fn let_go(&mut self, most: usize) {
+    pub(crate) fn let_go(&mut self, most: usize)
+        ensures { self.new.tasks ≡ self.old.tasks }
+    {
         for _ in 0..most {
             if self.bygone.pop_front().is_none() {
                 return;
@@ -84,7 +81,9 @@ impl Lane {
     }
 
     /// Whether nothing is due.
-    pub(crate) fn is_empty(&self) -> bool {
+    pub(crate) fn is_empty(&self) -> bool
+        ensures { IsTrue result ↔ (self.now.tasks.items ≡ []) }
+    {
         self.tasks.is_empty()
     }
 
@@ -97,44 +96,37 @@ impl Lane {
             .any(|task| task.hop.as_slice() == hop.as_slice())
     }
 
-    /// Something more is due. Where no memory is left for it, it is left out.
-    pub(crate) fn push(&mut self, task: Task) {
-        let _ = self.tasks.push_back(task);
-    }
-
-    /// Puts a task that was taken back before the others. Where no memory is left for it, it is left out.
-    pub(crate) fn put_back(&mut self, task: Task) {
-        let _ = self.tasks.push_front(task);
-    }
-
-    /// Takes the next task, where there is one, and one more connection may be begun beside those that stand, of `most`
-    /// at most.
-    pub(crate) fn next(&mut self, most: usize, now: &Now) -> Option<Task>
-        ensures begins { IfSome result (λ _. MayBegin most now.now.tick self.old.pace) }
-        ensures tasks { self.old.tasks.items ≡ option_to_list result ++ self.new.tasks.items }
-        ensures none { result ≡ None → MayBegin most now.now.tick self.old.pace → self.old.tasks.items ≡ [] }
-        ensures pace { self.new.pace ≡ self.old.pace }
+    /// Adds a task after the others, and returns whether memory was left for it.
+    pub(crate) fn push(&mut self, task: Task) -> bool
+        ensures pushed { IsTrue result → self.new.tasks.items ≡ self.old.tasks.items ++ task ∷ [] }
+        ensures failed { result ≡ false → self.new.tasks.items ≡ self.old.tasks.items }
     {
-        if self.pace.may_begin(most, now.tick) {
-            self.tasks.pop_front()
-        } else {
-            None
-        }
+        self.tasks.push_back(task).is_ok()
     }
 
-    /// The message of the next task, where the place is left alone.
-    pub(crate) fn held_message(&self, now: &Now) -> Option<u64> {
-        if !self.pace.is_held(now.tick) {
-            return None;
-        }
+    /// Puts a task that was taken back before the others, and returns whether memory was left for it.
+    pub(crate) fn put_back(&mut self, task: Task) -> bool
+        ensures pushed { IsTrue result → self.new.tasks.items ≡ task ∷ self.old.tasks.items }
+        ensures failed { result ≡ false → self.new.tasks.items ≡ self.old.tasks.items }
+    {
+        self.tasks.push_front(task).is_ok()
+    }
+
+    /// Returns the message of the next task.
+    pub(crate) fn next_message(&self) -> Option<u64>
+        ensures { result ≡ option_map (λ task. task.message) (slice_get self.now.tasks.items 0) }
+    {
         match self.tasks.front() {
             Some(task) => Some(task.message),
             None => None,
         }
     }
 
-    /// Takes the next task, whether one may be begun or not.
-    pub(crate) fn pop(&mut self) -> Option<Task> {
+    /// Takes the next task.
+    pub(crate) fn pop(&mut self) -> Option<Task>
+        ensures tasks { self.old.tasks.items ≡ option_to_list result ++ self.new.tasks.items }
+        ensures none { result ≡ None → self.old.tasks.items ≡ [] }
+    {
         self.tasks.pop_front()
     }
 }

@@ -1,20 +1,29 @@
 //! What is due, by the places of the next hops, and which of it may be begun.
-ghost use Rattle.std.specs.Prelude.{◌≤◌};
+ghost use Rattle.std.specs.Prelude.{◌≡◌, ◌≤◌, ◌↔◌, ◌++◌, [], IfSome, IsTrue, None};
+ghost use Rattle.std.specs.Prelude.{option_to_list, slice_get, true};
+ghost use Rattle.relay_next_hops.specs.Lanes.{IsNew, IsPutBack, KeepsCounts, KeepsPlaces, first_message};
+ghost use Rattle.relay_next_hops.specs.Lanes.{tasks_at};
+ghost use Rattle.relay_next_hops.specs.Paces.{HasLane, IsHeldAt, MayBeginAt, RunsOneLess, RunsOneMore};
 
-use crate::hop::Aim;
+use crate::errand::Aim;
 use crate::lane::{Lane, Task};
 use crate::numbers::Numbers;
+use crate::paces::Paces;
+use crate::places::Places;
 use relay_connections::{Leaving, Now};
 use std::alloc::Global;
-use std::collections::{HashMap, VecDeque};
+use std::collections::VecDeque;
 use std::net::SocketAddrV4;
 
 /// What is due.
 pub(crate) struct Lanes {
     pub(crate) alloc: Global,
+    /// The place of each lane, by number.
+    pub(crate) places: Places,
+    /// How many connections to each place there are, and whether it is left alone.
+    pub(crate) paces: Paces,
+    /// What is due for each place.
     pub(crate) lanes: Vec<Lane>,
-    /// The number of the lane for a place.
-    pub(crate) numbers: HashMap<u64, usize>,
     /// The messages with places that have no hop.
     pub(crate) unroutable: VecDeque<u64>,
     /// The most connections to one place.
@@ -54,8 +63,9 @@ impl Drop for Lanes {
     fn drop(self) {
         let Lanes {
             alloc: _,
+            places: _places,
+            paces: _paces,
             lanes: _lanes,
-            numbers: _numbers,
             unroutable: _unroutable,
             most: _,
             next_number: _,
@@ -78,11 +88,14 @@ impl Drop for Lanes {
 
 impl Lanes {
     /// Nothing is listed yet. At most so many connections will go to one place.
-    pub(crate) fn new(alloc: Global, most: usize) -> Self {
+    pub(crate) fn new(alloc: Global, most: usize) -> Self
+        ensures { IsNew most result }
+    {
         Lanes {
             alloc,
+            places: Places::new(alloc),
+            paces: Paces::new(alloc),
             lanes: Vec::new(alloc),
-            numbers: HashMap::new(alloc),
             unroutable: VecDeque::new(alloc),
             most,
             next_number: 0,
@@ -103,7 +116,9 @@ impl Lanes {
     }
 
     /// The same as when nothing was listed yet, for a relay that was opened again.
-    pub(crate) fn renewed(self) -> Self {
+    pub(crate) fn renewed(self) -> Self
+        ensures { IsNew self.most result }
+    {
         Lanes::new(self.alloc, self.most)
     }
 
@@ -113,7 +128,9 @@ impl Lanes {
     }
 
     /// All was begun that may be.
-    pub(crate) fn close(&mut self) {
+    pub(crate) fn close(&mut self)
+        ensures counts { KeepsCounts self.old self.new }
+    {
         self.is_open = false;
     }
 
@@ -133,62 +150,104 @@ impl Lanes {
     }
 
     /// Begins with the next lane from now on.
-    pub(crate) fn turn(&mut self) {
+    pub(crate) fn turn(&mut self)
+        ensures counts { KeepsCounts self.old self.new }
+    {
         self.first = self.first.saturating_add(1);
         if self.lanes.len() <= self.first {
             self.first = 0;
         }
     }
 
-    /// Takes the next task of a lane that may be begun, and where it goes.
-    pub(crate) fn next(&mut self, number: usize, now: &Now) -> Option<(Task, SocketAddrV4)> {
-        let most = self.most;
-        match self.lanes.get_mut(number) {
-            Some(lane) => {
-                let at = lane.at;
-                lane.next(most, now).map(|task| (task, at))
-            }
-            None => None,
+    /// Takes the next task of a lane, if one more of its connections may be begun.
+    pub(crate) fn next(&mut self, number: usize, now: &Now) -> Option<Task>
+        ensures begins { IfSome result (λ _. MayBeginAt self.old.most now.now.tick self.old.paces number) }
+        ensures tasks { tasks_at self.old number ≡ option_to_list result ++ tasks_at self.new number }
+        ensures none { result ≡ None → MayBeginAt self.old.most now.now.tick self.old.paces number
+            → tasks_at self.old number ≡ [] }
+        ensures counts { KeepsCounts self.old self.new }
+        ensures paces { self.new.paces ≡ self.old.paces }
+    {
+        if self.paces.may_begin(number, self.most, now.tick) {
+            self.pop(number)
+        } else {
+            None
         }
     }
 
-    /// The message of the next task of a lane whose place is left alone.
-    pub(crate) fn held_message(&self, number: usize, now: &Now) -> Option<u64> {
+    /// Returns the message of the next task of a lane whose place is left alone.
+    pub(crate) fn held_message(&self, number: usize, now: &Now) -> Option<u64>
+        ensures held { IfSome result (λ _. IsHeldAt now.now.tick self.now.paces number) }
+        ensures first { IsHeldAt now.now.tick self.now.paces number
+            → result ≡ first_message (tasks_at self.now number) }
+    {
+        if self.paces.is_held(number, now.tick) {
+            self.next_message(number)
+        } else {
+            None
+        }
+    }
+
+    /// Returns the message of the next task of a lane.
+    fn next_message(&self, number: usize) -> Option<u64>
+        ensures { result ≡ first_message (tasks_at self.now number) }
+    {
         match self.lanes.get(number) {
-            Some(lane) => lane.held_message(now),
+            Some(lane) => lane.next_message(),
             None => None,
         }
     }
 
     /// Takes the next task of a lane, whether one may be begun or not.
-    pub(crate) fn pop(&mut self, number: usize) -> Option<Task> {
+    pub(crate) fn pop(&mut self, number: usize) -> Option<Task>
+        ensures tasks { tasks_at self.old number ≡ option_to_list result ++ tasks_at self.new number }
+        ensures none { result ≡ None → tasks_at self.old number ≡ [] }
+        ensures counts { KeepsCounts self.old self.new }
+        ensures paces { self.new.paces ≡ self.old.paces }
+    {
         match self.lanes.get_mut(number) {
             Some(lane) => lane.pop(),
             None => None,
         }
     }
 
-    /// Puts a task that was taken back, unless its message is listed anyway.
-    pub(crate) fn put_back(&mut self, number: usize, task: Task) {
+    /// Puts a task that was taken back, unless its message is listed anyway. If memory runs out, it is listed anew.
+    pub(crate) fn put_back(&mut self, number: usize, task: Task)
+        ensures back { IsPutBack number task self.old self.new }
+        ensures counts { KeepsCounts self.old self.new }
+    {
         if self.queued.is_to_come(task.message) {
             return;
         }
         if let Some(lane) = self.lanes.get_mut(number) {
-            lane.put_back(task);
+            if !lane.put_back(task) {
+                self.is_stale = true;
+            }
         }
     }
 
     /// The place of a lane.
-    pub(crate) fn place_of(&self, number: usize) -> Option<SocketAddrV4> {
-        match self.lanes.get(number) {
-            Some(lane) => Some(lane.at),
-            None => None,
-        }
+    pub(crate) fn place_of(&self, number: usize) -> Option<SocketAddrV4>
+        ensures { result ≡ slice_get self.now.places number }
+    {
+        self.places.get(number)
     }
 
     /// Takes the next message with places that have no hop.
-    pub(crate) fn next_unroutable(&mut self) -> Option<u64> {
+    pub(crate) fn next_unroutable(&mut self) -> Option<u64>
+        ensures next { self.old.unroutable.items ≡ option_to_list result ++ self.new.unroutable.items }
+        ensures counts { KeepsCounts self.old self.new }
+    {
         self.unroutable.pop_front()
+    }
+
+    /// All that is due is to be listed anew.
+    pub(crate) fn list_anew(&mut self)
+        ensures stale { self.new.is_stale ≡ true }
+        ensures unroutable { self.new.unroutable ≡ self.old.unroutable }
+        ensures counts { KeepsCounts self.old self.new }
+    {
+        self.is_stale = true;
     }
 
     /// Whether such a message is left, something was listed since it was last begun what may be, or it goes on to list
@@ -198,33 +257,36 @@ impl Lanes {
     }
 
     /// A connection of a lane is made.
-    pub(crate) fn began(&mut self, number: usize) {
-        if let Some(lane) = self.lanes.get_mut(number) {
-            lane.pace.began();
-        }
+    #[tactic(auto, using(crate::proofs::PaceLemmas::begun_runs))]
+    pub(crate) fn began(&mut self, number: usize)
+        ensures runs { HasLane self.old.paces number → RunsOneMore number self.old.paces self.new.paces }
+        ensures places { KeepsPlaces self.old self.new }
+    {
+        self.paces.began(number);
     }
 
     /// A connection of a lane is gone, and what is due next may be another.
-    pub(crate) fn ended(&mut self, number: usize) {
+    pub(crate) fn ended(&mut self, number: usize)
+        ensures runs { RunsOneLess number self.old.paces self.new.paces }
+        ensures places { KeepsPlaces self.old self.new }
+    {
         self.is_unsure = true;
         self.is_open = true;
-        if let Some(lane) = self.lanes.get_mut(number) {
-            lane.pace.ended();
-        }
+        self.paces.ended(number);
     }
 
     /// The next hop of a lane has said something: more may be begun.
-    pub(crate) fn answered(&mut self, number: usize) {
-        if let Some(lane) = self.lanes.get_mut(number) {
-            lane.pace.answered();
-            self.is_open = true;
-        }
+    pub(crate) fn answered(&mut self, number: usize)
+        ensures counts { KeepsCounts self.old self.new }
+    {
+        self.paces.answered(number);
+        self.is_open = true;
     }
 
     /// How many connections of a lane stand.
     pub(crate) fn standing(&self, number: usize) -> usize {
-        match self.lanes.get(number) {
-            Some(lane) => lane.pace.standing(),
+        match self.paces.get(number) {
+            Some(pace) => pace.standing(),
             None => 0,
         }
     }
@@ -236,67 +298,72 @@ impl Lanes {
     }
 
     /// A connection of a lane may be leaving.
-    pub(crate) fn note_leaving_of(&mut self, number: usize, leaving: &Leaving) {
-        if let Some(lane) = self.lanes.get_mut(number) {
-            lane.pace.note_leaving(leaving.count_to(number));
-        }
+    pub(crate) fn note_leaving_of(&mut self, number: usize, leaving: &Leaving)
+        ensures counts { KeepsCounts self.old self.new }
+    {
+        self.paces.note_leaving(number, leaving.count_to(number));
     }
 
     /// Connections that were leaving are closed: more may be begun where the next hop takes no more than stood.
-    pub(crate) fn note_leaving(&mut self, leaving: &Leaving) {
-        for (number, lane) in self.lanes.iter_mut().enumerate() {
-            if lane.pace.has_leaving() {
-                lane.pace.note_leaving(leaving.count_to(number));
+    pub(crate) fn note_leaving(&mut self, leaving: &Leaving)
+        ensures counts { KeepsCounts self.old self.new }
+    {
+        for number in 0..self.lanes.len() {
+            if self.has_leaving(number) {
+                self.note_leaving_of(number, leaving);
                 self.is_open = true;
             }
         }
     }
 
+    fn has_leaving(&self, number: usize) -> bool {
+        match self.paces.get(number) {
+            Some(pace) => pace.has_leaving(),
+            None => false,
+        }
+    }
+
     /// Whether the next hop of a lane has said something since it was left alone last.
     pub(crate) fn has_answered(&self, number: usize) -> bool {
-        match self.lanes.get(number) {
-            Some(lane) => lane.pace.has_answered(),
+        match self.paces.get(number) {
+            Some(pace) => pace.has_answered(),
             None => false,
         }
     }
 
     /// The next hop of a lane takes no more connections than those that stand: the task of one that it refused is the
     /// lane's next again.
-    pub(crate) fn turn_away(&mut self, number: usize, task: Task) {
-        if let Some(lane) = self.lanes.get_mut(number) {
-            lane.pace.lower_limit();
-        }
+    pub(crate) fn turn_away(&mut self, number: usize, task: Task)
+        ensures counts { KeepsCounts self.old self.new }
+    {
+        self.paces.lower_limit(number);
         self.put_back(number, task);
     }
 
     /// An attempt of a lane has ended well: its next hop may take one more connection.
-    pub(crate) fn ended_well(&mut self, number: usize) {
-        if let Some(lane) = self.lanes.get_mut(number) {
-            lane.pace.raise_limit();
-        }
+    pub(crate) fn ended_well(&mut self, number: usize)
+        ensures counts { KeepsCounts self.old self.new }
+    {
+        self.paces.raise_limit(number);
     }
 
     /// Whether the place of a lane is left alone.
-    pub(crate) fn is_held(&self, number: usize, now: &Now) -> bool {
-        match self.lanes.get(number) {
-            Some(lane) => lane.pace.is_held(now.tick),
-            None => false,
-        }
+    pub(crate) fn is_held(&self, number: usize, now: &Now) -> bool
+        ensures { IsTrue result ↔ IsHeldAt now.now.tick self.now.paces number }
+    {
+        self.paces.is_held(number, now.tick)
     }
 
     /// Leaves the place of a lane alone, and tells for how many seconds, unless it is already.
-    pub(crate) fn hold(&mut self, number: usize, now: &Now) -> Option<u64> {
+    pub(crate) fn hold(&mut self, number: usize, now: &Now) -> Option<u64>
+        ensures counts { KeepsCounts self.old self.new }
+    {
         if self.is_held(number, now) {
             return None;
         }
-        match self.lanes.get_mut(number) {
-            Some(lane) => {
-                let seconds = lane.pace.hold(now.tick);
-                self.next_hold_end = self.next_hold_end.min(now.behind(seconds));
-                Some(seconds)
-            }
-            None => None,
-        }
+        let seconds = self.paces.hold(number, now.tick)?;
+        self.next_hold_end = self.next_hold_end.min(now.behind(seconds));
+        Some(seconds)
     }
 
     /// The tick at which something is to be done, or the given one where that is earlier. It is never later than the

@@ -2,6 +2,8 @@
 #![tactic(auto)]
 
 mod ending;
+mod errand;
+mod hearing;
 mod hop;
 mod hops;
 mod lane;
@@ -9,7 +11,9 @@ mod lanes;
 mod listing;
 mod next_hops;
 mod numbers;
+mod paces;
 mod phase;
+mod places;
 mod spares;
 mod starting;
 

@@ -7,16 +7,21 @@
 //! then, but for the next hops to which a connection for it is being made or stands. Before that nothing of it is
 //! listed: what a next hop turns away of it isn't put back. Each that comes later is listed when it comes, and the
 //! walk passes it by.
+ghost use Rattle.std.specs.Prelude.{◌≡◌, IfSome, Some, option_copied, option_map, slice_get, true};
+ghost use Rattle.relay_attempts.specs.Hops.{hop_name, hop_of_place};
+ghost use Rattle.relay_next_hops.specs.Lanes.{IsListedUnroutable, KeepsCounts, KeepsListed, ListsMore};
+
 use crate::hops::Hops;
 use crate::lane::{Lane, Task};
 use crate::lanes::Lanes;
 use crate::numbers::Numbers;
 use relay_connections::{Now, tick_of};
 use relay_disk::FileDisk;
+use relay_envelope::{PathBuf, Recipient};
 use relay_files::Fault;
 use relay_loop::Relay;
 use relay_node::NodeFault;
-use relay_routes::HostName;
+use relay_routes::{Hop, HostName, Table};
 use relay_trace::Moment;
 use std::net::SocketAddrV4;
 use std::rt::Clock;
@@ -65,7 +70,9 @@ impl Lanes {
         relay: &Relay<FileDisk>,
         hops: &Hops,
         now: &Now,
-    ) -> Result<(), Fault> {
+    ) -> Result<(), Fault>
+        ensures more { ListsMore self.old self.new }
+    {
         self.is_fresh = self.take_new(relay, hops, now);
         if self.is_listing || self.is_stale || !self.is_unsure || self.has_waiting(hops) {
             return Ok(());
@@ -81,7 +88,9 @@ impl Lanes {
     }
 
     /// Takes note that a minute is over, that something is due, or that a place isn't left alone any more.
-    fn note_time(&mut self, hops: &Hops, now: &Now) {
+    fn note_time(&mut self, hops: &Hops, now: &Now)
+        ensures counts { KeepsCounts self.old self.new }
+    {
         if self.next_minute <= now.tick {
             self.next_minute = now.behind(LISTING_SECONDS);
             self.is_unsure = true;
@@ -100,13 +109,21 @@ impl Lanes {
     }
 
     /// Sets when the next place isn't left alone any more.
-    fn note_hold_end(&mut self, now: &Now) {
-        self.next_hold_end = u64::MAX;
-        for lane in self.lanes.as_slice() {
-            if let Some(until) = lane.pace.held_until(now.tick) {
-                self.next_hold_end = self.next_hold_end.min(until);
+    fn note_hold_end(&mut self, now: &Now)
+        ensures counts { KeepsCounts self.old self.new }
+    {
+        self.next_hold_end = self.hold_end(now);
+    }
+
+    /// The tick at which the next place isn't left alone any more.
+    fn hold_end(&self, now: &Now) -> u64 {
+        let mut end = u64::MAX;
+        for pace in self.paces.as_slice() {
+            if let Some(until) = pace.held_until(now.tick) {
+                end = end.min(until);
             }
         }
+        end
     }
 
     /// Whether something that is due waits to be begun, or a connection is being made for it.
@@ -117,7 +134,9 @@ impl Lanes {
     }
 
     /// Takes note of when something is due next.
-    fn note_next(&mut self, next: Option<Moment>, now: &Now) {
+    fn note_next(&mut self, next: Option<Moment>, now: &Now)
+        ensures counts { KeepsCounts self.old self.new }
+    {
         match next {
             Some(moment) if moment.seconds() <= now.moment.seconds() => self.is_stale = true,
             Some(moment) => self.next_due = now.tick_at(moment),
@@ -127,7 +146,9 @@ impl Lanes {
 
     /// Lists what is due of the messages that have come since the last time, reports too. It tells whether there was a
     /// change.
-    fn take_new(&mut self, relay: &Relay<FileDisk>, hops: &Hops, now: &Now) -> bool {
+    fn take_new(&mut self, relay: &Relay<FileDisk>, hops: &Hops, now: &Now) -> bool
+        ensures more { ListsMore self.old self.new }
+    {
         let next_number = relay.node().next_number();
         if self.next_number == next_number {
             return false;
@@ -145,18 +166,18 @@ impl Lanes {
         true
     }
 
-    /// Lists what is due of a message, and isn't tried. It tells whether there is such a message.
-    fn add(&mut self, relay: &Relay<FileDisk>, hops: &Hops, number: u64, now: &Now) -> bool {
+    /// Lists what is due of a message, and isn't tried. It tells whether there is such a message. One that has a held
+    /// place without a hop is listed as unroutable; if memory runs out, all is listed anew.
+    fn add(&mut self, relay: &Relay<FileDisk>, hops: &Hops, number: u64, now: &Now) -> bool
+        ensures more { ListsMore self.old self.new }
+    {
         let Some(message) = relay.node().message(number) else {
             return false;
         };
         let routes = &relay.node().config().routes;
+        let recipients = message.accept.envelope.recipients.as_slice();
         for (index, place) in message.places.as_slice().iter().enumerate() {
-            let recipients = message.accept.envelope.recipients.as_slice();
-            let Some(recipient) = recipients.get(index) else {
-                return true;
-            };
-            match routes.hop_at(&recipient.path) {
+            match hop_of_place(routes, recipients, index) {
                 Some(hop) if place.held && place.due <= now.moment.seconds() => {
                     self.push(hops, number, hop.at, &hop.name);
                 }
@@ -167,36 +188,58 @@ impl Lanes {
         true
     }
 
-    /// Lists a message for a next hop, behind all others, unless it is tried there. Where no memory is left for it, it
-    /// is left out.
-    fn push(&mut self, hops: &Hops, message: u64, at: SocketAddrV4, name: &HostName) {
-        let Some(number) = self.number_of(at) else {
-            return;
-        };
-        let Some(lane) = self.lanes.get_mut(number) else {
-            return;
-        };
-        if lane.ends_with(message, name) || hops.is_tried(message, number, name) {
-            return;
-        }
-        if let Ok(hop) = name.copy(self.alloc) {
-            lane.push(Task { message, hop });
-            self.is_open = true;
+    /// Lists a message for a next hop, behind all others, unless it is tried there. If memory runs out, all is listed
+    /// anew.
+    fn push(&mut self, hops: &Hops, message: u64, at: SocketAddrV4, name: &HostName)
+        ensures more { ListsMore self.old self.new }
+        ensures listed { KeepsListed self.old self.new }
+    {
+        if !self.sort_in(hops, message, at, name) {
+            self.is_stale = true;
         }
     }
 
-    /// Lists a message that has places without a hop.
-    fn push_unroutable(&mut self, message: u64) {
+    /// Puts a message into the lane of its next hop's place, and returns whether memory was left for it.
+    fn sort_in(&mut self, hops: &Hops, message: u64, at: SocketAddrV4, name: &HostName) -> bool
+        ensures more { ListsMore self.old self.new }
+        ensures rest { (self.new.unroutable ≡ self.old.unroutable) × (self.new.is_stale ≡ self.old.is_stale) }
+    {
+        let Some(number) = self.number_of(at) else {
+            return false;
+        };
+        let Some(lane) = self.lanes.get_mut(number) else {
+            return false;
+        };
+        if lane.ends_with(message, name) || hops.is_tried(message, number, name) {
+            return true;
+        }
+        let Ok(hop) = name.copy(self.alloc) else {
+            return false;
+        };
+        self.is_open = true;
+        lane.push(Task { message, hop })
+    }
+
+    /// Lists a message that has places without a hop. If memory runs out, all is listed anew.
+    fn push_unroutable(&mut self, message: u64)
+        ensures listed { IsListedUnroutable message self.new }
+        ensures others { KeepsListed self.old self.new }
+        ensures more { ListsMore self.old self.new }
+    {
         match self.unroutable.back() {
             Some(last) if *last == message => {}
             _ => {
-                let _ = self.unroutable.push_back(message);
+                if self.unroutable.push_back(message).is_err() {
+                    self.is_stale = true;
+                }
             }
         }
     }
 
     /// Begins to list all that is due, with nothing listed, and tells whether: not where no memory is left for that.
-    fn begin_listing(&mut self, relay: &Relay<FileDisk>, now: &Now) -> Result<bool, Fault> {
+    fn begin_listing(&mut self, relay: &Relay<FileDisk>, now: &Now) -> Result<bool, Fault>
+        ensures counts { KeepsCounts self.old self.new }
+    {
         if !self.knows_all && !self.gather(relay)? {
             return Ok(false);
         }
@@ -217,7 +260,9 @@ impl Lanes {
     }
 
     /// Asks the node which messages are queued, and tells whether it has said: not where no memory is left for that.
-    fn gather(&mut self, relay: &Relay<FileDisk>) -> Result<bool, Fault> {
+    fn gather(&mut self, relay: &Relay<FileDisk>) -> Result<bool, Fault>
+        ensures counts { KeepsCounts self.old self.new }
+    {
         let places = match relay.node().marks(self.alloc) {
             Ok(places) => places,
             Err(NodeFault::Stopped) => return Err(Fault::Device),
@@ -234,7 +279,9 @@ impl Lanes {
     }
 
     /// Lists what is due of the next messages, and lets go of as much that was listed before.
-    fn list_part(&mut self, relay: &Relay<FileDisk>, hops: &Hops, now: &Now) {
+    fn list_part(&mut self, relay: &Relay<FileDisk>, hops: &Hops, now: &Now)
+        ensures more { ListsMore self.old self.new }
+    {
         for lane in self.lanes.as_mut_slice() {
             lane.let_go(PART_SIZE);
         }
@@ -249,7 +296,9 @@ impl Lanes {
     }
 
     /// Takes note of a part that has lasted from one tick to another, and of whether it was the last.
-    fn end_part(&mut self, begun: u64, ended: u64) {
+    fn end_part(&mut self, begun: u64, ended: u64)
+        ensures counts { KeepsCounts self.old self.new }
+    {
         self.took = self.took.saturating_add(ended.saturating_sub(begun));
         if self.queued.is_over() {
             let pause = self.took.saturating_mul(LISTING_SHARE).max(LISTING_PAUSE);
@@ -259,28 +308,48 @@ impl Lanes {
         }
     }
 
-    /// The number of the lane for a place, which is made where there is none; none where no memory is left.
-    fn number_of(&mut self, at: SocketAddrV4) -> Option<usize> {
-        if let Some(number) = self.numbers.get(&key_of(at)) {
-            return Some(*number);
+    /// Returns the number of the lane for a place, which is made if there is none. Returns `None` if memory runs out.
+    fn number_of(&mut self, at: SocketAddrV4) -> Option<usize>
+        ensures place { IfSome result (λ number. slice_get self.new.places number ≡ Some at) }
+        ensures more { ListsMore self.old self.new }
+        ensures rest { (self.new.unroutable ≡ self.old.unroutable) × (self.new.is_stale ≡ self.old.is_stale) }
+    {
+        let number = self.places.number_of(at)?;
+        let count = number.checked_add(1)?;
+        if self.grow(count) { Some(number) } else { None }
+    }
+
+    /// Makes lanes until there are so many, and returns whether memory was left for them.
+    fn grow(&mut self, count: usize) -> bool
+        ensures counts { KeepsCounts self.old self.new }
+        ensures rest { (self.new.unroutable ≡ self.old.unroutable) × (self.new.is_stale ≡ self.old.is_stale) }
+    {
+        if self.paces.grow(count).is_err() {
+            return false;
         }
-        let number = self.lanes.len();
-        if self.lanes.push(Lane::new(self.alloc, at)).is_err() {
-            return None;
-        }
-        // Without memory for it, the place would have a second lane.
-        match self.numbers.insert(key_of(at), number) {
-            Ok(_) => Some(number),
-            Err(_) => {
-                let _ = self.lanes.pop();
-                None
+        for _ in self.lanes.len()..count {
+            if self.lanes.push(Lane::new(self.alloc)).is_err() {
+                return false;
             }
         }
+        true
     }
 }
 
-/// A number for each place.
-fn key_of(at: SocketAddrV4) -> u64 {
-    let [a, b, c, d] = at.ip().octets();
-    u64::from(u32::from_be_bytes([a, b, c, d])) * 65_536 + u64::from(at.port())
+/// Returns the next hop of a message's place, if it has one. A place without a recipient has none.
+fn hop_of_place<'a>(routes: &'a Table, recipients: &[Recipient], place: usize) -> Option<&'a Hop>
+    ensures { option_map (λ hop. hop.name) (option_copied result)
+        ≡ hop_of_place routes.now recipients.now place }
+{
+    match recipients.get(place) {
+        Some(recipient) => hop_at(routes, &recipient.path),
+        None => None,
+    }
+}
+
+/// Returns the next hop of a path, if it has one.
+fn hop_at<'a>(routes: &'a Table, path: &PathBuf) -> Option<&'a Hop>
+    ensures { option_map (λ hop. hop.name) (option_copied result) ≡ hop_name routes.now path.now }
+{
+    routes.hop_at(path)
 }

@@ -1,7 +1,10 @@
-ghost use Rattle.std.specs.Prelude.{◌≡◌, ◌≤◌, ℕ, IfOk, true};
+ghost use Rattle.std.specs.Prelude.{◌≡◌, ◌≤◌, ℕ, IfOk, List, OnOk, map, true};
+ghost use Rattle.relay_routes.specs.Routes.{Route};
 ghost use Rattle.relay_slots.specs.Slots.{AreFree};
-ghost use Rattle.relay_next_hops.specs.Lanes.{next_due_of};
+ghost use Rattle.relay_next_hops.specs.Hearing.{replies_of, told_of};
+ghost use Rattle.relay_next_hops.specs.Lanes.{IsNew, next_due_of};
 ghost use Rattle.relay_next_hops.specs.Readiness.{IsLeftHop, hops_of};
+ghost use Rattle.relay_next_hops.specs.Tables.{TablesMatch};
 
 use crate::hops::Hops;
 use crate::lanes::Lanes;
@@ -41,8 +44,10 @@ impl NextHops {
     pub const FIRST_TOKEN: usize = Hops::FIRST_TOKEN;
 
     /// No connection, and nothing that is due is listed yet; within these limits. It fails where memory runs out.
+    #[tactic(auto, using(crate::proofs::SlotLemmas::free_aimed, crate::proofs::SlotLemmas::free_counts))]
     pub fn new(alloc: Global, limits: &Limits) -> Result<Self, AllocError>
-        ensures { IfOk result (λ next_hops. AreFree (hops_of next_hops)) }
+        ensures free { IfOk result (λ next_hops. AreFree (hops_of next_hops)) }
+        ensures matches { IfOk result (λ next_hops. (routes : List Route) → TablesMatch routes next_hops) }
     {
         Ok(NextHops {
             hops: Hops::new(alloc)?,
@@ -52,7 +57,12 @@ impl NextHops {
     }
 
     /// The same without a connection and with nothing listed, for a relay that is opened again.
-    pub fn renewed(self) -> Self {
+    #[tactic(auto, using(crate::proofs::SlotLemmas::free_aimed, crate::proofs::SlotLemmas::free_counts))]
+    pub fn renewed(self) -> Self
+        ensures free { AreFree (hops_of result) }
+        ensures lanes { IsNew self.lanes.most result.lanes }
+        ensures matches { (routes : List Route) → TablesMatch routes result }
+    {
         let NextHops {
             hops,
             lanes,
@@ -68,7 +78,9 @@ impl NextHops {
     }
 
     /// The system tells what the connection of a number may be ready for.
-    pub fn note(&mut self, number: usize, ready: Readiness) {
+    pub fn note(&mut self, number: usize, ready: Readiness)
+        ensures { (routes : List Route) → TablesMatch routes self.old → TablesMatch routes self.new }
+    {
         self.hops.note(number, ready);
     }
 
@@ -82,13 +94,17 @@ impl NextHops {
         leaving: &mut Leaving,
         now: &Now,
         log: &mut Log<'_, Vec<u8>>,
-    ) -> Result<bool, Fault> {
+    ) -> Result<bool, Fault>
+        ensures { (routes : List Route) → TablesMatch routes self.old → OnOk result (TablesMatch routes self.new) }
+    {
         self.hops
             .attend(registry, relay, &mut self.lanes, leaving, now, log)
     }
 
     /// What was read of each next hop whose attempt may hear it. It fails where memory runs out.
-    pub fn replies(&self) -> Result<Vec<ReplyPiece<'_>>, AllocError> {
+    pub fn replies(&self) -> Result<Vec<ReplyPiece<'_>>, AllocError>
+        ensures { IfOk result (λ replies. map told_of replies.items ≡ replies_of self.now.hops) }
+    {
         self.hops.replies()
     }
 
@@ -103,12 +119,17 @@ impl NextHops {
         leaving: &mut Leaving,
         now: &Now,
         log: &mut Log<'_, Vec<u8>>,
-    ) -> Result<bool, Fault> {
+    ) -> Result<bool, Fault>
+        ensures matches { (routes : List Route) → TablesMatch routes self.old
+            → OnOk result (TablesMatch routes self.new) }
+    {
         self.hops.answer(replied, registry, relay, &mut self.lanes, leaving, now, log)
     }
 
     /// Connections that were leaving are closed: a next hop that took no more than stood may take another.
-    pub fn note_leaving(&mut self, leaving: &Leaving) {
+    pub fn note_leaving(&mut self, leaving: &Leaving)
+        ensures { (routes : List Route) → TablesMatch routes self.old → TablesMatch routes self.new }
+    {
         self.lanes.note_leaving(leaving);
     }
 

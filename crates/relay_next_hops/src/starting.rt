@@ -1,22 +1,33 @@
 //! Attempts that begin, and messages without a next hop that are given up.
-ghost use Rattle.std.specs.Prelude.{◌≡◌, ◌≤◌};
+ghost use Rattle.std.specs.Prelude.{◌≡◌, ◌<◌, ◌≤◌, ◌∷◌, [], ℕ, List, IfOk, MatchOption, None, Ok, Some, false};
+ghost use Rattle.std.specs.Prelude.{length, option_map, true};
+ghost use Rattle.std.specs.List.{list_any};
+ghost use Rattle.std.specs.declared.net.socket_addr.SocketAddrV4.{SocketAddrV4};
+ghost use Rattle.relay_book.specs.Queue.{message_of};
+ghost use Rattle.relay_routes.specs.Routes.{place_of};
+ghost use Rattle.relay_slots.specs.Slots.{IsFull};
+ghost use Rattle.relay_next_hops.specs.declared.lane.Task.{Task};
+ghost use Rattle.relay_next_hops.specs.Lanes.{KeepsCounts, tasks_at};
+ghost use Rattle.relay_next_hops.specs.Paces.{HasLane, IsHeldAt};
+ghost use Rattle.relay_next_hops.specs.Starting.{IsGivenUp, IsTried, LosesTask, is_late, is_overdue};
 
 use crate::ending::{lose, lose_held};
-use crate::hop::{Aim, Errand};
+use crate::errand::{Aim, Errand};
 use crate::hops::Hops;
 use crate::lane::Task;
 use crate::lanes::Lanes;
 use crate::spares::Spares;
 use mio::Registry;
+use relay_book::Place;
 use relay_connections::Now;
 use relay_disk::FileDisk;
 use relay_files::{Fault, is_want_of_sockets};
 use relay_log::{Attempt, Log, Loss, Why};
 use relay_loop::Relay;
-use relay_node::NodeFault;
+use relay_node::{NodeFault, Noted};
 use relay_slots::SLOT_COUNT;
-use std::io;
-use std::net::{Net, SocketAddrV4};
+use relay_trace::Moment;
+use std::net::Net;
 
 /// How many milliseconds no connection is begun behind one for which the system had no descriptor or no memory.
 const WANT_PAUSE: u64 = 1_000;
@@ -63,6 +74,19 @@ enum Begun {
     IsFull,
     /// The system has no descriptor or no memory for another.
     IsWanting,
+}
+
+/// What has come of a task for which a connection was to be begun.
+#[derive(Clone, Copy, Debug, PartialEq, Eq)]
+pub(crate) enum Tried {
+    /// A connection is being made for it.
+    Connects,
+    /// The system has no descriptor or no memory for one: the task is the lane's next again.
+    Wants,
+    /// It failed at once, and counts as lost.
+    Fails,
+    /// The routes give no place for its next hop.
+    HasNoPlace,
 }
 
 /// Begins what is due and may be begun: of each lane in turn, the first lane each time another.
@@ -124,41 +148,87 @@ fn start_lane<N: Net>(
         if !lanes.has_answered(lane) && MOST_UNANSWERED <= hops.count_unanswered(lanes) {
             return Ok(Begun::GoesOn);
         }
-        let Some((task, at)) = lanes.next(lane, now) else {
+        let Some(task) = lanes.next(lane, now) else {
             return Ok(Begun::GoesOn);
         };
-        let aim = aim_of(relay, lanes, task.message, lane, at);
-        match hops.connect(net, registry, number, task, aim, log.speaks(), now) {
-            Ok(()) => lanes.began(lane),
-            Err((task, error)) if is_want_of_sockets(&error) => {
-                lanes.put_back(lane, task);
+        match start_task(
+            net, registry, relay, hops, lanes, lane, number, task, now, log,
+        )? {
+            Tried::Connects | Tried::Fails | Tried::HasNoPlace => {}
+            Tried::Wants => {
                 if !spares.give() {
                     return Ok(Begun::IsWanting);
                 }
             }
-            Err((task, error)) => fail(relay, lanes, lane, at, task, &error, now, log)?,
         }
     }
     Ok(Begun::GoesOn)
 }
 
-/// Where a connection for a message goes.
-fn aim_of(
-    relay: &Relay<FileDisk>,
-    lanes: &Lanes,
-    message: u64,
+/// Begins a connection for a task of a lane, under a number that is free.
+fn start_task<N: Net>(
+    net: &N,
+    registry: &Registry,
+    relay: &mut Relay<FileDisk>,
+    hops: &mut Hops,
+    lanes: &mut Lanes,
     lane: usize,
-    at: SocketAddrV4,
-) -> Aim {
-    let accepted = match relay.node().message(message) {
+    number: usize,
+    task: Task,
+    now: &Now,
+    log: &mut Log<'_, Vec<u8>>,
+) -> Result<Tried, Fault>
+    ensures tried { number < length hops.old.hops → HasLane lanes.old.paces lane → IfOk result (IsTried now.now lane number task hops.old.hops
+        hops.new.hops lanes.old lanes.new relay.old relay.new) }
+    ensures config { relay.new.node.config ≡ relay.old.node.config }
+{
+    let Some(aim) = aim_of(relay, lanes, &task, lane) else {
+        return Ok(Tried::HasNoPlace);
+    };
+    match hops.connect(net, registry, number, task, &aim, log.speaks(), now) {
+        Ok(()) => {
+            lanes.began(lane);
+            Ok(Tried::Connects)
+        }
+        Err((task, error)) if is_want_of_sockets(&error) => {
+            lanes.put_back(lane, task);
+            Ok(Tried::Wants)
+        }
+        Err((task, error)) => {
+            let loss = Loss::of_connecting(&error);
+            lose(relay, lanes, errand_of(task, aim), loss, now, log)?;
+            Ok(Tried::Fails)
+        }
+    }
+}
+
+/// Returns where a connection for a task goes: to the place that the routes give for its next hop.
+fn aim_of(relay: &Relay<FileDisk>, lanes: &Lanes, task: &Task, lane: usize) -> Option<Aim>
+    ensures { MatchOption result
+        (place_of relay.now.node.config.routes.routes task.now.hop ≡ None)
+        (λ aim. (aim.lane ≡ lane)
+        × (place_of relay.now.node.config.routes.routes task.now.hop ≡ Some aim.at)) }
+{
+    let routes = &relay.node().config().routes;
+    match routes.place_of(task.hop.as_slice()) {
+        Some(at) => Some(Aim {
+            lane,
+            at,
+            beside: 0 < lanes.standing(lane),
+            accepted: accepted_at(relay, task.message),
+        }),
+        None => None,
+    }
+}
+
+/// Returns when a message was accepted, if it is queued.
+fn accepted_at(relay: &Relay<FileDisk>, message: u64) -> Option<Moment>
+    ensures { result ≡ option_map (λ message. message.accept.at)
+        (message_of relay.now.node.records.queue.messages message) }
+{
+    match relay.node().message(message) {
         Some(message) => Some(message.accept.at),
         None => None,
-    };
-    Aim {
-        lane,
-        at,
-        beside: 0 < lanes.standing(lane),
-        accepted,
     }
 }
 
@@ -170,43 +240,66 @@ fn lose_overdue(
     lane: usize,
     now: &Now,
     log: &mut Log<'_, Vec<u8>>,
-) -> Result<bool, Fault> {
+) -> Result<bool, Fault>
+    ensures overdue { (task : Task) (rest : List Task) (place : SocketAddrV4)
+        → tasks_at lanes.old lane ≡ task ∷ rest → IsHeldAt now.now.tick lanes.old.paces lane
+        → is_overdue now.now.moment (message_of relay.old.node.records.queue.messages task.message) ≡ true
+        → ¬ IsFull relay.old.node.attempts
+        → place_of relay.old.node.config.routes.routes task.hop ≡ Some place
+        → IfOk result (λ lost. (lost ≡ true) × LosesTask now.now.moment task relay.old relay.new) }
+    ensures counts { KeepsCounts lanes.old lanes.new }
+    ensures config { relay.new.node.config ≡ relay.old.node.config }
+{
     match lanes.held_message(lane, now) {
         // Where 64 attempts run, none can be recorded now.
         Some(message) if is_overdue(relay, message, now) && !relay.node().is_full_of_attempts() =>
             {}
         _ => return Ok(false),
     }
-    let Some(at) = lanes.place_of(lane) else {
-        return Ok(false);
-    };
     let Some(task) = lanes.pop(lane) else {
         return Ok(false);
     };
-    let aim = aim_of(relay, lanes, task.message, lane, at);
+    let Some(aim) = aim_of(relay, lanes, &task, lane) else {
+        return Ok(false);
+    };
     lose_held(relay, errand_of(task, aim), now, log)?;
     Ok(true)
 }
 
 /// Whether a place of a message has been due for longer than it may without an attempt.
-fn is_overdue(relay: &Relay<FileDisk>, message: u64, now: &Now) -> bool {
+fn is_overdue(relay: &Relay<FileDisk>, message: u64, now: &Now) -> bool
+    ensures { result ≡ is_overdue now.now.moment (message_of relay.now.node.records.queue.messages message) }
+{
     match relay.node().message(message) {
-        Some(message) => message
-            .places
-            .as_slice()
-            .iter()
-            .any(|place| place.held && is_past(place.due, now)),
+        Some(message) => has_late(message.places.as_slice(), now),
         None => false,
     }
 }
 
-/// Whether what was due then has been due for longer than it may.
-fn is_past(due: u64, now: &Now) -> bool {
-    due.saturating_add(OVERDUE_SECONDS) < now.moment.seconds()
+/// Whether one of these places has been due for longer than it may.
+fn has_late(places: &[Place], now: &Now) -> bool
+    ensures { result ≡ list_any (is_late now.now.moment) places.now }
+{
+    for place in places {
+        if is_late(place, now) {
+            return true;
+        }
+    }
+    false
+}
+
+/// Whether a place is held, and has been due for longer than it may.
+fn is_late(place: &Place, now: &Now) -> bool
+    ensures { result ≡ is_late now.now.moment place.now }
+{
+    place.held && place.due.saturating_add(OVERDUE_SECONDS) < now.moment.seconds()
 }
 
 /// The errand of a task for which no connection was made.
-fn errand_of(task: Task, aim: Aim) -> Errand {
+fn errand_of(task: Task, aim: Aim) -> Errand
+    ensures { (result.aim ≡ aim) × (result.message ≡ task.message) × (result.name ≡ task.hop)
+        × (result.attempt ≡ None) }
+{
     let (message, name) = task.into_parts();
     Errand {
         aim,
@@ -219,47 +312,60 @@ fn errand_of(task: Task, aim: Aim) -> Errand {
     }
 }
 
-/// A connection can't even be begun.
-fn fail(
-    relay: &mut Relay<FileDisk>,
-    lanes: &mut Lanes,
-    lane: usize,
-    at: SocketAddrV4,
-    task: Task,
-    error: &io::Error,
-    now: &Now,
-    log: &mut Log<'_, Vec<u8>>,
-) -> Result<(), Fault> {
-    let aim = aim_of(relay, lanes, task.message, lane, at);
-    let errand = errand_of(task, aim);
-    lose(relay, lanes, errand, Loss::of_connecting(error), now, log)
-}
-
 /// Gives up the places of the next message that have no hop, if there is one. It tells whether that was recorded.
 pub(crate) fn give_up_next(
     relay: &mut Relay<FileDisk>,
     lanes: &mut Lanes,
     now: &Now,
     log: &mut Log<'_, Vec<u8>>,
-) -> Result<bool, Fault> {
-    let Some(message) = lanes.next_unroutable() else {
-        return Ok(false);
-    };
+) -> Result<bool, Fault>
+    ensures none { lanes.old.unroutable.items ≡ [] → (result ≡ Ok false) × (relay.new ≡ relay.old) }
+{
+    match lanes.next_unroutable() {
+        Some(message) => give_up(relay, lanes, message, now, log),
+        None => Ok(false),
+    }
+}
+
+/// Gives up the places of a message that have no hop. It tells whether that was recorded. Where it wasn't, and they are
+/// still due, all that is due is listed anew.
+fn give_up(
+    relay: &mut Relay<FileDisk>,
+    lanes: &mut Lanes,
+    message: u64,
+    now: &Now,
+    log: &mut Log<'_, Vec<u8>>,
+) -> Result<bool, Fault>
+    ensures gives_up { IfOk result (IsGivenUp now.now.moment message relay.old relay.new lanes.new) }
+    ensures counts { KeepsCounts lanes.old lanes.new }
+    ensures config { relay.new.node.config ≡ relay.old.node.config }
+{
     match relay.give_up_unroutable(message, now.moment) {
         Ok(_) => {
-            log.attempt(&Attempt {
-                number: message,
-                hop: None,
-                at: None,
-                age: None,
-                end: "noroute",
-                why: Why::at_once(None),
-                noted: relay.take_noted(),
-            });
+            let noted = relay.take_noted();
+            tell_given_up(message, noted, log);
             Ok(true)
         }
         Err(NodeFault::Stopped) => Err(Fault::Device),
+        // Nothing of it is to be given up any more.
+        Err(NodeFault::Unknown | NodeFault::NotDue) => Ok(false),
         // It stays due.
-        Err(_) => Ok(false),
+        Err(_) => {
+            lanes.list_anew();
+            Ok(false)
+        }
     }
+}
+
+/// Tells that a message was given up that has no hop.
+fn tell_given_up(message: u64, noted: Option<Noted>, log: &mut Log<'_, Vec<u8>>) {
+    log.attempt(&Attempt {
+        number: message,
+        hop: None,
+        at: None,
+        age: None,
+        end: "noroute",
+        why: Why::at_once(None),
+        noted,
+    });
 }

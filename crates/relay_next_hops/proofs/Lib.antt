@@ -1,0 +1,5 @@
+mod PlaceLemmas
+mod PaceLemmas
+mod SlotLemmas
+mod HearingLemmas
+mod ListingLemmas

@@ -1,0 +1,11 @@
+-- where counts and aims matched before, they do
+use Rattle.std.proofs.Common.{List}
+use Rattle.relay_routes.specs.Routes.{Route}
+use Rattle.relay_next_hops.specs.Counts.{CountsMatch}
+use Rattle.relay_next_hops.specs.Errands.{AreAimed}
+use Rattle.relay_next_hops.proofs.hops.Hops.answer.Given as goal
+
+abbrev pub invariant-loop-step : goal.invariant-loop-step
+invariant-loop-step l =
+    (CountsMatch l.initial.self.hops l.initial.lanes.paces → CountsMatch l.self.hops l.lanes.paces)
+    × ((routes : List Route) → AreAimed routes l.initial.self.hops → AreAimed routes l.self.hops)

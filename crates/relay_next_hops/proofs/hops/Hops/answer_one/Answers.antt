@@ -1,0 +1,19 @@
+-- The connection that is answered keeps its errand, and is counted until it is settled.
+use Rattle.std.proofs.Common.{refl}
+use Rattle.relay_next_hops.proofs.SlotLemmas.{aimed_taken, counts_same, is_none, out_aim, out_aimed, out_counts, out_free, out_low}
+use Rattle.relay_next_hops.proofs.hops.Hops.answer_one.Goals as goal
+
+pub returns-clause-counts : goal.returns-clause-counts
+returns-clause-counts c = λ match_is.
+    let hops = c.args.self.now.hops in
+    c.settle.ensures.counts
+    (out_counts hops c.take.new.self c.args.number c.in-Some.taken c.take_answer.new.self c.in-Some.ensures.taken c.take.ensures.rest c.take_answer.ensures.errand c.args.lanes.now.paces c.args.lanes.now.paces (λ lane. refl) match_is)
+    (out_free hops c.take.new.self c.args.number c.in-Some.taken c.take_answer.new.self c.in-Some.ensures.taken c.take.ensures.rest c.take_answer.ensures.errand)
+    (out_low hops c.take.new.self c.args.number c.in-Some.taken c.take_answer.new.self c.in-Some.ensures.taken c.take.ensures.rest c.take_answer.ensures.errand)
+
+pub returns-clause-aimed : goal.returns-clause-aimed
+returns-clause-aimed c = λ routes aimed.
+    let hops = c.args.self.now.hops in
+    c.settle.ensures.aimed routes
+    (out_aim hops c.take.new.self c.args.number c.in-Some.taken c.take_answer.new.self c.in-Some.ensures.taken c.take.ensures.rest c.take_answer.ensures.errand routes aimed)
+    (out_aimed hops c.take.new.self c.args.number c.in-Some.taken c.take_answer.new.self c.in-Some.ensures.taken c.take.ensures.rest c.take_answer.ensures.errand routes aimed)

@@ -1,0 +1,13 @@
+-- The connection is put under the number, with the errand of its task.
+use Rattle.std.proofs.Common.{ap, ◌∙◌}
+use Rattle.relay_next_hops.proofs.hops.Hops.connect.Goals as goal
+
+pub returns-in-Ok-clause-made : goal.returns-in-Ok-clause-made
+returns-in-Ok-clause-made g c = λ low. record {
+  hop = c.new-hop.result;
+  put = c.put.ensures.stands low;
+  its_aim = c.new-hop.ensures.aim;
+  its_message = c.new-hop.ensures.errand.0 ∙ ap (λ parts. parts.0) c.into_parts-message.ensures;
+  its_name = c.new-hop.ensures.errand.1 ∙ ap (λ parts. parts.1) c.into_parts-message.ensures;
+  none = c.new-hop.ensures.none.0;
+}

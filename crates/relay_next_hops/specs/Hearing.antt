@@ -1,0 +1,91 @@
+-- What the attempts hear at a turn: each the octets that were read of its own next hop's connection, and none of them
+-- twice.
+use Rattle.std.specs.Prelude.{◌≡◌, ◌≢◌, ◌⊎◌, ℕ, ◌%◌, List, [], ◌∷◌, Option, None, Some, Result, Ok, Err}
+use Rattle.std.specs.Prelude.{drop, if◌then◌else◌, option_and_then, option_map}
+use Rattle.std.specs.List.{filter_map}
+use Rattle.relay_slots.specs.Slots.{OthersStay, slot_at}
+use Rattle.relay_records.specs.declared.fault.NodeFault.{NodeFault}
+use Rattle.relay_loop.specs.declared.hops.Answered.{Answered}
+use Rattle.relay_loop.specs.declared.replying.ReplyPiece.{ReplyPiece}
+use Rattle.relay_connections.specs.Channel.{unread_of}
+use Rattle.relay_connections.specs.Hearing.{turned}
+use Rattle.relay_next_hops.specs.Errands.{KeepsErrand}
+use Rattle.relay_next_hops.specs.declared.hop.Hop.{Hop}
+use Rattle.relay_next_hops.specs.declared.hops.Hops.{Hops}
+
+-- an attempt, and octets of its next hop
+abbrev pub told_of : ReplyPiece → ℕ × List ℕ
+told_of reply = (reply.attempt, reply.octets.now)
+
+-- the attempt of a connection, where it has octets that it may hear
+abbrev pub hearing_of : Hop → Option ℕ
+hearing_of hop = if hop.hears then hop.attempt else None
+
+-- what the attempt of a connection has to hear: all that was read of that connection and isn't used yet
+abbrev pub reply_of : Option Hop → Option (ℕ × List ℕ)
+reply_of None = None
+reply_of (Some hop) = option_map (λ attempt. (attempt, unread_of hop.channel)) (hearing_of hop)
+
+-- the attempt of the connection of a number that has something to hear
+abbrev pub hearing_at : List (Option Hop) → ℕ → Option ℕ
+hearing_at hops number = option_and_then hearing_of (slot_at hops number)
+
+abbrev pub reply_at : List (Option Hop) → ℕ → Option (ℕ × List ℕ)
+reply_at hops number = reply_of (slot_at hops number)
+
+-- the numbers of all connections, in the order in which they are served: from the first on, and 0 after the last
+abbrev pub order_of : Hops → List ℕ
+order_of hops = turned 64 (hops.first % 64) 64
+
+-- what all attempts have to hear, in that order
+abbrev pub replies_of : Hops → List (ℕ × List ℕ)
+replies_of hops = filter_map (reply_at hops.hops) (order_of hops)
+
+-- no octet of the reply was used, since the call took no more, and the attempt goes on
+abbrev pub IsLeft : Answered → Type 0
+IsLeft answered = (answered.used ≡ 0) × (answered.last ≡ None)
+
+abbrev pub WasLeft : Result Answered NodeFault → Type 0
+WasLeft (Ok answered) = IsLeft answered
+WasLeft (Err fault) = ⊥
+
+-- A connection of which octets were used is gone, or stays for its errand without these: where its attempt has ended it
+-- is gone. Where none was used, its attempt may hear them alone, and then some of them are used.
+abbrev pub UsesOwn : Answered → Hop → Hop → Type 0
+UsesOwn answered old new =
+    (answered.last ≡ None)
+    × ((unread_of new.channel ≡ drop answered.used (unread_of old.channel))
+    ⊎ (IsLeft answered × (used : ℕ) × (unread_of new.channel ≡ drop used (unread_of old.channel))))
+
+-- what became of a connection by an answer to its attempt; where that is a fault, the connection is gone
+abbrev pub IsAnswered : Result Answered NodeFault → Option Hop → Option Hop → Type 0
+IsAnswered answer old None = Unit {0}
+IsAnswered answer None (Some new) = ⊥
+IsAnswered (Err fault) (Some old) (Some new) = ⊥
+IsAnswered (Ok answered) (Some old) (Some new) = UsesOwn answered old new × KeepsErrand old new
+
+-- the connection of this number was answered so, and no other changes
+pub record AnswersOne (number : ℕ) (answer : Result Answered NodeFault) (old new : List (Option Hop)) : Type 0 where
+  pub own : IsAnswered answer (slot_at old number) (slot_at new number)
+  pub others : OthersStay old new number
+
+-- the next of these answers goes to the connection of this number, and the others go on from there
+pub record HearsNext (GoesOn : List (Result Answered NodeFault) → List (Option Hop) → Type 0) (number : ℕ)
+    (answers : List (Result Answered NodeFault)) (old : List (Option Hop))
+    : Type 0 where
+  pub answer : Result Answered NodeFault
+  pub rest : List (Result Answered NodeFault)
+  pub answers_are : answers ≡ answer ∷ rest
+  pub between : List (Option Hop)
+  pub one : AnswersOne number answer old between
+  pub goes_on : GoesOn rest between
+
+-- Of these connections, in this order, each that has something to hear is answered by the next of these answers, as far
+-- as there are any.
+abbrev pub AnswersEach
+    : List ℕ → List (Result Answered NodeFault) → List (Option Hop) → List (Option Hop) → Type 0
+AnswersEach [] answers old new = new ≡ old
+AnswersEach (number ∷ order) answers old new =
+    ((hearing_at old number ≡ None) × AnswersEach order answers old new)
+    ⊎ ((hearing_at old number ≢ None) × (answers ≡ []) × (new ≡ old))
+    ⊎ ((hearing_at old number ≢ None) × HearsNext (λ rest between. AnswersEach order rest between new) number answers old)

@@ -1,0 +1,93 @@
+-- How the loss of a connection to a next hop is recorded at the node.
+use Rattle.std.specs.Prelude.{◌≡◌, ◌⊎◌, ℕ, List, Option, None, Some, Err}
+use Rattle.relay_disk.specs.File.{file_words}
+use Rattle.relay_disk.specs.declared.file.FileDisk.{FileDisk}
+use Rattle.relay_slots.specs.Slots.{slot_at}
+use Rattle.relay_records.specs.declared.fault.NodeFault.{NodeFault}
+use Rattle.relay_attempts.specs.Attempts.{RefusesToStart, Starts}
+use Rattle.relay_attempts.specs.Reply.{EndsBy}
+use Rattle.relay_attempts.specs.declared.start.Started.{Started}
+use Rattle.relay_loop.specs.Hops.{RefusesHop}
+use Rattle.relay_loop.specs.Relay.{RelayState}
+use Rattle.relay_limits.specs.declared.pace.Pace.{Pace}
+use Rattle.relay_connections.specs.declared.clocks.Now.{Now}
+use Rattle.relay_next_hops.specs.Paces.{IsHeldAt}
+use Rattle.relay_next_hops.specs.declared.errand.Errand.{Errand}
+
+-- The words below are of a call at a moment, of a relay on files.
+module _ (at : ℕ) (old new : RelayState FileDisk) where
+  -- the attempt of this number has ended, and its outcome was recorded; its connection is gone
+  pub record LosesAttempt (attempt : ℕ) : Type 0 where
+    pub change : ℕ
+    pub ends : EndsBy file_words old.node.config.host at attempt old.node.attempts new.node.attempts
+        old.node.records new.node.records change
+    pub gone : slot_at new.hops attempt ≡ None
+
+  -- The loss of the attempt of this number was refused: its connection is gone.
+  pub record RefusesLoss (attempt : ℕ) : Type 0 where
+    pub fault : NodeFault
+    pub refused : RefusesHop {T = ℕ} file_words attempt old new (Err fault)
+    pub gone : slot_at new.hops attempt ≡ None
+
+-- The words below are of such a call, for a message and a next hop.
+module _ (at message : ℕ) (hop : List ℕ) (old new : RelayState FileDisk) where
+  -- an attempt has begun for them, and was lost at once
+  pub record StartsAndLoses : Type 0 where
+    pub started : Started
+    pub between : RelayState FileDisk
+    pub starts : Starts old.node.config.host old.node.config.routes message hop at old.node.records.queue
+        old.node.attempts between.node.attempts started
+    pub records : between.node.records ≡ old.node.records
+    pub loses : LosesAttempt at between new started.attempt
+
+  -- no attempt may begin for them, and nothing changes
+  pub record StartsNone : Type 0 where
+    pub fault : NodeFault
+    pub refused : RefusesToStart old.node.config.host old.node.config.routes message hop at old.node.records
+        old.node.attempts fault
+    pub same : new ≡ old
+
+  -- an attempt has begun, and its loss was refused
+  pub record StartsAndRefuses : Type 0 where
+    pub started : Started
+    pub between : RelayState FileDisk
+    pub starts : Starts old.node.config.host old.node.config.routes message hop at old.node.records.queue
+        old.node.attempts between.node.attempts started
+    pub refuses : RefusesLoss at between new started.attempt
+
+-- no attempt may begin, or the node refuses its loss
+abbrev pub StartsNothing : ℕ → ℕ → List ℕ → RelayState FileDisk → RelayState FileDisk → Type 0
+StartsNothing at message hop old new = StartsNone at message hop old new ⊎ StartsAndRefuses at message hop old new
+
+-- the loss of an errand is recorded: that of its attempt, or where it has none that of one that begins for it
+abbrev pub Loses : ℕ → Errand → RelayState FileDisk → RelayState FileDisk → Option ℕ → Type 0
+Loses at errand old new (Some attempt) = LosesAttempt at old new attempt
+Loses at errand old new None = StartsAndLoses at errand.message errand.name old new
+
+-- it isn't recorded: no attempt may begin, or the node refuses its loss
+abbrev pub LosesNot : ℕ → Errand → RelayState FileDisk → RelayState FileDisk → Option ℕ → Type 0
+LosesNot at errand old new (Some attempt) = RefusesLoss at old new attempt
+LosesNot at errand old new None = StartsNothing at errand.message errand.name old new
+
+-- the note of the last change was taken, and nothing else changes
+abbrev pub TakesNote : RelayState FileDisk → RelayState FileDisk → Type 0
+TakesNote old new =
+    (new.node ≡ record old.node { records = record old.node.records { noted = None } })
+    × (new.clients ≡ old.clients) × (new.hops ≡ old.hops)
+
+-- the loss of an errand is recorded, and its note was taken
+pub record IsRecorded (at : ℕ) (errand : Errand) (old new : RelayState FileDisk) : Type 0 where
+  pub between : RelayState FileDisk
+  pub loses : Loses at errand old between errand.attempt
+  pub noted : TakesNote between new
+
+-- it is recorded so, or the node refuses that
+abbrev pub IsRecordedOrRefused : ℕ → Errand → RelayState FileDisk → RelayState FileDisk → Type 0
+IsRecordedOrRefused at errand old new = IsRecorded at errand old new ⊎ LosesNot at errand old new errand.attempt
+
+-- An errand has ended as lost: that is recorded, or refused. Only where its attempt hasn't begun, and its place is left
+-- alone, it stays due instead, and nothing changes.
+abbrev pub EndsLost : Now → Errand → List Pace → RelayState FileDisk → RelayState FileDisk → Type 0
+EndsLost now errand paces old new =
+    ((errand.attempt ≡ None) × IsHeldAt now.tick paces errand.aim.lane × (new ≡ old))
+    ⊎ IsRecordedOrRefused now.moment errand old new

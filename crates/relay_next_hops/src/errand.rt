@@ -1,0 +1,105 @@
+//! What the connections to next hops are made for, and what becomes of them.
+ghost use Rattle.std.specs.Prelude.{◌≡◌};
+
+use crate::lane::Task;
+use relay_connections::Now;
+use relay_log::{Deferral, Loss};
+use relay_loop::Outbox;
+use relay_node::Noted;
+use relay_routes::HostName;
+use relay_trace::Moment;
+use std::net::SocketAddrV4;
+
+/// Where a connection goes, and since when its message is there.
+#[derive(Clone, Copy, Debug)]
+pub(crate) struct Aim {
+    /// The number of the lane.
+    pub(crate) lane: usize,
+    /// The lane's place.
+    pub(crate) at: SocketAddrV4,
+    /// Other connections to the place stood when it was begun.
+    pub(crate) beside: bool,
+    /// When the message was accepted, where that is known.
+    pub(crate) accepted: Option<Moment>,
+}
+
+impl Aim {
+    /// How many seconds ago the message was accepted, where that is known.
+    pub(crate) fn age(&self, now: &Now) -> Option<u64> {
+        match self.accepted {
+            Some(moment) => Some(now.moment.seconds().saturating_sub(moment.seconds())),
+            None => None,
+        }
+    }
+}
+
+/// What a connection was made for, and what has come of it.
+pub(crate) struct Errand {
+    pub(crate) aim: Aim,
+    pub(crate) message: u64,
+    pub(crate) name: HostName,
+    /// The attempt's number, where it has begun.
+    pub(crate) attempt: Option<usize>,
+    /// The next hop has said something.
+    pub(crate) has_spoken: bool,
+    /// The next hop has greeted by 2yz.
+    pub(crate) is_welcome: bool,
+    /// The last that the next hop put off.
+    pub(crate) deferral: Option<Deferral>,
+}
+
+// Written out, so that what drops it calls this, and doesn't look into its parts.
+impl Drop for Errand {
+    fn drop(self) {
+        let Errand {
+            aim: _,
+            message: _,
+            name: _name,
+            attempt: _,
+            has_spoken: _,
+            is_welcome: _,
+            deferral: _deferral,
+        } = self;
+    }
+}
+
+impl Errand {
+    /// The message, and the name of its next hop.
+    pub(crate) fn into_task(self) -> Task
+        ensures { (result.message ≡ self.message) × (result.hop ≡ self.name) }
+    {
+        let (message, hop, _deferral) = self.into_told();
+        Task { message, hop }
+    }
+
+    /// What is told of it: the message, the next hop, and what that put off last.
+    pub(crate) fn into_told(self) -> (u64, HostName, Option<Deferral>)
+        ensures { (result.0 ≡ self.message) × (result.1 ≡ self.name) }
+    {
+        let Errand {
+            aim: _,
+            message,
+            name,
+            attempt: _,
+            has_spoken: _,
+            is_welcome: _,
+            deferral,
+        } = self;
+        (message, name, deferral)
+    }
+}
+
+/// What becomes of the connection to a next hop behind a turn.
+#[derive(Drop)]
+pub(crate) enum Course {
+    /// It stays.
+    Stays,
+    /// Its attempt has ended, and these are its last octets, with the note of its outcome.
+    Ended(Outbox, Option<Noted>),
+    /// It is lost.
+    Lost(Loss),
+    /// The next hop serves other connections, and takes no more of them. Its attempt hasn't begun.
+    TurnedAway,
+    /// The message isn't due there any more, or there is no memory or no number to say what has come of it.
+    Void,
+}

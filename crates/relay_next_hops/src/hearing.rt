@@ -1,0 +1,236 @@
+//! What attempts hear at a turn: each the octets that were read of its own next hop.
+ghost use Rattle.std.specs.Prelude.{◌≡◌, ◌↔◌, ◌<◌, ◌%◌, IfOk, IsTrue, List, OnOk, map, option_map};
+ghost use Rattle.relay_routes.specs.Routes.{Route};
+ghost use Rattle.relay_next_hops.specs.Counts.{CountsMatch};
+ghost use Rattle.relay_next_hops.specs.Errands.{AreAimed};
+ghost use Rattle.relay_next_hops.specs.Hearing.{hearing_at, replies_of, reply_at};
+ghost use Rattle.relay_next_hops.specs.Hearing.{WasLeft, told_of};
+
+use crate::ending::conclude;
+use crate::errand::Course;
+use crate::hops::Hops;
+use crate::lanes::Lanes;
+use mio::Registry;
+use relay_connections::{Leaving, Now, Replied};
+use relay_disk::FileDisk;
+use relay_files::Fault;
+use relay_log::{Log, Loss};
+use relay_loop::{Answered, Relay, ReplyPiece};
+use relay_node::{NodeFault, Noted};
+use relay_slots::SLOT_COUNT;
+use std::alloc::AllocError;
+
+/// The most attempts that hear their replies alone at a turn, where the call for all took no more. Each may take two
+/// syncs.
+const MOST_ALONE: usize = 4;
+
+impl Hops {
+    /// The number of the connection that is served first.
+    fn first_number(&self) -> usize
+        ensures first { result ≡ self.now.first % 64 }
+        ensures within { result < 64 }
+    {
+        self.first % SLOT_COUNT
+    }
+
+    /// Returns what was read of each of them whose attempt may hear it, the first of them first. It fails if memory
+    /// runs out.
+    pub(crate) fn replies(&self) -> Result<Vec<ReplyPiece<'_>>, AllocError>
+        ensures { IfOk result (λ replies. map told_of replies.items ≡ replies_of self.now) }
+    {
+        let mut replies = Vec::new(self.alloc);
+        let first = self.first_number();
+        for step in 0..SLOT_COUNT {
+            if let Some(reply) = self.reply_at((first + step) % SLOT_COUNT) {
+                replies.push(reply)?;
+            }
+        }
+        Ok(replies)
+    }
+
+    /// Returns what was read of the connection of a number, if its attempt may hear it.
+    fn reply_at(&self, number: usize) -> Option<ReplyPiece<'_>>
+        ensures { option_map told_of result ≡ reply_at self.now.hops number }
+    {
+        let Some(Some(hop)) = self.hops.standing().get(number) else {
+            return None;
+        };
+        let attempt = hop.hearing()?;
+        let octets = hop.channel.piece();
+        Some(ReplyPiece { attempt, octets })
+    }
+
+    /// Takes what came of the replies, in the order in which they were told. It tells whether a connection was closed.
+    /// Where clients have brought so much that replies were left unread, a few are heard even so, each time others.
+    /// Where no memory was left to hear them, the first of them is lost.
+    pub(crate) fn answer(
+        &mut self,
+        replied: Option<Replied>,
+        registry: &Registry,
+        relay: &mut Relay<FileDisk>,
+        lanes: &mut Lanes,
+        leaving: &mut Leaving,
+        now: &Now,
+        log: &mut Log<'_, Vec<u8>>,
+    ) -> Result<bool, Fault>
+        ensures counts { CountsMatch self.old.hops lanes.old.paces
+            → OnOk result (CountsMatch self.new.hops lanes.new.paces) }
+        ensures aimed { (routes : List Route) → AreAimed routes self.old.hops → AreAimed routes self.new.hops }
+    {
+        let Some(Replied { answered, notes }) = replied else {
+            return self.lose_one(registry, relay, lanes, leaving, now, log);
+        };
+        // The outcomes of attempts come behind the mail of clients.
+        let others = notes.len().saturating_sub(count_ended(answered.as_slice()));
+        let mut notes = notes.into_iter().skip(others);
+        let mut answers = answered.into_iter();
+        let mut alone = MOST_ALONE;
+        let mut closed = false;
+        let first = self.first_number();
+        for step in 0..SLOT_COUNT {
+            let number = (first + step) % SLOT_COUNT;
+            let Some(attempt) = self.hearing_at(number) else {
+                continue;
+            };
+            let Some(answer) = answers.next() else {
+                return Ok(closed);
+            };
+            let noted = if has_ended(&answer) {
+                notes.next()
+            } else {
+                None
+            };
+            closed |= !self.answer_one(
+                number, attempt, answer, noted, &mut alone, registry, relay, lanes, leaving, now,
+                log,
+            )?;
+        }
+        Ok(closed)
+    }
+
+    /// Returns the attempt of a number that may hear what was read, if there is one.
+    fn hearing_at(&self, number: usize) -> Option<usize>
+        ensures { result ≡ hearing_at self.now.hops number }
+    {
+        match self.hops.standing().get(number) {
+            Some(Some(hop)) => hop.hearing(),
+            _ => None,
+        }
+    }
+
+    /// Takes what came of the reply to the attempt of a number, which hears it alone where it was left unread, and so
+    /// many others may. It tells whether its connection stays.
+    fn answer_one(
+        &mut self,
+        number: usize,
+        attempt: usize,
+        answer: Result<Answered, NodeFault>,
+        noted: Option<Noted>,
+        alone: &mut usize,
+        registry: &Registry,
+        relay: &mut Relay<FileDisk>,
+        lanes: &mut Lanes,
+        leaving: &mut Leaving,
+        now: &Now,
+        log: &mut Log<'_, Vec<u8>>,
+    ) -> Result<bool, Fault>
+        ensures first { self.new.first ≡ self.old.first }
+        ensures counts { CountsMatch self.old.hops lanes.old.paces
+            → OnOk result (CountsMatch self.new.hops lanes.new.paces) }
+        ensures aimed { (routes : List Route) → AreAimed routes self.old.hops → AreAimed routes self.new.hops }
+    {
+        let is_left = was_left(&answer);
+        if is_left && *alone == 0 {
+            return Ok(true);
+        }
+        let Some(taken) = self.hops.take(number) else {
+            return Ok(true);
+        };
+        *alone = alone.saturating_sub(usize::from(is_left));
+        let mut hop = taken;
+        let course = hop.take_answer(relay, attempt, answer, noted, now)?;
+        self.settle(
+            number, hop, course, registry, relay, lanes, leaving, now, log,
+        )
+    }
+
+    /// Gives the first of those up whose attempts may hear something, since no memory is left. It tells whether there
+    /// was one.
+    fn lose_one(
+        &mut self,
+        registry: &Registry,
+        relay: &mut Relay<FileDisk>,
+        lanes: &mut Lanes,
+        leaving: &mut Leaving,
+        now: &Now,
+        log: &mut Log<'_, Vec<u8>>,
+    ) -> Result<bool, Fault>
+        ensures counts { CountsMatch self.old.hops lanes.old.paces
+            → OnOk result (CountsMatch self.new.hops lanes.new.paces) }
+        ensures aimed { (routes : List Route) → AreAimed routes self.old.hops → AreAimed routes self.new.hops }
+    {
+        match self.first_hearing() {
+            Some(number) => self.drop_one(number, registry, relay, lanes, leaving, now, log),
+            None => Ok(false),
+        }
+    }
+
+    /// The number of the first connection whose attempt may hear something.
+    fn first_hearing(&self) -> Option<usize> {
+        let first = self.first_number();
+        for step in 0..SLOT_COUNT {
+            let number = (first + step) % SLOT_COUNT;
+            if self.hearing_at(number).is_some() {
+                return Some(number);
+            }
+        }
+        None
+    }
+
+    /// Gives the connection of a number up. It tells whether there was one.
+    fn drop_one(
+        &mut self,
+        number: usize,
+        registry: &Registry,
+        relay: &mut Relay<FileDisk>,
+        lanes: &mut Lanes,
+        leaving: &mut Leaving,
+        now: &Now,
+        log: &mut Log<'_, Vec<u8>>,
+    ) -> Result<bool, Fault>
+        ensures counts { CountsMatch self.old.hops lanes.old.paces
+            → OnOk result (CountsMatch self.new.hops lanes.new.paces) }
+        ensures aimed { (routes : List Route) → AreAimed routes self.old.hops → AreAimed routes self.new.hops }
+    {
+        let Some(hop) = self.hops.take(number) else {
+            return Ok(false);
+        };
+        let ended = hop.into_parts();
+        let lost = Course::Lost(Loss::Cut);
+        conclude(registry, relay, lanes, leaving, ended, lost, now, log)?;
+        Ok(true)
+    }
+}
+
+/// How many of these attempts have ended with an outcome.
+fn count_ended(answers: &[Result<Answered, NodeFault>]) -> usize {
+    answers.iter().filter(|answer| has_ended(answer)).count()
+}
+
+/// Whether the attempt of an answer has ended, with an outcome.
+pub(crate) fn has_ended(answer: &Result<Answered, NodeFault>) -> bool {
+    match answer {
+        Ok(answered) => answered.change.is_some(),
+        Err(_) => false,
+    }
+}
+
+/// Whether a reply was left unread, since the call took no more.
+pub(crate) fn was_left(answer: &Result<Answered, NodeFault>) -> bool
+    ensures { IsTrue result ↔ WasLeft answer.now }
+{
+    match answer {
+        Ok(answered) => answered.used == 0 && answered.last.is_none(),
+        Err(_) => false,
+    }
+}
