@@ -390,7 +390,7 @@ def a_reply_from_before_a_reopening_ends_no_attempt(field):
             until("a connection to the other", lambda: other.connections == 1)
             fill(process, relay)
             same("a message without room", refused_or_lost(client), True)
-            until("a line of it", lambda: lines_of(relay, "device failed"))
+            until("a line of it", lambda: lines_of(relay, "device-failed"))
             empty(process)
             until("a line that it is open", lambda: lines_of(relay, "spool opened again"))
             until("a new text that waits for its reply", lambda: len(other.texts) == 1)
