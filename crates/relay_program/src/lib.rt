@@ -2,17 +2,17 @@
 //! reader and writer.
 #![tactic(auto)]
 
-mod command;
 mod descriptors;
-mod session;
+mod dispatch;
 mod setup;
+mod streams;
 
-pub use command::{command, refuse_streams, refuse_words};
 pub use descriptors::hold_standard_streams;
+pub use dispatch::{command, refuse_streams, refuse_words};
 pub use relay_arguments::{Subcommand, arguments};
 pub use relay_hub::hub_link;
 pub use relay_links::{push_link, serve_link};
 pub use relay_play::play;
 pub use relay_rounds::round;
 pub use relay_script::{ScriptLine, script_line};
-pub use session::session;
+pub use streams::session;

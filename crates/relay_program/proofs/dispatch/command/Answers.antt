@@ -5,7 +5,7 @@ use Rattle.clap.specs.declared.error.Error.{Error}
 use Rattle.clap.specs.declared.error.kind.ErrorKind.TheVariants as kind
 use Rattle.relay_program.specs.Session.{IsBegun}
 use Rattle.relay_program.proofs.SessionLemmas.{begun_nothing}
-use Rattle.relay_program.proofs.command.command.Goals as goal
+use Rattle.relay_program.proofs.dispatch.command.Goals as goal
 
 -- an error of words without a fault is want of memory
 only_memory : (error : Error) (kinds : Kinds) → HasKind kinds error → kinds ≡ [] → kind_of error ≡ kind.OutOfMemory

@@ -4,7 +4,7 @@ use Rattle.relay_disk.specs.Memory.{memory_words}
 use Rattle.relay_links.specs.Link.{HasBegun, HasServed, start_at}
 use Rattle.relay_program.specs.Setup.{session_peer}
 use Rattle.relay_program.proofs.SessionLemmas.{begun, begun_nothing, on_err, served}
-use Rattle.relay_program.proofs.session.session.Goals as goal
+use Rattle.relay_program.proofs.streams.session.Goals as goal
 
 pub returns-in_err-node-clause-begun : goal.returns-in_err-node-clause-begun
 returns-in_err-node-clause-begun g c = on_err _ _ (begun_nothing _ _)

@@ -5,7 +5,7 @@ ghost use Rattle.relay_arguments.specs.Arguments.{AreWrong, AskForPlay, AskForSe
 ghost use Rattle.relay_program.specs.Play.{IsPlayedWhole};
 ghost use Rattle.relay_program.specs.Session.{EndsAs};
 
-use crate::session::session;
+use crate::streams::session;
 use clap::Error;
 use clap::error::ErrorKind;
 use relay_arguments::{Subcommand, arguments};
