@@ -177,14 +177,14 @@ from_is_one Reads Later unique later one two (inr a) (inl b) = absurd (no_fault 
 from_is_one Reads Later unique later one two (inr a) (inr b) = later one two a.1 b.1
 
 -- the faults from each key on
-abbrev FromRoutes : Members → ConfigFault → Type 0
-FromRoutes document fault = ReadsRoutes document (Err fault)
-
 abbrev FromBareNewlines : Members → ConfigFault → Type 0
-FromBareNewlines document = FaultFrom (ReadsBareNewlines document) (FromRoutes document)
+FromBareNewlines document fault = ReadsBareNewlines document (Err fault)
+
+abbrev FromRoutes : Members → ConfigFault → Type 0
+FromRoutes document = FaultFrom (ReadsRoutes document) (FromBareNewlines document)
 
 abbrev FromSpoolLimit : Members → ConfigFault → Type 0
-FromSpoolLimit document = FaultFrom (ReadsSpoolLimit document) (FromBareNewlines document)
+FromSpoolLimit document = FaultFrom (ReadsSpoolLimit document) (FromRoutes document)
 
 abbrev FromMaxContent : Members → ConfigFault → Type 0
 FromMaxContent document = FaultFrom (ReadsMaxContent document) (FromSpoolLimit document)
@@ -204,10 +204,10 @@ from_host document fault (at_listen host bad) = inr (host, inl bad)
 from_host document fault (at_spool host listen bad) = inr (host, inr (listen, inl bad))
 from_host document fault (at_max_content host listen spool bad) = inr (host, inr (listen, inr (spool, inl bad)))
 from_host document fault (at_spool_limit host listen spool max_content bad) = inr (host, inr (listen, inr (spool, inr (max_content, inl bad))))
-from_host document fault (at_bare_newlines host listen spool max_content spool_limit bad) =
+from_host document fault (at_routes host listen spool max_content spool_limit bad) =
     inr (host, inr (listen, inr (spool, inr (max_content, inr (spool_limit, inl bad)))))
-from_host document fault (at_routes host listen spool max_content spool_limit bare_newlines bad) =
-    inr (host, inr (listen, inr (spool, inr (max_content, inr (spool_limit, inr (bare_newlines, bad))))))
+from_host document fault (at_bare_newlines host listen spool max_content spool_limit routes bad) =
+    inr (host, inr (listen, inr (spool, inr (max_content, inr (spool_limit, inr (routes, bad))))))
 
 one_from_host : (document : Members) → IsOneFault (FromHost document)
 one_from_host document =
@@ -215,9 +215,9 @@ one_from_host document =
     (from_is_one (ReadsListen document) (FromSpool document) (one_listen document)
     (from_is_one (ReadsSpool document) (FromMaxContent document) (one_spool document)
     (from_is_one (ReadsMaxContent document) (FromSpoolLimit document) (one_max_content document)
-    (from_is_one (ReadsSpoolLimit document) (FromBareNewlines document) (one_spool_limit document)
-    (from_is_one (ReadsBareNewlines document) (FromRoutes document) (one_bare_newlines document)
-    (λ one two a b. same_fault (ReadsRoutes document) one two (one_routes document) a b))))))
+    (from_is_one (ReadsSpoolLimit document) (FromRoutes document) (one_spool_limit document)
+    (from_is_one (ReadsRoutes document) (FromBareNewlines document) (one_routes document)
+    (λ one two a b. same_fault (ReadsBareNewlines document) one two (one_bare_newlines document) a b))))))
 
 -- a document that says a configuration has no fault
 says_no_fault : (document : Members) (config : Config) (fault : ConfigFault) → Says document config → ¬ FirstFault document fault
@@ -228,10 +228,10 @@ says_no_fault document config fault says (at_max_content host listen spool bad) 
     no_fault (ReadsMaxContent document) config.max_content fault (one_max_content document) says.max_content bad
 says_no_fault document config fault says (at_spool_limit host listen spool max_content bad) =
     no_fault (ReadsSpoolLimit document) config.spool_limit fault (one_spool_limit document) says.spool_limit bad
-says_no_fault document config fault says (at_bare_newlines host listen spool max_content spool_limit bad) =
-    no_fault (ReadsBareNewlines document) config.bare_newlines fault (one_bare_newlines document) says.bare_newlines bad
-says_no_fault document config fault says (at_routes host listen spool max_content spool_limit bare_newlines bad) =
+says_no_fault document config fault says (at_routes host listen spool max_content spool_limit bad) =
     no_fault (ReadsRoutes document) config.routes.routes fault (one_routes document) says.routes bad
+says_no_fault document config fault says (at_bare_newlines host listen spool max_content spool_limit routes bad) =
+    no_fault (ReadsBareNewlines document) config.bare_newlines fault (one_bare_newlines document) says.bare_newlines bad
 
 document_is_one : (document : Members) → ReadsOne (ReadsDocument document)
 document_is_one document (Ok one) (Ok two) a b = ap Ok (says_one document one two a b)

@@ -9,8 +9,8 @@ use Rattle.relay_routes.specs.Routes.{Route}
 use Rattle.relay_routes.specs.Document.{GivesRoutes, value_of}
 use Rattle.std.specs.declared.net.socket_addr.SocketAddrV4.{SocketAddrV4}
 use Rattle.relay_routes.specs.declared.key.Key.{Key}
-use Rattle.relay_routes.specs.declared.key.Key.TheVariants.{Host, Listen, Spool, MaxContent, SpoolLimit, BareNewlines}
-use Rattle.relay_routes.specs.declared.key.Key.TheVariants.{Routes}
+use Rattle.relay_routes.specs.declared.key.Key.TheVariants.{Host, Listen, Spool, MaxContent, SpoolLimit, Routes}
+use Rattle.relay_routes.specs.declared.key.Key.TheVariants.{BareNewlines}
 use Rattle.relay_routes.specs.declared.fault.ConfigFault.{ConfigFault}
 use Rattle.relay_routes.specs.declared.fault.ConfigFault.TheVariants.{NotToml, Missing, BadValue}
 use Rattle.relay_routes.specs.declared.config.Config.{Config}
@@ -84,12 +84,12 @@ pub data FirstFault (document : Members) (fault : ConfigFault) : Type 0 where
       → ReadsMaxContent document (Err fault) → FirstFault document fault
   at_spool_limit : IsGood (ReadsHost document) → IsGood (ReadsListen document) → IsGood (ReadsSpool document)
       → IsGood (ReadsMaxContent document) → ReadsSpoolLimit document (Err fault) → FirstFault document fault
-  at_bare_newlines : IsGood (ReadsHost document) → IsGood (ReadsListen document) → IsGood (ReadsSpool document)
-      → IsGood (ReadsMaxContent document) → IsGood (ReadsSpoolLimit document)
-      → ReadsBareNewlines document (Err fault) → FirstFault document fault
   at_routes : IsGood (ReadsHost document) → IsGood (ReadsListen document) → IsGood (ReadsSpool document)
       → IsGood (ReadsMaxContent document) → IsGood (ReadsSpoolLimit document)
-      → IsGood (ReadsBareNewlines document) → ReadsRoutes document (Err fault) → FirstFault document fault
+      → ReadsRoutes document (Err fault) → FirstFault document fault
+  at_bare_newlines : IsGood (ReadsHost document) → IsGood (ReadsListen document) → IsGood (ReadsSpool document)
+      → IsGood (ReadsMaxContent document) → IsGood (ReadsSpoolLimit document) → IsGood (ReadsRoutes document)
+      → ReadsBareNewlines document (Err fault) → FirstFault document fault
 
 -- what a document says
 abbrev pub ReadsDocument : Members → Result Config ConfigFault → Type 0

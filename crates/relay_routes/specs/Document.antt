@@ -10,8 +10,8 @@ use Rattle.relay_routes.specs.declared.fault.RouteFault.{RouteFault}
 use Rattle.relay_routes.specs.declared.fault.RouteFault.TheVariants.{BadDomain, Repeated, SecondPlace}
 use Rattle.relay_routes.specs.declared.fault.RouteFault.TheVariants.{NoMemory as OutOfMemory}
 use Rattle.relay_routes.specs.declared.key.Key.{Key}
-use Rattle.relay_routes.specs.declared.key.Key.TheVariants.{Host, Listen, Spool, MaxContent, SpoolLimit, BareNewlines}
-use Rattle.relay_routes.specs.declared.key.Key.TheVariants.{Routes}
+use Rattle.relay_routes.specs.declared.key.Key.TheVariants.{Host, Listen, Spool, MaxContent, SpoolLimit, Routes}
+use Rattle.relay_routes.specs.declared.key.Key.TheVariants.{BareNewlines}
 
 -- each key as a document has it
 abbrev pub key_text : Key → List ℕ
@@ -20,8 +20,8 @@ key_text Listen = codes "listen"
 key_text Spool = codes "spool"
 key_text MaxContent = codes "max_content"
 key_text SpoolLimit = codes "spool_limit"
-key_text BareNewlines = codes "bare_newlines"
 key_text Routes = codes "routes"
+key_text BareNewlines = codes "bare_newlines"
 
 -- what a route that isn't added means for a configuration
 abbrev pub fault_of_routes : RouteFault → ConfigFault

@@ -109,8 +109,8 @@ impl Config {
         let spool = read_spool(alloc, document)?;
         let max_content = read_max_content(document)?;
         let spool_limit = read_spool_limit(document)?;
-        let bare_newlines = read_bare_newlines(document)?;
         let routes = read_routes(alloc, document, host.copy(alloc)?)?;
+        let bare_newlines = read_bare_newlines(document)?;
         Ok(Config {
             host,
             listen,

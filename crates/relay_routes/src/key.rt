@@ -16,10 +16,10 @@ pub enum Key {
     MaxContent,
     /// The most octets of the spool.
     SpoolLimit,
-    /// What is done with a content in which a CR or an LF stands alone.
-    BareNewlines,
     /// Where mail goes.
     Routes,
+    /// What is done with a content in which a CR or an LF stands alone.
+    BareNewlines,
 }
 
 impl Key {
@@ -33,8 +33,8 @@ impl Key {
             Key::Spool => "spool",
             Key::MaxContent => "max_content",
             Key::SpoolLimit => "spool_limit",
-            Key::BareNewlines => "bare_newlines",
             Key::Routes => "routes",
+            Key::BareNewlines => "bare_newlines",
         }
     }
 }
