@@ -1,6 +1,6 @@
 -- The words that the program is started with, its own name first, and the status that it ends with.
 use Rattle.std.specs.Prelude.{◌≡◌, ◌≢◌, ℕ, Bool, List, [], ◌∷◌, true, false, codes, Option, Some, None, unwrap_or}
-use Rattle.std.specs.Prelude.{if◌then◌else◌}
+use Rattle.std.specs.Prelude.{if◌then◌else◌, option_map}
 use Rattle.std.specs.Option.{option_map_or}
 use Rattle.std.specs.Str.{bytes_eq}
 use Rattle.std.specs.Str.Parse.{digits_value, without_leading_plus}
@@ -13,7 +13,7 @@ use Rattle.clap.specs.declared.error.kind.ErrorKind.TheVariants.{DisplayHelp, Mi
 use Rattle.clap.specs.declared.error.kind.ErrorKind.TheVariants.{MissingSubcommand, UnknownArgument, ValueValidation}
 use Rattle.relay_arguments.specs.declared.words.Subcommand.{Subcommand}
 use Rattle.relay_arguments.specs.declared.words.Subcommand.TheVariants.{Session, Play, Init, List as ListHeld, Compact}
-use Rattle.relay_arguments.specs.declared.words.Subcommand.TheVariants.{Run, Serve, Push}
+use Rattle.relay_arguments.specs.declared.words.Subcommand.TheVariants.{Check, Run, Serve, Push}
 
 -- a program that wants a subcommand, and has none for help
 abbrev pub without_subcommands : App
@@ -29,6 +29,18 @@ config_rule = record (new_rule (codes "config")) { long = Some (codes "config");
 -- a subcommand with a configuration file
 abbrev pub configured : Text → App
 configured name = with_rule (new_app name) config_rule
+
+-- `--config FILE`, which may be missing
+abbrev pub optional_config_rule : Rule
+optional_config_rule = record (new_rule (codes "config")) { long = Some (codes "config"); action = Some Set }
+
+-- a subcommand whose configuration file is the default one where none is given
+abbrev pub configurable : Text → App
+configurable name = with_rule (new_app name) optional_config_rule
+
+-- `--route ADDRESS`
+abbrev pub route_rule : Rule
+route_rule = record (new_rule (codes "route")) { long = Some (codes "route"); action = Some Set }
 
 -- profile: `--rounds N`, from 1 to 1,000,000
 abbrev pub rounds_rule : Rule
@@ -50,9 +62,13 @@ log_rule = record (new_rule (codes "log")) { long = Some (codes "log"); action =
 abbrev pub quiet_rule : Rule
 quiet_rule = record (new_rule (codes "quiet")) { long = Some (codes "quiet"); action = Some SetTrue }
 
+-- the subcommand that checks a configuration
+abbrev pub checking : App
+checking = with_rule (configurable (codes "check")) route_rule
+
 -- the subcommand that runs until its process is ended
 abbrev pub running : App
-running = with_rule (configured (codes "run")) quiet_rule
+running = with_rule (configurable (codes "run")) quiet_rule
 
 abbrev pub serving : App
 serving = with_rule (with_rule (with_rule (configured (codes "serve")) rounds_rule) workers_rule) log_rule
@@ -74,9 +90,13 @@ over_files =
 abbrev pub with_compact : App
 with_compact = with_subcommand over_files (configured (codes "compact")).top
 
+-- and with the one that checks a configuration
+abbrev pub with_check : App
+with_check = with_subcommand with_compact checking.top
+
 -- and with the one that runs until its process is ended
 abbrev pub with_run : App
-with_run = with_subcommand with_compact running.top
+with_run = with_subcommand with_check running.top
 
 -- the program and its subcommands
 abbrev pub relayd : App
@@ -93,6 +113,7 @@ pub data Asked : Type 0 where
   AskedInit : Text → Asked
   AskedList : Text → Asked
   AskedCompact : Text → Asked
+  AskedCheck : Text → Option Text → Asked
   AskedRun : Text → Bool → Asked
   AskedServe : Text → ℕ → ℕ → Bool → Asked
   AskedPush : Text → Bool → Asked
@@ -100,6 +121,10 @@ pub data Asked : Type 0 where
 -- the file behind `--config`; the argument reader refuses words without one
 abbrev pub config_in : List Row → Text
 config_in rows = unwrap_or (first_of (codes "config") rows) []
+
+-- so it is where the words may be without one: a file that is there by convention
+abbrev pub config_or_default_in : List Row → Text
+config_or_default_in rows = unwrap_or (first_of (codes "config") rows) (codes "/etc/relayd.toml")
 
 -- the number that a text says, where it is one from 1 to the most; the argument reader refuses other texts
 abbrev pub number_of : ℕ → Text → ℕ
@@ -122,7 +147,8 @@ asked_by name rows =
     if bytes_eq name (codes "init") then AskedInit (config_in rows)
     else if bytes_eq name (codes "list") then AskedList (config_in rows)
     else if bytes_eq name (codes "compact") then AskedCompact (config_in rows)
-    else if bytes_eq name (codes "run") then AskedRun (config_in rows) (is_given_in (codes "quiet") rows)
+    else if bytes_eq name (codes "check") then AskedCheck (config_or_default_in rows) (first_of (codes "route") rows)
+    else if bytes_eq name (codes "run") then AskedRun (config_or_default_in rows) (is_given_in (codes "quiet") rows)
     else if bytes_eq name (codes "serve")
     then AskedServe (config_in rows) (rounds_in rows) (workers_in rows) (is_given_in (codes "log") rows)
     else if bytes_eq name (codes "push") then AskedPush (config_in rows) (is_given_in (codes "log") rows)
@@ -145,6 +171,7 @@ asked Play = AskedPlay
 asked (Init file) = AskedInit file.now
 asked (ListHeld file) = AskedList file.now
 asked (Compact file) = AskedCompact file.now
+asked (Check file route) = AskedCheck file.now (option_map (λ address. address.now) route)
 asked (Run file quiet) = AskedRun file.now quiet
 asked (Serve file rounds workers log) = AskedServe file.now rounds workers log
 asked (Push file log) = AskedPush file.now log
@@ -180,11 +207,21 @@ Compacts name =
     × (asked_in (words_of name (codes "compact") []) ≡ AskedCompact (codes "c"))
     × (faults_in (name ∷ codes "compact" ∷ []) ≡ MissingRequiredArgument ∷ [])
 
--- `run` is taken with a file, and not without one; it may be quiet, and knows no rounds
+-- `check` is taken with a file and an address, and without them
+abbrev pub Checks : Text → Type 0
+Checks name =
+    (faults_in (words_of name (codes "check") (codes "--route" ∷ codes "a" ∷ [])) ≡ [])
+    × (asked_in (words_of name (codes "check") (codes "--route" ∷ codes "a" ∷ []))
+    ≡ AskedCheck (codes "c") (Some (codes "a")))
+    × (faults_in (name ∷ codes "check" ∷ []) ≡ [])
+    × (asked_in (name ∷ codes "check" ∷ []) ≡ AskedCheck (codes "/etc/relayd.toml") None)
+
+-- `run` is taken with a file, and without one by the default; it may be quiet, and knows no rounds
 abbrev pub Runs : Text → Type 0
 Runs name =
     (faults_in (words_of name (codes "run") []) ≡ [])
-    × (faults_in (name ∷ codes "run" ∷ []) ≡ MissingRequiredArgument ∷ [])
+    × (faults_in (name ∷ codes "run" ∷ []) ≡ [])
+    × (asked_in (name ∷ codes "run" ∷ []) ≡ AskedRun (codes "/etc/relayd.toml") false)
     × (faults_in (words_of name (codes "run") (codes "--rounds" ∷ codes "1" ∷ [])) ≡ UnknownArgument ∷ [])
     × (asked_in (words_of name (codes "run") []) ≡ AskedRun (codes "c") false)
     × (asked_in (words_of name (codes "run") (codes "--quiet" ∷ [])) ≡ AskedRun (codes "c") true)
@@ -208,6 +245,7 @@ WordsAreTaken =
     × (asked_in (name ∷ codes "play" ∷ []) ≡ AskedPlay)
     × ServesAndPushes name
     × Compacts name
+    × Checks name
     × Runs name
 
 -- the argument reader finds no fault in the words, and they ask for a session

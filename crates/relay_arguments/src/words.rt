@@ -1,9 +1,12 @@
-ghost use Rattle.std.specs.Prelude.{◌≡◌, ◌≤◌, codes, false, map, IfOk};
-ghost use Rattle.clap.specs.Words.{FailsBy, app_of, found_of, new_app, rows_of, rule_of, subcommand_rows_of};
-ghost use Rattle.relay_arguments.specs.Arguments.{WordsAreTaken, asked, asked_by, asked_in, asked_of, config_in};
-ghost use Rattle.relay_arguments.specs.Arguments.{config_rule, configured, faults_in, is_given_in, log_rule};
-ghost use Rattle.relay_arguments.specs.Arguments.{number_of, over_files, pushing, quiet_rule, relayd, rounds_in};
-ghost use Rattle.relay_arguments.specs.Arguments.{rounds_rule, running, serving, with_compact, with_run};
+ghost use Rattle.std.specs.Prelude.{◌≡◌, ◌≤◌, codes, false, map, option_map, IfOk};
+ghost use Rattle.clap.specs.Words.{FailsBy, app_of, first_of, found_of, new_app, rows_of, rule_of};
+ghost use Rattle.clap.specs.Words.{subcommand_rows_of};
+ghost use Rattle.relay_arguments.specs.Arguments.{WordsAreTaken, asked, asked_by, asked_in, asked_of, checking};
+ghost use Rattle.relay_arguments.specs.Arguments.{config_in, config_or_default_in, config_rule, configurable};
+ghost use Rattle.relay_arguments.specs.Arguments.{configured, faults_in, is_given_in, log_rule, number_of};
+ghost use Rattle.relay_arguments.specs.Arguments.{optional_config_rule, over_files, pushing, quiet_rule, relayd};
+ghost use Rattle.relay_arguments.specs.Arguments.{rounds_in, rounds_rule, route_rule, running, serving};
+ghost use Rattle.relay_arguments.specs.Arguments.{with_check, with_compact, with_run};
 ghost use Rattle.relay_arguments.specs.Arguments.{without_files, without_subcommands};
 ghost use Rattle.relay_arguments.specs.Arguments.{workers_in, workers_rule};
 
@@ -25,6 +28,13 @@ pub enum Subcommand<'a> {
     List(&'a str),
     /// The spool is written anew, by the configuration in this file.
     Compact(&'a str),
+    /// The configuration in this file is checked.
+    Check {
+        /// The file of the configuration.
+        file: &'a str,
+        /// The address whose next hop is asked for, in place of the check.
+        route: Option<&'a str>,
+    },
     /// Clients are served and mail is handed on, until the process is ended.
     Run {
         /// The file of the configuration.
@@ -51,6 +61,9 @@ pub enum Subcommand<'a> {
         log: bool,
     },
 }
+
+/// The configuration where none is named: of the subcommands that needn't be told one.
+const DEFAULT_CONFIG: &str = "/etc/relayd.toml";
 
 /// The most rounds of one run.
 const MOST_ROUNDS: u64 = 1_000_000;
@@ -89,9 +102,14 @@ fn named<'a>(name: &str, matches: &ArgMatches<'a>) -> Subcommand<'a>
         Subcommand::List(config(matches))
     } else if name == "compact" {
         Subcommand::Compact(config(matches))
+    } else if name == "check" {
+        Subcommand::Check {
+            file: config_or_default(matches),
+            route: route(matches),
+        }
     } else if name == "run" {
         Subcommand::Run {
-            file: config(matches),
+            file: config_or_default(matches),
             quiet: is_given(matches, "quiet"),
         }
     } else if name == "serve" {
@@ -118,6 +136,20 @@ fn config<'a>(matches: &ArgMatches<'a>) -> &'a str
     ensures { result.now ≡ config_in (rows_of (found_of matches.now)) }
 {
     matches.get_str("config").unwrap_or("")
+}
+
+/// The file behind `--config`, or the default one.
+fn config_or_default<'a>(matches: &ArgMatches<'a>) -> &'a str
+    ensures { result.now ≡ config_or_default_in (rows_of (found_of matches.now)) }
+{
+    matches.get_str("config").unwrap_or(DEFAULT_CONFIG)
+}
+
+/// The address behind `--route`, where it was given.
+fn route<'a>(matches: &ArgMatches<'a>) -> Option<&'a str>
+    ensures { option_map (λ address. address.now) result ≡ first_of (codes "route") (rows_of (found_of matches.now)) }
+{
+    matches.get_str("route")
 }
 
 /// How many rounds `--rounds` asks for: 1 where it isn't given.
@@ -186,12 +218,21 @@ fn program<'a>(alloc: Global) -> Result<Command<'a>, AllocError>
 fn with_run<'a>(alloc: Global) -> Result<Command<'a>, AllocError>
     ensures { IfOk result (λ command. app_of command ≡ with_run) }
 {
-    let with_compact = with_compact(alloc)?;
+    let with_check = with_check(alloc)?;
     let run = run(alloc)?;
-    with_compact.subcommand(run)
+    with_check.subcommand(run)
 }
 
 /// The program with its subcommands that need no socket. It fails where memory runs out.
+fn with_check<'a>(alloc: Global) -> Result<Command<'a>, AllocError>
+    ensures { IfOk result (λ command. app_of command ≡ with_check) }
+{
+    let with_compact = with_compact(alloc)?;
+    let check = check(alloc)?;
+    with_compact.subcommand(check)
+}
+
+/// The program with its subcommands over a spool without sockets. It fails where memory runs out.
 fn with_compact<'a>(alloc: Global) -> Result<Command<'a>, AllocError>
     ensures { IfOk result (λ command. app_of command ≡ with_compact) }
 {
@@ -270,11 +311,37 @@ fn with_file<'a>(alloc: Global, name: &'a str, about: &'a str) -> Result<Command
         .arg(file_argument(alloc))
 }
 
-/// `run --config FILE [--quiet]`. It fails where memory runs out.
+/// A subcommand of this name whose configuration file is the default one where none is given. It fails where memory
+/// runs out.
+fn with_default_file<'a>(
+    alloc: Global,
+    name: &'a str,
+    about: &'a str,
+) -> Result<Command<'a>, AllocError>
+    ensures { IfOk result (λ command. app_of command ≡ configurable name.now) }
+{
+    Command::new(alloc, name)
+        .about(about)
+        .arg(optional_file_argument(alloc))
+}
+
+/// `check [--config FILE] [--route ADDRESS]`. It fails where memory runs out.
+fn check<'a>(alloc: Global) -> Result<Command<'a>, AllocError>
+    ensures { IfOk result (λ command. app_of command ≡ checking) }
+{
+    with_default_file(
+        alloc,
+        "check",
+        "Checks the configuration, and tells each finding with its place and what to write instead",
+    )?
+    .arg(route_argument(alloc))
+}
+
+/// `run [--config FILE] [--quiet]`. It fails where memory runs out.
 fn run<'a>(alloc: Global) -> Result<Command<'a>, AllocError>
     ensures { IfOk result (λ command. app_of command ≡ running) }
 {
-    with_file(
+    with_default_file(
         alloc,
         "run",
         "Takes mail from many clients at once and hands it on, until the process is ended",
@@ -318,6 +385,28 @@ fn file_argument<'a>(alloc: Global) -> Arg<'a>
         .action(ArgAction::Set)
         .required(true)
         .help("The configuration file")
+}
+
+/// `--config FILE`, which may be missing
+fn optional_file_argument<'a>(alloc: Global) -> Arg<'a>
+    ensures rule { rule_of result ≡ optional_config_rule }
+    ensures local { result.global ≡ false }
+{
+    Arg::new(alloc, "config")
+        .long("config")
+        .action(ArgAction::Set)
+        .help("The configuration file; /etc/relayd.toml where it isn't given")
+}
+
+/// `--route ADDRESS`
+fn route_argument<'a>(alloc: Global) -> Arg<'a>
+    ensures rule { rule_of result ≡ route_rule }
+    ensures local { result.global ≡ false }
+{
+    Arg::new(alloc, "route")
+        .long("route")
+        .action(ArgAction::Set)
+        .help("Tells the next hop of this address instead: name and place")
 }
 
 /// `--rounds N`

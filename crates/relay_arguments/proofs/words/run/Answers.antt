@@ -6,4 +6,4 @@ use Rattle.relay_arguments.proofs.words.run.Goals as goal
 
 pub returns : goal.returns
 returns c =
-    IfOk-weaker c.arg.result _ _ (λ command added. added.shape c.quiet_argument.ensures.local ∙ ap₂ with_rule c.in_ok-with_file.ensures c.quiet_argument.ensures.rule) c.arg.ensures
+    IfOk-weaker c.arg.result _ _ (λ command added. added.shape c.quiet_argument.ensures.local ∙ ap₂ with_rule c.in_ok-with_default_file.ensures c.quiet_argument.ensures.rule) c.arg.ensures

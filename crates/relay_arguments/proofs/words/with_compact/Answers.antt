@@ -1,4 +1,4 @@
--- The program and its subcommands that need no socket.
+-- The program and its subcommands over a spool without sockets.
 use Rattle.std.proofs.Common.{◌≡◌, ◌∙◌, ap, ap₂, codes}
 use Rattle.std.proofs.lemmas.Result.{IfOk-weaker}
 use Rattle.clap.specs.Words.{App, app_of, with_subcommand}

@@ -1,0 +1,8 @@
+-- The address behind `--route`, by the rows of a parse.
+use Rattle.std.proofs.Common.{◌∙◌, codes}
+use Rattle.clap.specs.Words.{found_of}
+use Rattle.clap.proofs.WalkLemmas.{first_value-rows}
+use Rattle.relay_arguments.proofs.words.route.Goals as goal
+
+pub returns : goal.returns
+returns c = c.get_str.ensures ∙ first_value-rows (found_of c.args.matches.now) (codes "route")

@@ -1,0 +1,103 @@
+ghost use Rattle.std.specs.Prelude.{◌↔◌, IfOk, IsTrue};
+ghost use Rattle.toml.specs.Errors.{IsMemory};
+ghost use Rattle.relay_check.specs.Check.{SaysConfiguration};
+
+use crate::document::routes_of;
+use crate::findings::Findings;
+use crate::known_keys::check_keys;
+use crate::position::Place;
+use crate::risks::check_risks;
+use crate::routes::check_routes;
+use crate::values::check_values;
+use relay_files::{Fault, configuration_text, gathering};
+use relay_routes::{Config, ConfigFault};
+use std::alloc::{AllocError, Global};
+use std::fs::File;
+use std::io::Write;
+use std::rt::Files;
+
+/// Checks the configuration in a file. Each finding is a line on `writer`, in the order of their places:
+/// `FILE:LINE:COLUMN: error|warning: ..`. Answers whether a relay can run by the file: whether no finding is an error.
+/// It fails where the file can't be read, a line can't be written, or memory runs out.
+pub fn check<F: Files<File = File>, W: Write>(
+    alloc: Global,
+    files: &F,
+    file: &str,
+    writer: &mut W,
+) -> Result<bool, Fault> {
+    let text = configuration_text(alloc, files, file)?;
+    let mut findings = Findings::new(alloc, text.as_str());
+    let is_configuration = check_text(alloc, files, text.as_str(), &mut findings)?;
+    match findings.write(file, &mut gathering(alloc, writer)?) {
+        Ok(()) => Ok(is_configuration && !findings.has_error()),
+        Err(error) => Err(Fault::of_output(&error)),
+    }
+}
+
+/// Tells before a relay runs by the configuration in a file what `check` finds in it: each a warning. Where no relay can
+/// run by it nothing is told. It fails as `check` does.
+pub fn warn<F: Files<File = File>, W: Write>(
+    alloc: Global,
+    files: &F,
+    file: &str,
+    writer: &mut W,
+) -> Result<(), Fault> {
+    let text = configuration_text(alloc, files, file)?;
+    let mut findings = Findings::new(alloc, text.as_str());
+    check_text(alloc, files, text.as_str(), &mut findings)?;
+    findings.soften();
+    if findings.has_error() {
+        return Ok(());
+    }
+    match findings.write(file, &mut gathering(alloc, writer)?) {
+        Ok(()) => Ok(()),
+        Err(error) => Err(Fault::of_output(&error)),
+    }
+}
+
+/// Looks for all that is wrong with a text, and for what is risky where that keeps no relay from running. Answers
+/// whether the text says a configuration.
+fn check_text<F: Files<File = File>>(
+    alloc: Global,
+    files: &F,
+    text: &str,
+    findings: &mut Findings<'_>,
+) -> Result<bool, Fault>
+    ensures { IfOk result (λ is_configuration. IsTrue is_configuration ↔ SaysConfiguration text.now) }
+{
+    let document = match toml::table_from_str(alloc, text) {
+        Ok(document) => document,
+        Err(error) => {
+            check_syntax(alloc, &error, findings)?;
+            return Ok(false);
+        }
+    };
+    check_keys(alloc, &document, findings)?;
+    check_values(alloc, text, findings)?;
+    if let Some(routes) = routes_of(&document) {
+        check_routes(alloc, routes, findings)?;
+    }
+    match Config::read(alloc, text) {
+        Ok(config) => {
+            check_risks(alloc, files, &config, &document, findings)?;
+            Ok(true)
+        }
+        Err(fault) if fault == ConfigFault::NoMemory => Err(Fault::NoMemory),
+        Err(_) => Ok(false),
+    }
+}
+
+/// Finds where a text stops being TOML. It fails where the reader of TOML ran out of memory.
+fn check_syntax(
+    alloc: Global,
+    error: &toml::de::Error,
+    findings: &mut Findings<'_>,
+) -> Result<(), AllocError>
+    ensures { IfOk result (λ _. ¬ IsMemory error.now) }
+{
+    let Some(span) = error.span() else {
+        return Err(AllocError);
+    };
+    let message = format!(in alloc; "not TOML: {}", error.message())?;
+    findings.error(Place::Octet(span.start), message)
+}

@@ -1,0 +1,98 @@
+//! Keys that no relay reads. A relay ignores them, so who writes one believes in what isn't there.
+use crate::findings::Findings;
+use crate::position::Place;
+use std::alloc::{AllocError, Global};
+use strsim::levenshtein;
+use toml::Table;
+
+/// The keys of a configuration.
+const KEYS: [&str; 10] = [
+    "host",
+    "listen",
+    "spool",
+    "max_content",
+    "spool_limit",
+    "bare_newlines",
+    "routes",
+    "sessions_per_client",
+    "attempts_per_hop",
+    "client_timeout",
+];
+
+/// The keys of a route's hop.
+const HOP_KEYS: [&str; 2] = ["name", "at"];
+
+/// The most edits between a key and the one that may have been meant.
+const FEW_EDITS: usize = 3;
+
+/// The most octets of a key that is compared with the known ones.
+const LONGEST_KEY: usize = 32;
+
+/// Finds the keys of a document that no relay reads.
+pub(crate) fn check_keys(
+    alloc: Global,
+    document: &Table,
+    findings: &mut Findings<'_>,
+) -> Result<(), AllocError> {
+    for key in document.keys() {
+        let key = key.as_str();
+        if KEYS.contains(&key) {
+            continue;
+        }
+        let shown = key.escape_default();
+        let message = match nearest(alloc, key, &KEYS)? {
+            Some(meant) => format!(in alloc; "unknown key {shown}; did you mean {meant}?")?,
+            None => format!(in alloc; "unknown key {shown}: it has no effect; remove it")?,
+        };
+        findings.ignored(Place::Key(key), message)?;
+    }
+    Ok(())
+}
+
+/// Finds the keys of a hop that no relay reads.
+pub(crate) fn check_hop_keys(
+    alloc: Global,
+    domain: &str,
+    hop: &Table,
+    findings: &mut Findings<'_>,
+) -> Result<(), AllocError> {
+    for key in hop.keys() {
+        let key = key.as_str();
+        if HOP_KEYS.contains(&key) {
+            continue;
+        }
+        let route = domain.escape_default();
+        let shown = key.escape_default();
+        let message = match nearest(alloc, key, &HOP_KEYS)? {
+            Some(meant) => format!(in alloc;
+                "route {route}: unknown key {shown}; did you mean {meant}?"
+            )?,
+            None => format!(in alloc;
+                "route {route}: unknown key {shown}: a route has name and at alone, so it has no effect; remove it"
+            )?,
+        };
+        findings.ignored(Place::Route(domain), message)?;
+    }
+    Ok(())
+}
+
+/// The known key that the fewest edits lead to, where they are few for its length.
+fn nearest(
+    alloc: Global,
+    key: &str,
+    known: &[&'static str],
+) -> Result<Option<&'static str>, AllocError> {
+    if key.len() > LONGEST_KEY {
+        return Ok(None);
+    }
+    let mut found = None;
+    let mut fewest = FEW_EDITS.saturating_add(1);
+    for candidate in known {
+        let edits = levenshtein(alloc, key, candidate)?;
+        if edits < fewest && edits <= candidate.len() / 2 {
+            fewest = edits;
+            found = Some(*candidate);
+        }
+    }
+    Ok(found)
+}

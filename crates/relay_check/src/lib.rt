@@ -1,0 +1,16 @@
+//! What is wrong with a configuration and what is risky about it: each finding with its place in the file, the value
+//! that it is about, and what to write instead.
+#![tactic(auto)]
+
+mod checking;
+mod document;
+mod findings;
+mod known_keys;
+mod position;
+mod risks;
+mod route;
+mod routes;
+mod values;
+
+pub use checking::{check, warn};
+pub use route::show_route;

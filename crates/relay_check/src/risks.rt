@@ -1,0 +1,137 @@
+//! What is risky about a configuration by which a relay runs.
+use crate::document::{routes_of, text_at};
+use crate::findings::Findings;
+use crate::position::Place;
+use relay_disk::FileDisk;
+use relay_routes::Config;
+use std::alloc::{AllocError, Global};
+use std::fs::File;
+use std::net::SocketAddrV4;
+use std::rt::Files;
+use toml::Table;
+
+/// Finds what a postmaster may not have meant, and files of the spool that can't be read.
+pub(crate) fn check_risks<F: Files<File = File>>(
+    alloc: Global,
+    files: &F,
+    config: &Config,
+    document: &Table,
+    findings: &mut Findings<'_>,
+) -> Result<(), AllocError> {
+    check_sizes(alloc, config, findings)?;
+    if let Some(routes) = routes_of(document) {
+        check_reach(alloc, config, routes, findings)?;
+        check_loops(alloc, config, routes, findings)?;
+    }
+    let second = format!(in alloc; "{}.2", config.spool.as_str())?;
+    check_file(alloc, files, config.spool.as_str(), findings)?;
+    check_file(alloc, files, second.as_str(), findings)
+}
+
+/// Finds a spool that has no room for a message of the greatest size.
+fn check_sizes(
+    alloc: Global,
+    config: &Config,
+    findings: &mut Findings<'_>,
+) -> Result<(), AllocError> {
+    if config.spool_limit >= config.max_content as u64 {
+        return Ok(());
+    }
+    let message = format!(in alloc;
+        "spool_limit = {} is below max_content = {}: a message of that size never fits; raise spool_limit",
+        config.spool_limit, config.max_content
+    )?;
+    findings.warning(Place::Key("spool_limit"), message)
+}
+
+/// Finds routes by which too little or too much mail is taken.
+fn check_reach(
+    alloc: Global,
+    config: &Config,
+    routes: &Table,
+    findings: &mut Findings<'_>,
+) -> Result<(), AllocError> {
+    if routes.is_empty() {
+        let message = format!(in alloc;
+            "no routes: each recipient is refused; add a line for each domain"
+        )?;
+        return findings.warning(Place::Key("routes"), message);
+    }
+    if routes.contains_key("*") {
+        return check_openness(alloc, config, findings);
+    }
+    let host = config.host.as_slice();
+    if routes.keys().any(|domain| domain.as_str().as_bytes().eq_ignore_ascii_case(host)) {
+        return Ok(());
+    }
+    let message = format!(in alloc;
+        "no route for the relay's own name: mail to its postmaster is refused (RFC 5321, 4.5.1); add a route for host"
+    )?;
+    findings.warning(Place::Key("routes"), message)
+}
+
+/// Finds a relay that hands on whatever anybody sends it.
+fn check_openness(
+    alloc: Global,
+    config: &Config,
+    findings: &mut Findings<'_>,
+) -> Result<(), AllocError> {
+    if config.listen.ip().is_loopback() {
+        return Ok(());
+    }
+    let message = format!(in alloc;
+        "route * takes mail for every domain from everybody who can reach {}: let a firewall admit your own hosts alone",
+        config.listen
+    )?;
+    findings.warning(Place::Route("*"), message)
+}
+
+/// Finds routes that lead to the relay itself.
+fn check_loops(
+    alloc: Global,
+    config: &Config,
+    routes: &Table,
+    findings: &mut Findings<'_>,
+) -> Result<(), AllocError> {
+    for (domain, value) in routes.iter() {
+        let domain = domain.as_str();
+        let Some(at) = value.as_table().and_then(|hop| text_at(hop, "at")) else {
+            continue;
+        };
+        if leads_here(at, config.listen) {
+            let message = format!(in alloc;
+                "route {} leads to this relay's own address {at}: its mail goes round; write another host's address",
+                domain.escape_default()
+            )?;
+            findings.warning(Place::Route(domain), message)?;
+        }
+    }
+    Ok(())
+}
+
+/// Whether what is sent to this address comes to a relay that listens there: also by the loopback addresses, where it
+/// listens at all of them.
+fn leads_here(at: &str, listen: SocketAddrV4) -> bool {
+    let Ok(at) = at.parse::<SocketAddrV4>() else {
+        return false;
+    };
+    at.port() == listen.port()
+        && (at.ip() == listen.ip() || (listen.ip().is_unspecified() && at.ip().is_loopback()))
+}
+
+/// Finds a file of the spool that isn't there, or that this user can't read.
+fn check_file<F: Files<File = File>>(
+    alloc: Global,
+    files: &F,
+    path: &str,
+    findings: &mut Findings<'_>,
+) -> Result<(), AllocError> {
+    let Err(error) = FileDisk::open_to_read(files, path) else {
+        return Ok(());
+    };
+    let message = format!(in alloc;
+        "spool file {}: {error}; relayd init makes both files, and the user that runs relayd has to own them",
+        path.escape_default()
+    )?;
+    findings.warning(Place::Key("spool"), message)
+}

@@ -1,0 +1,167 @@
+//! The routes, each on its own and beside those before it.
+use crate::document::text_at;
+use crate::findings::Findings;
+use crate::known_keys::check_hop_keys;
+use crate::position::Place;
+use relay_envelope::is_domain;
+use relay_routes::{Config, ConfigFault, Hop, HostName, Key, RouteFault, Table as RouteTable};
+use std::alloc::{AllocError, Global};
+use std::net::SocketAddrV4;
+use toml::{Table, Value};
+
+/// Finds what is wrong with each route.
+pub(crate) fn check_routes(
+    alloc: Global,
+    routes: &Table,
+    findings: &mut Findings<'_>,
+) -> Result<(), AllocError> {
+    let Some(host) = HostName::read(alloc, b"localhost")? else {
+        return Ok(());
+    };
+    let mut table = RouteTable::new(alloc, host);
+    for (domain, value) in routes.iter() {
+        let domain = domain.as_str();
+        check_domain(alloc, domain, findings)?;
+        if let Some(hop) = check_hop(alloc, domain, value, findings)? {
+            check_beside(alloc, &mut table, domain, hop, findings)?;
+        }
+    }
+    Ok(())
+}
+
+/// Finds a domain that mail can't be for.
+fn check_domain(
+    alloc: Global,
+    domain: &str,
+    findings: &mut Findings<'_>,
+) -> Result<(), AllocError> {
+    let route = domain.escape_default();
+    if domain.starts_with('.') {
+        let message = format!(in alloc;
+            "route {route} begins with a period: a route is for one domain and for none below it; write each of them"
+        )?;
+        return findings.warning(Place::Route(domain), message);
+    }
+    if is_domain(domain.as_bytes()) || domain == "*" {
+        return Ok(());
+    }
+    let message = format!(in alloc;
+        "route {route} is no domain: write one such as \"example.org\", or \"*\" for all that have no route"
+    )?;
+    findings.error(Place::Route(domain), message)
+}
+
+/// The hop that a route names, or what is wrong with it.
+fn check_hop(
+    alloc: Global,
+    domain: &str,
+    value: &Value,
+    findings: &mut Findings<'_>,
+) -> Result<Option<Hop>, AllocError> {
+    let Some(members) = value.as_table() else {
+        let message = format!(in alloc;
+            "route {} is no table: write {{ name = \"mx.example.org\", at = \"192.0.2.1:25\" }}",
+            domain.escape_default()
+        )?;
+        findings.error(Place::Route(domain), message)?;
+        return Ok(None);
+    };
+    check_hop_keys(alloc, domain, members, findings)?;
+    let name = check_name(alloc, domain, members, findings)?;
+    let at = check_address(alloc, domain, members, findings)?;
+    Ok(match (name, at) {
+        (Some(name), Some(at)) => Some(Hop { name, at }),
+        _ => None,
+    })
+}
+
+/// The name of a route's hop, or what is wrong with it.
+fn check_name(
+    alloc: Global,
+    domain: &str,
+    members: &Table,
+    findings: &mut Findings<'_>,
+) -> Result<Option<HostName>, AllocError> {
+    let route = domain.escape_default();
+    let message = match text_at(members, "name") {
+        None => format!(in alloc;
+            "route {route}: name is missing: write name = \"mx.example.org\""
+        )?,
+        Some(text) => match HostName::read(alloc, text.as_bytes())? {
+            Some(name) => return Ok(Some(name)),
+            None => format!(in alloc;
+                "route {route}: name = \"{}\" is no host name: write letters, digits, hyphens and periods",
+                text.escape_default()
+            )?,
+        },
+    };
+    findings.error(Place::Route(domain), message)?;
+    Ok(None)
+}
+
+/// Where a route's hop is, or what is wrong with that.
+fn check_address(
+    alloc: Global,
+    domain: &str,
+    members: &Table,
+    findings: &mut Findings<'_>,
+) -> Result<Option<SocketAddrV4>, AllocError> {
+    let route = domain.escape_default();
+    let message = match text_at(members, "at") {
+        None => format!(in alloc; "route {route}: at is missing: write at = \"192.0.2.1:25\"")?,
+        Some(text) => match address_of(alloc, text)? {
+            Some(at) => return Ok(Some(at)),
+            None => format!(in alloc;
+                "route {route}: at = \"{}\" is no address: write an IPv4 address and a port, such as \"192.0.2.1:25\"",
+                text.escape_default()
+            )?,
+        },
+    };
+    findings.error(Place::Route(domain), message)?;
+    Ok(None)
+}
+
+/// The address that a text writes as a configuration has it: as `listen` would be read.
+fn address_of(alloc: Global, text: &str) -> Result<Option<SocketAddrV4>, AllocError> {
+    let mut probe = Table::new(alloc);
+    add(alloc, &mut probe, "host", "localhost")?;
+    add(alloc, &mut probe, "listen", text)?;
+    match Config::of_document(alloc, &probe) {
+        Err(ConfigFault::NoMemory) => Err(AllocError),
+        Err(ConfigFault::BadValue(Key::Listen)) => Ok(None),
+        _ => match text.parse::<SocketAddrV4>() {
+            Ok(address) => Ok(Some(address)),
+            Err(_) => Ok(None),
+        },
+    }
+}
+
+fn add(alloc: Global, document: &mut Table, key: &str, text: &str) -> Result<(), AllocError> {
+    let key = String::from_str(alloc, key)?;
+    let value = Value::string(alloc, text)?;
+    document.insert(key, value)?;
+    Ok(())
+}
+
+/// Adds a route to those before it, or finds what it disagrees with.
+fn check_beside(
+    alloc: Global,
+    table: &mut RouteTable,
+    domain: &str,
+    hop: Hop,
+    findings: &mut Findings<'_>,
+) -> Result<(), AllocError> {
+    let route = domain.escape_default();
+    let message = match table.add(alloc, domain.as_bytes(), hop) {
+        // A bad domain was found before.
+        Ok(()) | Err(RouteFault::BadDomain) => return Ok(()),
+        Err(RouteFault::NoMemory) => return Err(AllocError),
+        Err(RouteFault::Repeated) => format!(in alloc;
+            "route {route} stands twice: letter case makes no difference in a domain; remove one"
+        )?,
+        Err(RouteFault::SecondPlace) => format!(in alloc;
+            "route {route}: its hop's name has another address in another route; give each address a name of its own"
+        )?,
+    };
+    findings.error(Place::Route(domain), message)
+}

@@ -1,0 +1,180 @@
+//! The values of the keys. A configuration's reader tells the first fault alone: each bad value is replaced by a good
+//! one, and the document is read again, until no fault is left.
+use crate::findings::Findings;
+use crate::position::Place;
+use relay_limits::{Limit, Limits};
+use relay_routes::{Config, ConfigFault, Key};
+use std::alloc::{AllocError, Global};
+use std::fmt;
+use toml::{Table, Value};
+
+/// How many values there may be to replace: one for each key.
+const KEYS: usize = 10;
+
+/// A value that a key may have.
+#[derive(Clone, Copy, Drop)]
+enum Good {
+    Text(&'static str),
+    Number(i64),
+    NoRoutes,
+}
+
+impl Good {
+    fn to_value(self, alloc: Global) -> Result<Value, AllocError> {
+        Ok(match self {
+            Good::Text(text) => Value::string(alloc, text)?,
+            Good::Number(number) => Value::Integer(number),
+            Good::NoRoutes => Value::Table(Table::new(alloc)),
+        })
+    }
+}
+
+impl fmt::Display for Good {
+    fn fmt<W: fmt::Write>(&self, f: &mut fmt::Formatter<W>) -> fmt::Result {
+        match self {
+            Good::Text(text) => write!(f, "\"{text}\""),
+            Good::Number(number) => write!(f, "{number}"),
+            Good::NoRoutes => f.write_str(
+                "{ \"example.org\" = { name = \"mx.example.org\", at = \"192.0.2.1:25\" } }",
+            ),
+        }
+    }
+}
+
+/// What a key's value has to be.
+#[derive(Clone, Copy, Drop)]
+struct Rule {
+    key: &'static str,
+    /// What may stand there, in words.
+    may_be: &'static str,
+    example: Good,
+}
+
+/// Finds each value that a configuration or its limits refuse, and each key that has to be there and isn't, but for
+/// what is wrong with a single route.
+pub(crate) fn check_values(
+    alloc: Global,
+    text: &str,
+    findings: &mut Findings<'_>,
+) -> Result<(), AllocError> {
+    let Ok(mut document) = toml::table_from_str(alloc, text) else {
+        // The text was read before, so that memory ran out.
+        return Err(AllocError);
+    };
+    set_routes_aside(alloc, &mut document)?;
+    for _ in 0..KEYS {
+        let Some(rule) = broken_rule(alloc, &document)? else {
+            break;
+        };
+        report(alloc, &document, rule, findings)?;
+        replace(alloc, &mut document, rule.key, rule.example)?;
+    }
+    Ok(())
+}
+
+/// Replaces a table of routes by one without: each route is looked at on its own.
+fn set_routes_aside(alloc: Global, document: &mut Table) -> Result<(), AllocError> {
+    match document.get("routes") {
+        Some(Value::Table(_)) => replace(alloc, document, "routes", Good::NoRoutes),
+        _ => Ok(()),
+    }
+}
+
+fn replace(alloc: Global, document: &mut Table, key: &str, value: Good) -> Result<(), AllocError> {
+    let value = value.to_value(alloc)?;
+    match document.get_mut(key) {
+        Some(place) => *place = value,
+        None => {
+            let key = String::from_str(alloc, key)?;
+            document.insert(key, value)?;
+        }
+    }
+    Ok(())
+}
+
+/// The rule of the first key that has a bad value, or isn't there.
+fn broken_rule(alloc: Global, document: &Table) -> Result<Option<Rule>, AllocError> {
+    match Config::of_document(alloc, document) {
+        Err(ConfigFault::NoMemory) => Err(AllocError),
+        Err(ConfigFault::Missing(key) | ConfigFault::BadValue(key)) => Ok(Some(rule_of(key))),
+        Err(ConfigFault::NotToml) | Ok(_) => match Limits::of_document(document) {
+            Ok(_) => Ok(None),
+            Err(limit) => Ok(Some(rule_of_limit(limit))),
+        },
+    }
+}
+
+/// Tells of a key by its rule.
+fn report(
+    alloc: Global,
+    document: &Table,
+    rule: Rule,
+    findings: &mut Findings<'_>,
+) -> Result<(), AllocError> {
+    let Rule {
+        key,
+        may_be,
+        example,
+    } = rule;
+    match document.get(key) {
+        None => {
+            let message = format!(in alloc; "{key} is missing: write {key} = {example}")?;
+            findings.error(Place::Whole, message)
+        }
+        Some(value) => {
+            let shown = shown(alloc, value)?;
+            let message = format!(in alloc;
+                "{key} = {shown}: write {may_be}, such as {key} = {example}"
+            )?;
+            findings.error(Place::Key(key), message)
+        }
+    }
+}
+
+/// A value in one line: a text with escapes, and of an array or a table only that it is one.
+fn shown(alloc: Global, value: &Value) -> Result<String, AllocError> {
+    match value {
+        Value::String(text) => format!(in alloc; "\"{}\"", text.as_str().escape_default()),
+        Value::Array(_) | Value::Table(_) => format!(in alloc; "({})", value.type_str()),
+        value => format!(in alloc; "{value}"),
+    }
+}
+
+fn rule_of(key: Key) -> Rule {
+    let (may_be, example) = match key {
+        Key::Host => (
+            "a name of 1 to 255 letters, digits, hyphens and periods",
+            Good::Text("relay.example.org"),
+        ),
+        Key::Listen => (
+            "an IPv4 address and a port from 1 to 65535",
+            Good::Text("0.0.0.0:25"),
+        ),
+        Key::Spool => (
+            "the path of a file",
+            Good::Text("/var/lib/relayd/relay.spool"),
+        ),
+        Key::MaxContent => ("a number from 1 to 16777216", Good::Number(1_048_576)),
+        Key::SpoolLimit => ("a number from 1 to 549755813888", Good::Number(67_108_864)),
+        Key::Routes => ("a table", Good::NoRoutes),
+        Key::BareNewlines => ("\"pass\" or \"refuse\"", Good::Text("refuse")),
+    };
+    Rule {
+        key: key.text(),
+        may_be,
+        example,
+    }
+}
+
+fn rule_of_limit(limit: Limit) -> Rule {
+    let (may_be, number) = match limit {
+        Limit::SessionsPerClient => ("a number from 1 to 64", 32),
+        Limit::AttemptsPerHop => ("a number from 1 to 64", 20),
+        Limit::ClientTimeout => ("a number of seconds from 1 to 3600", 300),
+    };
+    Rule {
+        key: limit.text(),
+        may_be,
+        example: Good::Number(number),
+    }
+}
