@@ -21,6 +21,7 @@ test:
 	tests/closed_streams.py build/relayd
 	tests/want_of_descriptors.py build/relayd
 	tests/fault_lines.sh build/relayd
+	tests/check.py build/relayd
 	tests/two_relays.py build/relayd
 	TIMES=10 tests/run.py build/relayd
 	TIMES=10 tests/run_log.py build/relayd

@@ -101,10 +101,11 @@ class Relay:
         return ended.stdout.decode().splitlines(), ended.stderr.decode().splitlines()
 
     def refused(self, *words):
-        """The status and the fault line of a subcommand, which prints nothing else."""
+        """The status and the fault line of a subcommand, which prints nothing but findings in its configuration else."""
         ended = self.ended(PATIENCE, *words)
         same(f"relayd {' '.join(words)} prints", ended.stdout, b"")
-        return ended.returncode, ended.stderr.decode().rstrip("\n")
+        lines = [line for line in ended.stderr.decode().splitlines() if not line.startswith(f"{self.file}:")]
+        return ended.returncode, "\n".join(lines)
 
     def held(self):
         """What `list` prints, as tuples of number, place, path and due moment."""

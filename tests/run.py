@@ -56,7 +56,7 @@ def a_message_comes_in_and_goes_on(field):
 
 
 def its_log_says_when_and_quiet_says_nothing(field):
-    relay = field.relay()
+    relay = field.relay(more={"relay.example": ("next.example", field.sink.port)})
     for words in ([], ["--quiet"]):
         relay.log.unlink(missing_ok=True)
         with relay.running(*words):
@@ -452,14 +452,32 @@ def its_faults_end_it_before_it_is_ready(field):
         same("list", bad.held(), [])
     with socket.create_server(("127.0.0.1", relay.port)):
         same("a port that is taken", relay.refused("run"), (1, "relayd: socket"))
-    ended = subprocess.run(relay.words("run"), stderr=subprocess.PIPE, timeout=PATIENCE,
+    ended = subprocess.run(relay.words("run", "--quiet"), stderr=subprocess.PIPE, timeout=PATIENCE,
                            preexec_fn=lambda: os.close(1))
     same("without standard output", (ended.returncode, ended.stderr), (1, b"relayd: output\n"))
     with relay.running():
         for words in (["run"], ["compact"], ["push"]):
             same(f"{words[0]} beside run", relay.refused(*words), (1, "relayd: device"))
     relay.forget()
-    same("no spool", relay.refused("run"), (1, "relayd: spool NotASpool"))
+    same("no spool", relay.refused("run"),
+         (1, 'relayd: spool NotASpool\nrelayd: run "relayd init --config {}" once'.format(relay.file)))
+
+
+def what_is_risky_is_told_before_it_is_ready(field):
+    """As `check` tells it, and what `run` ignores as a warning. What is wrong is told after the fault's line."""
+    relay = field.relay(tls="true")
+    findings = ["4:1: warning: unknown key tls: it has no effect; remove it",
+                "5:1: warning: no route for the relay's own name: mail to its postmaster is refused "
+                "(RFC 5321, 4.5.1); add a route for host"]
+    with relay.running():
+        same("findings", relay.log.read_text().splitlines(), [f"{relay.file}:{it}" for it in findings])
+    bad = field.relay("bad")
+    bad.limits = {"client_timeout": 0}
+    bad.route({"example.org": ("next.example", field.sink.port)})
+    told = bad.ended(PATIENCE, "run").stderr.decode().splitlines()
+    same("a fault", told[:2], ["relayd: config BadValue client_timeout",
+                               f"{bad.file}:4:1: error: client_timeout = 0: write a number of seconds from 1 to 3600, "
+                               "such as client_timeout = 300"])
 
 
 def an_address_that_comes_later_is_waited_for(field):
@@ -500,6 +518,7 @@ def a_closed_standard_error_stops_nothing(field):
 ROWS = [
     a_message_comes_in_and_goes_on,
     its_log_says_when_and_quiet_says_nothing,
+    what_is_risky_is_told_before_it_is_ready,
     what_a_client_says_is_no_line_of_the_log,
     sixty_four_sessions_stand_side_by_side,
     the_next_of_one_address_is_sent_away,

@@ -75,7 +75,8 @@ def lost_of(relay, sink, answered):
 
 def an_allocation_that_is_refused_ends_one_connection_at_most(field):
     """Once it is ready, it goes on, and the next client is answered 250."""
-    relay, mark, refuse = field.relay(), field.folder / "refused", field.folder / "refuse.so"
+    mark, refuse = field.folder / "refused", field.folder / "refuse.so"
+    relay = field.relay(more={"relay.example": ("next.example", field.sink.port)})
     subprocess.run(["cc", "-shared", "-fPIC", "-O1", "-o", refuse, HERE / "refuse_memory.c"], check=True)
     environment = {**os.environ, "REFUSED": str(mark), "LD_PRELOAD": str(refuse)}
     answered, tokens, number, met = {}, itertools.count(), 1, collections.Counter()

@@ -87,8 +87,9 @@ class Clocks:
 
 
 def lines_of(relay, text):
-    """The lines of the log in which a text stands."""
-    return [line for line in relay.log.read_text().splitlines() if text in line]
+    """The lines of the log in which a text stands, without findings in the relay's configuration."""
+    lines = relay.log.read_text().splitlines()
+    return [line for line in lines if text in line and not line.startswith(f"{relay.file}:")]
 
 
 class Client:

@@ -80,7 +80,7 @@ fn check_openness(
         return Ok(());
     }
     let message = format!(in alloc;
-        "route * takes mail for every domain from everybody who can reach {}: let a firewall admit your own hosts alone",
+        "route * takes mail for every domain from everybody who can reach {}: let a firewall admit your hosts alone",
         config.listen
     )?;
     findings.warning(Place::Route("*"), message)

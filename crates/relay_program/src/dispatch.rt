@@ -1,4 +1,4 @@
-ghost use Rattle.std.specs.Prelude.{◌≡◌, ◌≢◌, ◌⊎◌, [], ◌∷◌, map, MatchResult, OnOk};
+ghost use Rattle.std.specs.Prelude.{◌≡◌, ◌≢◌, ◌⊎◌, [], ◌∷◌, false, map, true, MatchResult, OnOk};
 ghost use Rattle.std.specs.IoError.{error_kind};
 ghost use Rattle.clap.specs.Words.{kind_of};
 ghost use Rattle.relay_arguments.specs.Arguments.{AreWrong, AskForPlay, AskForSession, faults_in};
@@ -10,7 +10,8 @@ use clap::Error;
 use clap::error::ErrorKind;
 use relay_arguments::{Subcommand, arguments};
 use relay_backlog::LogWriter;
-use relay_files::{compact, init, list};
+use relay_check::{check, show_route, warn};
+use relay_files::{Fault, compact, init, list};
 use relay_play::{PlayFault, play};
 use relay_run::run;
 use relay_service::{ServeOptions, push, serve};
@@ -38,7 +39,7 @@ const FAULT: u8 = 1;
 const WRONG_ARGUMENTS: u8 = 2;
 
 /// Runs the subcommand that the words name, the program's own name first, and answers the status
-/// for the system: 0 done, 1 a fault, with one line on `errors`, 2 wrong arguments, with the
+/// for the system: 0 done, 1 a fault, with its line on `errors`, or the answer no of `check`, 2 wrong arguments, with the
 /// argument reader's text on `errors`. `--help` writes that reader's text on `writer`, and is done.
 /// What `run` logs goes to `log`, from a thread of its own: two writers of one stream.
 pub fn command<
@@ -84,6 +85,15 @@ pub fn command<
         Ok(Subcommand::Init(file)) => ended(init(alloc, system, file), errors),
         Ok(Subcommand::List(file)) => ended(list(alloc, system, file, writer), errors),
         Ok(Subcommand::Compact(file)) => ended(compact(alloc, system, file, writer), errors),
+        Ok(Subcommand::Check { file, route: None }) => {
+            answered(check(alloc, system, file, writer), errors)
+        }
+        Ok(
+            Subcommand::Check {
+                file,
+                route: Some(address),
+            },
+        ) => answered(show_route(alloc, system, file, address, writer), errors),
         Ok(Subcommand::Run { file, quiet }) => run_apart_from_its_log(
             alloc, system, file, quiet, writer, errors, log,
         ),
@@ -130,16 +140,61 @@ fn run_apart_from_its_log<
 {
     match LogWriter::start(alloc, *system, log) {
         Ok(mut lines) => {
-            let end = run(alloc, system, file, quiet, writer, &mut lines);
-            let status = ended(end, &mut lines);
+            let status = run_checked(alloc, system, file, quiet, writer, &mut lines);
             lines.finish(Duration::from_secs(LOG_SECONDS));
             status
         }
-        Err(AllocError) => {
-            let end = run(alloc, system, file, quiet, writer, errors);
-            ended(end, errors)
-        }
+        Err(AllocError) => run_checked(alloc, system, file, quiet, writer, errors),
     }
+}
+
+/// Runs a relay that stays up. What is found in its configuration is told on `errors` before, unless it is quiet.
+fn run_checked<
+    F: Files<File = File>
+        + Clock
+        + Net<Listener = TcpListener, Stream = TcpStream>
+        + Wait
+        + Send
+        + Copy
+        + 'static,
+    W: Write,
+    E: Write,
+>(alloc: Global, system: &F, file: &str, quiet: bool, writer: &mut W, errors: &mut E) -> u8
+    ensures { result ≡ 1 }
+{
+    if !quiet {
+        // A relay runs also where this can't be told.
+        let _ = warn(alloc, system, file, errors);
+    }
+    match run(alloc, system, file, quiet, writer, errors) {
+        Ok(()) => FAULT,
+        Err(fault) => fail_to_run(alloc, system, file, fault, errors),
+    }
+}
+
+/// Writes the line of a fault that ended `run`, and what helps after it: what is wrong with the configuration, or how a
+/// spool is made. Answers the status.
+fn fail_to_run<F: Files<File = File>, E: Write>(
+    alloc: Global,
+    system: &F,
+    file: &str,
+    fault: Fault,
+    errors: &mut E,
+) -> u8
+    ensures { result ≡ 1 }
+{
+    let status = fail(errors, fault);
+    // Nothing is left to do where this can't be told: the line of the fault was.
+    match fault {
+        Fault::Config(_) | Fault::Limit(_) => {
+            let _ = check(alloc, system, file, errors);
+        }
+        Fault::NotASpool => {
+            let _ = writeln!(errors, "relayd: run \"relayd init --config {file}\" once");
+        }
+        _ => {}
+    }
+    status
 }
 
 /// Plays a script to its end, and lets its relays go.
@@ -160,6 +215,17 @@ fn ended<F: Display + Drop, E: Write>(end: Result<(), F>, errors: &mut E) -> u8
 {
     match end {
         Ok(()) => DONE,
+        Err(fault) => fail(errors, fault),
+    }
+}
+
+/// The status of a subcommand whose answer is yes or no: 0 for yes, 1 for no; a fault has its line on `errors`.
+fn answered<E: Write>(answer: Result<bool, Fault>, errors: &mut E) -> u8
+    ensures { MatchResult answer (λ yes. (yes ≡ true → result ≡ 0) × (yes ≡ false → result ≡ 1)) (λ _. result ≡ 1) }
+{
+    match answer {
+        Ok(true) => DONE,
+        Ok(false) => FAULT,
         Err(fault) => fail(errors, fault),
     }
 }

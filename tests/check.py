@@ -1,0 +1,232 @@
+#!/usr/bin/env python3
+"""Runs `relayd check` over configurations, good and bad: each finding with its line and column, and the status. What
+`check` passes `init` takes, and what it doesn't pass `init` refuses, but for keys that no relay reads. It ends at the
+first difference.
+
+    tests/check.py build/relayd
+"""
+import os
+import pathlib
+import subprocess
+import sys
+import tempfile
+
+sys.dont_write_bytecode = True
+
+from relay_program import same
+
+HEAD = 'host = "relay.example"\nlisten = "127.0.0.1:2525"\nspool = "relay.spool"\n'
+ROUTES = """[routes]
+"example.org" = { name = "next.example", at = "127.0.0.1:2526" }
+"relay.example" = { name = "next.example", at = "127.0.0.1:2526" }
+"""
+HOP = '{ name = "next.example", at = "127.0.0.1:2526" }'
+WRITE_HOP = 'write { name = "mx.example.org", at = "192.0.2.1:25" }'
+OWNER = "relayd init makes both files, and the user that runs relayd has to own them"
+MISSING = f"No such file or directory (os error 2); {OWNER}"
+UNREAD = [f"3:1: warning: spool file relay.spool: {MISSING}", f"3:1: warning: spool file relay.spool.2: {MISSING}"]
+NO_ROUTES = "warning: no routes: each recipient is refused; add a line for each domain"
+NO_POSTMASTER = ("warning: no route for the relay's own name: mail to its postmaster is refused (RFC 5321, 4.5.1); "
+                 "add a route for host")
+
+
+def run(program, *words):
+    return subprocess.run([program, *words], capture_output=True, text=True, timeout=60)
+
+
+def check(program, text, findings, status):
+    """The findings of a configuration, without the file's name, and the status."""
+    pathlib.Path("relayd.toml").write_text(text)
+    ran = run(program, "check", "--config", "relayd.toml")
+    same(f"findings of {text!r}", ran.stdout.splitlines(), [f"relayd.toml:{it}" for it in findings])
+    same(f"status of {text!r}", (ran.returncode, ran.stderr), (status, ""))
+
+
+def agrees_with_init(program, text, takes):
+    pathlib.Path("relayd.toml").write_text(text)
+    ran = run(program, "init", "--config", "relayd.toml")
+    same(f"init by {text!r}", ran.returncode == 0, takes)
+    for name in ("relay.spool", "relay.spool.2"):
+        pathlib.Path(name).unlink(missing_ok=True)
+
+
+def refused(program, text, findings):
+    """A configuration that no relay runs by."""
+    check(program, text, findings, 1)
+    agrees_with_init(program, text, False)
+
+
+def passed(program, text, findings, status=0):
+    """A configuration that a relay runs by."""
+    check(program, text, findings, status)
+    agrees_with_init(program, text, True)
+
+
+def a_good_configuration_has_no_findings(program):
+    text = HEAD + ROUTES
+    pathlib.Path("relayd.toml").write_text(text)
+    same("init", run(program, "init", "--config", "relayd.toml").returncode, 0)
+    check(program, text, [], 0)
+    for name in ("relay.spool", "relay.spool.2"):
+        pathlib.Path(name).unlink()
+
+
+def what_is_no_toml_is_told_with_its_place(program):
+    refused(program, "host = \n", [
+        "1:8: error: not TOML: invalid value, expected a string, number, boolean, date-time, array or inline table"])
+    refused(program, HEAD + 'max_content = 1\nhost = "x"\n', ["5:1: error: not TOML: duplicate key"])
+
+
+def each_missing_key_is_told(program):
+    refused(program, "", [
+        '1:1: error: host is missing: write host = "relay.example.org"',
+        '1:1: error: listen is missing: write listen = "0.0.0.0:25"',
+        '1:1: error: spool is missing: write spool = "/var/lib/relayd/relay.spool"',
+        '1:1: error: routes is missing: write routes = '
+        '{ "example.org" = { name = "mx.example.org", at = "192.0.2.1:25" } }'])
+
+
+def each_bad_value_is_told_with_what_to_write(program):
+    refused(program, """host = "relay example"
+ listen = "0.0.0.0:025"
+spool = ""
+max_content = 0
+spool_limit = 549_755_813_889
+bare_newlines = "no"
+sessions_per_client = 65
+attempts_per_hop = "many\\n"
+client_timeout = [1]
+routes = 1
+""", [
+        '1:1: error: host = "relay example": write a name of 1 to 255 letters, digits, hyphens and periods, such as '
+        'host = "relay.example.org"',
+        '2:2: error: listen = "0.0.0.0:025": write an IPv4 address and a port from 1 to 65535, such as '
+        'listen = "0.0.0.0:25"',
+        '3:1: error: spool = "": write the path of a file, such as spool = "/var/lib/relayd/relay.spool"',
+        "4:1: error: max_content = 0: write a number from 1 to 16777216, such as max_content = 1048576",
+        "5:1: error: spool_limit = 549755813889: write a number from 1 to 549755813888, such as spool_limit = 67108864",
+        '6:1: error: bare_newlines = "no": write "pass" or "refuse", such as bare_newlines = "refuse"',
+        "7:1: error: sessions_per_client = 65: write a number from 1 to 64, such as sessions_per_client = 32",
+        '8:1: error: attempts_per_hop = "many\\n": write a number from 1 to 64, such as attempts_per_hop = 20',
+        "9:1: error: client_timeout = (array): write a number of seconds from 1 to 3600, such as client_timeout = 300",
+        '10:1: error: routes = 1: write a table, such as routes = '
+        '{ "example.org" = { name = "mx.example.org", at = "192.0.2.1:25" } }'])
+
+
+def unknown_keys_are_errors_though_a_relay_ignores_them(program):
+    text = HEAD + 'max_contents = 5\ntls = true\n"spool\\u0007" = 1\n' + ROUTES.replace(
+        '"127.0.0.1:2526" }', '"127.0.0.1:2526", tls = true, nam = 1 }', 1)
+    passed(program, text, [
+        "1:1: error: unknown key spool\\u{7}; did you mean spool?",
+        *UNREAD,
+        "4:1: error: unknown key max_contents; did you mean max_content?",
+        "5:1: error: unknown key tls: it has no effect; remove it",
+        "8:1: error: route example.org: unknown key nam; did you mean name?",
+        "8:1: error: route example.org: unknown key tls: a route has name and at alone, so it has no effect; remove it",
+    ], status=1)
+
+
+def each_route_is_judged_on_its_own(program):
+    refused(program, HEAD + f"""[routes]
+"a..b c" = {HOP}
+'relay.example' = "next.example"
+"example.org" = {{ name = "a b", at = "127.0.0.1" }}
+"example.net" = {{ }}
+"example.edu" = {HOP}
+"EXAMPLE.edu" = {HOP}
+  "example.com" = {{ name = "next.example", at = "127.0.0.1:2527" }}
+[routes."example.int"]
+name = "next.example"
+at = "127.0.0.1:0"
+""", [
+        '5:1: error: route a..b c is no domain: write one such as "example.org", or "*" for all that have no route',
+        f"6:1: error: route relay.example is no table: {WRITE_HOP}",
+        '7:1: error: route example.org: name = "a b" is no host name: write letters, digits, hyphens and periods',
+        '7:1: error: route example.org: at = "127.0.0.1" is no address: write an IPv4 address and a port, such as '
+        '"192.0.2.1:25"',
+        '8:1: error: route example.net: name is missing: write name = "mx.example.org"',
+        '8:1: error: route example.net: at is missing: write at = "192.0.2.1:25"',
+        "9:1: error: route example.edu stands twice: letter case makes no difference in a domain; remove one",
+        "11:3: error: route example.com: its hop's name has another address in another route; give each address a name "
+        "of its own",
+        '12:1: error: route example.int: at = "127.0.0.1:0" is no address: write an IPv4 address and a port, such as '
+        '"192.0.2.1:25"'])
+
+
+def what_is_risky_is_a_warning(program):
+    passed(program, HEAD + "[routes]\n", [*UNREAD, f"4:1: {NO_ROUTES}"])
+    passed(program, HEAD + f'[routes]\n"example.org" = {HOP}\n', [*UNREAD, f"4:1: {NO_POSTMASTER}"])
+    passed(program, HEAD + "max_content = 2000\nspool_limit = 1000\n" + ROUTES, [
+        *UNREAD, "5:1: warning: spool_limit = 1000 is below max_content = 2000: a message of that size never fits; "
+        "raise spool_limit"])
+    passed(program, HEAD + f'[routes]\n"*" = {HOP}\n', UNREAD)
+    passed(program, HEAD.replace("127.0.0.1:2525", "0.0.0.0:2525") + f'[routes]\n"*" = {HOP}\n', [
+        *UNREAD, "5:1: warning: route * takes mail for every domain from everybody who can reach 0.0.0.0:2525: let a "
+        "firewall admit your hosts alone"])
+    passed(program, HEAD + ROUTES + f'".example.net" = {HOP}\n', [
+        *UNREAD, "7:1: warning: route .example.net begins with a period: a route is for one domain and for none below "
+        "it; write each of them"])
+
+
+def a_route_to_the_relay_itself_is_a_warning(program):
+    for listen, at in (("127.0.0.1:2525", "127.0.0.1:2525"), ("0.0.0.0:2525", "127.0.0.2:2525")):
+        route = f'"a.example" = {{ name = "a", at = "{at}" }}\n'
+        passed(program, HEAD.replace("127.0.0.1:2525", listen) + ROUTES + route,
+               [*UNREAD, f"7:1: warning: route a.example leads to this relay's own address {at}: its mail goes round; "
+                "write another host's address"])
+    passed(program, HEAD.replace("127.0.0.1:2525", "127.0.0.1:2524") + ROUTES
+           + '"a.example" = { name = "a", at = "127.0.0.1:2525" }\n', UNREAD)
+
+
+def files_that_can_not_be_read_are_told_with_the_reason(program):
+    pathlib.Path("relay.spool").touch()
+    check(program, HEAD + ROUTES, UNREAD[1:], 0)
+    pathlib.Path("relay.spool").unlink()
+    if os.geteuid() != 0:
+        pathlib.Path("relay.spool").touch(mode=0)
+        check(program, HEAD + ROUTES, [
+            f"3:1: warning: spool file relay.spool: Permission denied (os error 13); {OWNER}", UNREAD[1]], 0)
+        pathlib.Path("relay.spool").unlink()
+
+
+def the_next_hop_of_an_address_is_told(program):
+    pathlib.Path("relayd.toml").write_text(HEAD + ROUTES)
+
+    def route(address):
+        ran = run(program, "check", "--config", "relayd.toml", "--route", address)
+        return ran.stdout, ran.returncode, ran.stderr
+    same("a route", route("b@Example.ORG"), ("b@Example.ORG: next.example 127.0.0.1:2526\n", 0, ""))
+    same("brackets", route("<b@example.org>"), ("<b@example.org>: next.example 127.0.0.1:2526\n", 0, ""))
+    same("the postmaster", route("Postmaster"), ("Postmaster: next.example 127.0.0.1:2526\n", 0, ""))
+    same("no route", route("b@example.net"), ("b@example.net: no route\n", 1, ""))
+    same("no address", route("b c"), ("b c: no address\n", 1, ""))
+    pathlib.Path("relayd.toml").write_text('host = "a b"')
+    same("a fault", route("b@example.org"), ("", 1, "relayd: config BadValue host\n"))
+
+
+def faults_have_their_line(program):
+    ran = run(program, "check", "--config", "missing.toml")
+    same("a missing file", (ran.stdout, ran.stderr, ran.returncode), ("", "relayd: input\n", 1))
+    pathlib.Path("relayd.toml").write_text("")
+    with open("/dev/full", "w") as full:
+        words = [program, "check", "--config", "relayd.toml"]
+        ran = subprocess.run(words, stdout=full, stderr=subprocess.PIPE, text=True)
+    same("a full output", (ran.stderr, ran.returncode), ("relayd: output\n", 1))
+
+
+def main(program):
+    program = str(pathlib.Path(program).resolve())
+    rows = [
+        a_good_configuration_has_no_findings, what_is_no_toml_is_told_with_its_place, each_missing_key_is_told,
+        each_bad_value_is_told_with_what_to_write, unknown_keys_are_errors_though_a_relay_ignores_them,
+        each_route_is_judged_on_its_own, what_is_risky_is_a_warning, a_route_to_the_relay_itself_is_a_warning,
+        files_that_can_not_be_read_are_told_with_the_reason, the_next_hop_of_an_address_is_told, faults_have_their_line]
+    for row in rows:
+        with tempfile.TemporaryDirectory() as folder:
+            os.chdir(folder)
+            row(program)
+            os.chdir("/")
+    print(f"check: {len(rows)} rows")
+
+
+main(sys.argv[1])
