@@ -103,9 +103,18 @@ def help_is_written_and_done(program):
     status, written, errors, left = program.run(["--help"], b"NOOP\r\n")
     same("the run", (status, errors, left), (0, b"", b"NOOP\r\n"))
     same("the first line", written.split(b"\n")[0], b"A store-and-forward SMTP relay")
-    with open("/dev/full", "wb") as full:
-        ended = subprocess.run([program.relayd, "--help"], stdout=full, stderr=subprocess.PIPE, timeout=PATIENCE)
-    same("the run on a full device", (ended.returncode, ended.stderr), (1, b"relayd: output\n"))
+    same("the version", program.run(["--version"], b"NOOP\r\n"), (0, b"relayd 1.0.0\n", b"", b"NOOP\r\n"))
+    for word in ("--help", "--version"):
+        with open("/dev/full", "wb") as full:
+            ended = subprocess.run([program.relayd, word], stdout=full, stderr=subprocess.PIPE, timeout=PATIENCE)
+        same(f"{word} on a full device", (ended.returncode, ended.stderr), (1, b"relayd: output\n"))
+
+
+def each_subcommand_has_help_with_an_example(program):
+    for word in ("session", "play", "init", "list", "compact", "check", "run", "serve", "push"):
+        status, written, errors, _ = program.run([word, "--help"], b"")
+        same(f"{word} --help", (status, errors), (0, b""))
+        same(f"the example of {word}", f" relayd {word}".encode() in written.split(b"\n\nExample:")[1], True)
 
 
 ROWS = [
@@ -115,6 +124,7 @@ ROWS = [
     a_writer_that_fails_ends_the_session,
     wrong_words_have_status_2,
     help_is_written_and_done,
+    each_subcommand_has_help_with_an_example,
 ]
 
 

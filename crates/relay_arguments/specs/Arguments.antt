@@ -9,8 +9,9 @@ use Rattle.clap.specs.Words.{subcommand_of, with_rule, with_subcommand}
 use Rattle.clap.specs.ValueTests.{is_unsigned_in}
 use Rattle.clap.specs.declared.builder.action.ArgAction.TheVariants.{Set, SetTrue}
 use Rattle.clap.specs.declared.builder.value_parser.ValueParser.TheVariants.{Unsigned}
-use Rattle.clap.specs.declared.error.kind.ErrorKind.TheVariants.{DisplayHelp, MissingRequiredArgument}
-use Rattle.clap.specs.declared.error.kind.ErrorKind.TheVariants.{MissingSubcommand, UnknownArgument, ValueValidation}
+use Rattle.clap.specs.declared.error.kind.ErrorKind.TheVariants.{DisplayHelp, DisplayVersion}
+use Rattle.clap.specs.declared.error.kind.ErrorKind.TheVariants.{MissingRequiredArgument, MissingSubcommand}
+use Rattle.clap.specs.declared.error.kind.ErrorKind.TheVariants.{UnknownArgument, ValueValidation}
 use Rattle.relay_arguments.specs.declared.words.Subcommand.{Subcommand}
 use Rattle.relay_arguments.specs.declared.words.Subcommand.TheVariants.{Session, Play, Init, List as ListHeld, Compact}
 use Rattle.relay_arguments.specs.declared.words.Subcommand.TheVariants.{Check, Run, Serve, Push}
@@ -18,13 +19,21 @@ use Rattle.relay_arguments.specs.declared.words.Subcommand.TheVariants.{Check, R
 -- a program that wants a subcommand, and has none for help
 abbrev pub without_subcommands : App
 without_subcommands = record {
-  top = record (new_app (codes "relayd")).top { disable_help_subcommand = true; subcommand_required = true };
+  top = record (new_app (codes "relayd")).top {
+    disable_help_subcommand = true;
+    subcommand_required = true;
+    has_version = true;
+  };
   subs = [];
 }
 
+-- `--NAME VALUE`
+abbrev pub option_rule : Text → Rule
+option_rule name = record (new_rule name) { long = Some name; action = Some Set; value_names = 1 }
+
 -- `--config FILE`, which has to be given
 abbrev pub config_rule : Rule
-config_rule = record (new_rule (codes "config")) { long = Some (codes "config"); action = Some Set; required = true }
+config_rule = record (option_rule (codes "config")) { required = true }
 
 -- a subcommand with a configuration file
 abbrev pub configured : Text → App
@@ -32,7 +41,7 @@ configured name = with_rule (new_app name) config_rule
 
 -- `--config FILE`, which may be missing
 abbrev pub optional_config_rule : Rule
-optional_config_rule = record (new_rule (codes "config")) { long = Some (codes "config"); action = Some Set }
+optional_config_rule = option_rule (codes "config")
 
 -- a subcommand whose configuration file is the default one where none is given
 abbrev pub configurable : Text → App
@@ -40,19 +49,15 @@ configurable name = with_rule (new_app name) optional_config_rule
 
 -- `--route ADDRESS`
 abbrev pub route_rule : Rule
-route_rule = record (new_rule (codes "route")) { long = Some (codes "route"); action = Some Set }
+route_rule = option_rule (codes "route")
 
 -- profile: `--rounds N`, from 1 to 1,000,000
 abbrev pub rounds_rule : Rule
-rounds_rule =
-    record (new_rule (codes "rounds"))
-    { long = Some (codes "rounds"); action = Some Set; parser = Some (Unsigned 1 1000000) }
+rounds_rule = record (option_rule (codes "rounds")) { parser = Some (Unsigned 1 1000000) }
 
 -- profile: `--workers W`, from 1 to 64
 abbrev pub workers_rule : Rule
-workers_rule =
-    record (new_rule (codes "workers"))
-    { long = Some (codes "workers"); action = Some Set; parser = Some (Unsigned 1 64) }
+workers_rule = record (option_rule (codes "workers")) { parser = Some (Unsigned 1 64) }
 
 -- profile: `--log`
 abbrev pub log_rule : Rule
@@ -227,7 +232,7 @@ Runs name =
     × (asked_in (words_of name (codes "run") (codes "--quiet" ∷ [])) ≡ AskedRun (codes "c") true)
 
 -- `session` and `play` alone are taken, and so are `init` and `list` with a file; without a subcommand, without the
--- file and with a further word they aren't; `--help` asks for help
+-- file and with a further word they aren't; `--help` asks for help, and `--version` for the version
 abbrev pub WordsAreTaken : Type 0
 WordsAreTaken =
     (name : Text) → (faults_in (name ∷ codes "session" ∷ []) ≡ [])
@@ -237,6 +242,7 @@ WordsAreTaken =
     × (faults_in (name ∷ codes "list" ∷ []) ≡ MissingRequiredArgument ∷ [])
     × (faults_in (name ∷ codes "session" ∷ codes "more" ∷ []) ≡ UnknownArgument ∷ [])
     × (faults_in (name ∷ codes "--help" ∷ []) ≡ DisplayHelp ∷ [])
+    × (faults_in (name ∷ codes "--version" ∷ []) ≡ DisplayVersion ∷ [])
     × (asked_in (name ∷ codes "init" ∷ codes "--config" ∷ codes "relayd.toml" ∷ []) ≡ AskedInit (codes "relayd.toml"))
     × (asked_in (name ∷ codes "list" ∷ codes "--config=relayd.toml" ∷ []) ≡ AskedList (codes "relayd.toml"))
     × (asked_in (name ∷ codes "session" ∷ []) ≡ AskedSession)
@@ -256,6 +262,6 @@ AskForSession words = (faults_in words ≡ []) × (asked_in words ≡ AskedSessi
 abbrev pub AskForPlay : List Text → Type 0
 AskForPlay words = (faults_in words ≡ []) × (asked_in words ≡ AskedPlay)
 
--- the words are wrong, and don't ask for help
+-- the words are wrong, and ask neither for help nor for the version
 abbrev pub AreWrong : Kinds → Type 0
-AreWrong kinds = (kinds ≢ []) × (¬ IsAmong DisplayHelp kinds)
+AreWrong kinds = (kinds ≢ []) × (¬ IsAmong DisplayHelp kinds) × (¬ IsAmong DisplayVersion kinds)

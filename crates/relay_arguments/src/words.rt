@@ -65,6 +65,9 @@ pub enum Subcommand<'a> {
 /// The configuration where none is named: of the subcommands that needn't be told one.
 const DEFAULT_CONFIG: &str = "/etc/relayd.toml";
 
+/// The version of the program.
+const VERSION: &str = "1.0.0";
+
 /// The most rounds of one run.
 const MOST_ROUNDS: u64 = 1_000_000;
 
@@ -240,7 +243,8 @@ fn with_compact<'a>(alloc: Global) -> Result<Command<'a>, AllocError>
     let compact = with_file(
         alloc,
         "compact",
-        "Writes the spool anew: its size before and behind that",
+        "Write the spool anew, and print its size before and after",
+        "Example: relayd compact --config /etc/relayd.toml",
     )?;
     over_files.subcommand(compact)
 }
@@ -253,13 +257,15 @@ fn over_files<'a>(alloc: Global) -> Result<Command<'a>, AllocError>
     let init = with_file(
         alloc,
         "init",
-        "Makes the spool that the configuration names",
+        "Make the spool that the configuration names",
+        "Example: relayd init --config /etc/relayd.toml",
     )?;
     let with_init = without_files.subcommand(init)?;
     let list = with_file(
         alloc,
         "list",
-        "Lists each recipient that the spool holds: message, place, path, due moment",
+        "List each queued recipient: message, place, path, due moment",
+        "Example: relayd list --config /etc/relayd.toml",
     )?;
     with_init.subcommand(list)
 }
@@ -280,6 +286,7 @@ fn without_subcommands<'a>(alloc: Global) -> Command<'a>
 {
     Command::new(alloc, "relayd")
         .about("A store-and-forward SMTP relay")
+        .version(VERSION)
         .disable_help_subcommand(true)
         .subcommand_required(true)
 }
@@ -288,26 +295,34 @@ fn without_subcommands<'a>(alloc: Global) -> Command<'a>
 fn session<'a>(alloc: Global) -> Command<'a>
     ensures { app_of result ≡ new_app (codes "session") }
 {
-    Command::new(alloc, "session").about(
-        "Holds one SMTP session from standard input to standard output",
-    )
+    Command::new(alloc, "session")
+        .about("Hold one SMTP session from standard input to standard output")
+        .after_help("Example: printf 'EHLO client.example\\r\\nQUIT\\r\\n' | relayd session")
 }
 
 /// `play`
 fn play<'a>(alloc: Global) -> Command<'a>
     ensures { app_of result ≡ new_app (codes "play") }
 {
-    Command::new(alloc, "play").about(
-        "Plays a script of 2 to 16 relays from standard input, and tells what is seen of each line",
-    )
+    Command::new(alloc, "play")
+        .about(
+            "Play a script of 2 to 16 relays from standard input, and tell what is seen of each line",
+        )
+        .after_help("Example: relayd play < docs/plays/lost_reply.play")
 }
 
 /// A subcommand of this name with a configuration file. It fails where memory runs out.
-fn with_file<'a>(alloc: Global, name: &'a str, about: &'a str) -> Result<Command<'a>, AllocError>
+fn with_file<'a>(
+    alloc: Global,
+    name: &'a str,
+    about: &'a str,
+    example: &'a str,
+) -> Result<Command<'a>, AllocError>
     ensures { IfOk result (λ command. app_of command ≡ configured name.now) }
 {
     Command::new(alloc, name)
         .about(about)
+        .after_help(example)
         .arg(file_argument(alloc))
 }
 
@@ -317,11 +332,13 @@ fn with_default_file<'a>(
     alloc: Global,
     name: &'a str,
     about: &'a str,
+    example: &'a str,
 ) -> Result<Command<'a>, AllocError>
     ensures { IfOk result (λ command. app_of command ≡ configurable name.now) }
 {
     Command::new(alloc, name)
         .about(about)
+        .after_help(example)
         .arg(optional_file_argument(alloc))
 }
 
@@ -332,7 +349,8 @@ fn check<'a>(alloc: Global) -> Result<Command<'a>, AllocError>
     with_default_file(
         alloc,
         "check",
-        "Checks the configuration, and tells each finding with its place and what to write instead",
+        "Check the configuration, and tell each finding with its place and what to write instead",
+        "Example: relayd check --config relayd.toml --route b@example.org",
     )?
     .arg(route_argument(alloc))
 }
@@ -344,7 +362,8 @@ fn run<'a>(alloc: Global) -> Result<Command<'a>, AllocError>
     with_default_file(
         alloc,
         "run",
-        "Takes mail from many clients at once and hands it on, until the process is ended",
+        "Accept mail from many clients at once and relay it, until the process is ended",
+        "Example: relayd run --config /etc/relayd.toml",
     )?
     .arg(quiet_argument(alloc))
 }
@@ -356,7 +375,8 @@ fn serve<'a>(alloc: Global) -> Result<Command<'a>, AllocError>
     with_file(
         alloc,
         "serve",
-        "Serves clients in rounds, and hands on their mail behind each",
+        "Serve clients in rounds, and relay their mail after each",
+        "Example: relayd serve --config relayd.toml --rounds 10 --log",
     )?
     .arg(rounds_argument(alloc))?
     .arg(workers_argument(alloc))?
@@ -370,7 +390,8 @@ fn push<'a>(alloc: Global) -> Result<Command<'a>, AllocError>
     with_file(
         alloc,
         "push",
-        "Hands on what is due: message, hop, and whether the attempt ended or was lost",
+        "Relay what is due, and print for each message and hop whether the attempt ended or was lost",
+        "Example: relayd push --config relayd.toml --log",
     )?
     .arg(log_argument(alloc))
 }
@@ -382,6 +403,7 @@ fn file_argument<'a>(alloc: Global) -> Arg<'a>
 {
     Arg::new(alloc, "config")
         .long("config")
+        .value_name("FILE")
         .action(ArgAction::Set)
         .required(true)
         .help("The configuration file")
@@ -394,8 +416,9 @@ fn optional_file_argument<'a>(alloc: Global) -> Arg<'a>
 {
     Arg::new(alloc, "config")
         .long("config")
+        .value_name("FILE")
         .action(ArgAction::Set)
-        .help("The configuration file; /etc/relayd.toml where it isn't given")
+        .help("The configuration file [default: /etc/relayd.toml]")
 }
 
 /// `--route ADDRESS`
@@ -405,8 +428,9 @@ fn route_argument<'a>(alloc: Global) -> Arg<'a>
 {
     Arg::new(alloc, "route")
         .long("route")
+        .value_name("ADDRESS")
         .action(ArgAction::Set)
-        .help("Tells the next hop of this address instead: name and place")
+        .help("Print the next hop of this address instead: its name and address")
 }
 
 /// `--rounds N`
@@ -416,9 +440,10 @@ fn rounds_argument<'a>(alloc: Global) -> Arg<'a>
 {
     Arg::new(alloc, "rounds")
         .long("rounds")
+        .value_name("N")
         .action(ArgAction::Set)
         .value_parser(ValueParser::unsigned(1, MOST_ROUNDS))
-        .help("How many rounds of clients are served, 1 to 1,000,000; 1 where it isn't given")
+        .help("How many rounds of clients to serve, 1 to 1,000,000 [default: 1]")
 }
 
 /// `--workers W`
@@ -428,11 +453,10 @@ fn workers_argument<'a>(alloc: Global) -> Arg<'a>
 {
     Arg::new(alloc, "workers")
         .long("workers")
+        .value_name("W")
         .action(ArgAction::Set)
         .value_parser(ValueParser::unsigned(1, MOST_WORKERS))
-        .help(
-            "How many clients a round waits for and serves at once, 1 to 64; 1 where it isn't given",
-        )
+        .help("How many clients to wait for and serve at once in a round, 1 to 64 [default: 1]")
 }
 
 /// `--log`
@@ -443,7 +467,7 @@ fn log_argument<'a>(alloc: Global) -> Arg<'a>
     Arg::new(alloc, "log")
         .long("log")
         .action(ArgAction::SetTrue)
-        .help("Says on standard error what was done")
+        .help("Log on standard error what is done")
 }
 
 /// `--quiet`
@@ -454,7 +478,7 @@ fn quiet_argument<'a>(alloc: Global) -> Arg<'a>
     Arg::new(alloc, "quiet")
         .long("quiet")
         .action(ArgAction::SetTrue)
-        .help("Says nothing on standard error of what was done")
+        .help("Log nothing but a fault on standard error")
 }
 
 /// The law that says of some words, written out, what is wrong with them and what they ask for.

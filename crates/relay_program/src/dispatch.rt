@@ -40,7 +40,8 @@ const WRONG_ARGUMENTS: u8 = 2;
 
 /// Runs the subcommand that the words name, the program's own name first, and answers the status
 /// for the system: 0 done, 1 a fault, with its line on `errors`, or the answer no of `check`, 2 wrong arguments, with the
-/// argument reader's text on `errors`. `--help` writes that reader's text on `writer`, and is done.
+/// argument reader's text on `errors`. `--help` and `--version` write that reader's text on `writer`,
+/// and are done.
 /// What `run` logs goes to `log`, from a thread of its own: two writers of one stream.
 pub fn command<
     S: AsStr,
@@ -74,8 +75,8 @@ pub fn command<
     ensures status { faults_in (map S.text words.now) ≡ [] → (result ≡ 0) ⊎ (result ≡ 1) }
     ensures wrong { AreWrong (faults_in (map S.text words.now))
         → ((result ≡ 1) ⊎ (result ≡ 2)) × (W.contents writer.new ≡ W.contents writer.old) }
-    ensures help { faults_in (map S.text words.now) ≡ ErrorKind.DisplayHelp ∷ [] → (result ≡ 0)
-        ⊎ (result ≡ 1) }
+    ensures help { (faults_in (map S.text words.now) ≡ ErrorKind.DisplayHelp ∷ [])
+        ⊎ (faults_in (map S.text words.now) ≡ ErrorKind.DisplayVersion ∷ []) → (result ≡ 0) ⊎ (result ≡ 1) }
     ensures unread { ¬ AskForSession (map S.text words.now) → ¬ AskForPlay (map S.text words.now)
         → R.remaining reader.new ≡ R.remaining reader.old }
 {
@@ -255,17 +256,21 @@ pub fn refuse_streams<E: Write>(errors: &mut E) -> u8
 
 /// Writes the argument reader's text where it belongs, and answers the status.
 fn explain<W: Write, E: Write>(error: &Error, writer: &mut W, errors: &mut E) -> u8
-    ensures help { kind_of error.now ≡ ErrorKind.DisplayHelp → (result ≡ 0) ⊎ (result ≡ 1) }
+    ensures help { (kind_of error.now ≡ ErrorKind.DisplayHelp) ⊎ (kind_of error.now ≡ ErrorKind.DisplayVersion)
+        → (result ≡ 0) ⊎ (result ≡ 1) }
     ensures memory { kind_of error.now ≡ ErrorKind.OutOfMemory → result ≡ 1 }
-    ensures wrong { kind_of error.now ≢ ErrorKind.DisplayHelp
+    ensures wrong { kind_of error.now ≢ ErrorKind.DisplayHelp → kind_of error.now ≢ ErrorKind.DisplayVersion
         → kind_of error.now ≢ ErrorKind.OutOfMemory → result ≡ 2 }
-    ensures writer { kind_of error.now ≢ ErrorKind.DisplayHelp → writer.new ≡ writer.old }
+    ensures writer { kind_of error.now ≢ ErrorKind.DisplayHelp → kind_of error.now ≢ ErrorKind.DisplayVersion
+        → writer.new ≡ writer.old }
 {
     match error.kind() {
-        ErrorKind::DisplayHelp => match write!(writer, "{error}").and_then(|()| writer.flush()) {
-            Ok(()) => DONE,
-            Err(_) => fail(errors, "output"),
-        },
+        ErrorKind::DisplayHelp | ErrorKind::DisplayVersion => {
+            match write!(writer, "{error}").and_then(|()| writer.flush()) {
+                Ok(()) => DONE,
+                Err(_) => fail(errors, "output"),
+            }
+        }
         ErrorKind::OutOfMemory => fail(errors, "no memory"),
         _ => {
             // Nothing is left to do where this text can't be written either: the status tells of the fault.

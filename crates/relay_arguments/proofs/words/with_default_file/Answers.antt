@@ -6,5 +6,5 @@ use Rattle.relay_arguments.proofs.words.with_default_file.Goals as goal
 
 pub returns : goal.returns
 returns c =
-    let starts : app_of c.about.result ≡ new_app c.args.name.now = search rules in
+    let starts : app_of c.after_help.result ≡ new_app c.args.name.now = search rules in
     IfOk-weaker c.arg.result _ _ (λ command added. added.shape c.optional_file_argument.ensures.local ∙ ap₂ with_rule starts c.optional_file_argument.ensures.rule) c.arg.ensures
