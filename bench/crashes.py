@@ -79,7 +79,7 @@ def look(relay, sink, answered, moment):
     """Nothing that was answered is lost."""
     held, gone = {row[0] for row in relay.held()}, tokens_at(sink)
     lost = [token for token, number in answered.items() if number not in held and token not in gone]
-    same(f"messages lost behind kill {moment}", lost, [])
+    same(f"messages lost after kill {moment}", lost, [])
     same("numbers given twice", len(set(answered.values())), len(answered))
 
 

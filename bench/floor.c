@@ -1,6 +1,6 @@
 // The least that a relay does, for measurements: the dialogues, writes and syncs of relayd in the same turns, with fixed
 // replies and records of the same size, and nothing else. It judges nothing, knows no timeout and keeps no book. What
-// it takes is what any relay takes that answers a client behind two syncs and holds a dialogue of five turns for each
+// it takes is what any relay takes that answers a client after two syncs and holds a dialogue of five turns for each
 // message that it hands on.
 //
 //   floor init  PORT HOP FILE
@@ -61,7 +61,7 @@ static void say(struct link *link, const char *text, size_t length)
 	}
 }
 
-// Reads more behind what is held; whether there was some.
+// Reads more after what is held; whether there was some.
 static int more(struct link *link)
 {
 	ssize_t count = read(link->socket, link->held + link->size, sizeof link->held - link->size);
@@ -77,7 +77,7 @@ static void drop(struct link *link, size_t count)
 	memmove(link->held, link->held + count, link->size);
 }
 
-// Adds a record as a spool does: the octets behind the end, a sync, the gate before them, a sync.
+// Adds a record as a spool does: the octets after the end, a sync, the gate before them, a sync.
 static void add(const char *octets, size_t length)
 {
 	if (pwrite(file, octets, length, end) != (ssize_t)length || fdatasync(file)
@@ -108,7 +108,7 @@ static void set_up(struct link *link)
 	setsockopt(link->socket, IPPROTO_TCP, TCP_NODELAY, &on, sizeof on);
 }
 
-// Writes the time stamp line and the content of a record, and their end. What stands behind the content is put back.
+// Writes the time stamp line and the content of a record, and their end. What stands after the content is put back.
 static void say_text(char *record, size_t length)
 {
 	char behind[3], *content_end = record + length - 1;

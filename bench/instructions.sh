@@ -63,7 +63,7 @@ of_input "session: messages of 1 MiB that are kept" octet 1 3 1048572 large_mess
 of_input "session: messages of 16 chunks that are kept" octet 1 3 1048576 chunked_messages "$relayd" session
 of_input "session: chunks that are refused" octet 32 96 65536 chunked_message_of "$relayd" session
 of_input "session: small messages" message 1000 3000 1 small_messages "$relayd" session
-of_input "session: small messages behind 90,000 others" message 90000 100000 1 small_messages "$relayd" session
+of_input "session: small messages after 90,000 others" message 90000 100000 1 small_messages "$relayd" session
 of_input "session: pipelined NOOPs" command 10000 30000 1 noops "$relayd" session
 of_input "session: RCPTs with all parameters" command 20 60 100 full_transactions "$relayd" session
 octets_of 4096 > "$room/body"

@@ -78,7 +78,7 @@ class Client:
 
 
 def bare_pairs(folder, sizes):
-    """Seconds for two syncs each behind writes at the end of a bare file, as a spool's append makes them."""
+    """Seconds for two syncs each after writes at the end of a bare file, as a spool's append makes them."""
     file = folder / "bare"
     handle = os.open(file, os.O_CREAT | os.O_TRUNC | os.O_WRONLY, 0o600)
     begun, place = time.perf_counter(), 0
@@ -225,7 +225,7 @@ class Bench:
         return ended - begun
 
     def one_a_connection(self, count, size):
-        """Seconds of so many connections with a message each, and of handing each message on behind it."""
+        """Seconds of so many connections with a message each, and of handing each message on after it."""
         sink = Sink(self.folder, count)
         relay = self.new_relay(sink.port)
         with relay.serving("--rounds", str(count)) as lines:
@@ -251,7 +251,7 @@ class Bench:
         return ended - begun
 
     def bounded(self, size):
-        """Seconds of MANY messages that come AT_ONCE at a connection and are handed on behind it, and the most octets that
+        """Seconds of MANY messages that come AT_ONCE at a connection and are handed on after it, and the most octets that
         both files of the spool had meanwhile."""
         sink = Sink(self.folder, MANY)
         relay, rounds, most, ended = self.new_relay(sink.port), MANY // AT_ONCE, 0, threading.Event()

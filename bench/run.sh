@@ -141,7 +141,7 @@ sessions() {
     measure "session: mail data that is refused" octets "$(file_size "$room/refused")" "$room/refused" -l 7 "$relayd" session
     measure "session: 60 messages of 1 MiB that are kept" octets "$(file_size "$room/kept")" "$room/kept" -l 243 "$relayd" session
     measure "session: 60 messages of 16 chunks that are kept" octets "$(file_size "$room/chunks")" "$room/chunks" -c 1146 "$relayd" session
-    measure "session: 3,052 chunks, refused behind 16" octets "$(file_size "$room/refused_chunks")" "$room/refused_chunks" -c 3060 "$relayd" session
+    measure "session: 3,052 chunks, refused after 16" octets "$(file_size "$room/refused_chunks")" "$room/refused_chunks" -c 3060 "$relayd" session
     measure "session: 100,000 small messages" messages 100000 "$room/small" -l 400003 "$relayd" session
     measure "session: 1,000,000 pipelined NOOPs" commands 1000000 "$room/noops" -l 1000002 "$relayd" session
     measure "session: 500,000 RCPTs with all parameters" commands 500000 "$room/recipients" -l 510006 "$relayd" session

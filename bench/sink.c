@@ -1,5 +1,5 @@
 // A next hop for measurements: answers every command well, up to 32 connections side by side, until so many contents have
-// come. It writes its port as a line, and ends behind the last content.
+// come. It writes its port as a line, and ends after the last content.
 //
 //   sink COUNT
 #define _GNU_SOURCE
@@ -33,7 +33,7 @@ static int flush(struct link *link)
 	return said == 0 || write(link->socket, link->replies, said) == (ssize_t)said;
 }
 
-// Reads more behind what is held, when all replies are written; whether there was some.
+// Reads more after what is held, when all replies are written; whether there was some.
 static int more(struct link *link)
 {
 	if (!flush(link))
@@ -85,7 +85,7 @@ static int pass_content(struct link *link)
 	}
 }
 
-// Takes a content; whether the connection goes on. The program ends behind the last one, when its reply is written.
+// Takes a content; whether the connection goes on. The program ends after the last one, when its reply is written.
 static int take_content(struct link *link)
 {
 	if (!say(link, "354 go on\r\n") || !flush(link) || !pass_content(link))

@@ -1,8 +1,8 @@
 #!/usr/bin/env python3
 """Plays each attempt that is written down beside the client's end, each row of the table of verdicts among them, by a
-node over memory: mail that a client hands in, to a next hop that says what the row says, whole, cut in two behind each
+node over memory: mail that a client hands in, to a next hop that says what the row says, whole, cut in two after each
 octet, octet by octet, and among so many other clients that 64 are there. What the node writes to the hop is to be what
-the row writes, with the time stamp line before the content; which places are held behind it follows from the row's
+the row writes, with the time stamp line before the content; which places are held after it follows from the row's
 verdicts; and no call may want for memory.
 
     tests/attempts_of_a_node.py crates/relay_node_tests/out/relay_node_tests

@@ -20,7 +20,7 @@ fail() {
 # The rows of the first file that change the book and ask it. Without the others a run takes a few milliseconds.
 rows=crates/relay_rows_tests/data/rows.in
 grep -E '^(apply|held|due)' $rows > "$room/rows.in"
-# What comes of that file stands in the program's output behind the rows of others.
+# What comes of that file stands in the program's output after the rows of others.
 outcomes=crates/relay_rows_tests/stdout
 first=$(grep -nFm 1 "$(head -n 1 $rows) => " $outcomes | cut -d : -f 1)
 last=$((first + $(wc -l < $rows) - 1))
@@ -50,4 +50,4 @@ for ((number = 1; number <= 10000; number++)); do
 done
 [ ! -e "$room/refused" ] || fail "there are more allocations than this looks at"
 [ "$answered" -gt 0 ] || fail "no change was applied again"
-echo "book_without_memory: $refused allocations refused in turn, and behind $answered of them all rows came out"
+echo "book_without_memory: $refused allocations refused in turn, and after $answered of them all rows came out"

@@ -160,7 +160,7 @@ def compacted(field, closed):
 
 def with_each_set(field, run):
     """Runs a subcommand with each set of streams closed. The spool that it leaves is that of all open; where standard output is
-    closed, `serve` and `push` end behind their first work."""
+    closed, `serve` and `push` end after their first work."""
     spools = {}
     for closed in SETS:
         try:

@@ -104,7 +104,7 @@ def what_is_held_stays(field):
     same("the files", field.files(), (before[0], file_of(2, snapshot)))
     same("list", field.relay.held(), held)
     same("push", field.relay.run("push"), [])
-    # What is added stands behind the snapshot, and its numbers go on.
+    # What is added stands after the snapshot, and its numbers go on.
     field.hold("l@example.org")
     same("list", [row[0] for row in field.relay.held()], [1, 3, 7])
     same("the first file", field.files()[0], before[0])
@@ -160,7 +160,7 @@ def the_newer_file_with_an_open_head_is_read(field):
     # The file that is taken is damaged, whatever the other is.
     field.write(first, anew[:-2])
     same("list", field.relay.refused("list"), (1, "relayd: spool Damaged 17"))
-    # A snapshot is no snapshot behind another body, and a body that is none is told by its place in the chain.
+    # A snapshot is no snapshot after another body, and a body that is none is told by its place in the chain.
     field.write(first, file_of(2, *bodies, snapshot_of(bodies)))
     same("list", field.relay.refused("list"), (1, f"relayd: spool BadRecord {len(bodies) + 1}"))
 
@@ -299,7 +299,7 @@ def serve_writes_its_spool_anew(field):
     same("messages at the sink", len(field.sink.take_all()), 40)
     told = [line for line in lines if "compacted" in line]
     same("a line of the log", told[0].split(" ", 3)[:3], ["relayd:", "spool", "compacted,"])
-    # Behind the sixth message more than 50,000 octets stand there.
+    # After the sixth message more than 50,000 octets stand there.
     same("how often", len(told), 40 // 6)
     if most > 70000:
         raise Difference(f"the spool had {most} octets")
@@ -348,11 +348,11 @@ def a_kill_in_compact_loses_nothing(field):
         time.sleep(chance.uniform(0, whole))
         process.kill()
         process.communicate()
-        same(f"list behind kill {kill}", field.relay.held(), held)
+        same(f"list after kill {kill}", field.relay.held(), held)
 
 
 def a_kill_in_serve_loses_nothing(field):
-    """`serve`, whose spool has so small a limit that it is written anew behind every few messages."""
+    """`serve`, whose spool has so small a limit that it is written anew after every few messages."""
     field.relay = field.new_relay("killed", spool_limit=20000)
     chance, answered, number = random.Random(11), {}, 0
     for kill in range(KILLS):
@@ -365,7 +365,7 @@ def a_kill_in_serve_loses_nothing(field):
         gone = {int(message.content.split(b"Subject: ")[1].split(b"\r\n")[0]) for message in list(field.sink.messages)}
         held = {row[0] for row in field.relay.held()}
         lost = [it for it, queued in answered.items() if it not in gone and queued not in held]
-        same(f"messages lost behind kill {kill}", lost, [])
+        same(f"messages lost after kill {kill}", lost, [])
     generation = max(head[1] for head in map(head_of, field.files()) if head)
     if generation < 12 or len(answered) < 30:
         raise Difference(f"only {generation - 1} compactions, and {len(answered)} messages")

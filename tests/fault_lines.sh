@@ -1,6 +1,6 @@
 #!/usr/bin/env bash
 # The faults of `init` and `list` over files, in the order in which they are looked for: what comes of each on standard error,
-# and its status. Nothing is written to standard output then. Behind them, what `list` writes of a message.
+# and its status. Nothing is written to standard output then. After them, what `list` writes of a message.
 #
 #   tests/fault_lines.sh build/relayd
 set -euo pipefail

@@ -1,6 +1,6 @@
 #!/usr/bin/env bash
 # Gives a relay three messages at once, once for each allocation of the program, which is refused. Either the program says
-# that memory ran out before or behind that, and ends with status 1; or there was no memory for the answers; or the disk in
+# that memory ran out before or after that, and ends with status 1; or there was no memory for the answers; or the disk in
 # memory couldn't grow, and the node is stopped; or each message was queued, and its client told so, or its connection is
 # gone, and as many changes were made as were queued, each with its note: the program has looked at that.
 #
@@ -34,7 +34,7 @@ for ((number = 1; number <= 10000; number++)); do
         *) fail "status $status" ;;
     esac
     if [ "$line" = none ]; then
-        [ ! -s "$room/out" ] || fail "status 1 behind a line"
+        [ ! -s "$room/out" ] || fail "status 1 after a line"
         ! grep -q otherwise "$room/errors" || fail "$(cat "$room/errors")"
     fi
     met[$line]=$((${met[$line]:-0} + 1))

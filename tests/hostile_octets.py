@@ -56,7 +56,7 @@ def a_line_without_end(program):
 
 
 def a_hop(replies, heard):
-    """A next hop on a port of its own that says each of these behind what comes, and then waits for the end."""
+    """A next hop on a port of its own that says each of these after what comes, and then waits for the end."""
     listener = socket.create_server(("127.0.0.1", 0))
 
     def talk():
@@ -78,7 +78,7 @@ def a_hop(replies, heard):
 
 
 def replies_that_are_none(program, folder):
-    """Behind each of them the attempt has ended, wrote nothing more, and its recipient waits for half an hour."""
+    """After each of them the attempt has ended, wrote nothing more, and its recipient waits for half an hour."""
     wrong = {
         "a line of 2,049 octets": b"250 " + b"x" * 2043 + b"\r\n",
         "a line without end": b"250 " + b"x" * 100_000,
@@ -115,7 +115,7 @@ def a_spool_that_is_cut(program, folder):
         with smtplib.SMTP("127.0.0.1", relay.port) as client:
             client.sendmail("a@example.org", ["b@example.org"], "Subject: x\r\n\r\ny\r\n")
     octets = relay.spool.read_bytes()
-    # The push behind that round has added an outcome: the message alone ends where its length says.
+    # The push after that round has added an outcome: the message alone ends where its length says.
     message = octets[:18 + 4 + int.from_bytes(octets[18:22], "big")] + b"\0"
     for size in range(len(message) + 1):
         relay.spool.write_bytes(message[:size])

@@ -41,7 +41,7 @@ refuse_each() {
             *) fail "status $status" ;;
         esac
         if [ "$line" = none ]; then
-            [ ! -s "$room/out" ] || fail "status 1 behind a round"
+            [ ! -s "$room/out" ] || fail "status 1 after a round"
             ! grep -q 'otherwise\|gone' "$room/errors" || fail "$(cat "$room/errors")"
         fi
         met[$line]=$((${met[$line]:-0} + 1))

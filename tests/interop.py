@@ -1,6 +1,6 @@
 #!/usr/bin/env python3
 """The rows of tests/interop.sh, which gives the packages that it has: relayd with other mail programs as its clients
-and as its next hops, by `serve` and by `run`. Behind them all stands a sink in Python.
+and as its next hops, by `serve` and by `run`. After them all stands a sink in Python.
 
     tests/interop.py build/relayd build/interop postfix exim4-daemon-light opensmtpd swaks haproxy
 """
@@ -103,7 +103,7 @@ class Field:
 
     @contextlib.contextmanager
     def serving_one(self, end):
-        """The relay for one connection, behind which its mail goes on: `serve` says that it has ended so."""
+        """The relay for one connection, after which its mail goes on: `serve` says that it has ended so."""
         if self.runs:
             with self.serving():
                 yield
@@ -113,7 +113,7 @@ class Field:
             same("the lines of serve", ends_of(lines), [end])
 
     def hand_on(self, end):
-        """What is due behind that goes on, as `run` does by itself."""
+        """What is due after that goes on, as `run` does by itself."""
         if not self.runs:
             same("push", ends_of(self.relay.run("push")), [end])
 
@@ -187,7 +187,7 @@ def parameters_through_a_hop(field, server):
 
 
 def chunks_of_exim(field, server):
-    """Exim handed all its contents to relayd in chunks, which its log says by a K, behind the reply to each."""
+    """Exim handed all its contents to relayd in chunks, which its log says by a K, after the reply to each."""
     end = time.monotonic() + PATIENCE
     while True:
         lines = [line for line in server.said().splitlines() if "out.example R=out" in line]
@@ -320,7 +320,7 @@ def main():
         runs.append((run_balanced, "haproxy"))
     plays = list(itertools.product(("serve", "run"), runs))
     if "postfix" in had:
-        # `serve` takes one client behind the other.
+        # `serve` takes one client after the other.
         plays.append(("run", (run_source, "postfix")))
     for by, (run, what) in plays:
         with tempfile.TemporaryDirectory() as folder:

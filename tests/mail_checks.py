@@ -15,7 +15,7 @@ MARK = re.compile(
     rb" by (\S+) with (E?SMTP) id (\d+);\r\n"
     rb" (.{31})\r\n"
 )
-# Each octet stands in the third, and a period behind a lone LF.
+# Each octet stands in the third, and a period after a lone LF.
 CONTENTS = [CONTENT, b"\r\n", bytes(range(256)) + b"\n.\r\n", b"x" * 5000 + b"\r\n.y\r\n" * 40000]
 
 
@@ -26,7 +26,7 @@ def hand_in(relay, content=CONTENT, recipients=("b@example.org",), mail=(), rcpt
 
 
 def behind_mark(stored, host, number, word="client.example", address="127.0.0.1"):
-    """What stands behind the time stamp line, which has to be of this host and number, of a client of this word and
+    """What stands after the time stamp line, which has to be of this host and number, of a client of this word and
     address, and of these minutes."""
     mark = MARK.match(stored)
     if not mark:

@@ -2,7 +2,7 @@
 # Runs a node once for each allocation of the program, which is refused: with two sessions, whose mail comes as lines or
 # in chunks, with an attempt whose three places go three ways in one change with a report, and with a spool that is
 # written anew. Either the program says that it couldn't begin, and ends with status 1; or the call that met the refusal is answered so, its session or attempt is gone, no change was made for it,
-# and what is done behind it comes as if nothing had been; or the disk couldn't grow, which counts as a device that
+# and what is done after it comes as if nothing had been; or the disk couldn't grow, which counts as a device that
 # failed, and the node is stopped.
 #
 #   tests/node_without_memory.sh crates/relay_node_tests/out/relay_node_tests
@@ -119,10 +119,10 @@ record | head -n 1 | cmp - <(echo "change 2, report true:")
 
 refuse_each report none due start reply held last device
 echo "node_without_memory: $total allocations refused in turn: ${met[begin]} before the message was there;" \
-    "${met[due]} of what is due, ${met[start]} of a start and ${met[reply]} of an attempt that ends, behind each of which" \
+    "${met[due]} of what is due, ${met[start]} of a start and ${met[reply]} of an attempt that ends, after each of which" \
     "the next attempt led to the same change; ${met[device]} of the disk, and the node stopped and was opened again"
 
-# A spool that is written anew twice behind a message, and the session that goes on behind that.
+# A spool that is written anew twice after a message, and the session that goes on after that.
 "$program" compactions > "$room/whole"
 read -r _ before after < "$room/whole"
 # The one body has a next number and a count, and a message its number, where its record has none; and of its place that it
@@ -141,7 +141,7 @@ cmp "$room/whole" "$room/none"
 { anew; unwritten; goes_on; } > "$room/second"
 { anew; again; refused 0; gone 0; next 2; opened 2 "1 0"; } > "$room/third"
 { anew; again; mail 0 2; refused 0; next 3; opened 3 "1 0" "2 0"; } > "$room/fourth"
-# And where the disk couldn't grow for the one body, or for the message behind it.
+# And where the disk couldn't grow for the one body, or for the message after it.
 { spent; spent; stopped 0; stopped 0; next 2; opened 2 "1 0"; } > "$room/device"
 { anew; spent; stopped 0; stopped 0; next 2; opened 2 "1 0"; } > "$room/device_again"
 { anew; again; stopped 0; stopped 0; next 2; opened 2 "1 0"; } > "$room/later"
@@ -149,5 +149,5 @@ cmp "$room/whole" "$room/none"
 refuse_each compactions none first second third fourth device device_again later
 echo "node_without_memory: $total allocations refused in turn: ${met[begin]} before the message was there;" \
     "$((met[first] + met[second])) of a spool that is written anew, which stood as it was;" \
-    "$((met[third] + met[fourth])) of the session behind it; $((met[device] + met[device_again] + met[later])) of the disk," \
+    "$((met[third] + met[fourth])) of the session after it; $((met[device] + met[device_again] + met[later])) of the disk," \
     "and the node stopped and was opened again"

@@ -68,7 +68,7 @@ class Play:
         return self.process.stdout.readline().rstrip("\n")
 
     def lines(self, question):
-        """The lines that answer a question, up to that of a tick behind it."""
+        """The lines that answer a question, up to that of a tick after it."""
         self.process.stdin.write(f"{question}\ntick 0\n")
         self.process.stdin.flush()
         found = []
@@ -151,7 +151,7 @@ def undone(program, first=""):
     same("the end", (status, errors), (0, b""))
     seen = out.decode().split("\n")[:-1]
     behind = seen.index("stopped b") + 1
-    same("behind the stop", seen[behind:behind + 4], ["refused NoLink", "a 1 0", "accept a 1 1 link 1", "now 1800"])
+    same("after the stop", seen[behind:behind + 4], ["refused NoLink", "a 1 0", "accept a 1 1 link 1", "now 1800"])
     same("in the end", seen[-6:], ["b 1 0", "accept a 1 1 link 1", "accept b 1 1 link 3",
                                    "transfer a 1 0 link 3 report 0", "1", "1"])
 

@@ -1,9 +1,9 @@
 #!/usr/bin/env python3
-"""Plays the scripts of docs/plays/ once for each allocation of the program, which is refused. The play goes on behind it or
+"""Plays the scripts of docs/plays/ once for each allocation of the program, which is refused. The play goes on after it or
 says that there was no memory; and each recipient that a node acknowledged is held in the end, or was handed on, or has ended,
 once all nodes were stopped and opened again. Then a node that can't be opened, for want of memory: each event that it
 refuses, in its order, and what it says once it is opened. And a carry for which there is no memory: before the node's call
-nothing changes, and in it or behind it, where what the node wrote can't be put on the link, that link breaks, and what the
+nothing changes, and in it or after it, where what the node wrote can't be put on the link, that link breaks, and what the
 node recorded stands in the ledger. It ends at the first difference.
 
     tests/plays_without_memory.py build/relayd
@@ -114,7 +114,7 @@ def a_carry_without_memory(program, shim, mark):
     ways = {
         "before the call": f"{whole}\n{greeted}\n",
         "in the call": f"{none}\n{greeted}\n",
-        "behind the call": f"b 1 0\naccept b 1 1 link 1\n{none}\n{greeted}\n",
+        "after the call": f"b 1 0\naccept b 1 1 link 1\n{none}\n{greeted}\n",
     }
     found = dict.fromkeys(ways, 0)
     for number in range(1, 100_000):

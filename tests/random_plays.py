@@ -75,7 +75,7 @@ class Play:
 
 
 def told_at_once(program, events, messages, places):
-    """What each event prints, and what answers a question behind them, of a play whose lines are all told at once, in which a
+    """What each event prints, and what answers a question after them, of a play whose lines are all told at once, in which a
     node has so many messages at most, of so many places."""
     questions = ["ledger", "marks"]
     questions += [f"{word} {node} {number} {place}" for word in ("copies", "lost") for node in nodes_of(events)
@@ -263,7 +263,7 @@ class Driver:
              b"550 x\r\n", b"2x0 a\r\n"], [3, 8, 3, 4, 1, 2, 0.2])[0])
 
     def next_reply(self, link):
-        """What a next hop says to one command behind another where it takes all that it is given."""
+        """What a next hop says to one command after another where it takes all that it is given."""
         taken = [b"220 x\r\n", b"250 x\r\n", b"250 x\r\n", b"250 x\r\n", b"354 x\r\n", b"250 x\r\n"]
         return taken[min(len(link.codes), 5)] if self.chance.random() < 0.95 else b"550 x\r\n"
 

@@ -52,7 +52,7 @@ def cuts(link):
 
 
 def floods(link):
-    """Says one reply behind the other, unasked."""
+    """Says one reply after the other, unasked."""
     link.sendall(b"220 hop.example\r\n")
     while True:
         link.sendall(b"250 ok\r\n" * 10000)
@@ -146,7 +146,7 @@ def a_hop_that_is_away_holds_up_no_other(field):
 
 
 def a_hop_that_hangs_holds_up_no_other(field):
-    """It has one connection up to its greeting, and behind that as many as the configuration says."""
+    """It has one connection up to its greeting, and after that as many as the configuration says."""
     for greeting, count in ((b"", 1), (b"220 hop.example\r\n", 3)):
         with hop_that_hangs(greeting) as (port, taken):
             relay = field.relay(f"relay-{count}", more={"example.net": ("hangs.example", port)}, attempts_per_hop=3)
@@ -202,7 +202,7 @@ def a_hop_of_few_connections_puts_nothing_off(field):
             same("whether it turned any away", 0 < hop.turned_away, True)
 
 
-def a_hop_that_takes_no_connection_is_lost_behind_half_a_minute(field):
+def a_hop_that_takes_no_connection_is_lost_after_half_a_minute(field):
     """Of a clock that goes twenty times as fast; then it is left alone."""
     with hop_that_takes_no_connection() as port:
         relay = field.relay(more={"example.net": ("hop.example", port)}, client_timeout=3600)
@@ -217,9 +217,9 @@ def a_hop_that_takes_no_connection_is_lost_behind_half_a_minute(field):
             lost = re.compile(r".*Z relayd: message 1 hop\.example at 127\.0\.0\.1:\d+ lost \d+ s behind its "
                               "acceptance: silent, place 0 deferred")
             same("what it is said", [bool(lost.fullmatch(line)) for line in lines_of(relay, "hop.example")], [True])
-            comes_to_rest(process, "behind a hop that took no connection")
+            comes_to_rest(process, "after a hop that took no connection")
         if waited < 29:
-            raise Difference(f"it is lost behind {waited:.1f} s")
+            raise Difference(f"it is lost after {waited:.1f} s")
 
 
 def bad_next_hops_delay_no_reply(field):
@@ -246,7 +246,7 @@ def bad_next_hops_delay_no_reply(field):
                     until("attempts that have ended", lambda name=name: len(lines_of(relay, f" {name} at ")) >= 5)
                 wrong = [line for line in lines_of(relay, f" {name} at ") if not wanted.search(line)]
                 same(f"lines of a next hop that {bad.__name__}", wrong, [])
-            comes_to_rest(process, "behind bad next hops")
+            comes_to_rest(process, "after bad next hops")
 
 
 def clients_that_are_reset_delay_no_reply(field):
@@ -271,7 +271,7 @@ def clients_that_are_reset_delay_no_reply(field):
         with beside(begin_and_go):
             no_later(client, alone, 60, "clients that are reset")
             until("many that are reset", lambda: len(times) >= 30)
-        comes_to_rest(process, "behind clients that are reset")
+        comes_to_rest(process, "after clients that are reset")
         until("an empty list", lambda: relay.held() == [])
         same("who was handed mail", {message.recipients[0].split(b" ")[0] for message in field.arrived(80)},
              {b"<b@example.org>"})
@@ -282,7 +282,7 @@ ROWS = [
     a_hop_that_hangs_holds_up_no_other,
     silent_hops_leave_room_for_others,
     a_hop_of_few_connections_puts_nothing_off,
-    a_hop_that_takes_no_connection_is_lost_behind_half_a_minute,
+    a_hop_that_takes_no_connection_is_lost_after_half_a_minute,
     bad_next_hops_delay_no_reply,
     clients_that_are_reset_delay_no_reply,
 ]

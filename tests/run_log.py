@@ -30,7 +30,7 @@ FASTER = 60
 
 
 def told(relay, text):
-    """What the lines of the log say in which a text stands, behind their moments and without the ages of messages."""
+    """What the lines of the log say in which a text stands, after their moments and without the ages of messages."""
     lines = lines_of(relay, text)
     same("lines without a moment", [line for line in lines if not MOMENT.match(line)], [])
     return [re.sub(r" \d+ s behind its acceptance", "", MOMENT.sub("", line)) for line in lines]
@@ -45,7 +45,7 @@ def text_of(size):
 
 
 def a_next_hop_that_is_away_is_left_alone_for_longer_each_time(field):
-    """A minute, two and four of its clock. One message is tried behind each, and the others stay as they are."""
+    """A minute, two and four of its clock. One message is tried after each, and the others stay as they are."""
     away = free_port()
     relay = field.relay(more={"example.net": ("away.example", away)}, client_timeout=3600)
     shim(field, "run_clocks", relay, FASTER=str(FASTER))
@@ -105,7 +105,7 @@ def refused_clients_have_a_line_a_minute(field):
         same("the lines then", told(relay, "refused"), lines)
         lines.append(text.format(last))
         until("the line of one more", lambda: told(relay, "refused") == lines, 4 + SOON)
-        # Behind two minutes without one it's told at once again.
+        # After two minutes without one it's told at once again.
         time.sleep(2 * 4 + 1)
         lines.append(text.format(sent_away(relay)))
         until("the last line, at once", lambda: told(relay, "refused") == lines, SOON)
@@ -165,7 +165,7 @@ def a_full_spool_has_a_line_once_a_minute(field):
         raise Difference(f"three lines within {minutes:.2f} minutes, for {refused} messages")
 
 
-def a_full_spool_is_noted_where_quit_stands_behind_the_mail(field):
+def a_full_spool_is_noted_where_quit_stands_after_the_mail(field):
     """The 452 is among the last replies of its session: that is told, and room is made by what has left."""
     relay = field.relay(spool_limit=20000)
     field.sink.manners.refusals = {"<l@example.org>": "450 later"}
@@ -188,7 +188,7 @@ def a_full_spool_is_noted_where_quit_stands_behind_the_mail(field):
 
 
 def a_spool_that_is_written_anew_has_a_line(field):
-    """With its octets before and behind that."""
+    """With its octets before and after that."""
     relay = field.relay(spool_limit=10000)
     with relay.running(), clients_of(relay, 1) as [client]:
         client.hand_in(text=text_of(6000))
@@ -249,7 +249,7 @@ def a_log_that_nobody_reads_stops_no_mail(field):
     dropped = int(re.fullmatch(r"relayd: log-dropped lines=(\d+)", MOMENT.sub("", read[place]))[1])
     # Two lines each: that it was accepted, and what came of it.
     same("lines, and dropped ones", len(read) - 1 + dropped, 2 * (messages + 21))
-    same("the lines behind them", [line.split()[2:4] for line in read[place + 1:]], [["message", str(last)]] * 2)
+    same("the lines after them", [line.split()[2:4] for line in read[place + 1:]], [["message", str(last)]] * 2)
     field.sink.take_all()
 
 
@@ -296,7 +296,7 @@ ROWS = [
     each_refusal_is_told_of_where_many_addresses_are_refused,
     what_came_of_each_recipient_has_a_line,
     a_full_spool_has_a_line_once_a_minute,
-    a_full_spool_is_noted_where_quit_stands_behind_the_mail,
+    a_full_spool_is_noted_where_quit_stands_after_the_mail,
     a_spool_that_is_written_anew_has_a_line,
     a_log_that_nobody_reads_stops_no_mail,
     who_reads_the_log_misses_no_line,

@@ -24,7 +24,7 @@ class Manners:
     refusals: dict = dataclasses.field(default_factory=dict)
     # The reply to a content.
     content_reply: str = "250 taken"
-    # The unit that isn't answered, and behind which the connection is closed: "connection", "EHLO", "MAIL",
+    # The unit that isn't answered, and after which the connection is closed: "connection", "EHLO", "MAIL",
     # "RCPT", "DATA", "some content" (the beginning of a dot text) or "content" (all of it).
     hangs_up_at: str = ""
     # Whether no connection is greeted before the sink's `greet`.
@@ -40,12 +40,12 @@ class Manners:
 class Taken:
     """One transaction whose content came whole."""
 
-    # What stood behind `MAIL FROM:` and behind each `RCPT TO:` that was answered 250.
+    # What stood after `MAIL FROM:` and after each `RCPT TO:` that was answered 250.
     mail: bytes
     recipients: list
     content: bytes
     by_chunks: bool
-    # QUIT came behind its reply, so that was heard.
+    # QUIT came after its reply, so that was heard.
     was_heard: bool = False
 
 
@@ -95,7 +95,7 @@ class Conversation(socketserver.BaseRequestHandler):
 
     def handle(self):
         self.sink, self.manners = self.server.sink, self.server.sink.manners
-        # Two replies behind each other wait for no acknowledgement.
+        # Two replies one after another wait for no acknowledgement.
         self.request.setsockopt(socket.IPPROTO_TCP, socket.TCP_NODELAY, 1)
         self.reader = Reader(self.request, self.manners)
         self.mail, self.recipients, self.chunks = None, [], b""
@@ -120,7 +120,7 @@ class Conversation(socketserver.BaseRequestHandler):
         verb = line.split(b" ")[0].split(b":")[0].upper().decode()
         self.sink.heard(line)
         if verb not in ("BDAT", "QUIT") and "PIPELINING" not in self.manners.offers and self.reader.held:
-            self.sink.breach(f"{verb} came with more behind it, and PIPELINING isn't offered")
+            self.sink.breach(f"{verb} came with more after it, and PIPELINING isn't offered")
         if verb == "QUIT":
             if self.last:
                 self.last.was_heard = True
@@ -156,7 +156,7 @@ class Conversation(socketserver.BaseRequestHandler):
 
     def on_data(self, line):
         if self.reader.held:
-            self.sink.breach("octets came behind DATA before its reply")
+            self.sink.breach("octets came after DATA before its reply")
         if not self.recipients:
             self.reply("DATA", "554 no recipients")
             return

@@ -10,7 +10,7 @@ import struct
 from relay_program import Difference, same
 
 MAGIC = b"RELAYQ01"
-# How long a place waits behind its first Later, in seconds.
+# How long a place waits after its first Later, in seconds.
 FIRST_WAIT = 1800
 TAKEN, LATER = (1, 2), 4
 

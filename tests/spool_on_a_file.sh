@@ -120,7 +120,7 @@ printf 'create\n' | CALLS=calls LD_PRELOAD=./calls.so "$steps" steps inner/../in
 [ "$(grep folder calls | tail -n 2)" = "open folder inner/../inner
 sync folder" ] || fail "another folder is synced"
 
-# Behind a failed sync no other one succeeds, until the file is opened anew. It is the append's second one here.
+# After a failed sync no other one succeeds, until the file is opened anew. It is the append's second one here.
 take "a sync that fails" FAILED_SYNC=5 create "append abc" "append de" again again open "append f"
 hold answers answers << END
 created, 18 octets
@@ -145,7 +145,7 @@ END
 grep -q '^write 1 octets at 17$' calls && fail "the gate was opened"
 image "$head"'\x01\0\0\0\0\x03abc\0'
 
-# What a write leaves undone is written behind it.
+# What a write leaves undone is written after it.
 take "a write that takes half" HALF_WRITE=4 create "append abc" open
 hold answers answers << END
 created, 18 octets
@@ -173,7 +173,7 @@ append: 24 octets
 opened, 1 bodies, 24 octets (f)
 END
 done
-take "no space behind half" "HALF_WRITE=6 FULL_WRITE=7" create "append abc" "append de" again "append f"
+take "no space after half" "HALF_WRITE=6 FULL_WRITE=7" create "append abc" "append de" again "append f"
 hold answers answers << END
 created, 18 octets
 append: 26 octets

@@ -1,5 +1,5 @@
 #!/usr/bin/env python3
-"""Runs `relayd` on standard streams that give little and take little, and that fail behind each octet in turn; and by
+"""Runs `relayd` on standard streams that give little and take little, and that fail after each octet in turn; and by
 words that are wrong, or ask for help. It ends at the first difference.
 
     tests/standard_streams.py build/relayd
@@ -47,7 +47,7 @@ class Program:
 
 
 def the_first_dialogue_octet_by_octet(program):
-    # Nothing is read behind the close.
+    # Nothing is read after the close.
     same("the run", program.session(COMMANDS + b"NOOP\r\n"), (0, REPLIES, b"", b"NOOP\r\n"))
 
 
@@ -59,17 +59,17 @@ def interrupted_calls_are_done_again(program):
 def a_reader_that_fails_ends_the_session(program):
     for cut in range(len(COMMANDS)):
         status, written, errors, left = program.session(COMMANDS, READ_CUT=cut)
-        same(f"status and fault behind {cut} octets", (status, errors), (1, b"relayd: input\n"))
-        same(f"what is left behind {cut} octets", left, COMMANDS[cut:])
+        same(f"status and fault after {cut} octets", (status, errors), (1, b"relayd: input\n"))
+        same(f"what is left after {cut} octets", left, COMMANDS[cut:])
         if not REPLIES.startswith(written):
-            raise Difference(f"behind {cut} octets {written!r} was written")
+            raise Difference(f"after {cut} octets {written!r} was written")
 
 
 def a_writer_that_fails_ends_the_session(program):
     for cut in range(len(REPLIES)):
         status, written, errors, _ = program.session(COMMANDS, WRITE_CUT=cut, FAULT=errno.EPIPE)
-        same(f"status and fault behind {cut} octets", (status, errors), (1, b"relayd: output\n"))
-        same(f"what was written behind {cut} octets", written, REPLIES[:cut])
+        same(f"status and fault after {cut} octets", (status, errors), (1, b"relayd: output\n"))
+        same(f"what was written after {cut} octets", written, REPLIES[:cut])
 
 
 WITH_FILE = ["--config", "relayd.toml"]

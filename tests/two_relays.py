@@ -168,7 +168,7 @@ def an_attempt_that_is_cut_off_is_made_again(field):
         field.sink.manners = Manners(hangs_up_at=point)
         with field.relay.serving() as lines:
             hand_in(field.relay)
-        same(f"the lines of serve behind {point}", lines, [f"{number} next.example lost"])
+        same(f"the lines of serve after {point}", lines, [f"{number} next.example lost"])
     # Of the last the sink has the content, and the relay doesn't know that.
     behind_mark(one_message(field.sink).content, "relay.example", 13)
     waiting = [(number, 0, "<b@example.org>") for number in numbers]
@@ -217,7 +217,7 @@ def a_hop_that_is_down_and_comes_back(field):
     is_due(field.relay, begun, 1800)
     field.later(field.relay, 1900)
     same("push", field.relay.run("push"), ["1 next.example lost"])
-    # The second attempt was 1,900 seconds further on, and the next comes an hour behind it.
+    # The second attempt was 1,900 seconds further on, and the next comes an hour after it.
     is_due(field.relay, begun, 1900 + 3600)
     field.sink = Sink(port)
     same("push before it is due", field.relay.run("push"), [])
@@ -409,7 +409,7 @@ def a_sender_who_asked_hears_once_that_mail_is_late(field):
     same("list", [held[:2] for held in field.relay.held()], [(1, 0), (3, 0)])
     field.sink.take_all()
     field.later(field.relay, 8 * 3600)
-    same("push behind that", field.relay.logged("push"), (
+    same("push after that", field.relay.logged("push"), (
         ["1 next.example ended", "3 next.example ended"],
         ["relayd: message 1 next.example ended, place 0 deferred; deferred by 450 later",
          "relayd: message 3 next.example ended, place 0 transferred"]))
@@ -516,7 +516,7 @@ def faults_come_in_their_order(field):
         same("push beside serve", relay.refused("push"), (1, "relayd: device"))
         same("serve beside serve", relay.refused("serve"), (1, "relayd: device"))
         hand_in(relay)
-    same("push behind serve", relay.run("push"), [])
+    same("push after serve", relay.run("push"), [])
 
 
 ROWS = [

@@ -22,7 +22,7 @@ HERE = pathlib.Path(__file__).resolve().parent
 # The standard streams, the spool's two files and the listener.
 HELD_BY_SERVE = 6
 
-# Behind 63 clients that were missed there is a wait, in milliseconds; the 64th ends the run.
+# After 63 clients that were missed there is a wait, in milliseconds; the 64th ends the run.
 WAITS = [100, 200, 400, 800] + [1000] * 59
 
 

@@ -97,10 +97,10 @@ def each_of_64_has_its_reply_whatever_the_others_do(program, folder, sink):
         same("numbers", sorted(numbers), list(range(1, 33)))
         for link in whole:
             link.sendall(b"QUIT\r\n")
-        # It is given up behind 300 seconds divided by 25.
+        # It is given up after 300 seconds divided by 25.
         same("what the silent one is told", ended_as(silent), b"220 relay.example ESMTP relay ready\r\n")
         for link in whole:
-            same("behind QUIT", ended_as(link), b"221 relay.example closing\r\n")
+            same("after QUIT", ended_as(link), b"221 relay.example closing\r\n")
     same("the lines of serve", lines, [f"{number} next.example ended" for number in range(1, 33)])
     same("list", relay.held(), [])
     same("messages at the sink", len(sink.take_all()), 32)
