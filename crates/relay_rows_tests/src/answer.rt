@@ -79,12 +79,16 @@ impl Answer {
         }
     }
 
-    /// The text, or why it isn't all there.
-    pub fn whole(&self) -> Result<&str, RowsFault> {
-        match self.fault {
-            None => Ok(self.text.as_str()),
-            Some(fault) => Err(fault),
+    /// Prints what is told as a line, unless a fault is noted, and begins anew.
+    pub fn print(&mut self, rt: &HostRuntime) {
+        if self.fault.is_none() {
+            let text = self.text.as_str();
+            let printed = println!(rt; "{text}");
+            if let Err(error) = printed {
+                self.stop(RowsFault::from(error));
+            }
         }
+        self.text.clear();
     }
 
     /// Tells a text.
@@ -101,8 +105,8 @@ impl Answer {
 
     /// Tells a text, and a number after it.
     pub fn count(&mut self, text: &str, number: u64) {
-        let said = write!(self.text, "{text}{number}");
-        self.note(said);
+        self.say(text);
+        self.show(&number);
     }
 
     /// Tells that a call was done, or its fault.
@@ -121,8 +125,22 @@ impl Answer {
     /// Tells octets as one line of text: printable ones as they are, but for the backslash; CR and LF by their letters,
     /// and others in hexadecimal.
     pub fn escape(&mut self, octets: &[u8]) {
-        let said = push_escaped(&mut self.text, octets);
-        self.note(said);
+        for octet in octets {
+            self.escape_octet(*octet);
+        }
+    }
+
+    /// Tells an octet of such a line.
+    fn escape_octet(&mut self, octet: u8) {
+        match octet {
+            b'\r' => self.say("\\r"),
+            b'\n' => self.say("\\n"),
+            b' '..=b'[' | b']'..=b'~' => self.show(&char::from(octet)),
+            other => {
+                let said = write!(self.text, "\\x{other:02X}");
+                self.note(said);
+            }
+        }
     }
 
     /// Tells octets that are a text.
@@ -137,6 +155,13 @@ impl Answer {
     pub fn note(&mut self, said: Result<(), AllocError>) {
         if said.is_err() {
             self.stop(RowsFault::NoMemory);
+        }
+    }
+
+    /// Notes why something wasn't done.
+    pub fn note_fault(&mut self, done: Result<(), RowsFault>) {
+        if let Err(fault) = done {
+            self.stop(fault);
         }
     }
 
@@ -181,34 +206,10 @@ impl Answer {
         }
     }
 
-    /// Adds an octet.
-    pub fn push(&mut self, octets: &mut Vec<u8>, octet: u8) {
-        if octets.push(octet).is_err() {
+    /// Adds an item.
+    pub fn push<T: Drop>(&mut self, items: &mut Vec<T>, item: T) {
+        if items.push(item).is_err() {
             self.stop(RowsFault::NoMemory);
         }
     }
-}
-
-/// Adds octets as one line of text.
-fn push_escaped(text: &mut String, octets: &[u8]) -> Result<(), AllocError> {
-    for octet in octets {
-        match *octet {
-            b'\r' => text.push_str("\\r")?,
-            b'\n' => text.push_str("\\n")?,
-            b' '..=b'[' | b']'..=b'~' => text.push(char::from(*octet))?,
-            other => write!(text, "\\x{other:02X}")?,
-        }
-    }
-    Ok(())
-}
-
-/// Prints a row, and what comes of it behind these words.
-pub fn print_row(
-    rt: &HostRuntime,
-    row: &str,
-    between: &str,
-    answer: &Answer,
-) -> Result<(), RowsFault> {
-    let text = answer.whole()?;
-    Ok(println!(rt; "{row}{between}{text}")?)
 }

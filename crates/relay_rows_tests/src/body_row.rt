@@ -6,44 +6,24 @@ use crate::row::octets_in;
 use crate::words::Words;
 use std::alloc::{AllocError, Global};
 
-/// A row of bodies.in: what is fed, and what is to be found for each cutting.
-#[derive(Clone, Copy)]
-pub struct BodyRow<'a> {
-    pub name: &'a str,
-    kind: &'a str,
-    limit: &'a str,
-    sizes: &'a str,
-    octets: &'a str,
-    pub wanted: &'a str,
-}
-
-impl<'a> BodyRow<'a> {
-    /// Reads a row: `name|KIND|limit|sizes|octets|wanted`. KIND is BDAT (a reader of chunks of these sizes), DATA (of a
-    /// dot text) or WRITE (a writer of one). CR, LF and a backslash are written `\r`, `\n` and `\\`.
-    pub fn read(line: &'a str) -> Self {
-        let mut fields = Words { rest: line };
-        BodyRow {
-            name: fields.field(),
-            kind: fields.field(),
-            limit: fields.field(),
-            sizes: fields.field(),
-            octets: fields.field(),
-            wanted: fields.field(),
-        }
-    }
-
-    /// What is fed to what; nothing where the fields are no row.
-    pub fn play(self, answer: &mut Answer) -> Option<BodyPlay> {
-        let octets = octets_in(answer, self.octets);
-        BodyPlay::read(answer, self.kind, self.limit, self.sizes, octets)
+/// Tells the name of a row of bodies, and what the row comes to: `name|KIND|limit|sizes|octets|wanted`. KIND is BDAT (a
+/// reader of chunks of these sizes), DATA (of a dot text) or WRITE (a writer of one). CR, LF and a backslash are written
+/// `\r`, `\n` and `\\`.
+pub fn tell_body_row(answer: &mut Answer, line: &str) {
+    let mut fields = Words { rest: line };
+    answer.say(fields.field());
+    answer.say(": ");
+    match BodyPlay::read(answer, &mut fields) {
+        Some(play) => tell_verdict(answer, &play, fields.field()),
+        None => answer.say("no row"),
     }
 }
 
-/// Tells what a row comes to.
-pub fn tell_verdict(answer: &mut Answer, play: &BodyPlay, wanted: &str) {
+/// Tells what a play comes to, which is to be found for each cutting.
+fn tell_verdict(answer: &mut Answer, play: &BodyPlay, wanted: &str) {
     let wanted = octets_in(answer, wanted);
     match verdict_of(answer.alloc, play, wanted.as_slice()) {
-        Ok(verdict) => answer.show(&verdict),
+        Ok(verdict) => verdict.tell(answer),
         Err(_) => answer.stop(RowsFault::NoMemory),
     }
 }

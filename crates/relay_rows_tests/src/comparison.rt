@@ -1,9 +1,9 @@
 ghost use Rattle.std.specs.Prelude.{◌≡◌, All, MatchOption};
 ghost use Rattle.relay_rows_tests.specs.Comparison.{IsFirstDifference, IsVerdict};
 
+use crate::answer::Answer;
 use crate::verdict::is_text;
 use relay_octets::Octets;
-use std::fmt::{self, Display, Formatter};
 
 /// What a row, a dialogue or an attempt came to.
 #[derive(Clone, Copy)]
@@ -16,12 +16,16 @@ pub enum Verdict {
     DiffersOctetByOctet,
 }
 
-impl Display for Verdict {
-    fn fmt<W: fmt::Write>(&self, f: &mut Formatter<W>) -> fmt::Result {
+impl Verdict {
+    /// Tells it in words.
+    pub fn tell(self, answer: &mut Answer) {
         match self {
-            Verdict::Equal => f.write_str("as written down, cut at every octet"),
-            Verdict::DiffersAt(place) => write!(f, "differs, cut behind {place} octets"),
-            Verdict::DiffersOctetByOctet => f.write_str("differs, octet by octet"),
+            Verdict::Equal => answer.say("as written down, cut at every octet"),
+            Verdict::DiffersAt(place) => {
+                answer.count("differs, cut behind ", place as u64);
+                answer.say(" octets");
+            }
+            Verdict::DiffersOctetByOctet => answer.say("differs, octet by octet"),
         }
     }
 }

@@ -1,5 +1,5 @@
-//! Plays each row of data/disks.in: steps on disks in memory and on the spool that stands on two, with what each step
-//! is to answer. Then tries real files, and takes the steps of data/steps.in on a spool in two. Each row has a line,
+//! The rows of disks and spools: steps on disks in memory and on the spool that stands on two, with what each step is
+//! to answer. Real files are tried too, and the steps of data/steps.in taken on a spool in two. Each row has a line,
 //! which says whether it came as it is written down, and so has each step, which says what came of it.
 
 mod calls;
@@ -12,7 +12,8 @@ mod once;
 mod row;
 mod steps;
 
-use crate::answer::{Answer, RowsFault, print_row};
+use crate::answer::{Answer, RowsFault};
+use crate::rows::read_file;
 use files::{
     PATH, is_its_owners_alone, is_locked_by_one_disk_at_a_time, is_refused_in_no_folder,
     keeps_what_was_written,
@@ -35,50 +36,33 @@ const FAULTS: [SpoolFault; 7] = [
     SpoolFault::NoSecond,
 ];
 
-/// Shows the rows of disks and spools.
-pub fn show_disks(rt: &HostRuntime) -> Result<(), RowsFault> {
-    show_rows(rt)?;
-    show_files(rt)?;
-    show_steps(rt)?;
-    show_faults(rt)
-}
-
 /// Takes the steps of the standard input on a spool whose first file has this path.
-pub fn take_given_steps(rt: &HostRuntime, path: &str) -> Result<(), RowsFault> {
-    let mut lines = String::new(rt.alloc());
-    rt.stdin().read_to_string(&mut lines)?;
-    take_steps(rt, path, lines.as_str())
-}
-
-fn show_steps(rt: &HostRuntime) -> Result<(), RowsFault> {
-    let lines = fs::read_to_string(rt, "steps.in")?;
-    take_steps(rt, "relay_book_tests_spool", lines.as_str())
-}
-
-/// Plays each row.
-fn show_rows(rt: &HostRuntime) -> Result<(), RowsFault> {
-    let rows = fs::read_to_string(rt, "disks.in")?;
-    for line in rows.as_str().lines() {
-        show_row(rt, line)?;
+pub fn take_given_steps(rt: &HostRuntime, answer: &mut Answer, path: &str) {
+    let mut lines = String::new(answer.alloc);
+    match rt.stdin().read_to_string(&mut lines) {
+        Ok(_) => take_steps(rt, answer, path, lines.as_str()),
+        Err(error) => answer.stop(RowsFault::from(error)),
     }
-    Ok(())
 }
 
-/// Plays a row, and prints a line for it. A line that begins with `#` says what the next rows show, and stands as it is.
-fn show_row(rt: &HostRuntime, line: &str) -> Result<(), RowsFault> {
-    let mut answer = Answer::new(rt.alloc());
+/// Takes the steps of data/steps.in.
+pub fn show_steps(rt: &HostRuntime, answer: &mut Answer) {
+    let lines = read_file(rt, answer, "steps.in");
+    take_steps(rt, answer, "relay_book_tests_spool", lines.as_str());
+}
+
+/// Plays a row, and tells how it came. A line that begins with `#` says what the next rows show, and stands as it is.
+pub fn tell_disks_row(answer: &mut Answer, line: &str) {
+    answer.say(line);
     if !line.starts_with('#') {
-        play_row(line, &mut answer);
+        tell_played(answer, line);
     }
-    print_row(rt, line, "", &answer)
 }
 
-/// Plays a row, and tells how it came.
-fn play_row(line: &str, answer: &mut Answer) {
+/// Tells how a row came.
+fn tell_played(answer: &mut Answer, line: &str) {
     let mut came = Answer::new(answer.alloc);
-    let difference = Row::read(line).difference(&mut came);
-    answer.stop_as(&came);
-    match difference {
+    match Row::read(line).difference(&mut came) {
         Some(number) => {
             answer.count(": by ", number);
             answer.say(" it is ");
@@ -86,58 +70,46 @@ fn play_row(line: &str, answer: &mut Answer) {
         }
         None => answer.say(": as written down"),
     }
+    answer.stop_as(&came);
 }
 
 /// Prints a line for each row of a real file, which is a new one for each.
-fn show_files(rt: &HostRuntime) -> Result<(), RowsFault> {
+pub fn show_files(rt: &HostRuntime, answer: &mut Answer) {
     // A run that was cut off may have left the file.
     let _ = fs::remove_file(rt, PATH);
-    let mut answer = Answer::new(rt.alloc());
     let keeps = keeps_what_was_written(rt);
-    tell_file(rt, &mut answer, "a file keeps what was written", keeps);
+    show_file(rt, answer, "a file keeps what was written", keeps);
     let is_alone = is_its_owners_alone(rt);
-    tell_file(
-        rt,
-        &mut answer,
-        "\na new file is its owner's alone",
-        is_alone,
-    );
+    show_file(rt, answer, "a new file is its owner's alone", is_alone);
     let is_locked = is_locked_by_one_disk_at_a_time(rt);
-    tell_file(
+    show_file(
         rt,
-        &mut answer,
-        "\na file is locked by one disk at a time",
+        answer,
+        "a file is locked by one disk at a time",
         is_locked,
     );
     let is_refused = is_refused_in_no_folder(rt);
-    tell_file(
-        rt,
-        &mut answer,
-        "\na path in no folder is refused",
-        is_refused,
-    );
-    print_row(rt, "", "", &answer)
+    show_file(rt, answer, "a path in no folder is refused", is_refused);
 }
 
-/// Tells whether a row of a file holds, and removes the file.
-fn tell_file(rt: &HostRuntime, answer: &mut Answer, row: &str, holds: bool) {
+/// Prints whether a row of a file holds, and removes the file.
+fn show_file(rt: &HostRuntime, answer: &mut Answer, row: &str, holds: bool) {
     answer.say(row);
     answer.say(if holds {
         ": so it is"
     } else {
         ": it is otherwise"
     });
+    answer.print(rt);
     let _ = fs::remove_file(rt, PATH);
 }
 
-/// Prints the text of each fault.
-fn show_faults(rt: &HostRuntime) -> Result<(), RowsFault> {
-    let mut answer = Answer::new(rt.alloc());
+/// Tells the text of each fault.
+pub fn tell_faults(answer: &mut Answer) {
     answer.say("fault of a disk: ");
     answer.show(&DiskFault::Device);
     for fault in FAULTS {
         answer.say("\nfault: ");
         answer.show(&fault);
     }
-    print_row(rt, "", "", &answer)
 }

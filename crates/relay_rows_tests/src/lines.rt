@@ -1,14 +1,14 @@
-//! The rows of lines, commands and replies, and those of bodies.
-use crate::answer::{Answer, RowsFault, print_row};
-use crate::body_row::{self, BodyRow};
+//! The rows of lines, commands and replies, and what no row shows of lines, bodies and octets.
+use crate::answer::{Answer, RowsFault};
 use crate::play::Play;
-use crate::row::{Row, octets_in};
+use crate::row::{octets_in, play_in};
 use crate::verdict::verdict_of;
+use crate::words::Words;
 use relay_body::BodyFault;
 use relay_lines::{LINE_LIMIT, LineBuffer, LineFault, ReplyFault};
 use relay_octets::{Octets, find_crlf};
 use std::fmt::Display;
-use std::{fs, mem};
+use std::mem;
 
 const LINE_FAULTS: [LineFault; 5] = [
     LineFault::Unknown,
@@ -25,70 +25,39 @@ const REPLY_FAULTS: [ReplyFault; 4] = [
     ReplyFault::NoMemory,
 ];
 
-/// Plays each row of lines and of bodies, and says what comes of what no row shows.
-pub fn show_lines(rt: &HostRuntime) -> Result<(), RowsFault> {
-    let rows = fs::read_to_string(rt, "lines.in")?;
-    for line in rows.as_str().lines() {
-        show_row(rt, line)?;
-    }
-    show_bodies(rt)?;
-    show_calls(rt)
-}
-
-fn show_bodies(rt: &HostRuntime) -> Result<(), RowsFault> {
-    let bodies = fs::read_to_string(rt, "bodies.in")?;
-    for line in bodies.as_str().lines() {
-        show_body(rt, line)?;
-    }
-    Ok(())
-}
-
-/// Plays a row, and prints what it comes to.
-fn show_row(rt: &HostRuntime, line: &str) -> Result<(), RowsFault> {
-    let mut answer = Answer::new(rt.alloc());
-    let row = Row::read(line);
-    match row.play(&mut answer) {
-        Some(play) => tell_verdict(&mut answer, &play, row.wanted),
+/// Plays a row of lines, `name|KIND|number|octets|wanted`, and tells its name and what it comes to.
+pub fn tell_line_row(answer: &mut Answer, line: &str) {
+    let mut fields = Words { rest: line };
+    answer.say(fields.field());
+    answer.say(": ");
+    match play_in(answer, &mut fields) {
+        Some(play) => tell_verdict(answer, &play, fields.field()),
         None => answer.say("no row"),
     }
-    print_row(rt, row.name, ": ", &answer)
 }
 
 /// Tells what a play comes to.
 fn tell_verdict(answer: &mut Answer, play: &Play, wanted: &str) {
     let wanted = octets_in(answer, wanted);
     match verdict_of(answer.alloc, play, wanted.as_slice()) {
-        Ok(verdict) => answer.show(&verdict),
+        Ok(verdict) => verdict.tell(answer),
         Err(_) => answer.stop(RowsFault::NoMemory),
     }
 }
 
-/// Plays a row of bodies, and prints what it comes to.
-fn show_body(rt: &HostRuntime, line: &str) -> Result<(), RowsFault> {
-    let mut answer = Answer::new(rt.alloc());
-    let row = BodyRow::read(line);
-    match row.play(&mut answer) {
-        Some(play) => body_row::tell_verdict(&mut answer, &play, row.wanted),
-        None => answer.say("no row"),
-    }
-    print_row(rt, row.name, ": ", &answer)
-}
-
-/// Says the text of each fault, and what comes of the calls that no row makes.
-fn show_calls(rt: &HostRuntime) -> Result<(), RowsFault> {
-    let mut answer = Answer::new(rt.alloc());
+/// Tells the text of each fault, and what comes of the calls that no row makes.
+pub fn tell_calls(answer: &mut Answer) {
     for fault in LINE_FAULTS {
-        tell_fault(&mut answer, &fault);
+        tell_fault(answer, &fault);
     }
     for fault in REPLY_FAULTS {
-        tell_fault(&mut answer, &fault);
+        tell_fault(answer, &fault);
     }
-    tell_fault(&mut answer, &BodyFault::NoMemory);
+    tell_fault(answer, &BodyFault::NoMemory);
     answer.say("octets: ");
-    tell_octets(&mut answer);
+    tell_octets(answer);
     answer.say("\na line of 10,000,000 octets: ");
     answer.say(hold_long_line());
-    print_row(rt, "", "", &answer)
 }
 
 /// Tells the line of a fault.

@@ -21,6 +21,7 @@ mod comparison;
 mod cutting;
 mod disks;
 mod envelope;
+mod envelopes;
 mod escape;
 mod line;
 mod line_play;
@@ -32,108 +33,76 @@ mod player;
 mod reply_play;
 mod routes;
 mod row;
+mod rows;
 mod script;
 mod trace;
 mod verdict;
 mod words;
 
-use answer::{Answer, RowsFault, print_row};
-use books::show_books;
-use disks::{show_disks, take_given_steps};
-use line::line_of;
-use lines::show_lines;
-use meeting::show_meetings;
-use routes::tell_routes;
-use script::{say_nodes, tell_script};
+use answer::{Answer, RowsFault};
+use disks::{show_files, show_steps, take_given_steps, tell_faults};
+use envelopes::show_envelopes;
+use lines::tell_calls;
+use meeting::{show_transcripts, tell_size};
+use rows::{Topic, show_books, show_rows};
+use script::tell_nodes;
+use std::env;
 use std::test::Fail;
-use std::{env, fs};
-use trace::tell_trace;
-
-/// What the rows of a file are about.
-#[derive(Clone, Copy)]
-enum Subject {
-    Routes,
-    Trace,
-    Script,
-}
 
 fn main(rt: HostRuntime) -> Result<(), Fail> {
-    match show(&rt) {
-        Ok(()) => Ok(()),
-        Err(fault) => Err(Fail::new(fault.text())),
+    let mut answer = Answer::new(rt.alloc());
+    show(&rt, &mut answer);
+    match answer.fault {
+        None => Ok(()),
+        Some(fault) => Err(Fail::new(fault.text())),
     }
 }
 
 /// Shows what the words ask for, and all rows where there is none.
-fn show(rt: &HostRuntime) -> Result<(), RowsFault> {
-    let words: Vec<String> = env::args(rt)?.collect(rt.alloc())?;
-    match (words.get(1), words.get(2)) {
-        (Some(word), Some(path)) if word.as_str() == "steps" => take_given_steps(rt, path.as_str()),
-        (Some(_), Some(folder)) => show_books(rt, folder.as_str()),
-        _ => show_all(rt),
+fn show(rt: &HostRuntime, answer: &mut Answer) {
+    match given_words(rt) {
+        Ok(words) => match (words.get(1), words.get(2)) {
+            (Some(word), Some(path)) => show_asked(rt, answer, word.as_str(), path.as_str()),
+            _ => show_all(rt, answer),
+        },
+        Err(fault) => answer.stop(fault),
     }
 }
 
-fn show_all(rt: &HostRuntime) -> Result<(), RowsFault> {
-    show_lines(rt)?;
-    show_envelopes(rt)?;
-    show_rows(rt, "routes.in", Subject::Routes)?;
-    show_rows(rt, "trace.in", Subject::Trace)?;
-    show_rows(rt, "script.in", Subject::Script)?;
-    say_nodes(rt)?;
-    show_meetings(rt)?;
-    show_books(rt, ".")?;
-    show_disks(rt)
+fn given_words(rt: &HostRuntime) -> Result<Vec<String>, RowsFault> {
+    Ok(env::args(rt)?.collect(rt.alloc())?)
 }
 
-/// Prints the line of each row of envelopes, for which as many outcomes are written down.
-fn show_envelopes(rt: &HostRuntime) -> Result<(), RowsFault> {
-    let rows = fs::read_to_string(rt, "envelope.in")?;
-    let outcomes = fs::read_to_string(rt, "envelope.ref")?;
-    let mut rest = outcomes.as_str().lines();
-    for row in rows.as_str().lines() {
-        show_envelope(rt, row, rest.next())?;
-    }
-    match rest.next() {
-        Some(_) => Err(RowsFault::Row),
-        None => Ok(()),
+/// Shows what a word asks for.
+fn show_asked(rt: &HostRuntime, answer: &mut Answer, word: &str, path: &str) {
+    if word == "steps" {
+        take_given_steps(rt, answer, path);
+    } else {
+        show_books(rt, answer, path);
     }
 }
 
-/// Prints the line of a row of envelopes.
-fn show_envelope(rt: &HostRuntime, row: &str, wanted: Option<&str>) -> Result<(), RowsFault> {
-    let Some(wanted) = wanted else {
-        return Err(RowsFault::Row);
-    };
-    let line = line_of(rt.alloc(), row, wanted)?;
-    let mut answer = Answer::new(rt.alloc());
-    answer.read_text(line.as_slice());
-    print_row(rt, "", "", &answer)
-}
-
-/// Prints each row of a file and what comes of it.
-fn show_rows(rt: &HostRuntime, name: &str, subject: Subject) -> Result<(), RowsFault> {
-    let rows = fs::read_to_string(rt, name)?;
-    for row in rows.as_str().lines() {
-        show_row(rt, subject, row)?;
-    }
-    Ok(())
-}
-
-/// Prints a row and what comes of it; a line that is no row stands as it is.
-fn show_row(rt: &HostRuntime, subject: Subject, row: &str) -> Result<(), RowsFault> {
-    let mut answer = Answer::new(rt.alloc());
-    let Some((given, wanted)) = row.split_once(" => ") else {
-        return print_row(rt, row, "", &answer);
-    };
-    match subject {
-        Subject::Routes => tell_routes(rt, &mut answer, given),
-        Subject::Trace => tell_trace(&mut answer, given),
-        Subject::Script => tell_script(&mut answer, given),
-    }
-    if answer.text.as_str() != wanted {
-        answer.say(", and not ");
-        answer.say(wanted);
-    }
-    print_row(rt, given, " => ", &answer)
+/// Shows all rows, and what no row shows.
+fn show_all(rt: &HostRuntime, answer: &mut Answer) {
+    show_rows(rt, answer, ".", "lines", Topic::Lines);
+    show_rows(rt, answer, ".", "bodies", Topic::Bodies);
+    tell_calls(answer);
+    answer.print(rt);
+    show_envelopes(rt, answer);
+    show_rows(rt, answer, ".", "routes", Topic::Routes);
+    show_rows(rt, answer, ".", "trace", Topic::Trace);
+    show_rows(rt, answer, ".", "script", Topic::Script);
+    tell_nodes(answer);
+    answer.print(rt);
+    show_rows(rt, answer, ".", "dialogues", Topic::Dialogues);
+    show_transcripts(rt, answer);
+    tell_size(answer);
+    answer.print(rt);
+    show_rows(rt, answer, ".", "meetings", Topic::Meetings);
+    show_books(rt, answer, ".");
+    show_rows(rt, answer, ".", "disks", Topic::Disks);
+    show_files(rt, answer);
+    show_steps(rt, answer);
+    tell_faults(answer);
+    answer.print(rt);
 }

@@ -3,8 +3,10 @@ ghost use Rattle.relay_body.specs.Gathering.{gathered_of};
 ghost use Rattle.relay_body.specs.DotReading.{HasRead, IsDone};
 ghost use Rattle.relay_rows_tests.specs.Player.{ReadsChunk, found_of};
 
-use crate::answer::{Answer, RowsFault};
+use crate::answer::Answer;
 use crate::cutting::Cutting;
+use crate::row::octets_in;
+use crate::words::Words;
 use relay_body::{
     BodyFault, ChunkReader, DotReader, Gathered, ends_in_line_end, plain, write_dots,
 };
@@ -42,15 +44,12 @@ enum Kind {
 }
 
 impl BodyPlay {
-    /// Reads the fields of a row.
-    pub fn read(
-        answer: &mut Answer,
-        kind: &str,
-        limit: &str,
-        sizes: &str,
-        octets: Octets,
-    ) -> Option<BodyPlay> {
-        let limit = limit.parse::<usize>().unwrap_or(0);
+    /// Reads the fields of a row that say what is fed to what; nothing where they are no row.
+    pub fn read(answer: &mut Answer, fields: &mut Words<'_>) -> Option<BodyPlay> {
+        let kind = fields.field();
+        let limit = fields.field().parse::<usize>().unwrap_or(0);
+        let sizes = fields.field();
+        let octets = octets_in(answer, fields.field());
         let kind = match kind {
             "BDAT" => Kind::Chunks {
                 limit,
@@ -68,10 +67,8 @@ impl BodyPlay {
 fn sizes_in(answer: &mut Answer, text: &str) -> Vec<u32> {
     let mut sizes = Vec::new(answer.alloc);
     for word in text.split(',') {
-        if let Ok(size) = word.parse::<u32>()
-            && sizes.push(size).is_err()
-        {
-            answer.stop(RowsFault::NoMemory);
+        if let Ok(size) = word.parse::<u32>() {
+            answer.push(&mut sizes, size);
         }
     }
     sizes

@@ -1,9 +1,9 @@
 //! What comes of a row of routes: a configuration, of which `;` between spaces ends a line; a file with one; or
 //! a file and a path, whose hop is looked up.
 use crate::answer::{Answer, RowsFault};
+use crate::rows::read_file;
 use relay_envelope::{Path, PathBuf};
 use relay_routes::{BareNewlines, Config, Hop, Table};
-use std::fs;
 
 /// Tells what comes of the lines, of the file, or of the file and the path that a row gives.
 pub fn tell_routes(rt: &HostRuntime, answer: &mut Answer, given: &str) {
@@ -14,23 +14,12 @@ pub fn tell_routes(rt: &HostRuntime, answer: &mut Answer, given: &str) {
             tell_config(answer, document.as_str());
         }
         "FILE" => {
-            let document = file(rt, answer, rest);
+            let document = read_file(rt, answer, rest);
             tell_config(answer, document.as_str());
         }
         name => {
-            let document = file(rt, answer, name);
+            let document = read_file(rt, answer, name);
             tell_hop_of(answer, document.as_str(), rest.as_bytes());
-        }
-    }
-}
-
-/// The text of a file.
-fn file(rt: &HostRuntime, answer: &mut Answer, name: &str) -> String {
-    match fs::read_to_string(rt, name) {
-        Ok(text) => text,
-        Err(_) => {
-            answer.stop(RowsFault::Stream);
-            String::new(answer.alloc)
         }
     }
 }

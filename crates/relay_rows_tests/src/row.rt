@@ -4,68 +4,45 @@ use crate::play::{Play, Question};
 use crate::words::Words;
 use relay_octets::Octets;
 
-/// A row of lines.in: what is done, and what it is to come to.
-#[derive(Clone, Copy)]
-pub struct Row<'a> {
-    pub name: &'a str,
-    kind: &'a str,
-    number: &'a str,
-    octets: &'a str,
-    pub wanted: &'a str,
+/// Reads what is done in a row, `KIND|number|octets`; nothing where the fields are no row. Texts of a reply stand between
+/// slashes. Octets that a row can't hold are written with a backslash and a letter.
+pub fn play_in(answer: &mut Answer, fields: &mut Words<'_>) -> Option<Play> {
+    let kind = fields.field();
+    let number = fields.field();
+    let text = fields.field();
+    match question_of(kind) {
+        Some(question) => Some(Play::Word(question, octets_in(answer, text))),
+        None => play_of(answer, kind, number, text),
+    }
 }
 
-impl<'a> Row<'a> {
-    /// Reads a row: `name|KIND|number|octets|wanted`. Texts of a reply stand between slashes.
-    /// Octets that a row can't hold are written with a backslash and a letter.
-    pub fn read(line: &'a str) -> Self {
-        let mut fields = Words { rest: line };
-        Row {
-            name: fields.field(),
-            kind: fields.field(),
-            number: fields.field(),
-            octets: fields.field(),
-            wanted: fields.field(),
+/// What is asked of a text in a row of this kind.
+fn question_of(kind: &str) -> Option<Question> {
+    Some(match kind {
+        "BDAT" => Question::BeginsWithBdat,
+        "HOST" => Question::IsHostWord,
+        "DOMAIN" => Question::AreDomainOctets,
+        "LITERAL" => Question::IsAddressLiteral,
+        _ => return None,
+    })
+}
+
+/// What is done in a row of another kind.
+fn play_of(answer: &mut Answer, kind: &str, number: &str, text: &str) -> Option<Play> {
+    let number = number.parse::<usize>().unwrap_or(0);
+    let code = u16::try_from(number).unwrap_or(0);
+    Some(match kind {
+        "CUT" => Play::Cut(number, octets_in(answer, text)),
+        "LINE" => Play::Line(octets_in(answer, text)),
+        "COMMAND" => Play::Command(octets_in(answer, text)),
+        "REPLIES" => Play::Replies(octets_in(answer, text)),
+        "REPLY" => Play::Reply(code, texts_in(answer, text)),
+        "LASTLINE" => {
+            let (front, back) = text.split_once('/').unwrap_or((text, ""));
+            Play::LastLine(code, octets_in(answer, front), octets_in(answer, back))
         }
-    }
-
-    /// What the fields of the row say is done; nothing where they are no row.
-    pub fn play(self, answer: &mut Answer) -> Option<Play> {
-        let question = match self.kind {
-            "BDAT" => Question::BeginsWithBdat,
-            "HOST" => Question::IsHostWord,
-            "DOMAIN" => Question::AreDomainOctets,
-            "LITERAL" => Question::IsAddressLiteral,
-            _ => return self.play_otherwise(answer),
-        };
-        Some(Play::Word(question, octets_in(answer, self.octets)))
-    }
-
-    /// The same of what is no question.
-    fn play_otherwise(self, answer: &mut Answer) -> Option<Play> {
-        Some(match self.kind {
-            "CUT" => Play::Cut(
-                self.number.parse::<usize>().unwrap_or(0),
-                octets_in(answer, self.octets),
-            ),
-            "LINE" => Play::Line(octets_in(answer, self.octets)),
-            "COMMAND" => Play::Command(octets_in(answer, self.octets)),
-            "REPLIES" => Play::Replies(octets_in(answer, self.octets)),
-            "REPLY" => Play::Reply(self.code(), texts_in(answer, self.octets)),
-            "LASTLINE" => {
-                let (front, back) = self.octets.split_once('/').unwrap_or((self.octets, ""));
-                Play::LastLine(
-                    self.code(),
-                    octets_in(answer, front),
-                    octets_in(answer, back),
-                )
-            }
-            _ => return None,
-        })
-    }
-
-    fn code(self) -> u16 {
-        self.number.parse::<u16>().unwrap_or(0)
-    }
+        _ => return None,
+    })
 }
 
 /// The octets that a text of a row stands for.
@@ -84,9 +61,8 @@ fn texts_in(answer: &mut Answer, text: &str) -> Vec<Octets> {
     let mut texts = Vec::new(answer.alloc);
     if text != "none" {
         for part in text.split('/') {
-            if texts.push(octets_in(answer, part)).is_err() {
-                answer.stop(RowsFault::NoMemory);
-            }
+            let octets = octets_in(answer, part);
+            answer.push(&mut texts, octets);
         }
     }
     texts

@@ -1,21 +1,19 @@
 //! What comes of a row of scripts: `LINE` and a line of a script, or `TEXT` and octets in decimal, of which the
 //! text that spells them is written.
-use crate::answer::{Answer, RowsFault, print_row};
+use crate::answer::{Answer, RowsFault};
 use relay_script::{Event, MOST_NODES, NodeIndex, ScriptLine, push_text, script_line};
 
 /// Names each node.
-pub fn say_nodes(rt: &HostRuntime) -> Result<(), RowsFault> {
-    let mut answer = Answer::new(rt.alloc());
+pub fn tell_nodes(answer: &mut Answer) {
     for index in 0..MOST_NODES {
         if index > 0 {
             answer.say("\n");
         }
         let node = NodeIndex::new(index);
-        tell_node(&mut answer, "node ", node);
+        tell_node(answer, "node ", node);
         answer.say(": ");
         answer.show(&char::from(node.letter()));
     }
-    print_row(rt, "", "", &answer)
 }
 
 /// Tells what comes of a row.

@@ -3,6 +3,7 @@
 //! `STAMP` before what a time stamp line says, `HEADER` before a text, of which the `Received:` fields and the
 //! place of the first empty line are told, and `HUNDRED` before a text that is taken a hundred times.
 use crate::answer::{Answer, RowsFault};
+use crate::row::octets_in;
 use crate::words::Words;
 use relay_trace::{
     LAST_SECOND, Moment, Protocol, TimeStamp, TraceFault, date_text, header_end, received_count,
@@ -91,28 +92,12 @@ fn protocol_of(word: &str) -> Protocol {
 
 /// How many fields of a text, taken so many times, are `Received:`, and where its first empty line stands.
 fn tell_header(answer: &mut Answer, written: &str, times: u32) {
+    let fields = octets_in(answer, written);
     let mut header: Vec<u8> = Vec::new(answer.alloc);
     for _ in 0..times {
-        push_octets(answer, &mut header, written);
+        let taken = header.extend_from_slice(fields.as_slice());
+        answer.note(taken);
     }
     answer.count("", received_count(header.as_slice()) as u64);
     answer.count(" ", header_end(header.as_slice()) as u64);
-}
-
-/// The octets of a text in which `\r` and `\n` stand for CR and LF.
-fn push_octets(answer: &mut Answer, octets: &mut Vec<u8>, written: &str) {
-    let mut is_letter = false;
-    for octet in written.as_bytes() {
-        if *octet == b'\\' {
-            is_letter = true;
-        } else {
-            answer.push(octets, if is_letter { ending_of(*octet) } else { *octet });
-            is_letter = false;
-        }
-    }
-}
-
-/// CR or LF by its letter.
-fn ending_of(letter: u8) -> u8 {
-    if letter == b'r' { b'\r' } else { b'\n' }
 }

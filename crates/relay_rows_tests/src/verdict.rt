@@ -1,10 +1,10 @@
 ghost use Rattle.std.specs.Prelude.{◌≡◌, ◌↔◌, IfOk, IsTrue};
 ghost use Rattle.relay_rows_tests.specs.PlayOutcome.{IsVerdict};
 
+use crate::answer::Answer;
 use crate::play::{Play, outcome_of};
 use relay_octets::Octets;
 use std::alloc::{AllocError, Global};
-use std::fmt::{self, Display, Formatter};
 
 /// What a row came to.
 #[derive(Drop)]
@@ -15,11 +15,12 @@ pub enum Verdict {
     Differs(usize, Octets),
 }
 
-impl Display for Verdict {
-    fn fmt<W: fmt::Write>(&self, f: &mut Formatter<W>) -> fmt::Result {
+impl Verdict {
+    /// Tells it in words.
+    pub fn tell(&self, answer: &mut Answer) {
         match self {
-            Verdict::Equal => f.write_str("as written down"),
-            Verdict::Differs(size, _) => write!(f, "differs, in pieces of {size}"),
+            Verdict::Equal => answer.say("as written down"),
+            Verdict::Differs(size, _) => answer.count("differs, in pieces of ", *size as u64),
         }
     }
 }

@@ -17,16 +17,15 @@ fn digit(octet: u8) -> Option<u8>
 /// The octets that a text writes, two digits each. What is no digit, and a last one alone, are passed over.
 pub fn octets_of(answer: &mut Answer, text: &str) -> Vec<u8> {
     let mut octets = Vec::new(answer.alloc);
-    let mut first: Option<u8> = None;
+    let mut high = 0u8;
+    let mut is_second = false;
     for octet in text.as_bytes() {
-        if let Some(low) = digit(*octet) {
-            match first {
-                None => first = Some(low),
-                Some(high) => {
-                    answer.push(&mut octets, high.wrapping_mul(16).wrapping_add(low));
-                    first = None;
-                }
+        if let Some(value) = digit(*octet) {
+            if is_second {
+                answer.push(&mut octets, high.wrapping_add(value));
             }
+            high = value.wrapping_mul(16);
+            is_second = !is_second;
         }
     }
     octets

@@ -11,12 +11,14 @@ use std::alloc::{AllocError, Global};
 const HOST: &[u8] = b"relay.example";
 
 /// Tells what comes of a row: `report ACCEPT OUTCOME`, two records, of which the first is change 1 and the report's
-/// number is 2, or `boundary NUMBER PART PART PART`.
+/// number is 2, or `boundary NUMBER PART PART PART`. A line that begins with `#` says what the next row shows, and
+/// stands as it is.
 pub fn tell_report_row(answer: &mut Answer, row: &str) {
     let mut words = Words { rest: row };
     match words.word() {
         "report" => tell_report(answer, words),
         "boundary" => tell_boundary(answer, words),
+        _ if row.starts_with('#') => answer.say(row),
         _ => answer.stop(RowsFault::Row),
     }
 }

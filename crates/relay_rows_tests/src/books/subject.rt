@@ -32,8 +32,18 @@ impl Subject {
         }
     }
 
+    /// Tells a row, and what comes of it.
+    pub fn tell_row(&mut self, row: &str, answer: &mut Answer) {
+        let mut came = Answer::new(answer.alloc);
+        self.answer(row, &mut came);
+        answer.say(row);
+        answer.say(" => ");
+        answer.say(came.text.as_str());
+        answer.stop_as(&came);
+    }
+
     /// Tells what comes of a row: a word, places as `NUMBER.PLACE`, or values of an octet.
-    pub fn answer(&mut self, row: &str, answer: &mut Answer) {
+    fn answer(&mut self, row: &str, answer: &mut Answer) {
         let (word, rest) = row.split_once(' ').unwrap_or((row, ""));
         match word {
             "held" => {

@@ -9,7 +9,7 @@
 //! - `append TEXT`: appends a body;
 //! - `append_all TEXT TEXT ..`: appends a row of bodies, a word each;
 //! - `compact TEXT`: puts this one body in place of all.
-use crate::answer::{Answer, RowsFault, print_row};
+use crate::answer::{Answer, RowsFault};
 use crate::disks::calls::{append, append_all, compact};
 use relay_disk::{Disk, Disks, FileDisk};
 use relay_pieces::Pieces;
@@ -41,32 +41,26 @@ struct Paths<'a> {
 }
 
 /// Takes the steps of these lines on the spool of which this is the first file.
-pub fn take_steps(rt: &HostRuntime, path: &str, lines: &str) -> Result<(), RowsFault> {
-    let second = format!(in rt.alloc(); "{path}.2")?;
+pub fn take_steps(rt: &HostRuntime, answer: &mut Answer, path: &str, lines: &str) {
+    let mut second = String::new(answer.alloc);
+    let said = write!(second, "{path}.2");
+    answer.note(said);
     let paths = Paths {
         first: path,
         second: second.as_str(),
     };
     let mut held = Held::Nothing;
     for line in lines.lines() {
-        show_step(rt, paths, &mut held, line)?;
+        show_step(rt, paths, &mut held, line, answer);
     }
-    Ok(())
 }
 
 /// Takes the step of this line, and prints what came of it, where that is something.
-fn show_step(
-    rt: &HostRuntime,
-    paths: Paths<'_>,
-    held: &mut Held,
-    line: &str,
-) -> Result<(), RowsFault> {
-    let mut answer = Answer::new(rt.alloc());
-    take_step(rt, paths, held, line, &mut answer);
-    if answer.text.is_empty() && answer.fault.is_none() {
-        return Ok(());
+fn show_step(rt: &HostRuntime, paths: Paths<'_>, held: &mut Held, line: &str, answer: &mut Answer) {
+    take_step(rt, paths, held, line, answer);
+    if !answer.text.is_empty() {
+        answer.print(rt);
     }
-    print_row(rt, "", "", &answer)
 }
 
 /// Takes the step of this line.

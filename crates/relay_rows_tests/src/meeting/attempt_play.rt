@@ -1,4 +1,5 @@
 use crate::comparison::Verdict;
+use crate::meeting::ends::begun;
 use crate::meeting::mark::written_behind;
 use crate::meeting::transcript::{End, Transcript};
 use crate::meeting::verdict_text::verdict_lines;
@@ -40,12 +41,12 @@ impl<'a> AttemptPlay<'a> {
         transcript: &'a Transcript,
         envelope: &'a Envelope,
     ) -> Result<Self, AllocError> {
-        let places = Vec::from_slice(alloc, transcript.places.as_slice())?;
+        let host = transcript.host.as_slice();
         Ok(AttemptPlay {
             alloc,
             transcript,
             envelope,
-            attempt: Attempt::begin(alloc, transcript.host.as_slice(), places)?,
+            attempt: begun(alloc, host, transcript.places.as_slice())?,
             written: Vec::new(alloc),
             verdicts: None,
             is_right: true,
@@ -76,7 +77,7 @@ impl<'a> AttemptPlay<'a> {
         if had_ended {
             driven.used == 0 && !has_ended
         } else if has_ended && self.transcript.end == End::Reply {
-            start.saturating_add(driven.used) == self.transcript.said.len()
+            start.saturating_add(driven.used) == self.transcript.end_at
         } else {
             driven.used == length
         }
@@ -123,7 +124,9 @@ impl<'a> AttemptPlay<'a> {
                 Err(_) => self.is_right = false,
             }
         }
-        self.is_right && self.is_told() && self.has_written()
+        self.is_right
+            && self.is_told()
+            && are_equal(self.written.as_slice(), self.transcript.written.as_slice())
     }
 
     /// Whether the verdicts are those that are written down.
@@ -136,10 +139,6 @@ impl<'a> AttemptPlay<'a> {
             None => self.transcript.end == End::None,
         }
     }
-
-    fn has_written(&self) -> bool {
-        are_equal(self.written.as_slice(), self.transcript.written.as_slice())
-    }
 }
 
 /// Whether these are the same octets.
@@ -147,30 +146,13 @@ fn are_equal(one: &[u8], other: &[u8]) -> bool {
     one == other
 }
 
-/// Plays a transcript once for each cutting.
+/// Plays a transcript once for each cutting: into two pieces at each place, and octet by octet.
 pub fn verdict_of(
     alloc: Global,
     transcript: &Transcript,
     envelope: &Envelope,
 ) -> Result<Verdict, AllocError> {
-    let said = all_said(alloc, transcript)?;
-    verdict_of_cuts(alloc, transcript, envelope, said.as_slice())
-}
-
-/// What the server says up to the end and behind it.
-fn all_said(alloc: Global, transcript: &Transcript) -> Result<Vec<u8>, AllocError> {
-    let mut said = Vec::from_slice(alloc, transcript.said.as_slice())?;
-    said.extend_from_slice(transcript.behind.as_slice())?;
-    Ok(said)
-}
-
-/// Plays it cut into two pieces at each place, and octet by octet.
-fn verdict_of_cuts(
-    alloc: Global,
-    transcript: &Transcript,
-    envelope: &Envelope,
-    said: &[u8],
-) -> Result<Verdict, AllocError> {
+    let said = transcript.said.as_slice();
     for place in 0..=said.len() {
         if !is_right_in_two(AttemptPlay::new(alloc, transcript, envelope)?, said, place) {
             return Ok(Verdict::DiffersAt(place));

@@ -1,8 +1,9 @@
 //! What a server offers, and what its client had read by then.
 use crate::meeting::errand::Errand;
 use crate::meeting::row::Row;
-use relay_envelope::{Envelope, Recipient, write_mail, write_rcpt};
-use relay_lines::ReplyReader;
+use relay_envelope::{Recipient, write_mail, write_rcpt};
+use relay_lines::{ReplyCut, ReplyReader};
+use relay_octets::Octets;
 use relay_server::Offer;
 use std::alloc::{AllocError, Global};
 
@@ -10,7 +11,10 @@ use std::alloc::{AllocError, Global};
 /// isn't so where memory ran out.
 pub fn is_child(alloc: Global, errand: &Errand, row: Row<'_>, offer: &Offer<'_>) -> bool {
     offer.content == errand.text.as_slice()
-        && are_equal_mails(alloc, offer.envelope, &errand.envelope) == Ok(true)
+        && are_one(
+            write_mail(alloc, offer.envelope),
+            write_mail(alloc, &errand.envelope),
+        )
         && are_wanted(
             alloc,
             row,
@@ -19,10 +23,20 @@ pub fn is_child(alloc: Global, errand: &Errand, row: Row<'_>, offer: &Offer<'_>)
         )
 }
 
-/// Whether they have one reverse-path and the same parameters.
-fn are_equal_mails(alloc: Global, one: &Envelope, other: &Envelope) -> Result<bool, AllocError> {
-    let one = write_mail(alloc, one)?;
-    Ok(one.as_slice() == write_mail(alloc, other)?.as_slice())
+/// Whether a text is there, and is this one.
+fn is_text(written: Result<Octets, AllocError>, text: &[u8]) -> bool {
+    match written {
+        Ok(written) => written.as_slice() == text,
+        Err(_) => false,
+    }
+}
+
+/// Whether two texts are there, and are one: of two MAILs or RCPTs, that they have one path and the same parameters.
+fn are_one(one: Result<Octets, AllocError>, other: Result<Octets, AllocError>) -> bool {
+    match one {
+        Ok(one) => is_text(other, one.as_slice()),
+        Err(_) => false,
+    }
 }
 
 /// Whether those that are offered are the recipients with a hop.
@@ -46,15 +60,9 @@ fn are_wanted(
 
 fn is_wanted(alloc: Global, recipient: &Recipient, offered: Option<&Recipient>) -> bool {
     match offered {
-        Some(offered) => are_equal(alloc, recipient, offered) == Ok(true),
+        Some(offered) => are_one(write_rcpt(alloc, recipient), write_rcpt(alloc, offered)),
         None => false,
     }
-}
-
-/// Whether they have one path and the same parameters.
-fn are_equal(alloc: Global, one: &Recipient, other: &Recipient) -> Result<bool, AllocError> {
-    let one = write_rcpt(alloc, one)?;
-    Ok(one.as_slice() == write_rcpt(alloc, other)?.as_slice())
 }
 
 /// Whether of the replies that these octets begin with those behind the first three are to all RCPTs, by the server's
@@ -81,11 +89,13 @@ fn code_of(row: Row<'_>, place: usize) -> u16 {
 
 /// The code of the whole reply that the octets begin with, and how many it has.
 fn next_code(reader: &mut ReplyReader, octets: &[u8]) -> Option<(usize, u16)> {
-    let Ok(cut) = reader.feed(octets) else {
-        return None;
-    };
-    match &cut.reply {
-        Some(reply) => Some((cut.used, reply.code())),
-        None => None,
+    match reader.feed(octets) {
+        Ok(
+            ReplyCut {
+                used,
+                reply: Some(reply),
+            },
+        ) => Some((used, reply.code())),
+        _ => None,
     }
 }

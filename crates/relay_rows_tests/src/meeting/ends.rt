@@ -18,11 +18,21 @@ pub enum End {
     Client,
 }
 
-/// What two ends say where nothing is cut off.
+/// What two ends say where nothing is cut off, where that is known.
 #[derive(Clone, Copy)]
 pub struct Said<'a> {
-    pub up: &'a [u8],
-    pub down: &'a [u8],
+    pub up: Option<&'a [u8]>,
+    pub down: Option<&'a [u8]>,
+}
+
+impl Said<'_> {
+    /// Nothing is known.
+    pub fn unknown() -> Self {
+        Said {
+            up: None,
+            down: None,
+        }
+    }
 }
 
 /// Where two ends meet, and what for.
@@ -40,8 +50,8 @@ pub struct Ends<'a> {
     session: Session,
     attempt: Attempt,
     /// From the client to the server.
-    up: Wire<'a>,
-    down: Wire<'a>,
+    pub up: Wire<'a>,
+    pub down: Wire<'a>,
     /// How many offers there were.
     offers: usize,
     /// Each offer was the errand's one child, and the client had read the replies to all RCPTs by then.
@@ -72,18 +82,17 @@ impl Drop for Ends<'_> {
 }
 
 impl<'a> Ends<'a> {
-    /// Two ends of which none has read anything. What they are to say is compared with what they say, where it is
-    /// known.
-    pub fn new(meeting: Meeting<'a>, said: Option<Said<'a>>) -> Result<Self, AllocError> {
+    /// Two ends of which none has read anything. What they are to say is compared with what they say.
+    pub fn new(meeting: Meeting<'a>, said: Said<'a>) -> Result<Self, AllocError> {
         let alloc = meeting.alloc;
-        let attempt = attempt_of(alloc, meeting.errand)?;
+        let attempt = begun(alloc, HOST, meeting.errand.places.as_slice())?;
         let (session, greeting) = Session::new(alloc, meeting.config)?;
         let mut ends = Ends {
             meeting,
             session,
             attempt,
-            up: Wire::new(alloc, said.map(|said| said.up)),
-            down: Wire::new(alloc, said.map(|said| said.down)),
+            up: Wire::new(alloc, said.up),
+            down: Wire::new(alloc, said.down),
             offers: 0,
             are_children: true,
             is_closed: false,
@@ -92,24 +101,6 @@ impl<'a> Ends<'a> {
         };
         ends.down.write(greeting.as_slice());
         Ok(ends)
-    }
-
-    /// What the client has written.
-    pub fn up(&self) -> &[u8] {
-        self.up.octets()
-    }
-
-    /// What the server has written.
-    pub fn down(&self) -> &[u8] {
-        self.down.octets()
-    }
-
-    /// How many octets this end has read.
-    pub fn count_read(&self, end: End) -> usize {
-        match end {
-            End::Server => self.up.octets_read().len(),
-            End::Client => self.down.octets_read().len(),
-        }
     }
 
     /// Lets the ends read in turn until there is nothing more.
@@ -312,8 +303,7 @@ impl<'a> Ends<'a> {
     }
 }
 
-/// An attempt of the errand that waits for the greeting.
-fn attempt_of(alloc: Global, errand: &Errand) -> Result<Attempt, AllocError> {
-    let places = Vec::from_slice(alloc, errand.places.as_slice())?;
-    Attempt::begin(alloc, HOST, places)
+/// An attempt of this host at these places that waits for the greeting.
+pub fn begun(alloc: Global, host: &[u8], places: &[u8]) -> Result<Attempt, AllocError> {
+    Attempt::begin(alloc, host, Vec::from_slice(alloc, places)?)
 }

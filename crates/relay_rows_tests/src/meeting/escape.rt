@@ -6,13 +6,11 @@ use std::alloc::AllocError;
 pub fn push_unescaped(out: &mut Vec<u8>, text: &[u8]) -> Result<(), AllocError> {
     let mut is_escaped = false;
     for octet in text {
-        if is_escaped {
-            out.push(escaped(*octet))?;
-            is_escaped = false;
-        } else if *octet == b'\\' {
+        if *octet == b'\\' && !is_escaped {
             is_escaped = true;
         } else {
-            out.push(*octet)?;
+            out.push(if is_escaped { escaped(*octet) } else { *octet })?;
+            is_escaped = false;
         }
     }
     Ok(())

@@ -1,7 +1,8 @@
-use crate::answer::RowsFault;
+use crate::answer::{Answer, RowsFault};
+use crate::meeting::errand::{add_recipient, envelope_of};
 use crate::meeting::escape::push_unescaped;
 use crate::meeting::mark::Mark;
-use relay_envelope::{Envelope, Recipient, read_mail, read_rcpt};
+use relay_envelope::Envelope;
 use std::alloc::{AllocError, Global};
 
 /// How an attempt of a transcript ends.
@@ -29,10 +30,10 @@ pub struct Transcript {
     pub envelope: Option<Envelope>,
     pub text: Vec<u8>,
     pub places: Vec<u8>,
-    /// What the server says up to the end.
+    /// What the server says, also behind the end.
     pub said: Vec<u8>,
-    /// What it says behind that.
-    pub behind: Vec<u8>,
+    /// How many octets of it come up to the end.
+    pub end_at: usize,
     /// What is to be written.
     pub written: Vec<u8>,
     pub marks: Vec<Mark>,
@@ -51,7 +52,7 @@ impl Drop for Transcript {
             text: _text,
             places: _places,
             said: _said,
-            behind: _behind,
+            end_at: _,
             written: _written,
             marks: _marks,
             end: _,
@@ -70,7 +71,7 @@ impl Transcript {
             text: Vec::new(alloc),
             places: Vec::new(alloc),
             said: Vec::new(alloc),
-            behind: Vec::new(alloc),
+            end_at: 0,
             written: Vec::new(alloc),
             marks: Vec::new(alloc),
             end: End::None,
@@ -79,60 +80,71 @@ impl Transcript {
     }
 
     /// Takes a line of the transcript.
-    pub fn take(&mut self, alloc: Global, line: &str) -> Result<(), RowsFault> {
+    pub fn take(&mut self, answer: &mut Answer, line: &str) {
         let (word, rest) = line.split_once(' ').unwrap_or((line, ""));
+        match word {
+            "mail" => self.take_mail(answer, rest.as_bytes()),
+            "rcpt" => self.take_rcpt(answer, rest.as_bytes()),
+            "end" => self.end = end_of(rest),
+            "place" => answer.push(&mut self.places, rest.parse::<u8>().unwrap_or(255)),
+            _ => self.take_text(answer, word, rest),
+        }
+    }
+
+    /// Takes a line of text.
+    fn take_text(&mut self, answer: &mut Answer, word: &str, rest: &str) {
         let text = rest.as_bytes();
         let taken = match word {
             "name" => self.name.push_str(rest),
             "host" => push_unescaped(&mut self.host, text),
-            "mail" => self.take_mail(alloc, text),
-            "rcpt" => self.take_rcpt(alloc, text),
             "text" => push_unescaped(&mut self.text, text),
-            "place" => push_place(&mut self.places, rest),
-            "S" => push_line(&mut self.said, text),
-            "s" => push_unescaped(&mut self.said, text),
-            "B" => push_line(&mut self.behind, text),
+            "S" => self.take_said(text, b"\r\n"),
+            "s" => self.take_said(text, b""),
+            "B" => push_line(&mut self.said, text),
             "C" => self.take_written(text, b"\r\n"),
             "c" => self.take_written(text, b""),
             "V" => push_line(&mut self.verdicts, text),
-            "end" => {
-                self.end = end_of(rest);
-                Ok(())
-            }
-            _ => return Err(RowsFault::Row),
+            _ => return answer.stop(RowsFault::Row),
         };
-        Ok(taken?)
+        answer.note(taken);
     }
 
-    /// Takes what stands behind the colon of MAIL. Without that there is no envelope.
-    fn take_mail(&mut self, alloc: Global, text: &[u8]) -> Result<(), AllocError> {
-        self.envelope = match read_mail(text) {
-            Ok(mail) => Some(Envelope::new(alloc, mail)?),
-            Err(_) => None,
-        };
-        Ok(())
-    }
-
-    /// Takes what stands behind the colon of RCPT. Where that is none, there is no envelope.
-    fn take_rcpt(&mut self, alloc: Global, text: &[u8]) -> Result<(), AllocError> {
-        match (read_rcpt(text), &mut self.envelope) {
-            (Ok(rcpt), Some(envelope)) => envelope.recipients.push(Recipient::new(alloc, rcpt)?),
-            _ => {
-                self.envelope = None;
-                Ok(())
-            }
+    /// Takes what stands behind the colon of MAIL.
+    fn take_mail(&mut self, answer: &mut Answer, text: &[u8]) {
+        match envelope_of(answer.alloc, text) {
+            Ok(envelope) => self.envelope = Some(envelope),
+            Err(fault) => answer.stop(fault),
         }
+    }
+
+    /// Takes what stands behind the colon of RCPT.
+    fn take_rcpt(&mut self, answer: &mut Answer, text: &[u8]) {
+        match &mut self.envelope {
+            Some(envelope) => {
+                let added = add_recipient(answer.alloc, envelope, text);
+                answer.note_fault(added);
+            }
+            None => answer.stop(RowsFault::Row),
+        }
+    }
+
+    /// Takes what the server says up to the end.
+    fn take_said(&mut self, text: &[u8], end: &[u8]) -> Result<(), AllocError> {
+        push_unescaped(&mut self.said, text)?;
+        let said = self.said.extend_from_slice(end);
+        self.end_at = self.said.len();
+        said
     }
 
     /// Takes what is to be written behind what was said so far.
     fn take_written(&mut self, text: &[u8], end: &[u8]) -> Result<(), AllocError> {
         push_unescaped(&mut self.written, text)?;
         self.written.extend_from_slice(end)?;
-        self.marks.push(Mark {
-            said: self.said.len(),
+        let mark = Mark {
+            said: self.end_at,
             written: self.written.len(),
-        })?;
-        Ok(())
+        };
+        Ok(self.marks.push(mark)?)
     }
 }
 
@@ -144,11 +156,6 @@ fn end_of(word: &str) -> End {
         "loss" => End::Loss,
         _ => End::None,
     }
-}
-
-/// Puts the place that a text writes behind others.
-fn push_place(places: &mut Vec<u8>, text: &str) -> Result<(), AllocError> {
-    Ok(places.push(text.parse::<u8>().unwrap_or(255))?)
 }
 
 /// Puts the octets of a line behind what stands in `out`.

@@ -1,7 +1,7 @@
+use crate::answer::Answer;
 use crate::meeting::ends::{End, Ends, Meeting, Said};
 use crate::meeting::wire::Cutting;
 use std::alloc::AllocError;
-use std::fmt::{self, Display, Formatter};
 
 /// The lengths of pieces.
 const SIZES: [usize; 3] = [1, 7, 64];
@@ -20,42 +20,50 @@ pub enum Outcome {
     DiffersDown(usize),
 }
 
-impl Display for Outcome {
-    fn fmt<W: fmt::Write>(&self, f: &mut Formatter<W>) -> fmt::Result {
+impl Outcome {
+    /// Tells it in words.
+    pub fn tell(self, answer: &mut Answer) {
         match self {
-            Outcome::Lawful { up, down } => write!(
-                f,
-                "as it must be, cut off at each of {up} octets up and {down} down"
-            ),
-            Outcome::DiffersWhole(size) => write!(f, "differs, whole and in pieces of {size}"),
-            Outcome::DiffersUp(size) => write!(
-                f,
-                "differs, cut off on the way up and in pieces of {size}"
-            ),
-            Outcome::DiffersDown(size) => write!(
-                f,
-                "differs, cut off on the way down and in pieces of {size}"
-            ),
+            Outcome::Lawful { up, down } => {
+                answer.count("as it must be, cut off at each of ", up as u64);
+                answer.count(" octets up and ", down as u64);
+                answer.say(" down");
+            }
+            Outcome::DiffersWhole(size) => {
+                answer.count("differs, whole and in pieces of ", size as u64);
+            }
+            Outcome::DiffersUp(size) => {
+                answer.count(
+                    "differs, cut off on the way up and in pieces of ",
+                    size as u64,
+                );
+            }
+            Outcome::DiffersDown(size) => {
+                answer.count(
+                    "differs, cut off on the way down and in pieces of ",
+                    size as u64,
+                );
+            }
         }
     }
 }
 
 /// Lets the ends of a row meet, whole and in each cutting.
 pub fn outcome_of(meeting: Meeting<'_>) -> Result<Outcome, AllocError> {
-    let mut ends = Ends::new(meeting, None)?;
+    let mut ends = Ends::new(meeting, Said::unknown())?;
     ends.take_turns(Cutting { size: 1, rest: 0 });
     if !ends.are_done() || !ends.are_lawful() {
         return Ok(Outcome::DiffersWhole(1));
     }
     let said = Said {
-        up: ends.up(),
-        down: ends.down(),
+        up: Some(ends.up.octets()),
+        down: Some(ends.down.octets()),
     };
     outcome_beside(
         meeting,
         said,
-        ends.count_read(End::Server),
-        ends.count_read(End::Client),
+        ends.up.octets_read().len(),
+        ends.down.octets_read().len(),
     )
 }
 
@@ -82,7 +90,7 @@ fn outcome_beside<'a>(
 
 /// Whether all is as it must be where nothing is cut off.
 fn is_whole<'a>(meeting: Meeting<'a>, said: Said<'a>, size: usize) -> Result<bool, AllocError> {
-    let mut ends = Ends::new(meeting, Some(said))?;
+    let mut ends = Ends::new(meeting, said)?;
     ends.take_turns(Cutting { size, rest: 0 });
     Ok(ends.are_done() && ends.are_lawful())
 }
@@ -96,7 +104,7 @@ fn count_cuts<'a>(
 ) -> Result<usize, AllocError> {
     let mut count = 0usize;
     for rest in 0..size {
-        let mut ends = Ends::new(meeting, Some(said))?;
+        let mut ends = Ends::new(meeting, said)?;
         match ends.count_cuts(end, Cutting { size, rest }) {
             Some(cuts) => count = count.saturating_add(cuts),
             None => return Ok(0),

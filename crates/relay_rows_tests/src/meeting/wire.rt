@@ -8,13 +8,23 @@ pub struct Cutting {
     pub rest: usize,
 }
 
+impl Cutting {
+    /// The first place after this one at which a piece ends.
+    fn end_after(self, place: usize) -> usize {
+        let behind = self.size.saturating_sub(self.rest);
+        let over = place.saturating_add(behind).checked_rem(self.size);
+        place.saturating_add(self.size.saturating_sub(over.unwrap_or(0)))
+    }
+}
+
 /// What one end has written, and how much of it the other one has read.
 pub struct Wire<'a> {
     octets: Vec<u8>,
     read: usize,
     /// What is to be written, where that is known.
     wanted: Option<&'a [u8]>,
-    is_wanted: bool,
+    /// Memory ran out, and something isn't there.
+    is_short: bool,
 }
 
 impl Drop for Wire<'_> {
@@ -23,7 +33,7 @@ impl Drop for Wire<'_> {
             octets: _octets,
             read: _,
             wanted: _,
-            is_wanted: _,
+            is_short: _,
         } = self;
     }
 }
@@ -35,7 +45,7 @@ impl<'a> Wire<'a> {
             octets: Vec::new(alloc),
             read: 0,
             wanted,
-            is_wanted: true,
+            is_short: false,
         }
     }
 
@@ -51,31 +61,22 @@ impl<'a> Wire<'a> {
 
     /// Whether all that is written begins what is to be.
     pub fn is_wanted(&self) -> bool {
-        self.is_wanted
+        match self.wanted {
+            Some(wanted) => !self.is_short && wanted.starts_with(self.octets.as_slice()),
+            None => !self.is_short,
+        }
     }
 
     /// Writes on.
     pub fn write(&mut self, out: &[u8]) {
-        if let Some(wanted) = self.wanted {
-            let rest = wanted.get(self.octets.len()..).unwrap_or(&[]);
-            self.is_wanted = self.is_wanted && rest.starts_with(out);
-        }
-        // What isn't there isn't what is to be written.
         if self.octets.extend_from_slice(out).is_err() {
-            self.is_wanted = false;
+            self.is_short = true;
         }
     }
 
     /// The next piece that is there.
     pub fn piece(&self, cutting: Cutting) -> &[u8] {
-        let mut end = self.read;
-        for _ in 0..cutting.size {
-            end = end.saturating_add(1);
-            if is_cut(end, cutting) {
-                break;
-            }
-        }
-        let end = end.min(self.octets.len());
+        let end = cutting.end_after(self.read).min(self.octets.len());
         self.octets.as_slice().get(self.read..end).unwrap_or(&[])
     }
 
@@ -86,11 +87,6 @@ impl<'a> Wire<'a> {
 
     /// Whether what is read ends at a place where pieces end.
     pub fn is_cut(&self, cutting: Cutting) -> bool {
-        is_cut(self.read, cutting)
+        self.read.checked_rem(cutting.size) == Some(cutting.rest)
     }
-}
-
-/// Whether pieces end here.
-fn is_cut(place: usize, cutting: Cutting) -> bool {
-    place.checked_rem(cutting.size) == Some(cutting.rest)
 }
