@@ -1,6 +1,10 @@
 mod BlockLemmas
 mod ExchangeLemmas
 mod MatchedLemmas
+mod ServedLemmas
+mod NextLemmas
+mod DistinctLemmas
+mod AnsweredLemmas
 mod HearingLemmas
 mod ShareLemmas
 mod LeftLemmas

@@ -1,7 +1,8 @@
 -- What holds of the slots behind the last of a table.
 use Rattle.std.proofs.Common.{◌≡◌, ◌⊎◌, inl, inr, ℕ, ◌+◌, ◌-◌, ◌<◌, zero, suc, Bool, true, false, List, [], ◌∷◌, length, drop, drop-cons, drop_of_length-le, add-one, ◌≤◌, Option, None, Some, is_some, refl, sym, ap, ◌∙◌, subst, arith, if◌then◌else◌}
 use Rattle.std.proofs.Math.Nat.{eq-or-lt_of_le}
-use Rattle.relay_slots.specs.Slots.{AreFree, slot_at}
+use Rattle.std.proofs.lemmas.Bool.{cases_eq}
+use Rattle.relay_slots.specs.Slots.{AreFree, OthersStay, slot_at}
 use Rattle.relay_connections.specs.Table.{AreFreeFrom, count_of_such, is_such}
 
 -- in a free table nothing stands anywhere
@@ -68,3 +69,11 @@ pub none_left : {A : Type 0} (such : A → Bool) (slots : List (Option A)) (numb
 none_left such slots number count past is =
     let rest : count_of_such such (drop number slots) ≡ 0 = ap (count_of_such such) (drop_of_length-le slots past) in
     omega (arith, rest, is)
+
+-- one slot more is free
+pub free_more : {A : Type 0} (old new : List (Option A)) (next : ℕ) → ((number : ℕ) → number < next → slot_at old number ≡ None) → slot_at new next ≡ None → OthersStay old new next
+    → (number : ℕ) → number < next + 1 → slot_at new number ≡ None
+free_more old new next before here others number below = by (cases_eq number next) where
+  by : (number ≡ next) ⊎ (number ≡ next → ⊥) → slot_at new number ≡ None
+  by (inl same) = subst (λ (at : ℕ). slot_at new at ≡ None) (sym same) here
+  by (inr apart) = others number apart ∙ before number (omega (arith, below, apart))

@@ -3,6 +3,7 @@ pub mod Channel
 pub mod Sessions
 pub mod Exchange
 pub mod Matched
+pub mod Served
 pub mod Readiness
 pub mod Room
 pub mod Leaving

@@ -1,10 +1,12 @@
 -- How the session of a client ends where its connection does, or where the relay cuts it off.
-use Rattle.std.specs.Prelude.{◌≡◌, ℕ, List, [], None, Some}
+use Rattle.std.specs.Prelude.{◌≡◌, ◌⊎◌, ℕ, List, [], None, Some}
 use Rattle.relay_slots.specs.Slots.{slot_at}
 use Rattle.relay_loop.specs.declared.closing.Closing.TheVariants.{Timeout}
 use Rattle.relay_loop.specs.Clients.{IsUnknown}
 use Rattle.relay_loop.specs.Closing.{closing_of}
 use Rattle.relay_loop.specs.Relay.{OnlyClient, RelayState}
+use Rattle.relay_connections.specs.Channel.{held_of}
+use Rattle.relay_connections.specs.declared.channel.Channel.{Channel}
 use Rattle.relay_connections.specs.declared.client.Next.{Next}
 use Rattle.relay_connections.specs.declared.client.Next.TheVariants.{Stays, Leaves, Gone}
 
@@ -32,3 +34,14 @@ IsCutOff old session Stays = ⊥
 IsCutOff old session (Leaves last) =
     (slot_at old.clients session ≡ Some []) × (last ≡ closing_of old.node.config.host Timeout)
 IsCutOff old session Gone = Unit {0}
+
+-- A client whose connection was to become this is left at that; or it was to stay, and is cut off. It is told so only
+-- where nothing is held either.
+abbrev pub IsCutOffBehind : {D S : Type 0} → RelayState D → ℕ → Channel S → Next → Type 0
+IsCutOffBehind old session channel Stays = ⊥
+IsCutOffBehind old session channel (Leaves last) = (held_of channel ≡ []) × IsCutOff old session (Leaves last)
+IsCutOffBehind old session channel Gone = Unit {0}
+
+abbrev pub EndsLate : {D S : Type 0} → RelayState D → ℕ → Channel S → Next → Next → Type 0
+EndsLate old session channel next later =
+    (later ≡ next) ⊎ ((next ≡ Stays) × IsCutOffBehind old session channel later)

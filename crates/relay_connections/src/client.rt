@@ -4,6 +4,7 @@ ghost use Rattle.std.specs.Io.KnownBytes.{Keeps};
 ghost use Rattle.relay_loop.specs.Outboxes.{unwritten_at};
 ghost use Rattle.relay_connections.specs.Channel.{KeepsInput, KeepsOutput, held_of, output_of, unread_of};
 ghost use Rattle.relay_connections.specs.Exchange.{Hands, IsHanded, IsRead, Uses};
+ghost use Rattle.relay_connections.specs.Served.{StaysOrEnds, StaysSaid};
 ghost use Rattle.relay_connections.specs.Sessions.{EndsAlone};
 
 use crate::channel::{Channel, End};
@@ -156,6 +157,7 @@ impl<S: Stream> Client<S> {
         now: &Now,
     )
         ensures hands { Hands S.remaining S.contents session relay.old relay.new self.old.channel self.new.channel }
+        ensures said { StaysSaid session relay.old relay.new }
         ensures peer { self.new.peer ≡ self.old.peer }
     {
         for _ in 0..WRITE_LIMIT {
@@ -174,6 +176,7 @@ impl<S: Stream> Client<S> {
         now: &Now,
     ) -> bool
         ensures hands { Hands S.remaining S.contents session relay.old relay.new self.old.channel self.new.channel }
+        ensures said { StaysSaid session relay.old relay.new }
         ensures peer { self.new.peer ≡ self.old.peer }
     {
         let count = self.channel.write(relay.to_client(session));
@@ -187,7 +190,8 @@ impl<S: Stream> Client<S> {
 
     /// Whether octets wait to be written to it.
     fn waits(&self, relay: &Relay<FileDisk>, session: usize) -> bool
-        ensures { held_of self.now.channel ≡ [] → unwritten_at relay.now.clients session ≡ [] → result ≡ false }
+        ensures { held_of self.now.channel ≡ [] → unwritten_at relay.now.clients session ≡ []
+            → result ≡ false }
     {
         self.channel.is_holding() || !relay.to_client(session).is_empty()
     }
@@ -204,6 +208,7 @@ impl<S: Stream> Client<S> {
     /// same write. Where it is too much to be held, it is written at once as far as that goes.
     fn hold(&mut self, relay: &mut Relay<FileDisk>, session: usize, timeout: u64, now: &Now)
         ensures hands { Hands S.remaining S.contents session relay.old relay.new self.old.channel self.new.channel }
+        ensures said { StaysSaid session relay.old relay.new }
         ensures peer { self.new.peer ≡ self.old.peer }
     {
         if self.channel.is_used() || !self.hold_back(relay, session) {
@@ -216,6 +221,7 @@ impl<S: Stream> Client<S> {
     /// Holds what waits for it back, and tells whether.
     fn hold_back(&mut self, relay: &mut Relay<FileDisk>, session: usize) -> bool
         ensures hands { Hands S.remaining S.contents session relay.old relay.new self.old.channel self.new.channel }
+        ensures said { StaysSaid session relay.old relay.new }
         ensures same { result ≡ false → (self.new ≡ self.old) × (relay.new ≡ relay.old) }
         ensures peer { self.new.peer ≡ self.old.peer }
     {
@@ -248,6 +254,7 @@ impl<S: Stream> Client<S> {
     ) -> Result<Option<Next>, NodeFault>
         ensures read { IfOk result
             (IsRead S.remaining S.contents session relay.old relay.new self.old.channel self.new.channel) }
+        ensures becomes { IfOk result (StaysOrEnds session relay.old relay.new) }
         ensures ended { IfErr result (λ _. EndsAlone session relay.old relay.new) }
         ensures fault { IfErr result (λ fault. fault ≡ NodeFault.Stopped) }
         ensures peer { self.new.peer ≡ self.old.peer }
@@ -311,6 +318,7 @@ impl<S: Stream> Client<S> {
         ensures used { IfOk heard (λ heard. Uses S.remaining heard.used self.old.channel self.new.channel) }
         ensures stays { IfOk heard (λ heard. heard.last ≡ None → IfOk result (λ next. next ≡ Next.Stays)
             × IsHanded S.remaining S.contents session relay.old relay.new self.old.channel self.new.channel) }
+        ensures said { IfOk heard (λ heard. heard.last ≡ None → StaysSaid session relay.old relay.new) }
         ensures leaves { IfOk heard (λ heard. (last : List ℕ) → heard.last ≡ Some last
             → IfOk result (λ next. next ≡ Next.Leaves last) × (relay.new ≡ relay.old)
             × KeepsOutput S.remaining S.contents self.old.channel self.new.channel) }

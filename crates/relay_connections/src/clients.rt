@@ -1,24 +1,26 @@
-ghost use Rattle.std.specs.Prelude.{◌≡◌, ◌≤◌, ◌<◌, ◌↔◌, ℕ, IfErr, IfOk, IsTrue, true};
+ghost use Rattle.std.specs.Prelude.{◌≡◌, ◌≤◌, ◌<◌, ◌↔◌, ℕ, List, None, IfErr, IfOk, IsTrue, true};
 ghost use Rattle.std.specs.Net.Addr.{ipv4_octets};
-ghost use Rattle.relay_slots.specs.Slots.{AreFree};
+ghost use Rattle.relay_book.specs.declared.change.Change.{Change};
+ghost use Rattle.relay_disk.specs.declared.file.FileDisk.{FileDisk};
+ghost use Rattle.relay_loop.specs.Relay.{RelayState};
+ghost use Rattle.relay_slots.specs.Slots.{AreFree, slot_at};
+ghost use Rattle.relay_slots.specs.declared.slots.TheConstants.{SLOT_COUNT};
 ghost use Rattle.relay_connections.specs.Matched.{AreMatched, IsGreeted, Opens};
-ghost use Rattle.relay_connections.specs.Readiness.{IsLeftClient, clients_of};
+ghost use Rattle.relay_connections.specs.Readiness.{IsLeftClient, IsNoted, clients_of};
 ghost use Rattle.relay_connections.specs.Room.{HasRoom, is_at};
+ghost use Rattle.relay_connections.specs.Served.{AreServed};
 ghost use Rattle.relay_connections.specs.Table.{count_of_such, is_such};
 
 use crate::channel::{Channel, Readiness};
-use crate::client::{Client, Intake, Next};
+use crate::client::Client;
 use crate::clocks::Now;
-use crate::ending::{cut_off, dismiss, drop_session};
-use crate::hearing::{Answer, Hearing, Replied, hear_all};
-use crate::leaving::Leaving;
+use crate::ending::dismiss;
 use crate::stream::Stream;
-use crate::table::{Table, holds, turned};
+use crate::table::Table;
 use mio::net::TcpStream;
 use relay_disk::FileDisk;
 use relay_limits::Limits;
-use relay_log::Log;
-use relay_loop::{Relay, ReplyPiece};
+use relay_loop::Relay;
 use relay_node::NodeFault;
 use relay_slots::SLOT_COUNT;
 use std::alloc::{AllocError, Global};
@@ -36,21 +38,18 @@ fn is_at<S>(slot: &Option<Box<Client<S>>>, address: [u8; 4]) -> bool
 
 /// The connections of clients, up to 64, each under its session's number, which is its token too.
 pub struct Clients<S = TcpStream> {
-    alloc: Global,
+    pub(crate) alloc: Global,
     // In boxes, so that a walk over the slots touches little memory, and a client isn't copied where it is taken out.
-    clients: Table<Box<Client<S>>>,
+    pub(crate) clients: Table<Box<Client<S>>>,
     /// The most of one address.
     most: usize,
     /// How many seconds one may be idle.
-    timeout: u64,
+    pub(crate) timeout: u64,
     /// Few places are left: one that only holds its own has less time.
-    is_crowded: bool,
+    pub(crate) is_crowded: bool,
     /// Which is served first at the next turn.
-    first: usize,
+    pub(crate) first: usize,
 }
-
-/// While more clients than these stand, one that is idle and has brought no mail is cut off early.
-const CROWD: usize = 48;
 
 // Written out, so that what drops them calls this, and doesn't look into each.
 impl<S: Drop> Drop for Clients<S> {
@@ -158,7 +157,11 @@ impl<S: Stream + Drop> Clients<S> {
     }
 
     /// The system tells what the connection of a number may be ready for.
-    pub fn note(&mut self, number: usize, ready: Readiness) {
+    pub fn note(&mut self, number: usize, ready: Readiness)
+        ensures noted { IsNoted number (clients_of self.old) (clients_of self.new) }
+        ensures served { (changes : List Change) (relay : RelayState FileDisk)
+            → AreServed changes (clients_of self.old) relay → AreServed changes (clients_of self.new) relay }
+    {
         if let Some(taken) = self.clients.take(number) {
             let mut client = taken;
             client.channel.note(ready);
@@ -167,220 +170,15 @@ impl<S: Stream + Drop> Clients<S> {
     }
 
     /// Closes all connections. The replies that are held back go out first, as far as they go at once.
-    pub fn clear(&mut self) {
+    pub fn clear(&mut self)
+        ensures { (number : ℕ) → number < SLOT_COUNT → slot_at (clients_of self.new) number ≡ None }
+    {
         for number in 0..SLOT_COUNT {
             if let Some(taken) = self.clients.take(number) {
                 let mut client = taken;
                 client.give_held();
             }
         }
-    }
-
-    /// Serves each of them once, each time beginning with another: first a block is read of each that has nothing to be
-    /// written, and then their sessions hear what was read, all in one call. What stands behind a message in the same
-    /// block is heard in a second one, since clients send the commands of the next message with it (RFC 2920), and what
-    /// both lead to goes out in one write. Attempts hear the replies of their next hops in the first of these calls,
-    /// and what came of them comes back, unless no memory was left for that: then nothing was heard. Only a device
-    /// that failed is a fault.
-    pub fn serve(
-        &mut self,
-        registry: &S::Registry,
-        relay: &mut Relay<FileDisk>,
-        replies: &[ReplyPiece<'_>],
-        leaving: &mut Leaving<S>,
-        now: &Now,
-        log: &mut Log<'_, Vec<u8>>,
-    ) -> Result<(Intake, Option<Replied>), NodeFault>
-        ensures fault { IfErr result (λ fault. fault ≡ NodeFault.Stopped) }
-    {
-        let mut intake = Intake {
-            was_full: false,
-            closed: false,
-        };
-        self.is_crowded = CROWD < self.clients.count();
-        let mut hears = false;
-        let count = self.clients.standing().len();
-        for step in 0..count {
-            let number = turned(self.first, step, count);
-            if holds(self.clients.standing(), number) {
-                hears |= self.read_one(number, registry, relay, leaving, now, &mut intake, log)?;
-            }
-        }
-        if !hears && replies.is_empty() {
-            self.first = turned(self.first, 1, SLOT_COUNT);
-            return Ok((intake, None));
-        }
-        let (hears, replied) = self.hear(
-            true,
-            registry,
-            relay,
-            replies,
-            leaving,
-            now,
-            &mut intake,
-            log,
-        )?;
-        if hears {
-            let _none = self.hear(false, registry, relay, &[], leaving, now, &mut intake, log)?;
-        }
-        self.first = turned(self.first, 1, SLOT_COUNT);
-        Ok((intake, replied))
-    }
-
-    /// Lets all sessions that have something to hear do so, with the replies of next hops, and writes what they say, or
-    /// `holds` it back where they have more to hear. It tells whether one has, and what came of the replies.
-    fn hear(
-        &mut self,
-        holds: bool,
-        registry: &S::Registry,
-        relay: &mut Relay<FileDisk>,
-        replies: &[ReplyPiece<'_>],
-        leaving: &mut Leaving<S>,
-        now: &Now,
-        intake: &mut Intake,
-        log: &mut Log<'_, Vec<u8>>,
-    ) -> Result<(bool, Option<Replied>), NodeFault>
-        ensures fault { IfErr result (λ fault. fault ≡ NodeFault.Stopped) }
-    {
-        let clients = self.clients.standing();
-        let first = turned(self.first, 0, SLOT_COUNT);
-        let Some(
-            Hearing {
-                sessions,
-                heard,
-                replies,
-            },
-        ) = hear_all(self.alloc, clients, first, replies, relay, now)?
-        else {
-            self.give_one_up(relay, intake)?;
-            return Ok((false, None));
-        };
-        let mut hears = false;
-        for (session, heard) in sessions.into_iter().zip(heard) {
-            hears |= self.answer_one(
-                session, heard, holds, registry, relay, leaving, now, intake, log,
-            )?;
-        }
-        Ok((hears, Some(replies)))
-    }
-
-    /// Reads of the client of a number. It tells whether its session has something to hear.
-    fn read_one(
-        &mut self,
-        number: usize,
-        registry: &S::Registry,
-        relay: &mut Relay<FileDisk>,
-        leaving: &mut Leaving<S>,
-        now: &Now,
-        intake: &mut Intake,
-        log: &mut Log<'_, Vec<u8>>,
-    ) -> Result<bool, NodeFault>
-        ensures fault { IfErr result (λ fault. fault ≡ NodeFault.Stopped) }
-    {
-        let Some(taken) = self.clients.take(number) else {
-            return Ok(false);
-        };
-        let mut client = taken;
-        let next = client.read(relay, number, self.timeout, now)?;
-        client.hears = next.is_none();
-        let Some(next) = next else {
-            self.clients.put(number, client);
-            return Ok(true);
-        };
-        self.settle(
-            number, client, next, registry, relay, leaving, now, intake, log,
-        )?;
-        Ok(false)
-    }
-
-    /// Takes what came of the octets of the client of a number. It tells whether its session has more to hear.
-    fn answer_one(
-        &mut self,
-        number: usize,
-        heard: Answer,
-        holds: bool,
-        registry: &S::Registry,
-        relay: &mut Relay<FileDisk>,
-        leaving: &mut Leaving<S>,
-        now: &Now,
-        intake: &mut Intake,
-        log: &mut Log<'_, Vec<u8>>,
-    ) -> Result<bool, NodeFault>
-        ensures fault { IfErr result (λ fault. fault ≡ NodeFault.Stopped) }
-    {
-        let Some(taken) = self.clients.take(number) else {
-            return Ok(false);
-        };
-        let mut client = taken;
-        let next = client.answer(relay, number, heard, holds, self.timeout, now, intake, log)?;
-        let hears = client.has_more(relay, number);
-        client.hears = hears;
-        self.settle(
-            number, client, next, registry, relay, leaving, now, intake, log,
-        )?;
-        Ok(hears)
-    }
-
-    /// Closes the first of those whose sessions have something to hear, since no memory is left.
-    fn give_one_up(
-        &mut self,
-        relay: &mut Relay<FileDisk>,
-        intake: &mut Intake,
-    ) -> Result<(), NodeFault>
-        ensures fault { IfErr result (λ fault. fault ≡ NodeFault.Stopped) }
-    {
-        let count = self.clients.standing().len();
-        for step in 0..count {
-            let number = turned(self.first, step, count);
-            match self.clients.standing().get(number) {
-                Some(Some(client)) if client.hears => {
-                    let _client = self.clients.take(number);
-                    let _gone = drop_session(relay, number)?;
-                    intake.closed = true;
-                    return Ok(());
-                }
-                _ => {}
-            }
-        }
-        Ok(())
-    }
-
-    /// Puts a client where it belongs behind a turn. One that is late is cut off.
-    fn settle(
-        &mut self,
-        number: usize,
-        client: Box<Client<S>>,
-        next: Next,
-        registry: &S::Registry,
-        relay: &mut Relay<FileDisk>,
-        leaving: &mut Leaving<S>,
-        now: &Now,
-        intake: &mut Intake,
-        log: &mut Log<'_, Vec<u8>>,
-    ) -> Result<(), NodeFault>
-        ensures fault { IfErr result (λ fault. fault ≡ NodeFault.Stopped) }
-    {
-        let next = match next {
-            Next::Stays if client.deadline(self.is_crowded) <= now.tick => {
-                log.cut_off(client.peer);
-                if client.channel.is_holding() {
-                    // It takes nothing.
-                    drop_session(relay, number)?
-                } else {
-                    cut_off(self.alloc, relay, number)?
-                }
-            }
-            next => next,
-        };
-        match next {
-            Next::Stays => self.clients.put(number, client),
-            Next::Leaves(outbox) => {
-                let channel = Box::into_inner(client).into_channel();
-                leaving.take(registry, channel, outbox, None, now);
-            },
-            Next::Gone => intake.closed = true,
-        }
-        Ok(())
     }
 
     /// Whether one is left with something to be done at once.

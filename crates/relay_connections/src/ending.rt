@@ -12,6 +12,7 @@ use std::alloc::Global;
 /// Ends the session of a client whose input has come to its end. What waits is still written.
 pub(crate) fn end_session(relay: &mut Relay<FileDisk>, session: usize) -> Result<Next, NodeFault>
     ensures ends { EndsAlone session relay.old relay.new }
+    ensures freed { IsFreed session relay.old relay.new }
     ensures next { IfOk result (LeavesWithAll relay.old session) }
     ensures fault { IfErr result (λ fault. fault ≡ NodeFault.Stopped) }
     ensures stopped { IfErr result (λ _. relay.old.node.records.spool.live ≡ false) }
@@ -37,6 +38,7 @@ pub(crate) fn dismiss(relay: &mut Relay<FileDisk>, session: usize)
 /// Ends the session of a client whose connection is broken.
 pub(crate) fn drop_session(relay: &mut Relay<FileDisk>, session: usize) -> Result<Next, NodeFault>
     ensures ends { EndsAlone session relay.old relay.new }
+    ensures freed { IsFreed session relay.old relay.new }
     ensures next { IfOk result (λ next. next ≡ Next.Gone) }
     ensures fault { IfErr result (λ fault. fault ≡ NodeFault.Stopped) }
     ensures stopped { IfErr result (λ _. relay.old.node.records.spool.live ≡ false) }
@@ -55,6 +57,7 @@ pub(crate) fn cut_off(
     session: usize,
 ) -> Result<Next, NodeFault>
     ensures ends { EndsAlone session relay.old relay.new }
+    ensures freed { IsFreed session relay.old relay.new }
     ensures next { IfOk result (IsCutOff relay.old session) }
     ensures fault { IfErr result (λ fault. fault ≡ NodeFault.Stopped) }
     ensures stopped { IfErr result (λ _. relay.old.node.records.spool.live ≡ false) }

@@ -1,6 +1,6 @@
 //! What the sessions of clients hear at a turn, all in one call with the replies of next hops: the first lines that
 //! were read of their own connections.
-ghost use Rattle.std.specs.Prelude.{◌≡◌, ◌<◌, All, IfErr, IfOk, IfSome, MatchOption, None, Some, map};
+ghost use Rattle.std.specs.Prelude.{◌≡◌, ◌<◌, All, IfErr, IfOk, IfSome, MatchOption, None, Ok, Some, map};
 ghost use Rattle.relay_slots.specs.Slots.{slot_at};
 ghost use Rattle.relay_connections.specs.Hearing.{HearOwn, IsOwn, hearing_from, session_of};
 
@@ -48,6 +48,7 @@ pub(crate) fn hear_all<S: Stream>(
     requires { first < 64 }
     ensures own { IfOk result (λ hearing. IfSome hearing
         (HearOwn clients.now first replies.now now.now.moment relay.old relay.new)) }
+    ensures none { result ≡ Ok None → relay.new ≡ relay.old }
     ensures fault { IfErr result (λ fault. fault ≡ NodeFault.Stopped) }
 {
     let Ok(pieces) = pieces_of(alloc, clients, first) else {
@@ -99,7 +100,10 @@ fn pieces_of<S: Stream>(
 }
 
 /// The client of a number, where there is one.
-fn client_at<S>(clients: &[Option<Box<Client<S>>>], number: usize) -> Option<&Box<Client<S>>>
+pub(crate) fn client_at<S>(
+    clients: &[Option<Box<Client<S>>>],
+    number: usize,
+) -> Option<&Box<Client<S>>>
     ensures { MatchOption result (slot_at clients.now number ≡ None)
         (λ client. slot_at clients.now number ≡ Some client.now) }
 {

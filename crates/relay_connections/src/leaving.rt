@@ -1,8 +1,12 @@
 //! Connections whose session or attempt has ended: their last octets are written, and what the peer still sends is
 //! read and dropped for a moment, since the system else resets the connection, and the last octets with it.
-ghost use Rattle.std.specs.Prelude.{◌≡◌, ◌≤◌, ◌<◌, ◌↔◌, IsTrue};
+ghost use Rattle.std.specs.Prelude.{◌≡◌, ◌≤◌, ◌<◌, ◌↔◌, [], ℕ, None, IfOk, IsTrue, false, true};
+ghost use Rattle.relay_slots.specs.Slots.{AreFree, OthersStay, slot_at};
+ghost use Rattle.relay_slots.specs.declared.slots.TheConstants.{SLOT_COUNT};
+ghost use Rattle.relay_connections.specs.Channel.{held_of};
 ghost use Rattle.relay_connections.specs.declared.leaving.TheConstants.{MOST_STRANGERS};
-ghost use Rattle.relay_connections.specs.Leaving.{goes_to, leavers_of};
+ghost use Rattle.relay_connections.specs.Leaving.{IsOneOf, MayTake, Stays, StaysOrCloses};
+ghost use Rattle.relay_connections.specs.Leaving.{goes_to, leavers_of, whole_output};
 ghost use Rattle.relay_connections.specs.Table.{count_of, count_of_such, is_such};
 
 use crate::channel::{Channel, End, Readiness};
@@ -85,7 +89,9 @@ impl Leaving {
 
 impl<S: Stream + Drop> Leaving<S> {
     /// None, whose last octets will wait for so many seconds at most. It fails where memory runs out.
-    pub fn new(alloc: Global, seconds: u64) -> Result<Self, AllocError> {
+    pub fn new(alloc: Global, seconds: u64) -> Result<Self, AllocError>
+        ensures { IfOk result (λ leaving. AreFree (leavers_of leaving)) }
+    {
         Ok(Leaving {
             alloc,
             leavers: Table::new(alloc)?,
@@ -103,7 +109,10 @@ impl<S: Stream + Drop> Leaving<S> {
         outbox: Outbox,
         place: Option<usize>,
         now: &Now,
-    ) {
+    )
+        ensures { (number : ℕ) → MayTake S.remaining S.contents channel outbox place
+            (slot_at (leavers_of self.old) number) (slot_at (leavers_of self.new) number) }
+    {
         let mut leaver = Leaver {
             channel,
             outbox,
@@ -146,14 +155,20 @@ impl<S: Stream + Drop> Leaving<S> {
     }
 
     /// Closes all connections.
-    pub fn clear(&mut self) {
+    pub fn clear(&mut self)
+        ensures { (number : ℕ) → number < SLOT_COUNT → slot_at (leavers_of self.new) number ≡ None }
+    {
         for number in 0..SLOT_COUNT {
             let _leaver = self.leavers.take(number);
         }
     }
 
     /// The system tells what the connection of a number may be ready for.
-    pub fn note(&mut self, number: usize, ready: Readiness) {
+    pub fn note(&mut self, number: usize, ready: Readiness)
+        ensures stays { Stays S.remaining S.contents (slot_at (leavers_of self.old) number)
+            (slot_at (leavers_of self.new) number) }
+        ensures others { OthersStay (leavers_of self.old) (leavers_of self.new) number }
+    {
         if let Some(taken) = self.leavers.take(number) {
             let mut leaver = taken;
             leaver.channel.note(ready);
@@ -173,7 +188,11 @@ impl<S: Stream + Drop> Leaving<S> {
     }
 
     /// Serves the connection of a number. It tells whether that stays.
-    fn serve_one(&mut self, number: usize, now: &Now) -> bool {
+    fn serve_one(&mut self, number: usize, now: &Now) -> bool
+        ensures stays { StaysOrCloses S.remaining S.contents (slot_at (leavers_of self.old) number)
+            (slot_at (leavers_of self.new) number) }
+        ensures others { OthersStay (leavers_of self.old) (leavers_of self.new) number }
+    {
         let Some(taken) = self.leavers.take(number) else {
             return false;
         };
@@ -213,7 +232,13 @@ impl<S: Stream + Drop> Leaving<S> {
 
 impl<S: Stream> Leaver<S> {
     /// Writes what goes, and tells the peer where that was all.
-    fn write(&mut self, now: &Now) {
+    fn write(&mut self, now: &Now)
+        ensures one { IsOneOf S.remaining S.contents self.old.place (whole_output S.remaining S.contents self.old)
+            self.new }
+        ensures shut { self.old.is_shut ≡ false → self.new.is_shut ≡ true
+            → (self.new.outbox ≡ []) × (held_of self.new.channel ≡ []) }
+        ensures silent { self.old.is_shut ≡ true → self.new ≡ self.old }
+    {
         if self.is_shut {
             return;
         }
@@ -229,7 +254,10 @@ impl<S: Stream> Leaver<S> {
     }
 
     /// Writes what goes, or reads a block and drops it. It tells whether the connection stays.
-    fn serve(&mut self, now: &Now) -> bool {
+    fn serve(&mut self, now: &Now) -> bool
+        ensures { IsOneOf S.remaining S.contents self.old.place (whole_output S.remaining S.contents self.old)
+            self.new }
+    {
         self.write(now);
         if self.is_shut {
             self.drain();
@@ -239,7 +267,10 @@ impl<S: Stream> Leaver<S> {
         !is_over && now.tick < deadline
     }
 
-    fn drain(&mut self) {
+    fn drain(&mut self)
+        ensures { IsOneOf S.remaining S.contents self.old.place (whole_output S.remaining S.contents self.old)
+            self.new }
+    {
         self.channel.fill();
         let count = self.channel.piece().len();
         self.channel.used(count);

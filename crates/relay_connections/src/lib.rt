@@ -13,6 +13,7 @@ mod held;
 mod leaving;
 mod refusals;
 mod scripted;
+mod serving;
 mod share;
 mod stream;
 mod table;

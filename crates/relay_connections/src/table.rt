@@ -86,6 +86,9 @@ impl<T: Drop> Table<T> {
     pub fn take(&mut self, number: usize) -> Option<T>
         ensures taken { result ≡ slot_at self.old number }
         ensures rest { self.new ≡ slice_set self.old number None }
+        ensures free { slot_at self.new number ≡ None }
+        ensures others { OthersStay self.old self.new number }
+        ensures within { MatchOption result (Unit {0}) (λ _. number < SLOT_COUNT) }
     {
         let taken = self.slots.take(number);
         self.end = end_of(self.slots.as_slice(), self.end);

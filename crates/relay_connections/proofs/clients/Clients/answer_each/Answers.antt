@@ -1,0 +1,56 @@
+-- One answer more is taken.
+use Rattle.std.proofs.Common.{rules, ◌≡◌, ◌⊎◌, inl, inr, ℕ, List, [], ◌∷◌, length, Result, sym, ap, ◌∙◌, subst, arith}
+use Rattle.std.proofs.lemmas.List.{nil_from_length}
+use Rattle.std.specs.Iterator.Adapters.{zip_first, zip_second}
+use Rattle.std.specs.List.{zip}
+use Rattle.std.specs.Vec.Iter.{into_iter_items}
+use Rattle.relay_records.specs.declared.fault.NodeFault.{NodeFault}
+use Rattle.relay_loop.specs.declared.clients.Heard.{Heard}
+use Rattle.relay_connections.specs.Served.{HaveAnswered}
+use Rattle.relay_connections.proofs.AnsweredLemmas.{answered_on, answered_end}
+use Rattle.relay_connections.proofs.clients.Clients.answer_each.Goals as goal
+
+pub loop-session-init : goal.loop-session-init
+loop-session-init g c =
+    let gives = c.into_iter-session-iterator.ensures.into_iter_gives in
+    let first : into_iter_items (zip_first c.into_iter-session-iterator.result) ≡ c.args.sessions.items =
+    ap (λ it. into_iter_items (zip_first it)) gives ∙ ap into_iter_items c.zip-session-items.ensures.first ∙ c.into_iter.ensures.rest in
+    let second : into_iter_items (zip_second c.into_iter-session-iterator.result) ≡ c.args.heard.items =
+    ap (λ it. into_iter_items (zip_second it)) gives ∙ c.zip-session-items.ensures.second.0 in
+    record {
+      have = λ changes have.
+          subst (λ (sessions : List ℕ). HaveAnswered changes c.args.self.now.clients c.args.relay.now (zip sessions (into_iter_items (zip_second c.into_iter-session-iterator.result)))) (sym first)
+          (subst (λ (heard : List (Result Heard NodeFault)). HaveAnswered changes c.args.self.now.clients c.args.relay.now (zip c.args.sessions.items heard)) (sym second) have);
+      first = search rules;
+      second = search rules;
+    }
+
+pub loop-session-preserved : goal.loop-session-preserved
+loop-session-preserved g c =
+    let i = c.loop-session.invariant in
+    let one = c.in-Some.ensures.steps.0 in
+    let other = c.in-Some.ensures.steps.1 in
+    let pairs : zip (into_iter_items (zip_first c.loop-session.session-iterator)) (into_iter_items (zip_second c.loop-session.session-iterator))
+    ≡ (c.in-Some.session, c.in-Some.heard) ∷ zip (into_iter_items (zip_first c.next.new.self)) (into_iter_items (zip_second c.next.new.self)) =
+    ap (λ (sessions : List ℕ). zip sessions (into_iter_items (zip_second c.loop-session.session-iterator))) one.0
+    ∙ ap (λ (heard : List (Result Heard NodeFault)). zip (c.in-Some.session ∷ into_iter_items (zip_first c.next.new.self)) heard) other.0 in
+    record {
+      have = λ changes have.
+          let so = subst (λ (pairs : List (ℕ × Result Heard NodeFault)). HaveAnswered changes c.loop-session.self.clients c.loop-session.relay pairs) pairs (i.have changes have) in
+          answered_on changes c.loop-session.self.clients c.answer_one.new.self.clients c.loop-session.relay c.answer_one.new.relay c.in-Some.session c.in-Some.heard
+          (zip (into_iter_items (zip_first c.next.new.self)) (into_iter_items (zip_second c.next.new.self))) so c.in_ok-hears.ensures.only
+          (c.in_ok-hears.ensures.serves changes so.keeps.live);
+      first = omega (arith, i.first, ap (λ (l : List ℕ). length l) one.0, one.1);
+      second = omega (arith, i.second, ap (λ (l : List (Result Heard NodeFault)). length l) other.0, other.1);
+    }
+
+pub returns-clause-served : goal.returns-clause-served
+returns-clause-served g c = λ changes have.
+    let i = c.loop-session.invariant in
+    let firsts = into_iter_items (zip_first c.loop-session.session-iterator) in
+    let seconds = into_iter_items (zip_second c.loop-session.session-iterator) in
+    let none : (firsts ≡ []) ⊎ (seconds ≡ []) = elim c.in-None.ensures.steps [
+      | inl ended ↦ inl (nil_from_length firsts (omega (arith, i.first, ended.1.0)))
+      | inr ended ↦ inr (nil_from_length seconds (omega (arith, i.second, ended.1.0)))
+    ] in
+    answered_end changes c.loop-session.self.clients c.loop-session.relay firsts seconds none (i.have changes have)
