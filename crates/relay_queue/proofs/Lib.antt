@@ -1,0 +1,2 @@
+mod ScreenLemmas
+mod TextLemmas

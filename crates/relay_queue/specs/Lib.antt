@@ -1,0 +1,6 @@
+pub mod Screen
+pub mod Amounts
+pub mod Row
+pub mod Filter
+pub mod Picks
+pub mod Opening

@@ -1,0 +1,40 @@
+use relay_files::Fault;
+use std::alloc::AllocError;
+use thiserror::Error;
+
+/// Why the queue can't be looked at. Its text stands after `relayd: `.
+#[derive(Clone, Copy, Debug, PartialEq, Eq, Error)]
+pub enum QueueFault {
+    /// A file can't be read or holds something else, memory ran out, or what was found can't be written.
+    #[error("{0}")]
+    Files(Fault),
+    /// No recipient of a message of this number is queued.
+    #[error("message {0} is not queued")]
+    NotQueued(u64),
+    /// An age that is asked for isn't a number and a unit.
+    #[error("an age is a number and s, m, h or d, as 4h")]
+    BadAge,
+}
+
+impl From<Fault> for QueueFault {
+    ghost use Rattle.std.specs.Prelude.{◌≡◌};
+    ghost use Rattle.relay_queue.specs.declared.fault.QueueFault.TheVariants.{Files};
+
+    ghost from_gives = { λ given fault. fault ≡ Files given };
+
+    fn from(fault: Fault) -> QueueFault {
+        QueueFault::Files(fault)
+    }
+}
+
+impl From<AllocError> for QueueFault {
+    ghost use Rattle.std.specs.Prelude.{◌≡◌};
+    ghost use Rattle.relay_files.specs.declared.fault.Fault.TheVariants.{NoMemory};
+    ghost use Rattle.relay_queue.specs.declared.fault.QueueFault.TheVariants.{Files};
+
+    ghost from_gives = { λ _ fault. fault ≡ Files NoMemory };
+
+    fn from(_fault: AllocError) -> QueueFault {
+        QueueFault::Files(Fault::NoMemory)
+    }
+}

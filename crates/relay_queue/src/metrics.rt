@@ -1,0 +1,121 @@
+//! The queue by next hop as metrics in Prometheus' text exposition format.
+use crate::screen::Screen;
+use crate::status::Fill;
+use crate::summary::{Summaries, Summary};
+use relay_trace::Moment;
+use std::alloc::{AllocError, Global};
+
+/// A number that each next hop has.
+#[derive(Clone, Copy, Debug)]
+enum ByHop {
+    Messages,
+    Recipients,
+    Octets,
+    OldestAge,
+    NextTry,
+}
+
+/// Returns the metrics: gauges of each next hop, with its name as the label `hop`, which is empty for recipients
+/// without one, and gauges of the spool.
+pub(crate) fn metrics_text(
+    alloc: Global,
+    summaries: &Summaries,
+    fill: Fill,
+    now: Moment,
+) -> Result<Screen, AllocError> {
+    let mut screen = Screen::new(alloc);
+    push_by_hop(&mut screen, ByHop::Messages, summaries, now)?;
+    push_by_hop(&mut screen, ByHop::Recipients, summaries, now)?;
+    push_by_hop(&mut screen, ByHop::Octets, summaries, now)?;
+    push_by_hop(&mut screen, ByHop::OldestAge, summaries, now)?;
+    push_by_hop(&mut screen, ByHop::NextTry, summaries, now)?;
+    push_alone(
+        &mut screen,
+        b"relayd_spool_bytes",
+        b"Octets of the spool file in use.",
+        fill.size,
+    )?;
+    push_alone(
+        &mut screen,
+        b"relayd_spool_limit_bytes",
+        b"Octets that the spool file may take.",
+        fill.limit,
+    )?;
+    Ok(screen)
+}
+
+impl ByHop {
+    fn name(self) -> &'static [u8] {
+        match self {
+            ByHop::Messages => b"relayd_queue_messages",
+            ByHop::Recipients => b"relayd_queue_recipients",
+            ByHop::Octets => b"relayd_queue_bytes",
+            ByHop::OldestAge => b"relayd_queue_oldest_age_seconds",
+            ByHop::NextTry => b"relayd_queue_next_try_timestamp_seconds",
+        }
+    }
+
+    fn help(self) -> &'static [u8] {
+        match self {
+            ByHop::Messages => b"Queued messages by next hop.",
+            ByHop::Recipients => b"Queued recipients by next hop.",
+            ByHop::Octets => b"Octets of queued messages by next hop.",
+            ByHop::OldestAge => b"Age of the oldest queued message by next hop.",
+            ByHop::NextTry => b"Time at which a recipient is due first, by next hop.",
+        }
+    }
+
+    fn value(self, summary: &Summary, now: Moment) -> u64 {
+        match self {
+            ByHop::Messages => summary.messages,
+            ByHop::Recipients => summary.recipients,
+            ByHop::Octets => summary.octets,
+            ByHop::OldestAge => now.seconds().saturating_sub(summary.oldest),
+            ByHop::NextTry => summary.due,
+        }
+    }
+}
+
+/// Adds a metric with a sample for each next hop.
+fn push_by_hop(
+    screen: &mut Screen,
+    metric: ByHop,
+    summaries: &Summaries,
+    now: Moment,
+) -> Result<(), AllocError> {
+    push_head(screen, metric.name(), metric.help())?;
+    for index in 0..summaries.len() {
+        if let Some((hop, summary)) = summaries.get_index(index) {
+            // The name of a host has no octet that a label would have to escape.
+            screen.push(metric.name())?;
+            screen.push(b"{hop=\"")?;
+            screen.push(hop.as_slice())?;
+            screen.push(b"\"} ")?;
+            screen.push_number(metric.value(summary, now))?;
+            screen.end_line()?;
+        }
+    }
+    Ok(())
+}
+
+/// Adds a metric with one sample.
+fn push_alone(screen: &mut Screen, name: &[u8], help: &[u8], value: u64) -> Result<(), AllocError> {
+    push_head(screen, name, help)?;
+    screen.push(name)?;
+    screen.push(b" ")?;
+    screen.push_number(value)?;
+    screen.end_line()
+}
+
+/// Adds the lines that stand before the samples of a gauge.
+fn push_head(screen: &mut Screen, name: &[u8], help: &[u8]) -> Result<(), AllocError> {
+    screen.push(b"# HELP ")?;
+    screen.push(name)?;
+    screen.push(b" ")?;
+    screen.push(help)?;
+    screen.end_line()?;
+    screen.push(b"# TYPE ")?;
+    screen.push(name)?;
+    screen.push(b" gauge")?;
+    screen.end_line()
+}

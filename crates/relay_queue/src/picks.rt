@@ -1,0 +1,68 @@
+//! Which recipients are listed, in which order.
+ghost use Rattle.std.specs.Prelude.{◌≡◌, ◌++◌, IfOk, OnOk};
+ghost use Rattle.std.specs.List.Sorted.{IsPermutation, IsSorted};
+ghost use Rattle.relay_queue.specs.Picks.{keys_at, keys_of};
+
+use crate::filter::Filter;
+use crate::row::row_at;
+use relay_disk::Disk;
+use relay_records::Records;
+use relay_routes::Table;
+use relay_trace::Moment;
+use std::alloc::{AllocError, Global};
+
+/// When the message of a recipient was accepted, in seconds from 1970, its number, and the recipient's place.
+pub type Key = (u64, u64, u8);
+
+/// Returns the keys of the queued recipients that pass a filter at this moment, those of the oldest message first.
+pub fn listed_keys<D: Disk>(
+    alloc: Global,
+    records: &Records<D>,
+    table: &Table,
+    filter: &Filter<'_>,
+    now: Moment,
+) -> Result<Vec<Key>, AllocError>
+    ensures { IfOk result (λ keys. IsPermutation (keys_of filter.now now table.now records.now.queue) keys.items) }
+{
+    let mut keys = keys_of(alloc, records, table, filter, now)?;
+    keys.sort()?;
+    Ok(keys)
+}
+
+/// The keys in the order of the queue.
+fn keys_of<D: Disk>(
+    alloc: Global,
+    records: &Records<D>,
+    table: &Table,
+    filter: &Filter<'_>,
+    now: Moment,
+) -> Result<Vec<Key>, AllocError>
+    ensures { IfOk result (λ keys. keys.items ≡ keys_of filter.now now table.now records.now.queue) }
+{
+    let mut keys = Vec::new(alloc);
+    let marks = records.held(alloc)?;
+    for mark in &marks {
+        push_key(&mut keys, records, table, filter, now, *mark)?;
+    }
+    Ok(keys)
+}
+
+/// Adds the key of a held place, where its recipient passes the filter.
+fn push_key<D: Disk>(
+    keys: &mut Vec<Key>,
+    records: &Records<D>,
+    table: &Table,
+    filter: &Filter<'_>,
+    now: Moment,
+    mark: (u64, u8),
+) -> Result<(), AllocError>
+    ensures { OnOk result (keys.new.items
+        ≡ keys.old.items ++ keys_at filter.now now table.now records.now.queue mark) }
+{
+    if let Some(row) = row_at(records, table, mark.0, mark.1) {
+        if filter.passes(now, &row) {
+            keys.push((row.accepted.seconds(), row.number, row.place))?;
+        }
+    }
+    Ok(())
+}

@@ -1,0 +1,145 @@
+ghost use Rattle.std.specs.Prelude.{◌≡◌, ℕ, List, ◌++◌, ◌∷◌, ◌-◌, ◌<◌, ◌^◌, [], length, decimal, IfOk, OnOk};
+ghost use Rattle.relay_queue.specs.Screen.{AreSafe, IsShownText, escape, hex_digit, padding, shown, shown_last};
+ghost use Rattle.relay_queue.specs.Screen.{shown_octet};
+
+use itoa::Buffer;
+use relay_lines::word::is_printable;
+use relay_octets::find_crlf;
+use std::alloc::{AllocError, Global};
+use std::marker::Model;
+
+/// Text for a terminal: printable ASCII and line feeds, and nothing else. Octets of mail are shown as they are where
+/// they are printable ASCII, and as `\xHH` where they aren't.
+#[derive(Debug, Drop)]
+pub struct Screen {
+    text: Vec<u8>,
+}
+
+impl Model for Screen {
+    ghost use Rattle.std.specs.Prelude.{List, ℕ};
+    ghost use Rattle.relay_queue.specs.Screen.{AreSafe};
+
+    ghost Value = { List ℕ };
+
+    ghost view = { λ screen. screen.text.items };
+
+    ghost invariant = { λ screen. AreSafe screen.text.items };
+}
+
+impl Screen {
+    /// No text. It takes no memory.
+    pub fn new(alloc: Global) -> Self
+        ensures { result ≡ [] }
+    {
+        Screen {
+            text: Vec::new(alloc),
+        }
+    }
+
+    /// The text.
+    pub fn as_slice(&self) -> &[u8]
+        ensures value { result.now ≡ self.now }
+        ensures safe { AreSafe self.now }
+    {
+        self.text.as_slice()
+    }
+
+    /// Takes the text away, and keeps its memory.
+    pub fn clear(&mut self)
+        ensures { self.new ≡ [] }
+    {
+        self.text.clear();
+    }
+
+    /// Adds octets as they are shown.
+    pub fn push(&mut self, octets: &[u8]) -> Result<(), AllocError>
+        ensures { OnOk result (self.new ≡ self.old ++ shown octets.now) }
+    {
+        for octet in octets {
+            self.push_octet(*octet)?;
+        }
+        Ok(())
+    }
+
+    /// Adds an octet as it is shown.
+    fn push_octet(&mut self, octet: u8) -> Result<(), AllocError>
+        ensures { OnOk result (self.new ≡ self.old ++ shown_octet octet) }
+    {
+        if is_printable(octet) {
+            self.text.push(octet)?;
+            Ok(())
+        } else {
+            self.text.extend_from_slice(&escape(octet))
+        }
+    }
+
+    /// Adds a text of lines: each CR LF ends a line, and the other octets are as they are shown.
+    pub fn push_text(&mut self, text: &[u8]) -> Result<(), AllocError>
+        ensures { OnOk result ((added : List ℕ) × (self.new ≡ self.old ++ added) × IsShownText text.now added) }
+    {
+        let mut rest = text;
+        while let Some(place) = find_crlf(rest) {
+            let line = &rest[..place];
+            rest = &rest[place + 2..];
+            self.push(line)?;
+            self.end_line()?;
+        }
+        self.push_last(rest)
+    }
+
+    /// Adds what follows the last CR LF of a text, where anything does.
+    fn push_last(&mut self, rest: &[u8]) -> Result<(), AllocError>
+        ensures { OnOk result (self.new ≡ self.old ++ shown_last rest.now) }
+    {
+        if rest.is_empty() {
+            return Ok(());
+        }
+        self.push(rest)?;
+        self.end_line()
+    }
+
+    /// Adds a number in decimal.
+    pub fn push_number(&mut self, number: u64) -> Result<(), AllocError>
+        ensures { OnOk result (self.new ≡ self.old ++ decimal number) }
+    {
+        self.text
+            .extend_from_slice(Buffer::new().format(number).as_bytes())
+    }
+
+    /// Adds spaces.
+    pub fn push_spaces(&mut self, count: usize) -> Result<(), AllocError>
+        ensures { OnOk result (self.new ≡ self.old ++ padding count) }
+    {
+        for _ in 0..count {
+            self.text.push(b' ')?;
+        }
+        Ok(())
+    }
+
+    /// Ends a line.
+    pub fn end_line(&mut self) -> Result<(), AllocError>
+        ensures { OnOk result (self.new ≡ self.old ++ 10 ∷ []) }
+    {
+        self.text.push(b'\n')?;
+        Ok(())
+    }
+}
+
+/// The four octets that stand for one that isn't printable.
+fn escape(octet: u8) -> [u8; 4]
+    ensures { result ≡ escape octet }
+{
+    [b'\\', b'x', hex_digit(octet / 16), hex_digit(octet % 16)]
+}
+
+/// A hexadecimal digit.
+fn hex_digit(digit: u8) -> u8
+    requires { digit < 16 }
+    ensures { result ≡ hex_digit digit }
+{
+    if digit < 10 {
+        b'0' + digit
+    } else {
+        b'a' - 10 + digit
+    }
+}

@@ -1,0 +1,109 @@
+//! The queue by next hop, and how full the spool is, for people.
+use crate::amounts::{push_age, push_size};
+use crate::columns::{push_left, push_right};
+use crate::screen::Screen;
+use crate::summary::{Summaries, Summary};
+use crate::zone::Zone;
+use relay_trace::Moment;
+use std::alloc::{AllocError, Global};
+
+/// How wide the columns are.
+const HOP_WIDTH: usize = 24;
+
+const COUNT_WIDTH: usize = 12;
+
+const SIZE_WIDTH: usize = 12;
+
+const AGE_WIDTH: usize = 8;
+
+/// What the spool takes.
+#[derive(Clone, Copy, Debug)]
+pub(crate) struct Fill {
+    /// Its octets.
+    pub(crate) size: u64,
+    /// The most octets that it may take.
+    pub(crate) limit: u64,
+}
+
+impl Fill {
+    /// How full the spool is, in percent.
+    pub(crate) fn percent(self) -> u64 {
+        self.size.saturating_mul(100) / self.limit.max(1)
+    }
+}
+
+/// Returns a line for each next hop, and one for the spool.
+pub(crate) fn status_text(
+    alloc: Global,
+    summaries: &Summaries,
+    fill: Fill,
+    zone: &Zone,
+    now: Moment,
+) -> Result<Screen, AllocError> {
+    let mut screen = Screen::new(alloc);
+    let mut cell = Screen::new(alloc);
+    if !summaries.is_empty() {
+        push_heading(&mut screen)?;
+    }
+    for index in 0..summaries.len() {
+        if let Some((name, summary)) = summaries.get_index(index) {
+            push_hop(&mut screen, &mut cell, name.as_slice(), summary, zone, now)?;
+        }
+    }
+    push_fill(&mut screen, fill)?;
+    Ok(screen)
+}
+
+fn push_heading(screen: &mut Screen) -> Result<(), AllocError> {
+    push_left(screen, b"HOP", HOP_WIDTH)?;
+    push_right(screen, b"MESSAGES", COUNT_WIDTH)?;
+    push_right(screen, b"RECIPIENTS", COUNT_WIDTH)?;
+    push_right(screen, b"SIZE", SIZE_WIDTH)?;
+    push_right(screen, b"OLDEST", AGE_WIDTH)?;
+    screen.push(b"  NEXT TRY")?;
+    screen.end_line()
+}
+
+/// Adds the line of a next hop. The cell is for texts that are aligned to the right.
+fn push_hop(
+    screen: &mut Screen,
+    cell: &mut Screen,
+    name: &[u8],
+    summary: &Summary,
+    zone: &Zone,
+    now: Moment,
+) -> Result<(), AllocError> {
+    push_left(screen, shown_name(name), HOP_WIDTH)?;
+    cell.clear();
+    cell.push_number(summary.messages)?;
+    push_right(screen, cell.as_slice(), COUNT_WIDTH)?;
+    cell.clear();
+    cell.push_number(summary.recipients)?;
+    push_right(screen, cell.as_slice(), COUNT_WIDTH)?;
+    cell.clear();
+    push_size(cell, summary.octets)?;
+    push_right(screen, cell.as_slice(), SIZE_WIDTH)?;
+    cell.clear();
+    push_age(cell, now.seconds().saturating_sub(summary.oldest))?;
+    push_right(screen, cell.as_slice(), AGE_WIDTH)?;
+    screen.push_spaces(2)?;
+    screen.push(&zone.time(summary.due))?;
+    screen.end_line()
+}
+
+/// The name of a next hop, or what stands for none.
+fn shown_name(name: &[u8]) -> &[u8] {
+    if name.is_empty() { b"-" } else { name }
+}
+
+/// Adds how full the spool is: `spool 1.2 MiB of 64.0 MiB, 1 %`.
+fn push_fill(screen: &mut Screen, fill: Fill) -> Result<(), AllocError> {
+    screen.push(b"spool ")?;
+    push_size(screen, fill.size)?;
+    screen.push(b" of ")?;
+    push_size(screen, fill.limit)?;
+    screen.push(b", ")?;
+    screen.push_number(fill.percent())?;
+    screen.push(b" %")?;
+    screen.end_line()
+}

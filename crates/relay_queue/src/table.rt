@@ -1,0 +1,209 @@
+//! The queue as a table for people.
+use crate::amounts::{push_age, push_size};
+use crate::columns::{push_left, push_right};
+use crate::picks::Key;
+use crate::row::{Row, row_at};
+use crate::screen::Screen;
+use crate::zone::Zone;
+use relay_disk::Disk;
+use relay_records::Records;
+use relay_routes::Table;
+use relay_trace::Moment;
+use std::alloc::{AllocError, Global};
+
+/// The columns of numbers, which are aligned to the right, and how wide they are: `1023.9 KiB` fits.
+const NUMBER_WIDTH: usize = 8;
+
+const AGE_WIDTH: usize = 6;
+
+const SIZE_WIDTH: usize = 10;
+
+const TRIES_WIDTH: usize = 5;
+
+/// The most that a column of texts is widened for its longest text; a longer one moves the rest of its line.
+const WIDEST: usize = 40;
+
+/// What a column shows of a recipient without a next hop.
+const NO_HOP: &[u8] = b"-";
+
+/// How wide the columns of texts are.
+#[derive(Clone, Copy, Debug)]
+struct Widths {
+    reverse_path: usize,
+    path: usize,
+    hop: usize,
+}
+
+/// What the last line tells.
+#[derive(Clone, Copy, Debug)]
+struct Totals {
+    messages: u64,
+    recipients: u64,
+    octets: u64,
+    /// The age of the oldest message.
+    oldest: Option<u64>,
+}
+
+/// Returns a line for each of these recipients, with a heading, and a last line that sums them up.
+pub(crate) fn table_text<D: Disk>(
+    alloc: Global,
+    records: &Records<D>,
+    table: &Table,
+    keys: &[Key],
+    zone: &Zone,
+    now: Moment,
+) -> Result<Screen, AllocError> {
+    let mut screen = Screen::new(alloc);
+    let mut cell = Screen::new(alloc);
+    let widths = widths_of(records, table, keys);
+    if !keys.is_empty() {
+        push_heading(&mut screen, widths)?;
+    }
+    for key in keys {
+        if let Some(row) = row_at(records, table, key.1, key.2) {
+            push_row(&mut screen, &mut cell, &row, widths, zone, now)?;
+        }
+    }
+    push_totals(&mut screen, totals_of(records, keys, now))?;
+    Ok(screen)
+}
+
+/// How wide the columns of texts have to be.
+fn widths_of<D: Disk>(records: &Records<D>, table: &Table, keys: &[Key]) -> Widths {
+    let mut widths = Widths {
+        reverse_path: 12,
+        path: 9,
+        hop: 3,
+    };
+    for key in keys {
+        if let Some(row) = row_at(records, table, key.1, key.2) {
+            widths = Widths {
+                reverse_path: wider(widths.reverse_path, row.reverse_path),
+                path: wider(widths.path, row.path),
+                hop: wider(widths.hop, row.hop.unwrap_or(NO_HOP)),
+            };
+        }
+    }
+    widths
+}
+
+fn wider(width: usize, text: &[u8]) -> usize {
+    width.max(text.len().min(WIDEST))
+}
+
+fn push_heading(screen: &mut Screen, widths: Widths) -> Result<(), AllocError> {
+    push_right(screen, b"NUMBER", NUMBER_WIDTH)?;
+    push_right(screen, b"AGE", AGE_WIDTH + 2)?;
+    push_right(screen, b"SIZE", SIZE_WIDTH + 2)?;
+    screen.push_spaces(2)?;
+    push_left(screen, b"REVERSE PATH", widths.reverse_path)?;
+    screen.push_spaces(2)?;
+    push_left(screen, b"RECIPIENT", widths.path)?;
+    screen.push_spaces(2)?;
+    push_left(screen, b"HOP", widths.hop)?;
+    push_right(screen, b"TRIES", TRIES_WIDTH + 2)?;
+    screen.push(b"  NEXT TRY")?;
+    screen.end_line()
+}
+
+/// Adds the line of a recipient. The cell is for texts that are aligned to the right.
+fn push_row(
+    screen: &mut Screen,
+    cell: &mut Screen,
+    row: &Row<'_>,
+    widths: Widths,
+    zone: &Zone,
+    now: Moment,
+) -> Result<(), AllocError> {
+    cell.clear();
+    cell.push_number(row.number)?;
+    push_right(screen, cell.as_slice(), NUMBER_WIDTH)?;
+    cell.clear();
+    push_age(cell, age_of(row, now))?;
+    push_right(screen, cell.as_slice(), AGE_WIDTH + 2)?;
+    cell.clear();
+    push_size(cell, row.size as u64)?;
+    push_right(screen, cell.as_slice(), SIZE_WIDTH + 2)?;
+    screen.push_spaces(2)?;
+    push_left(screen, row.reverse_path, widths.reverse_path)?;
+    screen.push_spaces(2)?;
+    push_left(screen, row.path, widths.path)?;
+    screen.push_spaces(2)?;
+    push_left(screen, row.hop.unwrap_or(NO_HOP), widths.hop)?;
+    push_right(screen, tries_text(row.tries), TRIES_WIDTH + 2)?;
+    screen.push_spaces(2)?;
+    screen.push(&zone.time(row.due))?;
+    screen.end_line()
+}
+
+/// How many seconds ago the message of a recipient was accepted.
+fn age_of(row: &Row<'_>, now: Moment) -> u64 {
+    now.seconds().saturating_sub(row.accepted.seconds())
+}
+
+/// How often a recipient was deferred, as it is shown.
+pub(crate) fn tries_text(tries: u8) -> &'static [u8] {
+    match tries {
+        0 => b"0",
+        1 => b"1",
+        2 => b"2",
+        3 => b"3",
+        _ => b"4+",
+    }
+}
+
+/// The sums of these recipients, of which those of one message stand together.
+fn totals_of<D: Disk>(records: &Records<D>, keys: &[Key], now: Moment) -> Totals {
+    let mut totals = Totals {
+        messages: 0,
+        recipients: 0,
+        octets: 0,
+        oldest: None,
+    };
+    let mut last = None;
+    for (accepted, number, _) in keys {
+        totals.recipients = totals.recipients.saturating_add(1);
+        if totals.oldest.is_none() {
+            totals.oldest = Some(now.seconds().saturating_sub(*accepted));
+        }
+        if last != Some(*number) {
+            last = Some(*number);
+            totals.messages = totals.messages.saturating_add(1);
+            totals.octets = totals.octets.saturating_add(size_of(records, *number));
+        }
+    }
+    totals
+}
+
+/// How many octets a message has.
+fn size_of<D: Disk>(records: &Records<D>, number: u64) -> u64 {
+    match records.message(number) {
+        Some(message) => message.accept.stored_text.len() as u64,
+        None => 0,
+    }
+}
+
+/// Adds the last line: `12 messages, 15 recipients, 1.2 MiB; oldest 3 h`.
+fn push_totals(screen: &mut Screen, totals: Totals) -> Result<(), AllocError> {
+    push_count(screen, totals.messages, b"message")?;
+    screen.push(b", ")?;
+    push_count(screen, totals.recipients, b"recipient")?;
+    screen.push(b", ")?;
+    push_size(screen, totals.octets)?;
+    if let Some(age) = totals.oldest {
+        screen.push(b"; oldest ")?;
+        push_age(screen, age)?;
+    }
+    screen.end_line()
+}
+
+/// Adds a number and a noun, in the plural unless there is one.
+fn push_count(screen: &mut Screen, count: u64, noun: &[u8]) -> Result<(), AllocError> {
+    screen.push_number(count)?;
+    screen.push(b" ")?;
+    screen.push(noun)?;
+    if count != 1 {
+        screen.push(b"s")?;
+    }
+    Ok(())
+}
