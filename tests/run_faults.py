@@ -22,8 +22,8 @@ sys.dont_write_bytecode = True
 
 from mail_checks import hand_in
 from relay_program import Difference, PATIENCE, free_port, same, until
-from running_relay import SOON, TEXT, TIMEOUT, Client, beside, clients_of, comes_to_rest, greeted, hop_that_falls_silent
-from running_relay import lines_of, number_of, play_rows, shim
+from running_relay import SOON, TEXT, TIMEOUT, Client, beside, clients_of, comes_to_rest, greeted
+from running_relay import hop_that_falls_silent, lines_of, number_of, play_rows, shim, switches
 
 DAY = 86400
 NO_ROOM = b"421 relay.example insufficient system storage, closing\r\n"
@@ -239,6 +239,34 @@ def a_disk_that_stays_full_for_ten_minutes_copies_nothing_twice_over(field):
             until("an empty list", lambda: relay.held() == [], 60)
             same("messages that came thrice", came_thrice(field), [])
         field.sink.take_all()
+
+
+def while_no_attempt_may_begin_it_sleeps(field):
+    """By a clock that goes twenty times as fast: queued mail wakes nobody while attempts are held off for want of room,
+    but the test of the room every 5 seconds does."""
+    with small_disk(field, 16 * 1024) as (relay, others):
+        if relay is None:
+            return
+        port = free_port()
+        relay.route({"example.org": ("next.example", field.sink.port), "example.net": ("away.example", port)})
+        shim(field, "run_clocks", relay, FASTER="20")
+        with relay.running() as process:
+            hand_in(relay, recipients=("c@example.net",))
+            until("a next hop that is left alone", lambda: told(relay, "held off for 60 s"))
+            take_room(others, 8 * 1024)
+            same("a message without room", takes(relay, 300), False)
+            until("a greeting", lambda: greeted(relay), 60)
+            take_room(others, 0)
+            # It isn't left alone any more, and the minute is over in which what is due was listed last.
+            time.sleep(4)
+            before = switches(process)
+            time.sleep(4)
+            # 16 tests of the room.
+            if switches(process) > before + 100:
+                raise Difference(f"it wakes up {switches(process) - before} times in 80 seconds of its clock")
+            same("attempts while there is no room", len(told(relay, "away.example")), 1)
+            others.unlink()
+            until("room", lambda: told(relay, "shortage-ended"))
 
 
 def what_was_answered_stays_behind_a_full_device(field):
@@ -528,6 +556,7 @@ ROWS = [
     the_spool_stays_closed_while_there_is_no_room,
     what_doesnt_fit_costs_others_nothing,
     a_disk_that_stays_full_for_ten_minutes_copies_nothing_twice_over,
+    while_no_attempt_may_begin_it_sleeps,
     what_was_answered_stays_behind_a_full_device,
     a_failure_has_one_line_with_its_reason_and_file,
     a_reason_that_was_not_seen_is_left_out,

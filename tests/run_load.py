@@ -11,7 +11,6 @@ has to be prompt may take as many times as long as TIMES says in the environment
 import contextlib
 import os
 import pathlib
-import re
 import selectors
 import sys
 import threading
@@ -22,7 +21,7 @@ sys.dont_write_bytecode = True
 from mail_checks import hand_in
 from relay_program import Difference, PATIENCE, free_port, same, until
 from running_relay import SOON, TIMES, Client, beside, clients_of, comes_to_rest, lines_of, no_later, number_of
-from running_relay import play_rows, resident, shim, slowest, token_of
+from running_relay import play_rows, resident, shim, slowest, switches, token_of
 
 DUE = int(os.environ.get("DUE", 6300))
 THROUGH = int(os.environ.get("THROUGH", 2000))
@@ -70,12 +69,6 @@ def pour_through(field, relay, count):
 
 def descriptors(process):
     return len(list(pathlib.Path(f"/proc/{process.pid}/fd").iterdir()))
-
-
-def switches(process):
-    """How often a process has gone to sleep so far."""
-    text = pathlib.Path(f"/proc/{process.pid}/status").read_text()
-    return int(re.search(r"^voluntary_ctxt_switches:\s+(\d+)", text, re.M)[1])
 
 
 # The rows. Each says in its name what holds.

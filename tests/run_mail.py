@@ -104,6 +104,7 @@ class Late:
     def hand_in_all(self):
         for _ in range(self.count):
             hand_in(self.relay, recipients=("c@example.net",), rcpt=["NOTIFY=DELAY,FAILURE"])
+        self.handed_in = self.clocks.now()
         self.numbers = self.numbers_to("<c@example.net>")
         same("how many are queued", len(self.numbers), self.count)
         until("a next hop that is left alone", lambda: lines_of(self.relay, "held off for 60 s"))
@@ -137,10 +138,17 @@ class Late:
                                                   for row in self.queued_to("<a@example.org>")):
                 time.sleep(0.01)
 
+    def never_tried(self):
+        """The numbers of those that are due since they were handed in."""
+        return {row[0] for row in self.queued_to("<c@example.net>") if row[3] <= self.handed_in}
+
     def deliver_reports(self):
         for _ in range(24):
             if len(self.reports_that_arrived()) < self.count:
                 self.pass_time(HOUR, HOUR)
+
+    def deliver_reports_of(self, numbers):
+        until("a report of each", lambda: numbers <= set(self.reports_that_arrived()))
 
     def check_reports(self):
         """Each message is queued, and has one report of a delay and no other."""
@@ -297,6 +305,22 @@ def late_mail_that_is_never_tried_has_one_delayed_report_each(field):
         late.check_reports()
 
 
+def late_mail_is_told_of_after_four_hours_whatever_stands_before_it(field):
+    """Of 20 messages for a next hop that is away the first ones are tried again and again. Each sender of the others is
+    told that the mail is late as soon as four hours are over, although messages before it are due for less long."""
+    late = Late(field, 20)
+    with late.relay.running():
+        late.hand_in_all()
+        late.pass_time(4 * HOUR - 600, 600)
+        same("reports before four hours are over", late.reports_made(), set())
+        others = late.never_tried()
+        same("whether the first was tried", min(late.numbers) in others, False)
+        same("whether half of them never were", len(others) >= 10, True)
+        late.pass_time(900, 60)
+        until("as many reports as messages that were never tried", lambda: len(late.reports_made()) >= len(others))
+        late.deliver_reports_of(others)
+
+
 def mail_flows_after_attempts_without_an_outcome(field):
     """Four attempts at one next hop end without an outcome, one after another, in each of the ways in which they may.
     Each puts the message off; then it arrives, once, and so does what comes after it, at once."""
@@ -412,6 +436,7 @@ ROWS = [
     mail_whose_route_is_gone_is_reported,
     late_mail_has_one_delayed_report,
     late_mail_that_is_never_tried_has_one_delayed_report_each,
+    late_mail_is_told_of_after_four_hours_whatever_stands_before_it,
     mail_flows_after_attempts_without_an_outcome,
     mail_flows_after_attempts_that_came_too_late,
     a_reply_from_before_a_reopening_ends_no_attempt,

@@ -280,6 +280,12 @@ def worked(process):
     return (int(fields[11]) + int(fields[12])) / os.sysconf("SC_CLK_TCK")
 
 
+def switches(process):
+    """How often a process has gone to sleep so far."""
+    text = pathlib.Path(f"/proc/{process.pid}/status").read_text()
+    return int(re.search(r"^voluntary_ctxt_switches:\s+(\d+)", text, re.M)[1])
+
+
 def comes_to_rest(process, what):
     """It does next to nothing in a second, once it has done what there is to do."""
     ends = time.monotonic() + PATIENCE

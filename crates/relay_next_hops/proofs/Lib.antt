@@ -3,3 +3,4 @@ mod PaceLemmas
 mod SlotLemmas
 mod HearingLemmas
 mod ListingLemmas
+mod OverdueLemmas

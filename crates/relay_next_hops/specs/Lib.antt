@@ -6,6 +6,7 @@ pub mod Counts
 pub mod Hearing
 pub mod Losses
 pub mod Starting
+pub mod Overdue
 pub mod Tables
 pub mod Spares
 pub mod Readiness

@@ -1,12 +1,8 @@
 -- What comes of tasks: connections that begin for them, and messages that are lost or given up without one.
-use Rattle.std.specs.Prelude.{◌≡◌, ◌⊎◌, ◌+◌, ◌*◌, ℕ, Bool, true, false, nat_lt, ◌&&◌, List, Option, None, Some}
-use Rattle.std.specs.List.{list_any}
-use Rattle.std.specs.Option.{option_map_or}
+use Rattle.std.specs.Prelude.{◌≡◌, ◌⊎◌, ℕ, Bool, true, false, List, Option, None, Some}
 use Rattle.relay_disk.specs.File.{file_words}
 use Rattle.relay_disk.specs.declared.file.FileDisk.{FileDisk}
 use Rattle.relay_routes.specs.Routes.{place_of}
-use Rattle.relay_book.specs.declared.message.Message.{Message}
-use Rattle.relay_book.specs.declared.message.Place.{Place}
 use Rattle.relay_records.specs.declared.fault.NodeFault.TheVariants.{NotDue, Unknown}
 use Rattle.relay_attempts.specs.Outcomes.{EndsUnroutable, RefusesToGiveUp}
 use Rattle.relay_loop.specs.Relay.{RelayState}
@@ -14,7 +10,7 @@ use Rattle.relay_connections.specs.declared.clocks.Now.{Now}
 use Rattle.relay_limits.specs.declared.pace.Pace.{Pace}
 use Rattle.relay_next_hops.specs.Errands.{PutsFor}
 use Rattle.relay_next_hops.specs.Lanes.{IsPutBack, KeepsCounts, KeepsPlaces}
-use Rattle.relay_next_hops.specs.Losses.{EndsLost, IsRecordedOrRefused, TakesNote}
+use Rattle.relay_next_hops.specs.Losses.{EndsLost, TakesNote}
 use Rattle.relay_next_hops.specs.Paces.{RunsOneMore}
 use Rattle.relay_next_hops.specs.declared.errand.Aim.{Aim}
 use Rattle.relay_next_hops.specs.declared.errand.Errand.{Errand}
@@ -31,8 +27,8 @@ pub record IsOfTask (task : Task) (errand : Errand) : Type 0 where
   pub none : errand.attempt ≡ None
 
 -- a connection for the task is put under this number, which goes to the place that the routes give for its next hop
-pub record ConnectsFor (lane number : ℕ) (task : Task) (hops_old hops_new : List (Option Hop)) (lanes_old lanes_new : Lanes)
-    (relay : RelayState FileDisk)
+pub record ConnectsFor (lane number : ℕ) (task : Task) (hops_old hops_new : List (Option Hop))
+    (lanes_old lanes_new : Lanes) (relay : RelayState FileDisk)
     : Type 0 where
   pub aim : Aim
   pub its_lane : aim.lane ≡ lane
@@ -61,20 +57,6 @@ IsTried now lane number task hops_old hops_new lanes_old lanes_new old new Fails
 IsTried now lane number task hops_old hops_new lanes_old lanes_new old new HasNoPlace =
     (place_of old.node.config.routes.routes task.hop ≡ None) × (lanes_new ≡ lanes_old) × (hops_new ≡ hops_old)
     × (new ≡ old)
-
--- profile: at this moment the place is held, and has been due for more than four hours
-abbrev pub is_late : ℕ → Place → Bool
-is_late at place = place.held && nat_lt (place.due + 4 * 60 * 60) at
-
--- a place of the message is late
-abbrev pub is_overdue : ℕ → Option Message → Bool
-is_overdue at message = option_map_or (λ message. list_any (is_late at) message.places) message false
-
--- the loss of the task was recorded, or refused
-pub record LosesTask (at : ℕ) (task : Task) (old new : RelayState FileDisk) : Type 0 where
-  pub errand : Errand
-  pub of_task : IsOfTask task errand
-  pub lost : IsRecordedOrRefused at errand old new
 
 -- the held places of the message without a hop have ended, and the note of that was taken
 pub record GivesUp (at message : ℕ) (old new : RelayState FileDisk) : Type 0 where

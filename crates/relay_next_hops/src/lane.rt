@@ -1,6 +1,7 @@
 //! What is due for the next hops at one place.
-ghost use Rattle.std.specs.Prelude.{◌≡◌, ◌↔◌, [], ◌∷◌, ◌++◌, IsTrue, None, false, option_map, option_to_list};
-ghost use Rattle.std.specs.Prelude.{slice_get};
+ghost use Rattle.std.specs.Prelude.{◌≡◌, ◌↔◌, ◌-◌, [], ◌∷◌, ◌++◌, IsTrue, None, drop, false, length, option_to_list};
+ghost use Rattle.relay_next_hops.specs.Lanes.{first_message};
+ghost use Rattle.relay_next_hops.specs.Overdue.{checked_of, unchecked_of};
 
 use relay_routes::HostName;
 use std::alloc::Global;
@@ -36,6 +37,9 @@ impl Task {
 /// What is due for the next hops at one place, in the order in which it is begun.
 pub(crate) struct Lane {
     tasks: VecDeque<Task>,
+    /// How many of them, the last ones, weren't checked for being overdue since the lane was emptied. Where fewer are
+    /// left, all of these.
+    unchecked: usize,
     /// What was due before the lane was emptied.
     bygone: VecDeque<Task>,
 }
@@ -45,6 +49,7 @@ impl Drop for Lane {
     fn drop(self) {
         let Lane {
             tasks: _tasks,
+            unchecked: _,
             bygone: _bygone,
         } = self;
     }
@@ -57,6 +62,7 @@ impl Lane {
     {
         Lane {
             tasks: VecDeque::new(alloc),
+            unchecked: 0,
             bygone: VecDeque::new(alloc),
         }
     }
@@ -67,11 +73,13 @@ impl Lane {
     {
         self.bygone.clear();
         mem::swap(&mut self.tasks, &mut self.bygone);
+        self.unchecked = 0;
     }
 
     /// Lets go of what was due before, up to so much.
     pub(crate) fn let_go(&mut self, most: usize)
-        ensures { self.new.tasks ≡ self.old.tasks }
+        ensures tasks { self.new.tasks ≡ self.old.tasks }
+        ensures unchecked { self.new.unchecked ≡ self.old.unchecked }
     {
         for _ in 0..most {
             if self.bygone.pop_front().is_none() {
@@ -96,12 +104,18 @@ impl Lane {
             .any(|task| task.hop.as_slice() == hop.as_slice())
     }
 
-    /// Adds a task after the others, and returns whether memory was left for it.
+    /// Adds a task after the others, which is to be checked, and returns whether memory was left for it.
     pub(crate) fn push(&mut self, task: Task) -> bool
         ensures pushed { IsTrue result → self.new.tasks.items ≡ self.old.tasks.items ++ task ∷ [] }
-        ensures failed { result ≡ false → self.new.tasks.items ≡ self.old.tasks.items }
+        ensures unchecked { IsTrue result → unchecked_of self.new ≡ unchecked_of self.old ++ task ∷ [] }
+        ensures failed { result ≡ false → (self.new.tasks.items ≡ self.old.tasks.items)
+            × (self.new.unchecked ≡ self.old.unchecked) }
     {
-        self.tasks.push_back(task).is_ok()
+        if self.tasks.push_back(task).is_err() {
+            return false;
+        }
+        self.unchecked = self.unchecked.saturating_add(1);
+        true
     }
 
     /// Puts a task that was taken back before the others, and returns whether memory was left for it.
@@ -112,21 +126,48 @@ impl Lane {
         self.tasks.push_front(task).is_ok()
     }
 
-    /// Returns the message of the next task.
-    pub(crate) fn next_message(&self) -> Option<u64>
-        ensures { result ≡ option_map (λ task. task.message) (slice_get self.now.tasks.items 0) }
-    {
-        match self.tasks.front() {
-            Some(task) => Some(task.message),
-            None => None,
-        }
-    }
-
     /// Takes the next task.
     pub(crate) fn pop(&mut self) -> Option<Task>
         ensures tasks { self.old.tasks.items ≡ option_to_list result ++ self.new.tasks.items }
         ensures none { result ≡ None → self.old.tasks.items ≡ [] }
     {
         self.tasks.pop_front()
+    }
+
+    /// Returns the message of the first task that wasn't checked yet.
+    pub(crate) fn next_unchecked(&self) -> Option<u64>
+        ensures { result ≡ first_message (unchecked_of self.now) }
+    {
+        match self.tasks.get(self.first_unchecked()) {
+            Some(task) => Some(task.message),
+            None => None,
+        }
+    }
+
+    /// The first task that wasn't checked yet is checked.
+    pub(crate) fn check(&mut self)
+        ensures tasks { self.new.tasks ≡ self.old.tasks }
+        ensures unchecked { unchecked_of self.new ≡ drop 1 (unchecked_of self.old) }
+    {
+        self.unchecked = self.unchecked.min(self.tasks.len()).saturating_sub(1);
+    }
+
+    /// Takes the first task that wasn't checked yet.
+    pub(crate) fn take_unchecked(&mut self) -> Option<Task>
+        ensures unchecked { unchecked_of self.old ≡ option_to_list result ++ unchecked_of self.new }
+        ensures checked { checked_of self.new ≡ checked_of self.old }
+        ensures none { result ≡ None → unchecked_of self.old ≡ [] }
+    {
+        let place = self.first_unchecked();
+        let task = self.tasks.remove(place);
+        self.unchecked = self.tasks.len().saturating_sub(place);
+        task
+    }
+
+    /// The place of the first task that wasn't checked yet.
+    fn first_unchecked(&self) -> usize
+        ensures { result ≡ length self.now.tasks.items - self.now.unchecked }
+    {
+        self.tasks.len().saturating_sub(self.unchecked)
     }
 }

@@ -1,7 +1,7 @@
 //! What is due, by the places of the next hops, and which of it may be begun.
 ghost use Rattle.std.specs.Prelude.{◌≡◌, ◌≤◌, ◌↔◌, ◌++◌, [], IfSome, IsTrue, None};
 ghost use Rattle.std.specs.Prelude.{option_to_list, slice_get, true};
-ghost use Rattle.relay_next_hops.specs.Lanes.{IsNew, IsPutBack, KeepsCounts, KeepsPlaces, first_message};
+ghost use Rattle.relay_next_hops.specs.Lanes.{IsNew, IsPutBack, KeepsCounts, KeepsPlaces};
 ghost use Rattle.relay_next_hops.specs.Lanes.{tasks_at};
 ghost use Rattle.relay_next_hops.specs.Paces.{HasLane, IsHeldAt, MayBeginAt, RunsOneLess, RunsOneMore};
 
@@ -172,29 +172,6 @@ impl Lanes {
             self.pop(number)
         } else {
             None
-        }
-    }
-
-    /// Returns the message of the next task of a lane whose place is left alone.
-    pub(crate) fn held_message(&self, number: usize, now: &Now) -> Option<u64>
-        ensures held { IfSome result (λ _. IsHeldAt now.now.tick self.now.paces number) }
-        ensures first { IsHeldAt now.now.tick self.now.paces number
-            → result ≡ first_message (tasks_at self.now number) }
-    {
-        if self.paces.is_held(number, now.tick) {
-            self.next_message(number)
-        } else {
-            None
-        }
-    }
-
-    /// Returns the message of the next task of a lane.
-    fn next_message(&self, number: usize) -> Option<u64>
-        ensures { result ≡ first_message (tasks_at self.now number) }
-    {
-        match self.lanes.get(number) {
-            Some(lane) => lane.next_message(),
-            None => None,
         }
     }
 

@@ -11,6 +11,7 @@ mod lanes;
 mod listing;
 mod next_hops;
 mod numbers;
+mod overdue;
 mod paces;
 mod phase;
 mod places;

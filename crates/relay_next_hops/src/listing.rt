@@ -259,9 +259,22 @@ impl Lanes {
         Ok(true)
     }
 
+    /// Asks the node which messages are queued: those that come later are listed as they come. Want of memory leaves it
+    /// for the first listing.
+    pub(crate) fn prepare(&mut self, relay: &Relay<FileDisk>) -> Result<(), Fault>
+        ensures counts { KeepsCounts self.old self.new }
+        ensures due { self.new.next_due ≡ self.old.next_due }
+    {
+        if self.gather(relay)? {
+            self.next_number = relay.node().next_number();
+        }
+        Ok(())
+    }
+
     /// Asks the node which messages are queued, and tells whether it has said: not where no memory is left for that.
     fn gather(&mut self, relay: &Relay<FileDisk>) -> Result<bool, Fault>
         ensures counts { KeepsCounts self.old self.new }
+        ensures due { self.new.next_due ≡ self.old.next_due }
     {
         let places = match relay.node().marks(self.alloc) {
             Ok(places) => places,

@@ -77,6 +77,16 @@ impl NextHops {
         }
     }
 
+    /// Asks the node which messages are queued, before there is a turn that clients wait for: it takes some
+    /// milliseconds for 100,000 of them. Without memory for that, the first listing asks again. Only a device that
+    /// failed is a fault.
+    pub fn prepare(&mut self, relay: &Relay<FileDisk>) -> Result<(), Fault>
+        ensures matches { (routes : List Route) → TablesMatch routes self.old → TablesMatch routes self.new }
+        ensures due { next_due_of self.new ≡ next_due_of self.old }
+    {
+        self.lanes.prepare(relay)
+    }
+
     /// The system tells what the connection of a number may be ready for.
     pub fn note(&mut self, number: usize, ready: Readiness)
         ensures { (routes : List Route) → TablesMatch routes self.old → TablesMatch routes self.new }
@@ -161,23 +171,26 @@ impl NextHops {
         Ok(gave_up)
     }
 
-    /// Whether something can be done at once.
-    pub fn is_ready(&self, relay: &Relay<FileDisk>) -> bool
+    /// Whether something can be done at once. Without leave to begin what is due, that waits.
+    pub fn is_ready(&self, relay: &Relay<FileDisk>, may_begin: bool) -> bool
         ensures { (number : ℕ) → IsLeftHop (hops_of self.now) relay.now number → result ≡ true }
     {
         if self.hops.is_ready(relay) {
             return true;
         }
-        self.lanes.is_ready()
+        may_begin && self.lanes.is_ready()
     }
 
     /// The tick at which something is to be done, or the given one where that is earlier. It is never later than the
-    /// tick at which the node has told that work may start.
-    pub fn next_deadline(&self, otherwise: u64) -> u64
+    /// tick at which the node has told that work may start, unless there is no leave to begin what is due.
+    pub fn next_deadline(&self, may_begin: bool, otherwise: u64) -> u64
         ensures otherwise { result ≤ otherwise }
-        ensures due { result ≤ next_due_of self.now }
+        ensures due { may_begin ≡ true → result ≤ next_due_of self.now }
     {
         let next = self.hops.next_deadline(otherwise);
+        if !may_begin {
+            return next;
+        }
         let next = self.starts.next_deadline(&self.hops, &self.lanes, next);
         self.lanes.next_deadline(next)
     }

@@ -1,24 +1,19 @@
 //! Attempts that begin, and messages without a next hop that are given up.
-ghost use Rattle.std.specs.Prelude.{◌≡◌, ◌<◌, ◌≤◌, ◌∷◌, [], ℕ, List, IfOk, MatchOption, None, Ok, Some, false};
-ghost use Rattle.std.specs.Prelude.{length, option_map, true};
-ghost use Rattle.std.specs.List.{list_any};
-ghost use Rattle.std.specs.declared.net.socket_addr.SocketAddrV4.{SocketAddrV4};
+ghost use Rattle.std.specs.Prelude.{◌≡◌, ◌<◌, ◌≤◌, [], IfOk, MatchOption, None, Ok, Some, false, length, option_map};
 ghost use Rattle.relay_book.specs.Queue.{message_of};
 ghost use Rattle.relay_routes.specs.Routes.{place_of};
-ghost use Rattle.relay_slots.specs.Slots.{IsFull};
-ghost use Rattle.relay_next_hops.specs.declared.lane.Task.{Task};
-ghost use Rattle.relay_next_hops.specs.Lanes.{KeepsCounts, tasks_at};
-ghost use Rattle.relay_next_hops.specs.Paces.{HasLane, IsHeldAt};
-ghost use Rattle.relay_next_hops.specs.Starting.{IsGivenUp, IsTried, LosesTask, is_late, is_overdue};
+ghost use Rattle.relay_next_hops.specs.Lanes.{KeepsCounts};
+ghost use Rattle.relay_next_hops.specs.Paces.{HasLane};
+ghost use Rattle.relay_next_hops.specs.Starting.{IsGivenUp, IsTried};
 
-use crate::ending::{lose, lose_held};
+use crate::ending::lose;
 use crate::errand::{Aim, Errand};
 use crate::hops::Hops;
 use crate::lane::Task;
 use crate::lanes::Lanes;
+use crate::overdue::lose_overdue;
 use crate::spares::Spares;
 use mio::Registry;
-use relay_book::Place;
 use relay_connections::Now;
 use relay_disk::FileDisk;
 use relay_files::{Fault, is_want_of_sockets};
@@ -32,8 +27,8 @@ use std::net::Net;
 /// How many milliseconds no connection is begun behind one for which the system had no descriptor or no memory.
 const WANT_PAUSE: u64 = 1_000;
 
-/// How many seconds a message may be due at a place that is left alone, before it counts as lost without a connection.
-const OVERDUE_SECONDS: u64 = 4 * 60 * 60;
+/// How many tasks are checked at a turn for being overdue.
+const MOST_CHECKS: usize = 512;
 
 /// The most connections to next hops that haven't said anything yet, so that those that answer always find room.
 const MOST_UNANSWERED: usize = 48;
@@ -105,11 +100,12 @@ pub(crate) fn start_tasks<N: Net>(
         return Ok(());
     }
     lanes.turn();
+    let mut checks = MOST_CHECKS;
     let mut has_lost = false;
     for step in 0..lanes.len() {
         let lane = lanes.nth(step);
         if !has_lost {
-            has_lost = lose_overdue(relay, lanes, lane, now, log)?;
+            has_lost = lose_overdue(relay, lanes, lane, &mut checks, now, log)?;
         }
         match start_lane(net, registry, relay, hops, lanes, lane, spares, now, log)? {
             Begun::GoesOn => {}
@@ -121,8 +117,8 @@ pub(crate) fn start_tasks<N: Net>(
             }
         }
     }
-    // One is lost at a turn, and then the others have theirs.
-    if !has_lost {
+    // One is lost at a turn, and so many are checked, and then the others have theirs.
+    if !has_lost && 0 < checks {
         lanes.close();
     }
     Ok(())
@@ -178,8 +174,9 @@ fn start_task<N: Net>(
     now: &Now,
     log: &mut Log<'_, Vec<u8>>,
 ) -> Result<Tried, Fault>
-    ensures tried { number < length hops.old.hops → HasLane lanes.old.paces lane → IfOk result (IsTried now.now lane number task hops.old.hops
-        hops.new.hops lanes.old lanes.new relay.old relay.new) }
+    ensures tried { number < length hops.old.hops → HasLane lanes.old.paces lane
+        → IfOk result (IsTried now.now lane number task hops.old.hops hops.new.hops lanes.old lanes.new
+        relay.old relay.new) }
     ensures config { relay.new.node.config ≡ relay.old.node.config }
 {
     let Some(aim) = aim_of(relay, lanes, &task, lane) else {
@@ -203,7 +200,12 @@ fn start_task<N: Net>(
 }
 
 /// Returns where a connection for a task goes: to the place that the routes give for its next hop.
-fn aim_of(relay: &Relay<FileDisk>, lanes: &Lanes, task: &Task, lane: usize) -> Option<Aim>
+pub(crate) fn aim_of(
+    relay: &Relay<FileDisk>,
+    lanes: &Lanes,
+    task: &Task,
+    lane: usize,
+) -> Option<Aim>
     ensures { MatchOption result
         (place_of relay.now.node.config.routes.routes task.now.hop ≡ None)
         (λ aim. (aim.lane ≡ lane)
@@ -232,71 +234,8 @@ fn accepted_at(relay: &Relay<FileDisk>, message: u64) -> Option<Moment>
     }
 }
 
-/// Records that the next message of a lane whose place is left alone is lost, where it has been due for too long, and
-/// tells whether it was: else a message that is one of many would be given up, or be told of as delayed, days late.
-fn lose_overdue(
-    relay: &mut Relay<FileDisk>,
-    lanes: &mut Lanes,
-    lane: usize,
-    now: &Now,
-    log: &mut Log<'_, Vec<u8>>,
-) -> Result<bool, Fault>
-    ensures overdue { (task : Task) (rest : List Task) (place : SocketAddrV4)
-        → tasks_at lanes.old lane ≡ task ∷ rest → IsHeldAt now.now.tick lanes.old.paces lane
-        → is_overdue now.now.moment (message_of relay.old.node.records.queue.messages task.message) ≡ true
-        → ¬ IsFull relay.old.node.attempts
-        → place_of relay.old.node.config.routes.routes task.hop ≡ Some place
-        → IfOk result (λ lost. (lost ≡ true) × LosesTask now.now.moment task relay.old relay.new) }
-    ensures counts { KeepsCounts lanes.old lanes.new }
-    ensures config { relay.new.node.config ≡ relay.old.node.config }
-{
-    match lanes.held_message(lane, now) {
-        // Where 64 attempts run, none can be recorded now.
-        Some(message) if is_overdue(relay, message, now) && !relay.node().is_full_of_attempts() =>
-            {}
-        _ => return Ok(false),
-    }
-    let Some(task) = lanes.pop(lane) else {
-        return Ok(false);
-    };
-    let Some(aim) = aim_of(relay, lanes, &task, lane) else {
-        return Ok(false);
-    };
-    lose_held(relay, errand_of(task, aim), now, log)?;
-    Ok(true)
-}
-
-/// Whether a place of a message has been due for longer than it may without an attempt.
-fn is_overdue(relay: &Relay<FileDisk>, message: u64, now: &Now) -> bool
-    ensures { result ≡ is_overdue now.now.moment (message_of relay.now.node.records.queue.messages message) }
-{
-    match relay.node().message(message) {
-        Some(message) => has_late(message.places.as_slice(), now),
-        None => false,
-    }
-}
-
-/// Whether one of these places has been due for longer than it may.
-fn has_late(places: &[Place], now: &Now) -> bool
-    ensures { result ≡ list_any (is_late now.now.moment) places.now }
-{
-    for place in places {
-        if is_late(place, now) {
-            return true;
-        }
-    }
-    false
-}
-
-/// Whether a place is held, and has been due for longer than it may.
-fn is_late(place: &Place, now: &Now) -> bool
-    ensures { result ≡ is_late now.now.moment place.now }
-{
-    place.held && place.due.saturating_add(OVERDUE_SECONDS) < now.moment.seconds()
-}
-
 /// The errand of a task for which no connection was made.
-fn errand_of(task: Task, aim: Aim) -> Errand
+pub(crate) fn errand_of(task: Task, aim: Aim) -> Errand
     ensures { (result.aim ≡ aim) × (result.message ≡ task.message) × (result.name ≡ task.hop)
         × (result.attempt ≡ None) }
 {

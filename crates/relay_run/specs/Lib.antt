@@ -1,2 +1,3 @@
 pub mod Reopening
 pub mod Room
+pub mod Tidying

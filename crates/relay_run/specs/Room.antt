@@ -1,6 +1,8 @@
 -- Room on the disk of a spool, and what a relay that runs may begin by it.
 use Rattle.std.specs.Prelude.{◌≡◌, ℕ, ◌-◌, ◌^◌}
 use Rattle.relay_room.specs.Standing.{MayBegin, standing_at_test}
+use Rattle.relay_room.specs.declared.standing.Standing.{Standing}
+use Rattle.relay_room.specs.declared.standing.Standing.TheVariants.{Roomy, Short}
 use Rattle.relay_run.specs.declared.room.Room.{Room}
 
 -- how many octets a spool of so many has more than when the room was tested last
@@ -16,3 +18,9 @@ pub record MayStart (room : Room) (size : ℕ) : Type 0 where
 abbrev pub IsTested : Room → Room → Type 0
 IsTested old new =
     (room : ℕ) × (new.standing ≡ standing_at_test old.standing room old.size)
+
+-- the tick at which the room is looked at again: that of the next test while the relay is short of it, and else that at
+-- which the spool is opened under its configured limit
+abbrev pub next_look : Standing → Room → ℕ
+next_look Roomy room = room.renewal
+next_look (Short found need) room = room.next_test

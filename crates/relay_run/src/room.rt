@@ -51,7 +51,7 @@ impl Drop for Room {
 
 impl Room {
     ghost use Rattle.relay_room.specs.Standing.{standing_at_failure};
-    ghost use Rattle.relay_run.specs.Room.{IsTested, MayStart, grown_since};
+    ghost use Rattle.relay_run.specs.Room.{IsTested, MayStart, grown_since, next_look};
 
     /// The room beside the spool of this configuration, in the file with its name and `.room` behind that. Nothing was
     /// tested yet.
@@ -177,7 +177,8 @@ impl Room {
 
     /// The tick at which the room is looked at again, or the given one where that is earlier.
     pub(crate) fn next_deadline(&self, otherwise: u64) -> u64
-        ensures { result ≤ otherwise }
+        ensures otherwise { result ≤ otherwise }
+        ensures look { result ≤ next_look self.now.standing self.now }
     {
         match self.standing {
             Standing::Roomy => otherwise.min(self.renewal),

@@ -47,7 +47,8 @@ pub fn run<
         return Err(Fault::Socket);
     };
     let door = open_door(alloc, rt, poll.registry(), at, quiet, errors)?;
-    let shell = Shell::new(alloc, relay, door, spares, room, &limits)?;
+    let mut shell = Shell::new(alloc, relay, door, spares, room, &limits)?;
+    shell.next_hops.prepare(&shell.relay)?;
     let events = Events::with_capacity(alloc, EVENT_COUNT)?;
     say_ready(alloc, &shell.relay, at, writer)?;
     serve(alloc, rt, poll, events, shell, quiet, errors)

@@ -1,9 +1,10 @@
-ghost use Rattle.std.specs.Prelude.{◌≡◌, ◌≤◌, ◌-◌, ◌↔◌, ℕ, None, true, IfOk, IsErr, IsTrue};
+ghost use Rattle.std.specs.Prelude.{◌≡◌, ◌⊎◌, ◌≤◌, ◌-◌, ◌↔◌, ℕ, None, Some, true, IfErr, IfOk, IsErr, IsTrue, OnOk};
 ghost use Rattle.relay_connections.specs.Readiness.{IsLeftClient, clients_of};
 ghost use Rattle.relay_next_hops.specs.Lanes.{next_due_of};
 ghost use Rattle.relay_next_hops.specs.Readiness.{IsLeftHop, hops_of};
 ghost use Rattle.relay_run.specs.Reopening.{HasFailedToSync, IsWhole};
-ghost use Rattle.relay_run.specs.Room.{MayStart};
+ghost use Rattle.relay_run.specs.Room.{MayStart, next_look};
+ghost use Rattle.relay_run.specs.Tidying.{FailsToCompact, IsCompacted, compacted_size_of};
 ghost use Rattle.relay_run.specs.declared.shell.TheConstants.{LONGEST_WAIT};
 
 use crate::door::Door;
@@ -35,7 +36,7 @@ pub(crate) struct Shell {
     pub(crate) relay: Relay<FileDisk>,
     pub(crate) door: Door,
     clients: Clients,
-    next_hops: NextHops,
+    pub(crate) next_hops: NextHops,
     leaving: Leaving,
     spares: Spares,
     tidying: Tidying,
@@ -95,7 +96,7 @@ impl Shell {
     /// under its configured limit. All connections are closed but the listener, at which clients are told so meanwhile.
     /// A sync that has failed is a fault, and so is a spool that isn't the one from before.
     pub(crate) fn reopened<C: Clock, E: Write>(
-        self,
+        mut self,
         reporter: &mut Reporter<'_, C, E>,
         why: Why,
     ) -> Result<Self, Fault>
@@ -104,6 +105,8 @@ impl Shell {
             shell.relay.node.records.spool.size) }
         ensures tested { why ≡ Why.Failed → IfOk result (λ shell. MayStart shell.room self.known.size) }
     {
+        self.clients.clear();
+        self.leaving.clear();
         let Shell {
             relay,
             door,
@@ -117,11 +120,6 @@ impl Shell {
             known,
         } = self;
         let mut door = door;
-        let mut clients = clients;
-        clients.clear();
-        let next_hops = next_hops.renewed();
-        let mut leaving = leaving;
-        leaving.clear();
         let mut pauses = pauses;
         let mut room = room;
         let relay = reopen(
@@ -133,18 +131,17 @@ impl Shell {
             &mut room,
             &mut pauses,
         )?;
-        let known = Known::of(&relay);
         Ok(Shell {
+            known: Known::of(&relay),
             relay,
             door,
             clients,
-            next_hops,
+            next_hops: next_hops.renewed(),
             leaving,
             spares,
             tidying: Tidying::new(),
             pauses,
             room,
-            known,
         })
     }
 
@@ -160,11 +157,6 @@ impl Shell {
     /// Whether the spool is to be opened under its configured limit now.
     pub(crate) fn is_renewed(&self, now: &Now) -> bool {
         self.room.is_renewed(now)
-    }
-
-    /// Whether no attempt may begin for now.
-    pub(crate) fn is_held(&self) -> bool {
-        !self.may_start()
     }
 
     /// Whether attempts may begin.
@@ -226,11 +218,27 @@ impl Shell {
         self.begin(rt, registry, now, log)
     }
 
-    /// Writes the spool anew where that is due behind a turn, and there is room for it.
-    pub(crate) fn tidy(&mut self, now: &Now, log: &mut Log<'_, Vec<u8>>) -> Result<(), Fault> {
+    /// Writes the spool anew where that is due after a turn and worth it, and there is room for it. A fault comes of a
+    /// compaction alone, whose size is known then.
+    pub(crate) fn tidy(&mut self, now: &Now, log: &mut Log<'_, Vec<u8>>) -> Result<(), Fault>
+        ensures tidies { OnOk result ((self.new.relay ≡ self.old.relay)
+            ⊎ IsCompacted self.old.tidying.was_full self.old.relay self.new.relay) }
+        ensures failed { IfErr result (λ fault. (fault ≡ Fault.Device)
+            × FailsToCompact self.old.tidying.was_full self.old.relay self.new.relay
+            × (self.new.known.compacted ≡ Some (compacted_size_of self.old.relay))) }
+        ensures known { (self.new.known.next_number ≡ self.old.known.next_number)
+            × (self.new.known.size ≡ self.old.known.size) }
+        ensures rest { (self.new.clients ≡ self.old.clients) × (self.new.next_hops ≡ self.old.next_hops)
+            × (self.new.leaving ≡ self.old.leaving) × (self.new.door ≡ self.old.door) }
+    {
         if !self.tidying.may_be_due(now) {
             return Ok(());
         }
+        let is_quiet = !self.is_ready(now);
+        if !self.tidying.is_due(&self.relay, is_quiet, now) {
+            return Ok(());
+        }
+        // To ask for this takes a walk over all that is queued.
         let node = self.relay.node();
         let left = node.compacted_size();
         if !self.room.has_room_for(left, node.size()) {
@@ -238,8 +246,10 @@ impl Shell {
             return Ok(());
         }
         self.known = self.known.compacting(left);
-        let is_quiet = !self.is_ready(now);
-        if self.tidying.tidy(&mut self.relay, is_quiet, now, log)? {
+        if self
+            .tidying
+            .tidy(&mut self.relay, left, is_quiet, now, log)?
+        {
             self.room.note_compacted();
         }
         Ok(())
@@ -355,20 +365,23 @@ impl Shell {
         if self.clients.is_ready(&self.relay) {
             return true;
         }
-        if self.next_hops.is_ready(&self.relay) {
+        if self.next_hops.is_ready(&self.relay, self.may_start()) {
             return true;
         }
         self.door.is_ready(now) || self.leaving.is_ready()
     }
 
     /// How many milliseconds may be waited for the system to tell of something, a minute at most: none while a
-    /// connection was left in mid-read, and never past the tick at which the node has told that work may start.
+    /// connection was left in mid-read, and never past the tick at which the node has told that work may start, or
+    /// while no attempt may begin, past that at which the room is looked at.
     pub(crate) fn wait(&self, now: &Now) -> u64
         ensures client { (number : ℕ) → IsLeftClient (clients_of self.now.clients) self.now.relay number
             → result ≡ 0 }
         ensures hop { (number : ℕ) → IsLeftHop (hops_of self.now.next_hops) self.now.relay number
             → result ≡ 0 }
-        ensures due { result ≤ next_due_of self.now.next_hops - now.now.tick }
+        ensures due { MayStart self.now.room self.now.relay.node.records.spool.size
+            → result ≤ next_due_of self.now.next_hops - now.now.tick }
+        ensures look { result ≤ next_look self.now.room.standing self.now.room - now.now.tick }
         ensures longest { result ≤ LONGEST_WAIT }
     {
         if self.is_ready(now) {
@@ -380,7 +393,7 @@ impl Shell {
         next = self.leaving.next_deadline(next);
         next = self.tidying.next_deadline(next);
         next = self.room.next_deadline(next);
-        next = self.next_hops.next_deadline(next);
+        next = self.next_hops.next_deadline(self.may_start(), next);
         next.saturating_sub(now.tick)
     }
 }

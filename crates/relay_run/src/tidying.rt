@@ -1,6 +1,10 @@
 //! The spool is written anew where much of it has gone: in a quiet moment, or at once where it is more than half full,
 //! or was full.
-ghost use Rattle.std.specs.Prelude.{◌≤◌};
+ghost use Rattle.std.specs.Prelude.{◌≡◌, ◌≤◌, IfErr, List, MatchResult, None, Ok, false, true};
+ghost use Rattle.relay_disk.specs.File.{file_words};
+ghost use Rattle.relay_book.specs.declared.change.Change.{Change};
+ghost use Rattle.relay_records.specs.Records.{Compacts, Halted, Keeps};
+ghost use Rattle.relay_run.specs.Tidying.{FailsToCompact, IsCompacted, KeepsRest, compacted_size_of};
 
 use relay_connections::Now;
 use relay_disk::FileDisk;
@@ -65,7 +69,7 @@ impl Tidying {
 
     /// Whether the spool is to be looked at now: it was full, or something has left it, and nothing else is to be done
     /// or it is more than half full.
-    fn is_due(&self, relay: &Relay<FileDisk>, is_quiet: bool, now: &Now) -> bool {
+    pub(crate) fn is_due(&self, relay: &Relay<FileDisk>, is_quiet: bool, now: &Now) -> bool {
         let node = relay.node();
         self.may_be_due(now)
             && (self.was_full || is_quiet || node.config().spool_limit / 2 < node.size() as u64)
@@ -87,25 +91,32 @@ impl Tidying {
         }
     }
 
-    /// Compacts the spool where that is due and worth it, and costs others no more than they may wait for: it tells
-    /// whether it did. A spool without a second file, one that holds too much, and want of memory leave it as it is.
+    /// Compacts the spool, of which so many octets would be left, where that is worth it and costs others no more than
+    /// they may wait for, and returns whether it did. A spool without a second file, one that holds too much, and want
+    /// of memory leave it as it is. Then it isn't due again for a second.
     pub(crate) fn tidy(
         &mut self,
         relay: &mut Relay<FileDisk>,
+        left: usize,
         is_quiet: bool,
         now: &Now,
         log: &mut Log<'_, Vec<u8>>,
-    ) -> Result<bool, Fault> {
-        if !self.is_due(relay, is_quiet, now) {
-            return Ok(false);
-        }
+    ) -> Result<bool, Fault>
+        requires { left ≡ compacted_size_of relay.old }
+        ensures unchanged { result ≡ Ok false → relay.new ≡ relay.old }
+        ensures compacted { result ≡ Ok true → IsCompacted self.old.was_full relay.old relay.new }
+        ensures failed { IfErr result (λ fault. (fault ≡ Fault.Device)
+            × FailsToCompact self.old.was_full relay.old relay.new) }
+        ensures kept { (changes : List Change) → Keeps ⊥ file_words relay.old.node.records changes
+            → MatchResult result (λ _. Keeps ⊥ file_words relay.new.node.records changes)
+            (λ _. Halted ⊥ file_words relay.new.node.records changes None) }
+    {
         let was_full = self.was_full;
         self.has_shrunk = false;
         self.was_full = false;
         self.next = now.tick.saturating_add(PAUSE);
         let node = relay.node();
         let limit = node.config().spool_limit;
-        let left = node.compacted_size();
         if !is_worth_compacting(node.size(), left, limit, was_full) {
             return Ok(false);
         }
@@ -113,13 +124,26 @@ impl Tidying {
             self.has_shrunk = true;
             return Ok(false);
         }
-        match relay.compact() {
-            Ok((before, behind)) => {
-                log.compacted(before, behind);
-                Ok(true)
-            }
-            Err(NodeFault::Stopped) => Err(Fault::Device),
-            Err(_) => Ok(false),
+        compact(relay, log)
+    }
+}
+
+/// Compacts the spool of a relay, tells so, and returns whether it did.
+fn compact(relay: &mut Relay<FileDisk>, log: &mut Log<'_, Vec<u8>>) -> Result<bool, Fault>
+    ensures unchanged { result ≡ Ok false → relay.new ≡ relay.old }
+    ensures compacted { result ≡ Ok true → Compacts ⊥ file_words relay.old.node.records relay.new.node.records }
+    ensures failed { IfErr result (λ fault. fault ≡ Fault.Device) }
+    ensures rest { KeepsRest relay.old relay.new }
+    ensures kept { (changes : List Change) → Keeps ⊥ file_words relay.old.node.records changes
+        → MatchResult result (λ _. Keeps ⊥ file_words relay.new.node.records changes)
+        (λ _. Halted ⊥ file_words relay.new.node.records changes None) }
+{
+    match relay.compact() {
+        Ok((before, behind)) => {
+            log.compacted(before, behind);
+            Ok(true)
         }
+        Err(NodeFault::Stopped) => Err(Fault::Device),
+        Err(_) => Ok(false),
     }
 }

@@ -14,9 +14,6 @@ use std::net::Net;
 use std::rt::Clock;
 use std::time::Duration;
 
-/// How many milliseconds lie between two turns while no attempt may begin, although something is due.
-const HELD_PAUSE: u64 = 10;
-
 /// Serves without an end.
 pub(crate) fn serve<R: Clock + Net, E: Write>(
     alloc: Global,
@@ -48,9 +45,6 @@ fn wait<R: Clock>(rt: &R, poll: &mut Poll, events: &mut Events, shell: &mut Shel
     // A wait that fails tells of nothing, and the clocks go on.
     let _ = poll.poll(events, Some(wait));
     shell.note_events(events);
-    if shell.is_held() {
-        rt.sleep(Duration::from_millis(HELD_PAUSE));
-    }
 }
 
 /// The relay behind a turn that has come to this end: where its device has failed, or has room again, its spool is

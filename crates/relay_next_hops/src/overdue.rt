@@ -1,0 +1,160 @@
+//! Mail that is overdue at a place that is left alone: after four hours it counts as lost there without a connection.
+//! Else a message that is one of many would be given up, or be told of as delayed, days late. Each listing of what is
+//! due lets each task of such a place be checked once, whatever stands before it; a bounded number at a turn.
+ghost use Rattle.std.specs.Prelude.{◌≡◌, ◌⊎◌, ◌++◌, [], IfOk, IfSome, None, Ok, Some, drop, false};
+ghost use Rattle.std.specs.Prelude.{option_to_list, true};
+ghost use Rattle.std.specs.List.{list_any};
+ghost use Rattle.std.specs.declared.net.socket_addr.SocketAddrV4.{SocketAddrV4};
+ghost use Rattle.relay_book.specs.Queue.{message_of};
+ghost use Rattle.relay_routes.specs.Routes.{place_of};
+ghost use Rattle.relay_slots.specs.Slots.{IsFull};
+ghost use Rattle.relay_next_hops.specs.declared.lane.Task.{Task};
+ghost use Rattle.relay_next_hops.specs.Lanes.{KeepsCounts, first_message, tasks_at};
+ghost use Rattle.relay_next_hops.specs.Overdue.{Checks, LosesTask, TakesOut, checked_at, is_late, is_overdue};
+ghost use Rattle.relay_next_hops.specs.Overdue.{overdue_at, unchecked_at};
+ghost use Rattle.relay_next_hops.specs.Paces.{IsHeldAt};
+
+use crate::ending::lose_held;
+use crate::lane::Task;
+use crate::lanes::Lanes;
+use crate::starting::{aim_of, errand_of};
+use relay_book::Place;
+use relay_connections::Now;
+use relay_disk::FileDisk;
+use relay_files::Fault;
+use relay_log::Log;
+use relay_loop::Relay;
+
+/// How many seconds a message may be due at a place that is left alone, before it counts as lost without a connection.
+const OVERDUE_SECONDS: u64 = 4 * 60 * 60;
+
+/// Records that the first overdue message of a lane whose place is left alone is lost, among the next tasks that
+/// weren't checked yet, and returns whether it was. It checks no more than `checks`, and takes off what it has checked.
+pub(crate) fn lose_overdue(
+    relay: &mut Relay<FileDisk>,
+    lanes: &mut Lanes,
+    lane: usize,
+    checks: &mut usize,
+    now: &Now,
+    log: &mut Log<'_, Vec<u8>>,
+) -> Result<bool, Fault>
+    ensures overdue { (task : Task) (place : SocketAddrV4)
+        → overdue_at now.now.moment relay.old.node.records.queue.messages lanes.old lane checks.old ≡ Some task
+        → IsHeldAt now.now.tick lanes.old.paces lane → ¬ IsFull relay.old.node.attempts
+        → place_of relay.old.node.config.routes.routes task.hop ≡ Some place
+        → IfOk result (λ lost. (lost ≡ true) × LosesTask now.now.moment task relay.old relay.new) }
+    ensures timely { overdue_at now.now.moment relay.old.node.records.queue.messages lanes.old lane checks.old ≡ None
+        → IsHeldAt now.now.tick lanes.old.paces lane → ¬ IsFull relay.old.node.attempts
+        → (result ≡ Ok false) × Checks lane checks.old lanes.old lanes.new × (relay.new ≡ relay.old) }
+    ensures elsewhere { ¬ IsHeldAt now.now.tick lanes.old.paces lane
+        → (result ≡ Ok false) × (lanes.new ≡ lanes.old) × (relay.new ≡ relay.old) }
+    ensures counts { KeepsCounts lanes.old lanes.new }
+    ensures config { relay.new.node.config ≡ relay.old.node.config }
+{
+    // Where 64 attempts run, none can be recorded now.
+    if !lanes.is_held(lane, now) || relay.node().is_full_of_attempts() {
+        return Ok(false);
+    }
+    let Some(task) = next_overdue(relay, lanes, lane, checks, now) else {
+        return Ok(false);
+    };
+    let Some(aim) = aim_of(relay, lanes, &task, lane) else {
+        return Ok(false);
+    };
+    lose_held(relay, errand_of(task, aim), now, log)?;
+    Ok(true)
+}
+
+/// Takes the first overdue task of a lane, among the next that weren't checked yet. It checks no more than `checks`,
+/// and takes off what it has checked.
+fn next_overdue(
+    relay: &Relay<FileDisk>,
+    lanes: &mut Lanes,
+    lane: usize,
+    checks: &mut usize,
+    now: &Now,
+) -> Option<Task>
+    ensures first { result
+        ≡ overdue_at now.now.moment relay.now.node.records.queue.messages lanes.old lane checks.old }
+    ensures taken { IfSome result (λ task. TakesOut lane task lanes.old lanes.new) }
+    ensures none { result ≡ None → Checks lane checks.old lanes.old lanes.new }
+    ensures stops { result ≡ None → (checks.new ≡ 0) ⊎ (unchecked_at lanes.new lane ≡ []) }
+    ensures counts { KeepsCounts lanes.old lanes.new }
+{
+    while 0 < *checks {
+        let Some(message) = lanes.next_unchecked(lane) else {
+            return None;
+        };
+        *checks -= 1;
+        if is_overdue(relay, message, now) {
+            return lanes.take_unchecked(lane);
+        }
+        lanes.check(lane);
+    }
+    None
+}
+
+impl Lanes {
+    /// Returns the message of the first task of a lane that wasn't checked yet.
+    fn next_unchecked(&self, number: usize) -> Option<u64>
+        ensures { result ≡ first_message (unchecked_at self.now number) }
+    {
+        match self.lanes.get(number) {
+            Some(lane) => lane.next_unchecked(),
+            None => None,
+        }
+    }
+
+    /// The first task of a lane that wasn't checked yet is checked.
+    fn check(&mut self, number: usize)
+        ensures tasks { tasks_at self.new number ≡ tasks_at self.old number }
+        ensures unchecked { unchecked_at self.new number ≡ drop 1 (unchecked_at self.old number) }
+        ensures counts { KeepsCounts self.old self.new }
+    {
+        if let Some(lane) = self.lanes.get_mut(number) {
+            lane.check();
+        }
+    }
+
+    /// Takes the first task of a lane that wasn't checked yet.
+    fn take_unchecked(&mut self, number: usize) -> Option<Task>
+        ensures unchecked { unchecked_at self.old number ≡ option_to_list result ++ unchecked_at self.new number }
+        ensures checked { checked_at self.new number ≡ checked_at self.old number }
+        ensures none { result ≡ None → unchecked_at self.old number ≡ [] }
+        ensures counts { KeepsCounts self.old self.new }
+    {
+        match self.lanes.get_mut(number) {
+            Some(lane) => lane.take_unchecked(),
+            None => None,
+        }
+    }
+}
+
+/// Whether a place of a message has been due for longer than it may without an attempt.
+fn is_overdue(relay: &Relay<FileDisk>, message: u64, now: &Now) -> bool
+    ensures { result ≡ is_overdue now.now.moment (message_of relay.now.node.records.queue.messages message) }
+{
+    match relay.node().message(message) {
+        Some(message) => has_late(message.places.as_slice(), now),
+        None => false,
+    }
+}
+
+/// Whether one of these places has been due for longer than it may.
+fn has_late(places: &[Place], now: &Now) -> bool
+    ensures { result ≡ list_any (is_late now.now.moment) places.now }
+{
+    for place in places {
+        if is_late(place, now) {
+            return true;
+        }
+    }
+    false
+}
+
+/// Whether a place is held, and has been due for longer than it may.
+fn is_late(place: &Place, now: &Now) -> bool
+    ensures { result ≡ is_late now.now.moment place.now }
+{
+    place.held && place.due.saturating_add(OVERDUE_SECONDS) < now.moment.seconds()
+}

@@ -1,0 +1,38 @@
+-- The spool of a relay is written anew while it serves: where that is worth it, and nothing but its files changes.
+use Rattle.std.specs.Prelude.{◌≡◌, ◌+◌, ◌-◌, ◌^◌, ℕ, min, Bool, length}
+use Rattle.relay_disk.specs.File.{file_words}
+use Rattle.relay_disk.specs.declared.file.FileDisk.{FileDisk}
+use Rattle.relay_book.specs.Snapshot.{snapshot}
+use Rattle.relay_records.specs.Records.{Compacts}
+use Rattle.relay_limits.specs.Compacting.{IsWorthIt}
+use Rattle.relay_loop.specs.Relay.{RelayState}
+
+-- how many octets the spool has once it is written anew, of which 2^64 - 1 stand for as many and more
+abbrev pub compacted_size_of : RelayState FileDisk → ℕ
+compacted_size_of relay = min (23 + length (snapshot relay.node.records.queue)) (2 ^ 64 - 1)
+
+-- it is worth it to write the spool anew, where mail was refused because it was full, or wasn't
+abbrev pub MayShrink : Bool → RelayState FileDisk → Type 0
+MayShrink was_full relay =
+    IsWorthIt relay.node.records.spool.size (compacted_size_of relay) relay.node.config.spool_limit was_full
+
+-- the queue, the note, the configuration, the sessions, the attempts and all connections are the same
+pub record KeepsRest (old new : RelayState FileDisk) : Type 0 where
+  pub queue : new.node.records.queue ≡ old.node.records.queue
+  pub noted : new.node.records.noted ≡ old.node.records.noted
+  pub config : new.node.config ≡ old.node.config
+  pub seats : new.node.seats ≡ old.node.seats
+  pub attempts : new.node.attempts ≡ old.node.attempts
+  pub clients : new.clients ≡ old.clients
+  pub hops : new.hops ≡ old.hops
+
+-- the spool was written anew, which was worth it, and nothing else changes
+pub record IsCompacted (was_full : Bool) (old new : RelayState FileDisk) : Type 0 where
+  pub worth : MayShrink was_full old
+  pub compacts : Compacts ⊥ file_words old.node.records new.node.records
+  pub rest : KeepsRest old new
+
+-- it was to be written anew, which was worth it, and failed; nothing else changes
+pub record FailsToCompact (was_full : Bool) (old new : RelayState FileDisk) : Type 0 where
+  pub worth : MayShrink was_full old
+  pub rest : KeepsRest old new
