@@ -2,4 +2,5 @@ mod PlaceLemmas
 mod PaceLemmas
 mod SlotLemmas
 mod HearingLemmas
+mod OrderLemmas
 mod ListingLemmas
