@@ -5,7 +5,7 @@ use Rattle.std.proofs.lemmas.Bool.Decides.{eqb_tells}
 use Rattle.relay_limits.specs.declared.pace.Pace.{Pace}
 use Rattle.relay_routes.specs.Routes.{Route, place_of}
 use Rattle.relay_slots.specs.Slots.{AreFree, OthersStay, slot_at}
-use Rattle.relay_connections.specs.Table.{count_of_such, is_such}
+use Rattle.relay_connections.specs.Table.{count_of, count_of_such, is_such}
 use Rattle.relay_next_hops.specs.Counts.{CountsMatch, CountsMatchWith, is_in}
 use Rattle.relay_next_hops.specs.Errands.{AreAimed, IsAimed, KeepsErrand, left_of}
 use Rattle.relay_next_hops.specs.Paces.{RunAsBefore, RunsOneLess, RunsOneMore, running_at}
@@ -96,15 +96,42 @@ count_within such (slot ∷ slots) = by (is_such such slot) (count_within such s
   by true rest = omega (arith, rest)
   by false rest = omega (arith, rest)
 
+-- there are no more such than all
+count_fewer : {A : Type 0} (such : A → Bool) (slots : List (Option A)) → count_of_such such slots ≤ count_of slots
+count_fewer such [] = omega arith
+count_fewer such (slot ∷ slots) = by slot (count_fewer such slots) where
+  by : (slot : Option _) → count_of_such such slots ≤ count_of slots → count_of_such such (slot ∷ slots) ≤ count_of (slot ∷ slots)
+  by None rest = omega (arith, rest)
+  by (Some value) rest = by_such (such value) where
+    by_such : (is : Bool) → (if is then 1 else 0) + count_of_such such slots ≤ 1 + count_of slots
+    by_such true = omega (arith, rest)
+    by_such false = omega (arith, rest)
+
+-- slots that hold the same hold as many
+same_count : {A : Type 0} (one other : List (Option A)) → ((number : ℕ) → slot_at one number ≡ slot_at other number) → count_of one ≡ count_of other
+same_count [] [] same = refl
+same_count [] (None ∷ other) same = omega (arith, same_count [] other (λ number. same (suc number)))
+same_count [] (Some value ∷ other) same = absurd (cc (same zero))
+same_count (None ∷ one) [] same = omega (arith, same_count one [] (λ number. same (suc number)))
+same_count (Some value ∷ one) [] same = absurd (cc (same zero))
+same_count (None ∷ one) (None ∷ other) same = omega (arith, same_count one other (λ number. same (suc number)))
+same_count (None ∷ one) (Some value ∷ other) same = absurd (cc (same zero))
+same_count (Some value ∷ one) (None ∷ other) same = absurd (cc (same zero))
+same_count (Some value ∷ one) (Some value_2 ∷ other) same = omega (arith, same_count one other (λ number. same (suc number)))
+
+-- there are as many as stand, and so at most as many as there are slots up to the last of these
+pub few_stand : {A : Type 0} (slots standing : List (Option A)) → ((number : ℕ) → slot_at standing number ≡ slot_at slots number) → length standing ≤ 64 → count_of slots ≤ 64
+few_stand slots standing same within = omega (arith, within, same_count standing slots same, count_within (λ value. true) standing)
+
 -- where one was put, one more of its lane runs
-pub counts_begun : (hop : Hop) (hops : List (Option Hop)) (old new : List Pace) → length hops ≤ 64 → RunsOneMore hop.aim.lane old new → CountsMatch hops old → CountsMatchWith hop hops new
+pub counts_begun : (hop : Hop) (hops : List (Option Hop)) (old new : List Pace) → count_of hops ≤ 64 → RunsOneMore hop.aim.lane old new → CountsMatch hops old → CountsMatchWith hop hops new
 counts_begun hop hops old new within more match_is lane = by (eqb_tells hop.aim.lane lane) where
   by : ((eqb hop.aim.lane lane ≡ true) × (hop.aim.lane ≡ lane)) ⊎ ((eqb hop.aim.lane lane ≡ false) × (hop.aim.lane ≢ lane)) → running_at new lane ≡ one (is_in lane) (Some hop) + count_of_such (is_in lane) hops
   by (inl own) =
       let more_is : running_at new lane ≡ min (running_at old lane + 1) (2 ^ 64 - 1) = subst (λ (lane : ℕ). running_at new lane ≡ min (running_at old lane + 1) (2 ^ 64 - 1)) own.1 more.own in
       let is : one (is_in lane) (Some hop) ≡ 1 = ap (λ (is : Bool). if is then 1 else 0) own.0 in
       let counted : running_at old lane ≡ count_of_such (is_in lane) hops = match_is lane in
-      omega (arith, more_is, is, counted, within, count_within (is_in lane) hops)
+      omega (arith, more_is, is, counted, within, count_fewer (is_in lane) hops)
   by (inr apart) =
       let same : running_at new lane ≡ running_at old lane = more.others lane (λ same. apart.1 (sym same)) in
       let is : one (is_in lane) (Some hop) ≡ 0 = ap (λ (is : Bool). if is then 1 else 0) apart.0 in

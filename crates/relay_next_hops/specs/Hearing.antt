@@ -1,7 +1,7 @@
 -- What the attempts hear at a turn: each the octets that were read of its own next hop's connection, and none of them
 -- twice.
-use Rattle.std.specs.Prelude.{◌≡◌, ◌≢◌, ◌⊎◌, ℕ, ◌%◌, List, [], ◌∷◌, Option, None, Some, Result, Ok, Err}
-use Rattle.std.specs.Prelude.{drop, if◌then◌else◌, option_and_then, option_map}
+use Rattle.std.specs.Prelude.{◌≡◌, ◌≢◌, ◌⊎◌, ℕ, ◌%◌, ◌≤◌, List, [], ◌∷◌, Option, None, Some, Result, Ok, Err}
+use Rattle.std.specs.Prelude.{MatchOption, drop, if◌then◌else◌, min, option_and_then, option_map}
 use Rattle.std.specs.List.{filter_map}
 use Rattle.relay_slots.specs.Slots.{OthersStay, slot_at}
 use Rattle.relay_records.specs.declared.fault.NodeFault.{NodeFault}
@@ -9,7 +9,11 @@ use Rattle.relay_loop.specs.declared.hops.Answered.{Answered}
 use Rattle.relay_loop.specs.declared.replying.ReplyPiece.{ReplyPiece}
 use Rattle.relay_connections.specs.Channel.{unread_of}
 use Rattle.relay_connections.specs.Hearing.{turned}
+use Rattle.relay_log.specs.declared.hop_link.Loss.TheVariants.{Silent}
+use Rattle.relay_records.specs.declared.noted.Noted.{Noted}
 use Rattle.relay_next_hops.specs.Errands.{KeepsErrand}
+use Rattle.relay_next_hops.specs.declared.errand.Course.{Course}
+use Rattle.relay_next_hops.specs.declared.errand.Course.TheVariants.{Stays, Ended, Lost, Void}
 use Rattle.relay_next_hops.specs.declared.hop.Hop.{Hop}
 use Rattle.relay_next_hops.specs.declared.hops.Hops.{Hops}
 
@@ -34,7 +38,7 @@ abbrev pub reply_at : List (Option Hop) → ℕ → Option (ℕ × List ℕ)
 reply_at hops number = reply_of (slot_at hops number)
 
 -- the numbers of all connections, in the order in which they are served: from the first on, and 0 after the last
-abbrev pub order_of : Hops → List ℕ
+unfoldable pub order_of : Hops → List ℕ
 order_of hops = turned 64 (hops.first % 64) 64
 
 -- what all attempts have to hear, in that order
@@ -49,43 +53,74 @@ abbrev pub WasLeft : Result Answered NodeFault → Type 0
 WasLeft (Ok answered) = IsLeft answered
 WasLeft (Err fault) = ⊥
 
--- A connection of which octets were used is gone, or stays for its errand without these: where its attempt has ended it
--- is gone. Where none was used, its attempt may hear them alone, and then some of them are used.
-abbrev pub UsesOwn : Answered → Hop → Hop → Type 0
-UsesOwn answered old new =
-    (answered.last ≡ None)
-    × ((unread_of new.channel ≡ drop answered.used (unread_of old.channel))
-    ⊎ (IsLeft answered × (used : ℕ) × (unread_of new.channel ≡ drop used (unread_of old.channel))))
+-- the next hop of a connection has taken too long at this tick
+abbrev pub IsLate : ℕ → Hop → Type 0
+IsLate tick hop = min hop.idle_deadline hop.answer_deadline ≤ tick
 
--- what became of a connection by an answer to its attempt; where that is a fault, the connection is gone
-abbrev pub IsAnswered : Result Answered NodeFault → Option Hop → Option Hop → Type 0
-IsAnswered answer old None = Unit {0}
-IsAnswered answer None (Some new) = ⊥
-IsAnswered (Err fault) (Some old) (Some new) = ⊥
-IsAnswered (Ok answered) (Some old) (Some new) = UsesOwn answered old new × KeepsErrand old new
+-- What becomes of a connection by what came of octets that its attempt has heard: at a fault the attempt is gone; where
+-- it has ended these are its last octets; and otherwise it goes on without the octets that were used, unless its next
+-- hop has taken too long.
+abbrev pub IsCourse : ℕ → Result Answered NodeFault → Hop → Hop → Course → Type 0
+IsCourse tick (Err fault) old new course = course ≡ Void
+IsCourse tick (Ok answered) old new course =
+    MatchOption answered.last
+    ((unread_of new.channel ≡ drop answered.used (unread_of old.channel))
+    × ((course ≡ Stays) ⊎ ((course ≡ Lost Silent) × IsLate tick new)))
+    (λ outbox. (noted : Option Noted) × (course ≡ Ended outbox noted))
 
--- the connection of this number was answered so, and no other changes
-pub record AnswersOne (number : ℕ) (answer : Result Answered NodeFault) (old new : List (Option Hop)) : Type 0 where
-  pub own : IsAnswered answer (slot_at old number) (slot_at new number)
-  pub others : OthersStay old new number
+-- A connection stays for its errand without the octets that were used. Where none was used, its attempt may hear them
+-- alone, and then some of them are used.
+pub record UsesOwn (answered : Answered) (old new : Hop) : Type 0 where
+  pub goes_on : answered.last ≡ None
+  pub unread : (unread_of new.channel ≡ drop answered.used (unread_of old.channel))
+      ⊎ (IsLeft answered × (used : ℕ) × (unread_of new.channel ≡ drop used (unread_of old.channel)))
+  pub errand : KeepsErrand old new
 
--- the next of these answers goes to the connection of this number, and the others go on from there
-pub record HearsNext (GoesOn : List (Result Answered NodeFault) → List (Option Hop) → Type 0) (number : ℕ)
-    (answers : List (Result Answered NodeFault)) (old : List (Option Hop))
-    : Type 0 where
-  pub answer : Result Answered NodeFault
-  pub rest : List (Result Answered NodeFault)
-  pub answers_are : answers ≡ answer ∷ rest
-  pub between : List (Option Hop)
-  pub one : AnswersOne number answer old between
-  pub goes_on : GoesOn rest between
+-- The words below are of a tick.
+module _ (tick : ℕ) where
+  -- it went on so, and then its next hop had taken too long
+  pub record WentLate (answered : Answered) (old : Hop) : Type 0 where
+    pub new : Hop
+    pub uses : UsesOwn answered old new
+    pub late : IsLate tick new
 
--- Of these connections, in this order, each that has something to hear is answered by the next of these answers, as far
--- as there are any.
-abbrev pub AnswersEach
-    : List ℕ → List (Result Answered NodeFault) → List (Option Hop) → List (Option Hop) → Type 0
-AnswersEach [] answers old new = new ≡ old
-AnswersEach (number ∷ order) answers old new =
-    ((hearing_at old number ≡ None) × AnswersEach order answers old new)
-    ⊎ ((hearing_at old number ≢ None) × (answers ≡ []) × (new ≡ old))
-    ⊎ ((hearing_at old number ≢ None) × HearsNext (λ rest between. AnswersEach order rest between new) number answers old)
+  -- A connection is gone: its attempt has ended, or its next hop has taken too long. Where none of its octets was used,
+  -- its attempt has heard them alone.
+  abbrev pub IsGone : Answered → Hop → Type 0
+  IsGone answered old = (answered.last ≢ None) ⊎ IsLeft answered ⊎ WentLate answered old
+
+  -- what became of a connection by an answer to its attempt; where that is a fault, the connection is gone
+  abbrev pub IsAnswered : Result Answered NodeFault → Option Hop → Option Hop → Type 0
+  IsAnswered answer None None = Unit {0}
+  IsAnswered answer None (Some new) = ⊥
+  IsAnswered (Err fault) (Some old) None = Unit {0}
+  IsAnswered (Err fault) (Some old) (Some new) = ⊥
+  IsAnswered (Ok answered) (Some old) None = IsGone answered old
+  IsAnswered (Ok answered) (Some old) (Some new) = UsesOwn answered old new
+
+  -- the connection of this number was answered so, and no other changes
+  pub record AnswersOne (number : ℕ) (answer : Result Answered NodeFault) (old new : List (Option Hop)) : Type 0 where
+    pub own : IsAnswered answer (slot_at old number) (slot_at new number)
+    pub others : OthersStay old new number
+
+  -- the next of these answers goes to the connection of this number, and the others go on from there
+  pub record HearsNext (GoesOn : List (Result Answered NodeFault) → List (Option Hop) → Type 0) (number : ℕ)
+      (answers : List (Result Answered NodeFault)) (old : List (Option Hop))
+      : Type 0 where
+    pub answer : Result Answered NodeFault
+    pub rest : List (Result Answered NodeFault)
+    pub answers_are : answers ≡ answer ∷ rest
+    pub between : List (Option Hop)
+    pub one : AnswersOne number answer old between
+    pub goes_on : GoesOn rest between
+
+  -- Of these connections, in this order, each that has something to hear is answered by the next of these answers, as
+  -- far as there are any.
+  abbrev pub AnswersEach
+      : List ℕ → List (Result Answered NodeFault) → List (Option Hop) → List (Option Hop) → Type 0
+  AnswersEach [] answers old new = new ≡ old
+  AnswersEach (number ∷ order) answers old new =
+      ((hearing_at old number ≡ None) × AnswersEach order answers old new)
+      ⊎ ((hearing_at old number ≢ None) × (answers ≡ []) × (new ≡ old))
+      ⊎ ((hearing_at old number ≢ None)
+      × HearsNext (λ rest between. AnswersEach order rest between new) number answers old)

@@ -1,8 +1,11 @@
 -- What is due at the next hops, by lanes: the place of each, how many of its attempts run, and its tasks.
-use Rattle.std.specs.Prelude.{◌≡◌, ◌⊎◌, ◌==◌, ℕ, true, List, [], ◌∷◌, Option, None, Some, slice_get, option_map, Contains}
+use Rattle.std.specs.Prelude.{◌≡◌, ◌⊎◌, ◌==◌, ◌<◌, ◌≤◌, ℕ, true, List, [], ◌∷◌, Option, None, Some, Contains}
+use Rattle.std.specs.Prelude.{option_map, slice_get}
 use Rattle.std.specs.List.{list_any}
 use Rattle.std.specs.Option.{option_map_or}
 use Rattle.std.specs.declared.net.socket_addr.SocketAddrV4.{SocketAddrV4}
+use Rattle.relay_attempts.specs.Hops.{is_stranded_at}
+use Rattle.relay_node.specs.Node.{NodeState}
 use Rattle.relay_next_hops.specs.declared.lane.Task.{Task}
 use Rattle.relay_next_hops.specs.declared.lanes.Lanes.{Lanes}
 use Rattle.relay_next_hops.specs.declared.next_hops.NextHops.{NextHops}
@@ -50,12 +53,17 @@ pub record ListsMore (old new : Lanes) : Type 0 where
 abbrev pub IsListedUnroutable : ℕ → Lanes → Type 0
 IsListedUnroutable message lanes = Contains lanes.unroutable.items message ⊎ (lanes.is_stale ≡ true)
 
+-- each message from one number on, and before another, that has a held place without a hop, is listed so
+abbrev pub AreListedFrom : {D : Type 0} → NodeState D → ℕ → ℕ → Lanes → Type 0
+AreListedFrom node first next lanes = (number : ℕ) → first ≤ number → number < next
+    → is_stranded_at node.config.routes node.records.queue.messages number ≡ true → IsListedUnroutable number lanes
+
 -- each message that waits to be given up still does, or all that is due is to be listed anew
 abbrev pub KeepsListed : Lanes → Lanes → Type 0
 KeepsListed old new = (message : ℕ) → IsListedUnroutable message old → IsListedUnroutable message new
 
--- The task is the first of its lane again. Where it isn't, its message is listed anyway, or all that is due is, or there
--- is no such lane.
+-- The task is the first of its lane again. Where it isn't, its message is listed anyway, or all that is due is, or
+-- there is no such lane.
 abbrev pub IsPutBack : ℕ → Task → Lanes → Lanes → Type 0
 IsPutBack lane task old new =
     (tasks_at new lane ≡ task ∷ tasks_at old lane)

@@ -1,5 +1,6 @@
 -- The paces of lanes by number, and how many attempts of each run.
-use Rattle.std.specs.Prelude.{◌≡◌, ◌≢◌, ℕ, ◌+◌, ◌-◌, ◌^◌, min, max, List, Option, None, Some, MatchOption, option_map, slice_get, slice_set}
+use Rattle.std.specs.Prelude.{◌≡◌, ◌≢◌, ℕ, ◌+◌, ◌-◌, ◌^◌, min, max, List, Option, None, Some, MatchOption}
+use Rattle.std.specs.Prelude.{option_map, slice_get, slice_set}
 use Rattle.std.specs.Option.{option_map_or}
 use Rattle.relay_limits.specs.declared.pace.Pace.{Pace}
 use Rattle.relay_limits.specs.Pace.{IsHeld, MayBegin, standing, with_limit, with_running}

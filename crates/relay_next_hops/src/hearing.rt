@@ -1,10 +1,10 @@
 //! What attempts hear at a turn: each the octets that were read of its own next hop.
-ghost use Rattle.std.specs.Prelude.{◌≡◌, ◌↔◌, ◌<◌, ◌%◌, IfOk, IsTrue, List, OnOk, map, option_map};
+ghost use Rattle.std.specs.Prelude.{◌≡◌, ◌↔◌, ◌<◌, ◌≤◌, ◌%◌, IfOk, IfSome, IsTrue, List, OnOk, map, option_map};
 ghost use Rattle.relay_routes.specs.Routes.{Route};
 ghost use Rattle.relay_next_hops.specs.Counts.{CountsMatch};
 ghost use Rattle.relay_next_hops.specs.Errands.{AreAimed};
-ghost use Rattle.relay_next_hops.specs.Hearing.{hearing_at, replies_of, reply_at};
-ghost use Rattle.relay_next_hops.specs.Hearing.{WasLeft, told_of};
+ghost use Rattle.relay_next_hops.specs.Hearing.{AnswersEach, AnswersOne, WasLeft, hearing_at, order_of, replies_of};
+ghost use Rattle.relay_next_hops.specs.Hearing.{reply_at, told_of};
 
 use crate::ending::conclude;
 use crate::errand::Course;
@@ -25,12 +25,14 @@ use std::alloc::AllocError;
 const MOST_ALONE: usize = 4;
 
 impl Hops {
-    /// The number of the connection that is served first.
-    fn first_number(&self) -> usize
-        ensures first { result ≡ self.now.first % 64 }
-        ensures within { result < 64 }
+    /// Returns the number of the connection that is served first, of the first so many: 0 where none of these comes
+    /// after those that were served last.
+    fn first_of(&self, count: usize) -> usize
+        ensures first { self.now.first % 64 < count → result ≡ self.now.first % 64 }
+        ensures over { count ≤ self.now.first % 64 → result ≡ 0 }
     {
-        self.first % SLOT_COUNT
+        let first = self.first % SLOT_COUNT;
+        if first < count { first } else { 0 }
     }
 
     /// Returns what was read of each of them whose attempt may hear it, the first of them first. It fails if memory
@@ -39,9 +41,10 @@ impl Hops {
         ensures { IfOk result (λ replies. map told_of replies.items ≡ replies_of self.now) }
     {
         let mut replies = Vec::new(self.alloc);
-        let first = self.first_number();
-        for step in 0..SLOT_COUNT {
-            if let Some(reply) = self.reply_at((first + step) % SLOT_COUNT) {
+        let count = self.hops.standing().len();
+        let first = self.first_of(count);
+        for step in 0..count {
+            if let Some(reply) = self.reply_at((first + step) % count) {
                 replies.push(reply)?;
             }
         }
@@ -73,6 +76,8 @@ impl Hops {
         now: &Now,
         log: &mut Log<'_, Vec<u8>>,
     ) -> Result<bool, Fault>
+        ensures heard { IfSome replied (λ replied. OnOk result
+            (AnswersEach now.now.tick (order_of self.old) replied.answered.items self.old.hops self.new.hops)) }
         ensures counts { CountsMatch self.old.hops lanes.old.paces
             → OnOk result (CountsMatch self.new.hops lanes.new.paces) }
         ensures aimed { (routes : List Route) → AreAimed routes self.old.hops → AreAimed routes self.new.hops }
@@ -86,9 +91,10 @@ impl Hops {
         let mut answers = answered.into_iter();
         let mut alone = MOST_ALONE;
         let mut closed = false;
-        let first = self.first_number();
-        for step in 0..SLOT_COUNT {
-            let number = (first + step) % SLOT_COUNT;
+        let count = self.hops.standing().len();
+        let first = self.first_of(count);
+        for step in 0..count {
+            let number = (first + step) % count;
             let Some(attempt) = self.hearing_at(number) else {
                 continue;
             };
@@ -134,6 +140,7 @@ impl Hops {
         now: &Now,
         log: &mut Log<'_, Vec<u8>>,
     ) -> Result<bool, Fault>
+        ensures heard { OnOk result (AnswersOne now.now.tick number answer self.old.hops self.new.hops) }
         ensures first { self.new.first ≡ self.old.first }
         ensures counts { CountsMatch self.old.hops lanes.old.paces
             → OnOk result (CountsMatch self.new.hops lanes.new.paces) }
@@ -177,9 +184,10 @@ impl Hops {
 
     /// The number of the first connection whose attempt may hear something.
     fn first_hearing(&self) -> Option<usize> {
-        let first = self.first_number();
-        for step in 0..SLOT_COUNT {
-            let number = (first + step) % SLOT_COUNT;
+        let count = self.hops.standing().len();
+        let first = self.first_of(count);
+        for step in 0..count {
+            let number = (first + step) % count;
             if self.hearing_at(number).is_some() {
                 return Some(number);
             }

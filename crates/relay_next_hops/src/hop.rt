@@ -1,19 +1,18 @@
 //! The connection to a next hop, and what is done with it at a turn.
-ghost use Rattle.std.specs.Prelude.{◌≡◌, ◌≢◌, ℕ, [], IfOk, IsOk, None, Ok, Some, drop, false, true};
+ghost use Rattle.std.specs.Prelude.{◌≡◌, ◌≢◌, ◌⊎◌, ℕ, [], None, Some, false, min, true};
 ghost use Rattle.relay_loop.specs.Outboxes.{unwritten_at};
 ghost use Rattle.relay_connections.specs.Channel.{unread_of};
 ghost use Rattle.relay_next_hops.specs.Errands.{KeepsErrand, StartsFor};
-ghost use Rattle.relay_next_hops.specs.Hearing.{IsAnswered, hearing_of};
+ghost use Rattle.relay_next_hops.specs.Hearing.{IsLate, hearing_of};
 
 use crate::errand::{Aim, Course, Errand};
-use crate::hearing::{has_ended, was_left};
 use crate::phase::Phase;
 use relay_connections::{Channel, End, Now};
 use relay_disk::FileDisk;
 use relay_files::Fault;
 use relay_log::{Loss, Replies};
-use relay_loop::{Answered, Relay};
-use relay_node::{NodeFault, Noted};
+use relay_loop::Relay;
+use relay_node::NodeFault;
 use relay_routes::HostName;
 use std::alloc::Global;
 
@@ -35,11 +34,11 @@ pub(crate) struct Hop {
     /// The first octet of its greeting, where that was read: the class of its reply (RFC 5321, 4.2.1).
     greeting: Option<u8>,
     /// Octets were read that its attempt hasn't heard yet, and may hear.
-    hears: bool,
+    pub(crate) hears: bool,
     /// What it puts off, for the log.
     pub(crate) replies: Replies,
     /// What it is waited for.
-    phase: Phase,
+    pub(crate) phase: Phase,
     /// The tick at which it is lost, unless an octet is read or written before.
     idle_deadline: u64,
     /// The tick at which it is lost, unless an octet is written before.
@@ -135,7 +134,9 @@ impl Hop {
     }
 
     /// The tick at which it is lost as things stand.
-    pub(crate) fn deadline(&self) -> u64 {
+    pub(crate) fn deadline(&self) -> u64
+        ensures { result ≡ min self.now.idle_deadline self.now.answer_deadline }
+    {
         self.idle_deadline.min(self.answer_deadline)
     }
 
@@ -187,7 +188,11 @@ impl Hop {
     }
 
     /// What becomes of it, where it has taken so long by now.
-    fn unless_late(&self, course: Course, now: &Now) -> Course {
+    pub(crate) fn unless_late(&self, course: Course, now: &Now) -> Course
+        ensures stays { course ≡ Course.Stays
+            → (result ≡ Course.Stays) ⊎ ((result ≡ Course.Lost Loss.Silent) × IsLate now.now.tick self.now) }
+        ensures other { course ≢ Course.Stays → result ≡ course }
+    {
         match course {
             Course::Stays if self.deadline() <= now.tick => Course::Lost(Loss::Silent),
             course => course,
@@ -301,88 +306,8 @@ impl Hop {
         }
     }
 
-    /// Takes what came of the octets that its attempt has heard, or lets it hear them alone where they were left unread.
-    pub(crate) fn take_answer(
-        &mut self,
-        relay: &mut Relay<FileDisk>,
-        attempt: usize,
-        answer: Result<Answered, NodeFault>,
-        noted: Option<Noted>,
-        now: &Now,
-    ) -> Result<Course, Fault>
-        ensures errand { KeepsErrand self.old self.new }
-        ensures uses { result ≡ Ok Course.Stays → IsAnswered answer (Some self.old) (Some self.new) }
-    {
-        if was_left(&answer) {
-            self.hear_alone(relay, attempt, now)
-        } else {
-            Ok(self.answer(relay, attempt, answer, noted, now))
-        }
-    }
-
-    /// Takes what came of the octets that its attempt has heard, and writes what they lead to at once as far as that
-    /// goes. Where they end the attempt, the note is that of its outcome.
-    fn answer(
-        &mut self,
-        relay: &mut Relay<FileDisk>,
-        attempt: usize,
-        answered: Result<Answered, NodeFault>,
-        noted: Option<Noted>,
-        now: &Now,
-    ) -> Course
-        ensures errand { KeepsErrand self.old self.new }
-        ensures attempt { self.new.attempt ≡ self.old.attempt }
-        ensures hears { self.new.hears ≡ false }
-        ensures used { result ≡ Course.Stays → IfOk answered (λ answered. (answered.last ≡ None)
-            × (unread_of self.new.channel ≡ drop answered.used (unread_of self.old.channel))) }
-        ensures fault { result ≡ Course.Stays → IsOk answered }
-    {
-        self.hears = false;
-        // At a fault the attempt is gone, and its message stays due.
-        let Ok(answered) = answered else {
-            return Course::Void;
-        };
-        let Answered {
-            used,
-            change: _,
-            last,
-        } = answered;
-        self.channel.used(used);
-        if let Some(outbox) = last {
-            return Course::Ended(outbox, noted);
-        }
-        self.phase = self.phase.behind(relay.to_hop(attempt));
-        self.wait_on(relay, attempt, now);
-        self.flush(relay, attempt, now);
-        self.unless_late(Course::Stays, now)
-    }
-
-    /// Lets its attempt hear what was read by a call of its own.
-    fn hear_alone(
-        &mut self,
-        relay: &mut Relay<FileDisk>,
-        attempt: usize,
-        now: &Now,
-    ) -> Result<Course, Fault>
-        ensures errand { KeepsErrand self.old self.new }
-        ensures attempt { self.new.attempt ≡ self.old.attempt }
-        ensures used { result ≡ Ok Course.Stays → (used : ℕ)
-            × (unread_of self.new.channel ≡ drop used (unread_of self.old.channel)) }
-    {
-        let answered = relay.reply(attempt, self.channel.piece(), now.moment);
-        if answered.as_ref().err() == Some(&NodeFault::Stopped) {
-            return Err(Fault::Device);
-        }
-        let noted = if has_ended(&answered) {
-            relay.take_noted()
-        } else {
-            None
-        };
-        Ok(self.answer(relay, attempt, answered, noted, now))
-    }
-
     /// It has as long from now on as what it is waited for may take.
-    fn wait_on(&mut self, relay: &Relay<FileDisk>, attempt: usize, now: &Now)
+    pub(crate) fn wait_on(&mut self, relay: &Relay<FileDisk>, attempt: usize, now: &Now)
         ensures errand { KeepsErrand self.old self.new }
         ensures attempt { self.new.attempt ≡ self.old.attempt }
         ensures channel { (self.new.channel ≡ self.old.channel) × (self.new.hears ≡ self.old.hears) }
@@ -392,7 +317,7 @@ impl Hop {
     }
 
     /// Writes what waits for the next hop as far as that goes at once.
-    fn flush(&mut self, relay: &mut Relay<FileDisk>, attempt: usize, now: &Now)
+    pub(crate) fn flush(&mut self, relay: &mut Relay<FileDisk>, attempt: usize, now: &Now)
         ensures errand { KeepsErrand self.old self.new }
         ensures attempt { self.new.attempt ≡ self.old.attempt }
         ensures unread { unread_of self.new.channel ≡ unread_of self.old.channel }

@@ -1,6 +1,7 @@
-ghost use Rattle.std.specs.Prelude.{◌≡◌, ◌<◌, ◌≤◌, ℕ, IfErr, IfOk, List, None, OnOk, length, true};
+ghost use Rattle.std.specs.Prelude.{◌≡◌, ◌<◌, ◌≤◌, ℕ, IfErr, IfOk, List, MatchOption, None, OnOk, length, true};
 ghost use Rattle.relay_routes.specs.Routes.{Route};
-ghost use Rattle.relay_slots.specs.Slots.{AreFree, OthersStay, slot_at};
+ghost use Rattle.relay_slots.specs.Slots.{AreFree, IsFull, IsLeastFree, OthersStay, slot_at};
+ghost use Rattle.relay_connections.specs.Table.{count_of};
 ghost use Rattle.relay_limits.specs.declared.pace.Pace.{Pace};
 ghost use Rattle.relay_next_hops.specs.Counts.{CountsMatch, CountsMatchWith};
 ghost use Rattle.relay_next_hops.specs.Errands.{AreAimed, IsAimed, PutsFor, left_of};
@@ -62,8 +63,13 @@ impl Hops {
         })
     }
 
-    /// The number that the next of them will have, where there is room for one.
-    pub(crate) fn free(&self) -> Option<usize> {
+    /// The number that the next of them will have, where there is room for one. At most 64 stand.
+    pub(crate) fn free(&self) -> Option<usize>
+        ensures least { MatchOption result (IsFull self.now.hops) (IsLeastFree self.now.hops) }
+        ensures within { MatchOption result (Unit {0}) (λ number. number < length self.now.hops) }
+        ensures few { count_of self.now.hops ≤ 64 }
+    {
+        prove!(self.hops.standing().len() <= SLOT_COUNT);
         self.hops.free()
     }
 

@@ -213,6 +213,7 @@ impl Lanes {
     /// Takes the next message with places that have no hop.
     pub(crate) fn next_unroutable(&mut self) -> Option<u64>
         ensures next { self.old.unroutable.items ≡ option_to_list result ++ self.new.unroutable.items }
+        ensures none { result ≡ None → self.old.unroutable.items ≡ [] }
         ensures counts { KeepsCounts self.old self.new }
     {
         self.unroutable.pop_front()

@@ -1,6 +1,7 @@
 //! The next hops of a relay that stays up: the connections to them, what is due for them, and which of it may be begun.
 #![tactic(auto)]
 
+mod answering;
 mod ending;
 mod errand;
 mod hearing;
@@ -15,6 +16,7 @@ mod overdue;
 mod paces;
 mod phase;
 mod places;
+mod sorting;
 mod spares;
 mod starting;
 

@@ -1,7 +1,7 @@
-ghost use Rattle.std.specs.Prelude.{◌≡◌, ◌≤◌, ℕ, IfOk, List, OnOk, map, true};
+ghost use Rattle.std.specs.Prelude.{◌≡◌, ◌≤◌, ℕ, IfOk, IfSome, List, OnOk, map, true};
 ghost use Rattle.relay_routes.specs.Routes.{Route};
 ghost use Rattle.relay_slots.specs.Slots.{AreFree};
-ghost use Rattle.relay_next_hops.specs.Hearing.{replies_of, told_of};
+ghost use Rattle.relay_next_hops.specs.Hearing.{AnswersEach, order_of, replies_of, told_of};
 ghost use Rattle.relay_next_hops.specs.Lanes.{IsNew, next_due_of};
 ghost use Rattle.relay_next_hops.specs.Readiness.{IsLeftHop, hops_of};
 ghost use Rattle.relay_next_hops.specs.Tables.{TablesMatch};
@@ -130,6 +130,9 @@ impl NextHops {
         now: &Now,
         log: &mut Log<'_, Vec<u8>>,
     ) -> Result<bool, Fault>
+        ensures heard { IfSome replied (λ replied. OnOk result
+            (AnswersEach now.now.tick (order_of self.old.hops) replied.answered.items (hops_of self.old)
+            (hops_of self.new))) }
         ensures matches { (routes : List Route) → TablesMatch routes self.old
             → OnOk result (TablesMatch routes self.new) }
     {

@@ -259,6 +259,11 @@ pub(crate) fn give_up_next(
     log: &mut Log<'_, Vec<u8>>,
 ) -> Result<bool, Fault>
     ensures none { lanes.old.unroutable.items ≡ [] → (result ≡ Ok false) × (relay.new ≡ relay.old) }
+    ensures first { (message : ℕ) (rest : List ℕ) → lanes.old.unroutable.items ≡ message ∷ rest
+        → IfOk result (IsGivenUp now.now.moment message relay.old relay.new lanes.new)
+        × (lanes.new.unroutable.items ≡ rest) }
+    ensures counts { KeepsCounts lanes.old lanes.new }
+    ensures config { relay.new.node.config ≡ relay.old.node.config }
 {
     match lanes.next_unroutable() {
         Some(message) => give_up(relay, lanes, message, now, log),
@@ -276,6 +281,7 @@ fn give_up(
     log: &mut Log<'_, Vec<u8>>,
 ) -> Result<bool, Fault>
     ensures gives_up { IfOk result (IsGivenUp now.now.moment message relay.old relay.new lanes.new) }
+    ensures others { lanes.new.unroutable ≡ lanes.old.unroutable }
     ensures counts { KeepsCounts lanes.old lanes.new }
     ensures config { relay.new.node.config ≡ relay.old.node.config }
 {

@@ -1,5 +1,6 @@
 -- The connection that is answered keeps its errand, and is counted until it is settled.
 use Rattle.std.proofs.Common.{refl}
+use Rattle.relay_next_hops.proofs.HearingLemmas.{answered_by, on_ok}
 use Rattle.relay_next_hops.proofs.SlotLemmas.{aimed_taken, counts_same, is_none, out_aim, out_aimed, out_counts, out_free, out_low}
 use Rattle.relay_next_hops.proofs.hops.Hops.answer_one.Goals as goal
 
@@ -17,3 +18,13 @@ returns-clause-aimed c = λ routes aimed.
     c.settle.ensures.aimed routes
     (out_aim hops c.take.new.self c.args.number c.in-Some.taken c.take_answer.new.self c.in-Some.ensures.taken c.take.ensures.rest c.take_answer.ensures.errand routes aimed)
     (out_aimed hops c.take.new.self c.args.number c.in-Some.taken c.take_answer.new.self c.in-Some.ensures.taken c.take.ensures.rest c.take_answer.ensures.errand routes aimed)
+
+pub returns-clause-heard : goal.returns-clause-heard
+returns-clause-heard c =
+    let hops = c.args.self.now.hops in
+    on_ok _ c.settle.result
+    (answered_by c.args.now.now.tick hops c.take.new.self c.settle.new.self.hops c.args.number c.in-Some.taken c.take_answer.new.self c.in_ok-course.course c.args.answer c.in-Some.ensures.taken c.take.ensures.rest
+    (c.settle.ensures.own
+    (out_free hops c.take.new.self c.args.number c.in-Some.taken c.take_answer.new.self c.in-Some.ensures.taken c.take.ensures.rest c.take_answer.ensures.errand)
+    (out_low hops c.take.new.self c.args.number c.in-Some.taken c.take_answer.new.self c.in-Some.ensures.taken c.take.ensures.rest c.take_answer.ensures.errand))
+    c.settle.ensures.others c.in_ok-course.ensures.uses)

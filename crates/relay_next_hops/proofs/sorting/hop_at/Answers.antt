@@ -2,7 +2,7 @@
 use Rattle.std.proofs.Common.{option_map, ap}
 use Rattle.relay_attempts.specs.Hops.{hop_name}
 use Rattle.relay_routes.specs.declared.hop.Hop.{Hop}
-use Rattle.relay_next_hops.proofs.listing.hop_at.Goals as goal
+use Rattle.relay_next_hops.proofs.sorting.hop_at.Goals as goal
 
 pub returns : goal.returns
 unfolding hop_name

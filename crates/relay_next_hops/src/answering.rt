@@ -1,0 +1,95 @@
+//! What is done with a connection to a next hop after its attempt has heard what was read.
+ghost use Rattle.std.specs.Prelude.{◌≡◌, ℕ, IfOk, Some, drop, false};
+ghost use Rattle.relay_connections.specs.Channel.{unread_of};
+ghost use Rattle.relay_next_hops.specs.Errands.{KeepsErrand, left_of};
+ghost use Rattle.relay_next_hops.specs.Hearing.{IsAnswered, IsCourse};
+
+use crate::errand::Course;
+use crate::hearing::{has_ended, was_left};
+use crate::hop::Hop;
+use relay_connections::Now;
+use relay_disk::FileDisk;
+use relay_files::Fault;
+use relay_loop::{Answered, Relay};
+use relay_node::{NodeFault, Noted};
+
+impl Hop {
+    /// Takes what came of the octets that its attempt has heard, or lets it hear them alone if they were left unread.
+    pub(crate) fn take_answer(
+        &mut self,
+        relay: &mut Relay<FileDisk>,
+        attempt: usize,
+        answer: Result<Answered, NodeFault>,
+        noted: Option<Noted>,
+        now: &Now,
+    ) -> Result<Course, Fault>
+        ensures errand { KeepsErrand self.old self.new }
+        ensures uses { IfOk result (λ course. IsAnswered now.now.tick answer (Some self.old)
+            (left_of course self.new)) }
+    {
+        if was_left(&answer) {
+            self.hear_alone(relay, attempt, now)
+        } else {
+            Ok(self.answer(relay, attempt, answer, noted, now))
+        }
+    }
+
+    /// Takes what came of the octets that its attempt has heard, and writes what they lead to at once as far as that
+    /// goes. Where they end the attempt, the note is that of its outcome.
+    fn answer(
+        &mut self,
+        relay: &mut Relay<FileDisk>,
+        attempt: usize,
+        answered: Result<Answered, NodeFault>,
+        noted: Option<Noted>,
+        now: &Now,
+    ) -> Course
+        ensures errand { KeepsErrand self.old self.new }
+        ensures attempt { self.new.attempt ≡ self.old.attempt }
+        ensures hears { self.new.hears ≡ false }
+        ensures course { IsCourse now.now.tick answered self.old self.new result }
+    {
+        self.hears = false;
+        // At a fault the attempt is gone, and its message stays due.
+        let Ok(answered) = answered else {
+            return Course::Void;
+        };
+        let Answered {
+            used,
+            change: _,
+            last,
+        } = answered;
+        self.channel.used(used);
+        if let Some(outbox) = last {
+            return Course::Ended(outbox, noted);
+        }
+        self.phase = self.phase.behind(relay.to_hop(attempt));
+        self.wait_on(relay, attempt, now);
+        self.flush(relay, attempt, now);
+        self.unless_late(Course::Stays, now)
+    }
+
+    /// Lets its attempt hear what was read by a call of its own.
+    fn hear_alone(
+        &mut self,
+        relay: &mut Relay<FileDisk>,
+        attempt: usize,
+        now: &Now,
+    ) -> Result<Course, Fault>
+        ensures errand { KeepsErrand self.old self.new }
+        ensures attempt { self.new.attempt ≡ self.old.attempt }
+        ensures used { IfOk result (λ course. course ≡ Course.Stays → (used : ℕ)
+            × (unread_of self.new.channel ≡ drop used (unread_of self.old.channel))) }
+    {
+        let answered = relay.reply(attempt, self.channel.piece(), now.moment);
+        if answered.as_ref().err() == Some(&NodeFault::Stopped) {
+            return Err(Fault::Device);
+        }
+        let noted = if has_ended(&answered) {
+            relay.take_noted()
+        } else {
+            None
+        };
+        Ok(self.answer(relay, attempt, answered, noted, now))
+    }
+}

@@ -1,0 +1,194 @@
+//! Where what is due of a message is listed: under the lane of each next hop's place, or as unroutable.
+ghost use Rattle.std.specs.Prelude.{◌≡◌, IfSome, Some, option_copied, option_map, slice_get, true};
+ghost use Rattle.relay_attempts.specs.Hops.{hop_name, hop_of_place, is_stranded};
+ghost use Rattle.relay_next_hops.specs.Lanes.{IsListedUnroutable, KeepsCounts, KeepsListed, ListsMore};
+
+use crate::hops::Hops;
+use crate::lane::{Lane, Task};
+use crate::lanes::Lanes;
+use relay_book::Place;
+use relay_connections::Now;
+use relay_disk::FileDisk;
+use relay_envelope::{PathBuf, Recipient};
+use relay_loop::Relay;
+use relay_routes::{Hop, HostName, Table};
+use std::net::SocketAddrV4;
+
+impl Lanes {
+    /// Lists what is due of a message, and isn't tried. It tells whether there is such a message. One that has a held
+    /// place without a hop is listed as unroutable; if memory runs out, all is listed anew.
+    pub(crate) fn add(
+        &mut self,
+        relay: &Relay<FileDisk>,
+        hops: &Hops,
+        number: u64,
+        now: &Now,
+    ) -> bool
+        ensures more { ListsMore self.old self.new }
+        ensures listed { KeepsListed self.old self.new }
+        ensures walk { self.new.queued ≡ self.old.queued }
+    {
+        let Some(message) = relay.node().message(number) else {
+            return false;
+        };
+        let routes = &relay.node().config().routes;
+        let recipients = message.accept.envelope.recipients.as_slice();
+        self.add_places(
+            hops,
+            number,
+            routes,
+            recipients,
+            message.places.as_slice(),
+            now,
+        );
+        true
+    }
+
+    /// Lists what is due of these places of a message.
+    fn add_places(
+        &mut self,
+        hops: &Hops,
+        number: u64,
+        routes: &Table,
+        recipients: &[Recipient],
+        places: &[Place],
+        now: &Now,
+    )
+        ensures more { ListsMore self.old self.new }
+        ensures listed { KeepsListed self.old self.new }
+        ensures walk { self.new.queued ≡ self.old.queued }
+    {
+        for (index, place) in places.iter().enumerate() {
+            self.add_place(hops, number, routes, recipients, index, place, now);
+        }
+    }
+
+    /// Lists a place of a message for its next hop, if it is due, or the message as unroutable, if the place is held
+    /// and has no hop.
+    fn add_place(
+        &mut self,
+        hops: &Hops,
+        number: u64,
+        routes: &Table,
+        recipients: &[Recipient],
+        index: usize,
+        place: &Place,
+        now: &Now,
+    )
+        ensures more { ListsMore self.old self.new }
+        ensures listed { KeepsListed self.old self.new }
+        ensures walk { self.new.queued ≡ self.old.queued }
+        ensures unroutable { is_stranded routes.now recipients.now index place.now ≡ true
+            → IsListedUnroutable number self.new }
+    {
+        if !place.held {
+            return;
+        }
+        match hop_of_place(routes, recipients, index) {
+            Some(hop) => {
+                if place.due <= now.moment.seconds() {
+                    self.push(hops, number, hop.at, &hop.name);
+                }
+            }
+            None => self.push_unroutable(number),
+        }
+    }
+
+    /// Lists a message for a next hop, behind all others, unless it is tried there. If memory runs out, all is listed
+    /// anew.
+    fn push(&mut self, hops: &Hops, message: u64, at: SocketAddrV4, name: &HostName)
+        ensures more { ListsMore self.old self.new }
+        ensures listed { KeepsListed self.old self.new }
+        ensures walk { self.new.queued ≡ self.old.queued }
+    {
+        if !self.sort_in(hops, message, at, name) {
+            self.is_stale = true;
+        }
+    }
+
+    /// Puts a message into the lane of its next hop's place, and returns whether memory was left for it.
+    fn sort_in(&mut self, hops: &Hops, message: u64, at: SocketAddrV4, name: &HostName) -> bool
+        ensures more { ListsMore self.old self.new }
+        ensures rest { (self.new.unroutable ≡ self.old.unroutable) × (self.new.is_stale ≡ self.old.is_stale)
+            × (self.new.queued ≡ self.old.queued) }
+    {
+        let Some(number) = self.number_of(at) else {
+            return false;
+        };
+        let Some(lane) = self.lanes.get_mut(number) else {
+            return false;
+        };
+        if lane.ends_with(message, name) || hops.is_tried(message, number, name) {
+            return true;
+        }
+        let Ok(hop) = name.copy(self.alloc) else {
+            return false;
+        };
+        self.is_open = true;
+        lane.push(Task { message, hop })
+    }
+
+    /// Lists a message that has places without a hop. If memory runs out, all is listed anew.
+    fn push_unroutable(&mut self, message: u64)
+        ensures listed { IsListedUnroutable message self.new }
+        ensures others { KeepsListed self.old self.new }
+        ensures more { ListsMore self.old self.new }
+        ensures walk { self.new.queued ≡ self.old.queued }
+    {
+        match self.unroutable.back() {
+            Some(last) if *last == message => {}
+            _ => {
+                if self.unroutable.push_back(message).is_err() {
+                    self.is_stale = true;
+                }
+            }
+        }
+    }
+
+    /// Returns the number of the lane for a place, which is made if there is none. Returns `None` if memory runs out.
+    fn number_of(&mut self, at: SocketAddrV4) -> Option<usize>
+        ensures place { IfSome result (λ number. slice_get self.new.places number ≡ Some at) }
+        ensures more { ListsMore self.old self.new }
+        ensures rest { (self.new.unroutable ≡ self.old.unroutable) × (self.new.is_stale ≡ self.old.is_stale)
+            × (self.new.queued ≡ self.old.queued) }
+    {
+        let number = self.places.number_of(at)?;
+        let count = number.checked_add(1)?;
+        if self.grow(count) { Some(number) } else { None }
+    }
+
+    /// Makes lanes until there are so many, and returns whether memory was left for them.
+    fn grow(&mut self, count: usize) -> bool
+        ensures counts { KeepsCounts self.old self.new }
+        ensures rest { (self.new.unroutable ≡ self.old.unroutable) × (self.new.is_stale ≡ self.old.is_stale)
+            × (self.new.queued ≡ self.old.queued) }
+    {
+        if self.paces.grow(count).is_err() {
+            return false;
+        }
+        for _ in self.lanes.len()..count {
+            if self.lanes.push(Lane::new(self.alloc)).is_err() {
+                return false;
+            }
+        }
+        true
+    }
+}
+
+/// Returns the next hop of a message's place, if it has one. A place without a recipient has none.
+fn hop_of_place<'a>(routes: &'a Table, recipients: &[Recipient], place: usize) -> Option<&'a Hop>
+    ensures { option_map (λ hop. hop.name) (option_copied result)
+        ≡ hop_of_place routes.now recipients.now place }
+{
+    match recipients.get(place) {
+        Some(recipient) => hop_at(routes, &recipient.path),
+        None => None,
+    }
+}
+
+/// Returns the next hop of a path, if it has one.
+fn hop_at<'a>(routes: &'a Table, path: &PathBuf) -> Option<&'a Hop>
+    ensures { option_map (λ hop. hop.name) (option_copied result) ≡ hop_name routes.now path.now }
+{
+    routes.hop_at(path)
+}
