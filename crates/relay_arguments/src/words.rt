@@ -9,7 +9,9 @@ ghost use Rattle.relay_arguments.specs.Arguments.{rounds_in, rounds_rule, route_
 ghost use Rattle.relay_arguments.specs.Arguments.{with_check, with_compact, with_run};
 ghost use Rattle.relay_arguments.specs.Arguments.{without_files, without_subcommands};
 ghost use Rattle.relay_arguments.specs.Arguments.{workers_in, workers_rule};
+ghost use Rattle.relay_arguments.specs.Arguments.{with_queue};
 
+use crate::looks::{Listing, list, list_asked, message_number, show, status};
 use clap::builder::ValueParser;
 use clap::{Arg, ArgAction, ArgMatches, Command, Error};
 use std::alloc::{AllocError, Global};
@@ -26,6 +28,29 @@ pub enum Subcommand<'a> {
     Init(&'a str),
     /// What is held in the spool is listed, by the configuration in this file.
     List(&'a str),
+    /// Queued recipients are listed with all that is known of them, by the configuration in this file.
+    Listing {
+        /// The file of the configuration.
+        file: &'a str,
+        /// Which recipients, and how.
+        asked: Listing<'a>,
+    },
+    /// A message is shown.
+    Show {
+        /// The file of the configuration.
+        file: &'a str,
+        /// The number of the message.
+        number: u64,
+        /// Whether its text alone is written, as it is.
+        raw: bool,
+    },
+    /// The queue is summed up by next hop.
+    Status {
+        /// The file of the configuration.
+        file: &'a str,
+        /// Whether it is written as metrics for Prometheus.
+        prometheus: bool,
+    },
     /// The spool is written anew, by the configuration in this file.
     Compact(&'a str),
     /// The configuration in this file is checked.
@@ -99,7 +124,18 @@ fn named<'a>(name: &str, matches: &ArgMatches<'a>) -> Subcommand<'a>
     if name == "init" {
         Subcommand::Init(config(matches))
     } else if name == "list" {
-        Subcommand::List(config(matches))
+        list_asked(matches)
+    } else if name == "show" {
+        Subcommand::Show {
+            file: config_or_default(matches),
+            number: message_number(matches),
+            raw: is_given(matches, "raw"),
+        }
+    } else if name == "status" {
+        Subcommand::Status {
+            file: config_or_default(matches),
+            prometheus: is_given(matches, "prometheus"),
+        }
     } else if name == "compact" {
         Subcommand::Compact(config(matches))
     } else if name == "check" {
@@ -132,14 +168,14 @@ fn named<'a>(name: &str, matches: &ArgMatches<'a>) -> Subcommand<'a>
 }
 
 /// The file behind `--config`, which the argument reader asks for.
-fn config<'a>(matches: &ArgMatches<'a>) -> &'a str
+pub(crate) fn config<'a>(matches: &ArgMatches<'a>) -> &'a str
     ensures { result.now ≡ config_in (rows_of (found_of matches.now)) }
 {
     matches.get_str("config").unwrap_or("")
 }
 
 /// The file behind `--config`, or the default one.
-fn config_or_default<'a>(matches: &ArgMatches<'a>) -> &'a str
+pub(crate) fn config_or_default<'a>(matches: &ArgMatches<'a>) -> &'a str
     ensures { result.now ≡ config_or_default_in (rows_of (found_of matches.now)) }
 {
     matches.get_str("config").unwrap_or(DEFAULT_CONFIG)
@@ -173,7 +209,7 @@ fn workers(matches: &ArgMatches<'_>) -> u8
 }
 
 /// The number that a text says, where it is one from 1 to the most; the argument reader refuses other texts.
-fn number_of(text: &str, most: u64) -> u64
+pub(crate) fn number_of(text: &str, most: u64) -> u64
     requires { 1 ≤ most }
     ensures number { result ≡ number_of most text.now }
     ensures within { result ≤ most }
@@ -193,7 +229,7 @@ fn number_of(text: &str, most: u64) -> u64
 }
 
 /// Whether the switch of this name was given.
-fn is_given(matches: &ArgMatches<'_>, switch: &str) -> bool
+pub(crate) fn is_given(matches: &ArgMatches<'_>, switch: &str) -> bool
     ensures { result ≡ is_given_in switch.now (rows_of (found_of matches.now)) }
 {
     match matches.get_str(switch) {
@@ -236,13 +272,24 @@ fn with_check<'a>(alloc: Global) -> Result<Command<'a>, AllocError>
 fn with_compact<'a>(alloc: Global) -> Result<Command<'a>, AllocError>
     ensures { IfOk result (λ command. app_of command ≡ with_compact) }
 {
-    let over_files = over_files(alloc)?;
+    let with_queue = with_queue(alloc)?;
     let compact = with_file(
         alloc,
         "compact",
         "Writes the spool anew: its size before and behind that",
     )?;
-    over_files.subcommand(compact)
+    with_queue.subcommand(compact)
+}
+
+/// The program with its subcommands that make a spool and look at it. It fails where memory runs out.
+fn with_queue<'a>(alloc: Global) -> Result<Command<'a>, AllocError>
+    ensures { IfOk result (λ command. app_of command ≡ with_queue) }
+{
+    let over_files = over_files(alloc)?;
+    let show = show(alloc)?;
+    let with_show = over_files.subcommand(show)?;
+    let status = status(alloc)?;
+    with_show.subcommand(status)
 }
 
 /// The program with its subcommands that make and list a spool. It fails where memory runs out.
@@ -256,11 +303,7 @@ fn over_files<'a>(alloc: Global) -> Result<Command<'a>, AllocError>
         "Makes the spool that the configuration names",
     )?;
     let with_init = without_files.subcommand(init)?;
-    let list = with_file(
-        alloc,
-        "list",
-        "Lists each recipient that the spool holds: message, place, path, due moment",
-    )?;
+    let list = list(alloc)?;
     with_init.subcommand(list)
 }
 
@@ -303,7 +346,11 @@ fn play<'a>(alloc: Global) -> Command<'a>
 }
 
 /// A subcommand of this name with a configuration file. It fails where memory runs out.
-fn with_file<'a>(alloc: Global, name: &'a str, about: &'a str) -> Result<Command<'a>, AllocError>
+pub(crate) fn with_file<'a>(
+    alloc: Global,
+    name: &'a str,
+    about: &'a str,
+) -> Result<Command<'a>, AllocError>
     ensures { IfOk result (λ command. app_of command ≡ configured name.now) }
 {
     Command::new(alloc, name)
@@ -313,7 +360,7 @@ fn with_file<'a>(alloc: Global, name: &'a str, about: &'a str) -> Result<Command
 
 /// A subcommand of this name whose configuration file is the default one where none is given. It fails where memory
 /// runs out.
-fn with_default_file<'a>(
+pub(crate) fn with_default_file<'a>(
     alloc: Global,
     name: &'a str,
     about: &'a str,
