@@ -1,7 +1,7 @@
 -- The words that the program is started with, its own name first, and the status that it ends with.
-use Rattle.std.specs.Prelude.{◌≡◌, ◌≢◌, ℕ, Bool, List, [], ◌∷◌, true, false, codes, Option, Some, None, unwrap_or}
-use Rattle.std.specs.Prelude.{if◌then◌else◌, option_map}
-use Rattle.std.specs.Option.{option_map_or}
+use Rattle.std.specs.Prelude.{◌≡◌, ◌≢◌, ℕ, Bool, not, ◌&&◌, List, [], ◌∷◌, true, false, codes, is_some, Option}
+use Rattle.std.specs.Prelude.{Some, None, unwrap_or, if◌then◌else◌, option_map}
+use Rattle.std.specs.Option.{option_copied, option_map_or}
 use Rattle.std.specs.Str.{bytes_eq}
 use Rattle.std.specs.Str.Parse.{digits_value, without_leading_plus}
 use Rattle.clap.specs.Words.{App, IsAmong, Kinds, Row, Rule, Text, fault_of, first_of, new_app, new_rule}
@@ -15,6 +15,8 @@ use Rattle.clap.specs.declared.error.kind.ErrorKind.TheVariants.{UnknownArgument
 use Rattle.relay_arguments.specs.declared.words.Subcommand.{Subcommand}
 use Rattle.relay_arguments.specs.declared.words.Subcommand.TheVariants.{Session, Play, Init, List as ListHeld, Compact}
 use Rattle.relay_arguments.specs.declared.words.Subcommand.TheVariants.{Check, Run, Serve, Push}
+use Rattle.relay_arguments.specs.declared.words.Subcommand.TheVariants.{Listing as ListRows, Show, Status}
+use Rattle.relay_arguments.specs.declared.looks.Listing.{Listing}
 
 -- a program that wants a subcommand, and has none for help
 abbrev pub without_subcommands : App
@@ -27,7 +29,7 @@ without_subcommands = record {
   subs = [];
 }
 
--- `--NAME VALUE`
+-- an option of this name, which takes any text, as `--hop NAME`
 abbrev pub option_rule : Text → Rule
 option_rule name = record (new_rule name) { long = Some name; action = Some Set; value_names = 1 }
 
@@ -67,6 +69,34 @@ log_rule = record (new_rule (codes "log")) { long = Some (codes "log"); action =
 abbrev pub quiet_rule : Rule
 quiet_rule = record (new_rule (codes "quiet")) { long = Some (codes "quiet"); action = Some SetTrue }
 
+-- profile: a switch of this name, as `--long`
+abbrev pub switch_rule : Text → Rule
+switch_rule name = record (new_rule name) { long = Some name; action = Some SetTrue }
+
+-- profile: `NUMBER`, which has to be given, from 1 to 2^64 - 1
+abbrev pub number_rule : Rule
+number_rule =
+    record (new_rule (codes "number"))
+    { action = Some Set; value_names = 1; required = true; parser = Some (Unsigned 1 18446744073709551615) }
+
+-- the subcommand that lists the queue: as it is, as a table, as objects, and with these filters
+abbrev pub with_forms : App
+with_forms =
+    with_rule (with_rule (configured (codes "list")) (switch_rule (codes "long"))) (switch_rule (codes "json"))
+
+abbrev pub listing : App
+listing =
+    with_rule (with_rule (with_rule (with_rule with_forms (option_rule (codes "hop"))) (option_rule (codes "from")))
+    (option_rule (codes "to"))) (option_rule (codes "older"))
+
+-- the subcommand that shows a message
+abbrev pub showing : App
+showing = with_rule (with_rule (configurable (codes "show")) number_rule) (switch_rule (codes "raw"))
+
+-- the subcommand that sums the queue up
+abbrev pub reporting : App
+reporting = with_rule (configurable (codes "status")) (switch_rule (codes "prometheus"))
+
 -- the subcommand that checks a configuration
 abbrev pub checking : App
 checking = with_rule (configurable (codes "check")) route_rule
@@ -89,11 +119,15 @@ without_files =
 -- and with those that make and list a spool
 abbrev pub over_files : App
 over_files =
-    with_subcommand (with_subcommand without_files (configured (codes "init")).top) (configured (codes "list")).top
+    with_subcommand (with_subcommand without_files (configured (codes "init")).top) listing.top
+
+-- and with those that look at it
+abbrev pub with_queue : App
+with_queue = with_subcommand (with_subcommand over_files showing.top) reporting.top
 
 -- and with the one that writes a spool anew
 abbrev pub with_compact : App
-with_compact = with_subcommand over_files (configured (codes "compact")).top
+with_compact = with_subcommand with_queue (configured (codes "compact")).top
 
 -- and with the one that checks a configuration
 abbrev pub with_check : App
@@ -111,12 +145,24 @@ relayd = with_subcommand (with_subcommand with_run serving.top) pushing.top
 abbrev pub faults_in : List Text → Kinds
 faults_in words = fault_of relayd words
 
+-- which recipients are listed, and how: as objects; by next hop, reverse path, forward path and age, where these are
+-- given
+pub record AskedRows : Type 0 where
+  pub json : Bool
+  pub hop : Option Text
+  pub from : Option Text
+  pub to : Option Text
+  pub older : Option Text
+
 -- what a program is asked to do
 pub data Asked : Type 0 where
   AskedSession : Asked
   AskedPlay : Asked
   AskedInit : Text → Asked
   AskedList : Text → Asked
+  AskedListing : Text → AskedRows → Asked
+  AskedShow : Text → ℕ → Bool → Asked
+  AskedStatus : Text → Bool → Asked
   AskedCompact : Text → Asked
   AskedCheck : Text → Option Text → Asked
   AskedRun : Text → Bool → Asked
@@ -147,10 +193,40 @@ workers_in rows = option_map_or (number_of 64) (first_of (codes "workers") rows)
 abbrev pub is_given_in : Text → List Row → Bool
 is_given_in switch rows = option_map_or (λ text. bytes_eq text (codes "true")) (first_of switch rows) false
 
+-- what a listing asks for
+abbrev pub rows_asked_in : List Row → AskedRows
+rows_asked_in rows = record {
+  json = is_given_in (codes "json") rows;
+  hop = first_of (codes "hop") rows;
+  from = first_of (codes "from") rows;
+  to = first_of (codes "to") rows;
+  older = first_of (codes "older") rows;
+}
+
+-- it asks for nothing
+abbrev pub is_plain : AskedRows → Bool
+is_plain asked =
+    not asked.json && not (is_some asked.hop) && not (is_some asked.from) && not (is_some asked.to)
+    && not (is_some asked.older)
+
+-- `list` without any option but `--config` lists as ever, and else by these
+abbrev pub list_asked : List Row → Asked
+list_asked rows =
+    if is_plain (rows_asked_in rows) && not (is_given_in (codes "long") rows) then AskedList (config_in rows)
+    else AskedListing (config_in rows) (rows_asked_in rows)
+
+-- the number of the message that is asked for; the argument reader refuses words without one
+abbrev pub message_number_in : List Row → ℕ
+message_number_in rows = option_map_or (number_of 18446744073709551615) (first_of (codes "number") rows) 1
+
 abbrev pub asked_by : Text → List Row → Asked
 asked_by name rows =
     if bytes_eq name (codes "init") then AskedInit (config_in rows)
-    else if bytes_eq name (codes "list") then AskedList (config_in rows)
+    else if bytes_eq name (codes "list") then list_asked rows
+    else if bytes_eq name (codes "show")
+    then AskedShow (config_or_default_in rows) (message_number_in rows) (is_given_in (codes "raw") rows)
+    else if bytes_eq name (codes "status")
+    then AskedStatus (config_or_default_in rows) (is_given_in (codes "prometheus") rows)
     else if bytes_eq name (codes "compact") then AskedCompact (config_in rows)
     else if bytes_eq name (codes "check") then AskedCheck (config_or_default_in rows) (first_of (codes "route") rows)
     else if bytes_eq name (codes "run") then AskedRun (config_or_default_in rows) (is_given_in (codes "quiet") rows)
@@ -169,12 +245,25 @@ asked_of (Some (name, rows)) = asked_by name rows
 abbrev pub asked_in : List Text → Asked
 asked_in words = asked_of (subcommand_of relayd words)
 
+-- what a listing says
+abbrev pub rows_value : Listing → AskedRows
+rows_value listing = record {
+  json = listing.json;
+  hop = option_copied listing.hop;
+  from = option_copied listing.from;
+  to = option_copied listing.to;
+  older = option_copied listing.older;
+}
+
 -- what a subcommand asks for
 abbrev pub asked : Subcommand → Asked
 asked Session = AskedSession
 asked Play = AskedPlay
 asked (Init file) = AskedInit file.now
 asked (ListHeld file) = AskedList file.now
+asked (ListRows file listing) = AskedListing file.now (rows_value listing)
+asked (Show file number raw) = AskedShow file.now number raw
+asked (Status file prometheus) = AskedStatus file.now prometheus
 asked (Compact file) = AskedCompact file.now
 asked (Check file route) = AskedCheck file.now (option_map (λ address. address.now) route)
 asked (Run file quiet) = AskedRun file.now quiet
@@ -231,6 +320,23 @@ Runs name =
     × (asked_in (words_of name (codes "run") []) ≡ AskedRun (codes "c") false)
     × (asked_in (words_of name (codes "run") (codes "--quiet" ∷ [])) ≡ AskedRun (codes "c") true)
 
+-- `list` is taken with its options, of which `--long` and `--json` are switches; `show` wants a number from 1 on;
+-- `status` is taken with its switch
+abbrev pub LooksAtQueue : Text → Type 0
+LooksAtQueue name =
+    (faults_in (words_of name (codes "list") (codes "--long" ∷ codes "--older" ∷ codes "4h" ∷ [])) ≡ [])
+    × (asked_in (words_of name (codes "list") []) ≡ AskedList (codes "c"))
+    × (asked_in (words_of name (codes "list") (codes "--long" ∷ []))
+    ≡ AskedListing (codes "c") (record { json = false; hop = None; from = None; to = None; older = None }))
+    × (asked_in (words_of name (codes "list") (codes "--json" ∷ codes "--to" ∷ codes "b" ∷ []))
+    ≡ AskedListing (codes "c") (record { json = true; hop = None; from = None; to = Some (codes "b"); older = None }))
+    × (faults_in (words_of name (codes "show") []) ≡ MissingRequiredArgument ∷ [])
+    × (faults_in (words_of name (codes "show") (codes "0" ∷ [])) ≡ ValueValidation ∷ [])
+    × (asked_in (words_of name (codes "show") (codes "7" ∷ codes "--raw" ∷ [])) ≡ AskedShow (codes "c") 7 true)
+    × (asked_in (words_of name (codes "status") (codes "--prometheus" ∷ [])) ≡ AskedStatus (codes "c") true)
+    × (asked_in (words_of name (codes "status") []) ≡ AskedStatus (codes "c") false)
+    × (asked_in (name ∷ codes "status" ∷ []) ≡ AskedStatus (codes "/etc/relayd.toml") false)
+
 -- `session` and `play` alone are taken, and so are `init` and `list` with a file; without a subcommand, without the
 -- file and with a further word they aren't; `--help` asks for help, and `--version` for the version
 abbrev pub WordsAreTaken : Type 0
@@ -253,6 +359,7 @@ WordsAreTaken =
     × Compacts name
     × Checks name
     × Runs name
+    × LooksAtQueue name
 
 -- the argument reader finds no fault in the words, and they ask for a session
 abbrev pub AskForSession : List Text → Type 0

@@ -1,18 +1,13 @@
-ghost use Rattle.std.specs.Prelude.{◌≡◌, ◌≤◌, codes, false, map, option_map, IfOk};
-ghost use Rattle.clap.specs.Words.{FailsBy, app_of, first_of, found_of, new_app, rows_of, rule_of};
-ghost use Rattle.clap.specs.Words.{subcommand_rows_of};
-ghost use Rattle.relay_arguments.specs.Arguments.{WordsAreTaken, asked, asked_by, asked_in, asked_of, checking};
-ghost use Rattle.relay_arguments.specs.Arguments.{config_in, config_or_default_in, config_rule, configurable};
-ghost use Rattle.relay_arguments.specs.Arguments.{configured, faults_in, is_given_in, log_rule, number_of};
-ghost use Rattle.relay_arguments.specs.Arguments.{optional_config_rule, over_files, pushing, quiet_rule, relayd};
-ghost use Rattle.relay_arguments.specs.Arguments.{rounds_in, rounds_rule, route_rule, running, serving};
-ghost use Rattle.relay_arguments.specs.Arguments.{with_check, with_compact, with_run};
-ghost use Rattle.relay_arguments.specs.Arguments.{without_files, without_subcommands};
-ghost use Rattle.relay_arguments.specs.Arguments.{workers_in, workers_rule};
+ghost use Rattle.std.specs.Prelude.{◌≡◌, ◌≤◌, codes, map, option_map, IfOk};
+ghost use Rattle.clap.specs.Words.{FailsBy, first_of, found_of, rows_of, subcommand_rows_of};
+ghost use Rattle.relay_arguments.specs.Arguments.{WordsAreTaken, asked, asked_by, asked_in, asked_of, config_in};
+ghost use Rattle.relay_arguments.specs.Arguments.{config_or_default_in, faults_in, is_given_in, number_of};
+ghost use Rattle.relay_arguments.specs.Arguments.{rounds_in, workers_in};
 
-use clap::builder::ValueParser;
-use clap::{Arg, ArgAction, ArgMatches, Command, Error};
-use std::alloc::{AllocError, Global};
+use crate::grammar::program;
+use crate::looks::{Listing, list_asked, message_number};
+use clap::{ArgMatches, Error};
+use std::alloc::Global;
 use std::convert::AsStr;
 
 /// What the program is asked to do.
@@ -26,6 +21,29 @@ pub enum Subcommand<'a> {
     Init(&'a str),
     /// What is held in the spool is listed, by the configuration in this file.
     List(&'a str),
+    /// Queued recipients are listed with all that is known of them, by the configuration in this file.
+    Listing {
+        /// The file of the configuration.
+        file: &'a str,
+        /// Which recipients, and how.
+        asked: Listing<'a>,
+    },
+    /// A message is shown.
+    Show {
+        /// The file of the configuration.
+        file: &'a str,
+        /// The number of the message.
+        number: u64,
+        /// Whether its text alone is written, as it is.
+        raw: bool,
+    },
+    /// The queue is summed up by next hop.
+    Status {
+        /// The file of the configuration.
+        file: &'a str,
+        /// Whether it is written as metrics for Prometheus.
+        prometheus: bool,
+    },
     /// The spool is written anew, by the configuration in this file.
     Compact(&'a str),
     /// The configuration in this file is checked.
@@ -65,14 +83,11 @@ pub enum Subcommand<'a> {
 /// The configuration where none is named: of the subcommands that needn't be told one.
 const DEFAULT_CONFIG: &str = "/etc/relayd.toml";
 
-/// The version of the program.
-const VERSION: &str = "1.0.0";
-
 /// The most rounds of one run.
-const MOST_ROUNDS: u64 = 1_000_000;
+pub(crate) const MOST_ROUNDS: u64 = 1_000_000;
 
 /// The most connections of one round.
-const MOST_WORKERS: u64 = 64;
+pub(crate) const MOST_WORKERS: u64 = 64;
 
 /// The subcommand that the words name, the program's own name first, and the file behind its
 /// `--config`. An error has a text for the user: of what is wrong with the words, or the help that
@@ -102,7 +117,18 @@ fn named<'a>(name: &str, matches: &ArgMatches<'a>) -> Subcommand<'a>
     if name == "init" {
         Subcommand::Init(config(matches))
     } else if name == "list" {
-        Subcommand::List(config(matches))
+        list_asked(matches)
+    } else if name == "show" {
+        Subcommand::Show {
+            file: config_or_default(matches),
+            number: message_number(matches),
+            raw: is_given(matches, "raw"),
+        }
+    } else if name == "status" {
+        Subcommand::Status {
+            file: config_or_default(matches),
+            prometheus: is_given(matches, "prometheus"),
+        }
     } else if name == "compact" {
         Subcommand::Compact(config(matches))
     } else if name == "check" {
@@ -135,14 +161,14 @@ fn named<'a>(name: &str, matches: &ArgMatches<'a>) -> Subcommand<'a>
 }
 
 /// The file behind `--config`, which the argument reader asks for.
-fn config<'a>(matches: &ArgMatches<'a>) -> &'a str
+pub(crate) fn config<'a>(matches: &ArgMatches<'a>) -> &'a str
     ensures { result.now ≡ config_in (rows_of (found_of matches.now)) }
 {
     matches.get_str("config").unwrap_or("")
 }
 
 /// The file behind `--config`, or the default one.
-fn config_or_default<'a>(matches: &ArgMatches<'a>) -> &'a str
+pub(crate) fn config_or_default<'a>(matches: &ArgMatches<'a>) -> &'a str
     ensures { result.now ≡ config_or_default_in (rows_of (found_of matches.now)) }
 {
     matches.get_str("config").unwrap_or(DEFAULT_CONFIG)
@@ -176,7 +202,7 @@ fn workers(matches: &ArgMatches<'_>) -> u8
 }
 
 /// The number that a text says, where it is one from 1 to the most; the argument reader refuses other texts.
-fn number_of(text: &str, most: u64) -> u64
+pub(crate) fn number_of(text: &str, most: u64) -> u64
     requires { 1 ≤ most }
     ensures number { result ≡ number_of most text.now }
     ensures within { result ≤ most }
@@ -196,289 +222,13 @@ fn number_of(text: &str, most: u64) -> u64
 }
 
 /// Whether the switch of this name was given.
-fn is_given(matches: &ArgMatches<'_>, switch: &str) -> bool
+pub(crate) fn is_given(matches: &ArgMatches<'_>, switch: &str) -> bool
     ensures { result ≡ is_given_in switch.now (rows_of (found_of matches.now)) }
 {
     match matches.get_str(switch) {
         Some(text) => text == "true",
         None => false,
     }
-}
-
-/// What the argument reader is told of the program. It fails where memory runs out.
-fn program<'a>(alloc: Global) -> Result<Command<'a>, AllocError>
-    ensures { IfOk result (λ command. app_of command ≡ relayd) }
-{
-    // Each subcommand is made when it is added, so that few are at hand where memory runs out.
-    let with_run = with_run(alloc)?;
-    let serve = serve(alloc)?;
-    let with_serve = with_run.subcommand(serve)?;
-    let push = push(alloc)?;
-    with_serve.subcommand(push)
-}
-
-/// The program with its subcommands but `serve` and `push`. It fails where memory runs out.
-fn with_run<'a>(alloc: Global) -> Result<Command<'a>, AllocError>
-    ensures { IfOk result (λ command. app_of command ≡ with_run) }
-{
-    let with_check = with_check(alloc)?;
-    let run = run(alloc)?;
-    with_check.subcommand(run)
-}
-
-/// The program with its subcommands that need no socket. It fails where memory runs out.
-fn with_check<'a>(alloc: Global) -> Result<Command<'a>, AllocError>
-    ensures { IfOk result (λ command. app_of command ≡ with_check) }
-{
-    let with_compact = with_compact(alloc)?;
-    let check = check(alloc)?;
-    with_compact.subcommand(check)
-}
-
-/// The program with its subcommands over a spool without sockets. It fails where memory runs out.
-fn with_compact<'a>(alloc: Global) -> Result<Command<'a>, AllocError>
-    ensures { IfOk result (λ command. app_of command ≡ with_compact) }
-{
-    let over_files = over_files(alloc)?;
-    let compact = with_file(
-        alloc,
-        "compact",
-        "Write the spool anew, and print its size before and after",
-        "Example: relayd compact --config /etc/relayd.toml",
-    )?;
-    over_files.subcommand(compact)
-}
-
-/// The program with its subcommands that make and list a spool. It fails where memory runs out.
-fn over_files<'a>(alloc: Global) -> Result<Command<'a>, AllocError>
-    ensures { IfOk result (λ command. app_of command ≡ over_files) }
-{
-    let without_files = without_files(alloc)?;
-    let init = with_file(
-        alloc,
-        "init",
-        "Make the spool that the configuration names",
-        "Example: relayd init --config /etc/relayd.toml",
-    )?;
-    let with_init = without_files.subcommand(init)?;
-    let list = with_file(
-        alloc,
-        "list",
-        "List each queued recipient: message, place, path, due moment",
-        "Example: relayd list --config /etc/relayd.toml",
-    )?;
-    with_init.subcommand(list)
-}
-
-/// The program with its subcommands that need no file. It fails where memory runs out.
-fn without_files<'a>(alloc: Global) -> Result<Command<'a>, AllocError>
-    ensures { IfOk result (λ command. app_of command ≡ without_files) }
-{
-    let session = session(alloc);
-    let with_session = without_subcommands(alloc).subcommand(session)?;
-    let play = play(alloc);
-    with_session.subcommand(play)
-}
-
-/// The program without its subcommands, of which one has to be entered.
-fn without_subcommands<'a>(alloc: Global) -> Command<'a>
-    ensures { app_of result ≡ without_subcommands }
-{
-    Command::new(alloc, "relayd")
-        .about("A store-and-forward SMTP relay")
-        .version(VERSION)
-        .disable_help_subcommand(true)
-        .subcommand_required(true)
-}
-
-/// `session`
-fn session<'a>(alloc: Global) -> Command<'a>
-    ensures { app_of result ≡ new_app (codes "session") }
-{
-    Command::new(alloc, "session")
-        .about("Hold one SMTP session from standard input to standard output")
-        .after_help("Example: printf 'EHLO client.example\\r\\nQUIT\\r\\n' | relayd session")
-}
-
-/// `play`
-fn play<'a>(alloc: Global) -> Command<'a>
-    ensures { app_of result ≡ new_app (codes "play") }
-{
-    Command::new(alloc, "play")
-        .about(
-            "Play a script of 2 to 16 relays from standard input, and tell what is seen of each line",
-        )
-        .after_help("Example: relayd play < docs/plays/lost_reply.play")
-}
-
-/// A subcommand of this name with a configuration file. It fails where memory runs out.
-fn with_file<'a>(
-    alloc: Global,
-    name: &'a str,
-    about: &'a str,
-    example: &'a str,
-) -> Result<Command<'a>, AllocError>
-    ensures { IfOk result (λ command. app_of command ≡ configured name.now) }
-{
-    Command::new(alloc, name)
-        .about(about)
-        .after_help(example)
-        .arg(file_argument(alloc))
-}
-
-/// A subcommand of this name whose configuration file is the default one where none is given. It fails where memory
-/// runs out.
-fn with_default_file<'a>(
-    alloc: Global,
-    name: &'a str,
-    about: &'a str,
-    example: &'a str,
-) -> Result<Command<'a>, AllocError>
-    ensures { IfOk result (λ command. app_of command ≡ configurable name.now) }
-{
-    Command::new(alloc, name)
-        .about(about)
-        .after_help(example)
-        .arg(optional_file_argument(alloc))
-}
-
-/// `check [--config FILE] [--route ADDRESS]`. It fails where memory runs out.
-fn check<'a>(alloc: Global) -> Result<Command<'a>, AllocError>
-    ensures { IfOk result (λ command. app_of command ≡ checking) }
-{
-    with_default_file(
-        alloc,
-        "check",
-        "Check the configuration, and tell each finding with its place and what to write instead",
-        "Example: relayd check --config relayd.toml --route b@example.org",
-    )?
-    .arg(route_argument(alloc))
-}
-
-/// `run [--config FILE] [--quiet]`. It fails where memory runs out.
-fn run<'a>(alloc: Global) -> Result<Command<'a>, AllocError>
-    ensures { IfOk result (λ command. app_of command ≡ running) }
-{
-    with_default_file(
-        alloc,
-        "run",
-        "Accept mail from many clients at once and relay it, until the process is ended",
-        "Example: relayd run --config /etc/relayd.toml",
-    )?
-    .arg(quiet_argument(alloc))
-}
-
-/// `serve --config FILE [--rounds N] [--workers W] [--log]`. It fails where memory runs out.
-fn serve<'a>(alloc: Global) -> Result<Command<'a>, AllocError>
-    ensures { IfOk result (λ command. app_of command ≡ serving) }
-{
-    with_file(
-        alloc,
-        "serve",
-        "Serve clients in rounds, and relay their mail after each",
-        "Example: relayd serve --config relayd.toml --rounds 10 --log",
-    )?
-    .arg(rounds_argument(alloc))?
-    .arg(workers_argument(alloc))?
-    .arg(log_argument(alloc))
-}
-
-/// `push --config FILE [--log]`. It fails where memory runs out.
-fn push<'a>(alloc: Global) -> Result<Command<'a>, AllocError>
-    ensures { IfOk result (λ command. app_of command ≡ pushing) }
-{
-    with_file(
-        alloc,
-        "push",
-        "Relay what is due, and print for each message and hop whether the attempt ended or was lost",
-        "Example: relayd push --config relayd.toml --log",
-    )?
-    .arg(log_argument(alloc))
-}
-
-/// `--config FILE`
-fn file_argument<'a>(alloc: Global) -> Arg<'a>
-    ensures rule { rule_of result ≡ config_rule }
-    ensures local { result.global ≡ false }
-{
-    Arg::new(alloc, "config")
-        .long("config")
-        .value_name("FILE")
-        .action(ArgAction::Set)
-        .required(true)
-        .help("The configuration file")
-}
-
-/// `--config FILE`, which may be missing
-fn optional_file_argument<'a>(alloc: Global) -> Arg<'a>
-    ensures rule { rule_of result ≡ optional_config_rule }
-    ensures local { result.global ≡ false }
-{
-    Arg::new(alloc, "config")
-        .long("config")
-        .value_name("FILE")
-        .action(ArgAction::Set)
-        .help("The configuration file [default: /etc/relayd.toml]")
-}
-
-/// `--route ADDRESS`
-fn route_argument<'a>(alloc: Global) -> Arg<'a>
-    ensures rule { rule_of result ≡ route_rule }
-    ensures local { result.global ≡ false }
-{
-    Arg::new(alloc, "route")
-        .long("route")
-        .value_name("ADDRESS")
-        .action(ArgAction::Set)
-        .help("Print the next hop of this address instead: its name and address")
-}
-
-/// `--rounds N`
-fn rounds_argument<'a>(alloc: Global) -> Arg<'a>
-    ensures rule { rule_of result ≡ rounds_rule }
-    ensures local { result.global ≡ false }
-{
-    Arg::new(alloc, "rounds")
-        .long("rounds")
-        .value_name("N")
-        .action(ArgAction::Set)
-        .value_parser(ValueParser::unsigned(1, MOST_ROUNDS))
-        .help("How many rounds of clients to serve, 1 to 1,000,000 [default: 1]")
-}
-
-/// `--workers W`
-fn workers_argument<'a>(alloc: Global) -> Arg<'a>
-    ensures rule { rule_of result ≡ workers_rule }
-    ensures local { result.global ≡ false }
-{
-    Arg::new(alloc, "workers")
-        .long("workers")
-        .value_name("W")
-        .action(ArgAction::Set)
-        .value_parser(ValueParser::unsigned(1, MOST_WORKERS))
-        .help("How many clients to wait for and serve at once in a round, 1 to 64 [default: 1]")
-}
-
-/// `--log`
-fn log_argument<'a>(alloc: Global) -> Arg<'a>
-    ensures rule { rule_of result ≡ log_rule }
-    ensures local { result.global ≡ false }
-{
-    Arg::new(alloc, "log")
-        .long("log")
-        .action(ArgAction::SetTrue)
-        .help("Log on standard error what is done")
-}
-
-/// `--quiet`
-fn quiet_argument<'a>(alloc: Global) -> Arg<'a>
-    ensures rule { rule_of result ≡ quiet_rule }
-    ensures local { result.global ≡ false }
-{
-    Arg::new(alloc, "quiet")
-        .long("quiet")
-        .action(ArgAction::SetTrue)
-        .help("Log nothing but a fault on standard error")
 }
 
 /// The law that says of some words, written out, what is wrong with them and what they ask for.

@@ -5,6 +5,7 @@ ghost use Rattle.relay_arguments.specs.Arguments.{AreWrong, AskForPlay, AskForSe
 ghost use Rattle.relay_program.specs.Play.{IsPlayedWhole};
 ghost use Rattle.relay_program.specs.Session.{EndsAs};
 
+use crate::looks::{list_rows, show, status};
 use crate::streams::session;
 use clap::Error;
 use clap::error::ErrorKind;
@@ -21,7 +22,7 @@ use std::fmt::Display;
 use std::fs::File;
 use std::io::{self, ErrorKind as IoErrorKind, Read, Write};
 use std::net::{Net, TcpListener, TcpStream};
-use std::rt::{Clock, Files};
+use std::rt::{Clock, Env, Files};
 use std::sync::Wait;
 use std::thread::Threads;
 use std::time::Duration;
@@ -46,7 +47,9 @@ const WRONG_ARGUMENTS: u8 = 2;
 pub fn command<
     S: AsStr,
     F: Files<File = File>
+        + Env
         + Clock
+        + AllocGlobal
         + Net<Listener = TcpListener, Stream = TcpStream>
         + Threads
         + Wait
@@ -85,6 +88,15 @@ pub fn command<
         Ok(Subcommand::Play) => ended(play_script(alloc, reader, writer), errors),
         Ok(Subcommand::Init(file)) => ended(init(alloc, system, file), errors),
         Ok(Subcommand::List(file)) => ended(list(alloc, system, file, writer), errors),
+        Ok(Subcommand::Listing { file, asked }) => {
+            ended(list_rows(alloc, system, file, &asked, writer), errors)
+        }
+        Ok(Subcommand::Show { file, number, raw }) => {
+            ended(show(alloc, system, file, number, raw, writer), errors)
+        }
+        Ok(Subcommand::Status { file, prometheus }) => {
+            ended(status(alloc, system, file, prometheus, writer), errors)
+        }
         Ok(Subcommand::Compact(file)) => ended(compact(alloc, system, file, writer), errors),
         Ok(Subcommand::Check { file, route: None }) => {
             answered(check(alloc, system, file, writer), errors)

@@ -4,6 +4,7 @@
 
 mod descriptors;
 mod dispatch;
+mod looks;
 mod setup;
 mod streams;
 

@@ -1,5 +1,6 @@
 -- Which queued recipients are listed.
-use Rattle.std.specs.Prelude.{ℕ, ◌-◌, nat_le, Bool, true, false, ◌&&◌, ◌||◌, List, length, take, drop, Option, None, Some}
+use Rattle.std.specs.Prelude.{ℕ, ◌-◌, nat_le, Bool, true, false, ◌&&◌, ◌||◌, List, length, take, drop}
+use Rattle.std.specs.Prelude.{Option, None, Some}
 use Rattle.std.specs.Option.{option_copied, option_map_or}
 use Rattle.relay_lines.specs.Word.{is_word}
 use Rattle.relay_queue.specs.declared.filter.Filter.{Filter}

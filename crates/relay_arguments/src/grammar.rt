@@ -1,0 +1,299 @@
+//! What the argument reader is told of the program: its subcommands and their options.
+ghost use Rattle.std.specs.Prelude.{◌≡◌, codes, false, IfOk};
+ghost use Rattle.clap.specs.Words.{app_of, new_app, rule_of};
+ghost use Rattle.relay_arguments.specs.Arguments.{checking, config_rule, configurable, configured, log_rule};
+ghost use Rattle.relay_arguments.specs.Arguments.{optional_config_rule, over_files, pushing, quiet_rule, relayd};
+ghost use Rattle.relay_arguments.specs.Arguments.{rounds_rule, route_rule, running, serving, with_check};
+ghost use Rattle.relay_arguments.specs.Arguments.{with_compact, with_queue, with_run, without_files};
+ghost use Rattle.relay_arguments.specs.Arguments.{without_subcommands, workers_rule};
+
+use crate::looks::{list, show, status};
+use crate::words::{MOST_ROUNDS, MOST_WORKERS};
+use clap::builder::ValueParser;
+use clap::{Arg, ArgAction, Command};
+use std::alloc::{AllocError, Global};
+
+/// The version of the program.
+const VERSION: &str = "1.0.0";
+
+/// What the argument reader is told of the program. It fails where memory runs out.
+pub(crate) fn program<'a>(alloc: Global) -> Result<Command<'a>, AllocError>
+    ensures { IfOk result (λ command. app_of command ≡ relayd) }
+{
+    // Each subcommand is made when it is added, so that few are at hand where memory runs out.
+    let with_run = with_run(alloc)?;
+    let serve = serve(alloc)?;
+    let with_serve = with_run.subcommand(serve)?;
+    let push = push(alloc)?;
+    with_serve.subcommand(push)
+}
+
+/// The program with its subcommands but `serve` and `push`. It fails where memory runs out.
+fn with_run<'a>(alloc: Global) -> Result<Command<'a>, AllocError>
+    ensures { IfOk result (λ command. app_of command ≡ with_run) }
+{
+    let with_check = with_check(alloc)?;
+    let run = run(alloc)?;
+    with_check.subcommand(run)
+}
+
+/// The program with its subcommands that need no socket. It fails where memory runs out.
+fn with_check<'a>(alloc: Global) -> Result<Command<'a>, AllocError>
+    ensures { IfOk result (λ command. app_of command ≡ with_check) }
+{
+    let with_compact = with_compact(alloc)?;
+    let check = check(alloc)?;
+    with_compact.subcommand(check)
+}
+
+/// The program with its subcommands over a spool without sockets. It fails where memory runs out.
+fn with_compact<'a>(alloc: Global) -> Result<Command<'a>, AllocError>
+    ensures { IfOk result (λ command. app_of command ≡ with_compact) }
+{
+    let with_queue = with_queue(alloc)?;
+    let compact = with_file(
+        alloc,
+        "compact",
+        "Write the spool anew, and print its size before and after",
+        "Example: relayd compact --config /etc/relayd.toml",
+    )?;
+    with_queue.subcommand(compact)
+}
+
+/// The program with its subcommands that make a spool and look at it. It fails where memory runs out.
+fn with_queue<'a>(alloc: Global) -> Result<Command<'a>, AllocError>
+    ensures { IfOk result (λ command. app_of command ≡ with_queue) }
+{
+    let over_files = over_files(alloc)?;
+    let show = show(alloc)?;
+    let with_show = over_files.subcommand(show)?;
+    let status = status(alloc)?;
+    with_show.subcommand(status)
+}
+
+/// The program with its subcommands that make and list a spool. It fails where memory runs out.
+fn over_files<'a>(alloc: Global) -> Result<Command<'a>, AllocError>
+    ensures { IfOk result (λ command. app_of command ≡ over_files) }
+{
+    let without_files = without_files(alloc)?;
+    let init = with_file(
+        alloc,
+        "init",
+        "Make the spool that the configuration names",
+        "Example: relayd init --config /etc/relayd.toml",
+    )?;
+    let with_init = without_files.subcommand(init)?;
+    let list = list(alloc)?;
+    with_init.subcommand(list)
+}
+
+/// The program with its subcommands that need no file. It fails where memory runs out.
+fn without_files<'a>(alloc: Global) -> Result<Command<'a>, AllocError>
+    ensures { IfOk result (λ command. app_of command ≡ without_files) }
+{
+    let session = session(alloc);
+    let with_session = without_subcommands(alloc).subcommand(session)?;
+    let play = play(alloc);
+    with_session.subcommand(play)
+}
+
+/// The program without its subcommands, of which one has to be entered.
+fn without_subcommands<'a>(alloc: Global) -> Command<'a>
+    ensures { app_of result ≡ without_subcommands }
+{
+    Command::new(alloc, "relayd")
+        .about("A store-and-forward SMTP relay")
+        .version(VERSION)
+        .disable_help_subcommand(true)
+        .subcommand_required(true)
+}
+
+/// `session`
+fn session<'a>(alloc: Global) -> Command<'a>
+    ensures { app_of result ≡ new_app (codes "session") }
+{
+    Command::new(alloc, "session")
+        .about("Hold one SMTP session from standard input to standard output")
+        .after_help("Example: printf 'EHLO client.example\\r\\nQUIT\\r\\n' | relayd session")
+}
+
+/// `play`
+fn play<'a>(alloc: Global) -> Command<'a>
+    ensures { app_of result ≡ new_app (codes "play") }
+{
+    Command::new(alloc, "play")
+        .about(
+            "Play a script of 2 to 16 relays from standard input, and tell what is seen of each line",
+        )
+        .after_help("Example: relayd play < docs/plays/lost_reply.play")
+}
+
+/// A subcommand of this name with a configuration file. It fails where memory runs out.
+pub(crate) fn with_file<'a>(
+    alloc: Global,
+    name: &'a str,
+    about: &'a str,
+    example: &'a str,
+) -> Result<Command<'a>, AllocError>
+    ensures { IfOk result (λ command. app_of command ≡ configured name.now) }
+{
+    Command::new(alloc, name)
+        .about(about)
+        .after_help(example)
+        .arg(file_argument(alloc))
+}
+
+/// A subcommand of this name whose configuration file is the default one where none is given. It fails where memory
+/// runs out.
+pub(crate) fn with_default_file<'a>(
+    alloc: Global,
+    name: &'a str,
+    about: &'a str,
+    example: &'a str,
+) -> Result<Command<'a>, AllocError>
+    ensures { IfOk result (λ command. app_of command ≡ configurable name.now) }
+{
+    Command::new(alloc, name)
+        .about(about)
+        .after_help(example)
+        .arg(optional_file_argument(alloc))
+}
+
+/// `check [--config FILE] [--route ADDRESS]`. It fails where memory runs out.
+fn check<'a>(alloc: Global) -> Result<Command<'a>, AllocError>
+    ensures { IfOk result (λ command. app_of command ≡ checking) }
+{
+    with_default_file(
+        alloc,
+        "check",
+        "Check the configuration, and tell each finding with its place and what to write instead",
+        "Example: relayd check --config relayd.toml --route b@example.org",
+    )?
+    .arg(route_argument(alloc))
+}
+
+/// `run [--config FILE] [--quiet]`. It fails where memory runs out.
+fn run<'a>(alloc: Global) -> Result<Command<'a>, AllocError>
+    ensures { IfOk result (λ command. app_of command ≡ running) }
+{
+    with_default_file(
+        alloc,
+        "run",
+        "Accept mail from many clients at once and relay it, until the process is ended",
+        "Example: relayd run --config /etc/relayd.toml",
+    )?
+    .arg(quiet_argument(alloc))
+}
+
+/// `serve --config FILE [--rounds N] [--workers W] [--log]`. It fails where memory runs out.
+fn serve<'a>(alloc: Global) -> Result<Command<'a>, AllocError>
+    ensures { IfOk result (λ command. app_of command ≡ serving) }
+{
+    with_file(
+        alloc,
+        "serve",
+        "Serve clients in rounds, and relay their mail after each",
+        "Example: relayd serve --config relayd.toml --rounds 10 --log",
+    )?
+    .arg(rounds_argument(alloc))?
+    .arg(workers_argument(alloc))?
+    .arg(log_argument(alloc))
+}
+
+/// `push --config FILE [--log]`. It fails where memory runs out.
+fn push<'a>(alloc: Global) -> Result<Command<'a>, AllocError>
+    ensures { IfOk result (λ command. app_of command ≡ pushing) }
+{
+    with_file(
+        alloc,
+        "push",
+        "Relay what is due, and print for each message and hop whether the attempt ended or was lost",
+        "Example: relayd push --config relayd.toml --log",
+    )?
+    .arg(log_argument(alloc))
+}
+
+/// `--config FILE`
+fn file_argument<'a>(alloc: Global) -> Arg<'a>
+    ensures rule { rule_of result ≡ config_rule }
+    ensures local { result.global ≡ false }
+{
+    Arg::new(alloc, "config")
+        .long("config")
+        .value_name("FILE")
+        .action(ArgAction::Set)
+        .required(true)
+        .help("The configuration file")
+}
+
+/// `--config FILE`, which may be missing
+fn optional_file_argument<'a>(alloc: Global) -> Arg<'a>
+    ensures rule { rule_of result ≡ optional_config_rule }
+    ensures local { result.global ≡ false }
+{
+    Arg::new(alloc, "config")
+        .long("config")
+        .value_name("FILE")
+        .action(ArgAction::Set)
+        .help("The configuration file [default: /etc/relayd.toml]")
+}
+
+/// `--route ADDRESS`
+fn route_argument<'a>(alloc: Global) -> Arg<'a>
+    ensures rule { rule_of result ≡ route_rule }
+    ensures local { result.global ≡ false }
+{
+    Arg::new(alloc, "route")
+        .long("route")
+        .value_name("ADDRESS")
+        .action(ArgAction::Set)
+        .help("Print the next hop of this address instead: its name and address")
+}
+
+/// `--rounds N`
+fn rounds_argument<'a>(alloc: Global) -> Arg<'a>
+    ensures rule { rule_of result ≡ rounds_rule }
+    ensures local { result.global ≡ false }
+{
+    Arg::new(alloc, "rounds")
+        .long("rounds")
+        .value_name("N")
+        .action(ArgAction::Set)
+        .value_parser(ValueParser::unsigned(1, MOST_ROUNDS))
+        .help("How many rounds of clients to serve, 1 to 1,000,000 [default: 1]")
+}
+
+/// `--workers W`
+fn workers_argument<'a>(alloc: Global) -> Arg<'a>
+    ensures rule { rule_of result ≡ workers_rule }
+    ensures local { result.global ≡ false }
+{
+    Arg::new(alloc, "workers")
+        .long("workers")
+        .value_name("W")
+        .action(ArgAction::Set)
+        .value_parser(ValueParser::unsigned(1, MOST_WORKERS))
+        .help("How many clients to wait for and serve at once in a round, 1 to 64 [default: 1]")
+}
+
+/// `--log`
+fn log_argument<'a>(alloc: Global) -> Arg<'a>
+    ensures rule { rule_of result ≡ log_rule }
+    ensures local { result.global ≡ false }
+{
+    Arg::new(alloc, "log")
+        .long("log")
+        .action(ArgAction::SetTrue)
+        .help("Log on standard error what is done")
+}
+
+/// `--quiet`
+fn quiet_argument<'a>(alloc: Global) -> Arg<'a>
+    ensures rule { rule_of result ≡ quiet_rule }
+    ensures local { result.global ≡ false }
+{
+    Arg::new(alloc, "quiet")
+        .long("quiet")
+        .action(ArgAction::SetTrue)
+        .help("Log nothing but a fault on standard error")
+}

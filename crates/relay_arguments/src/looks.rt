@@ -1,0 +1,186 @@
+//! The words of subcommands that look at the queue.
+ghost use Rattle.std.specs.Prelude.{◌≡◌, codes, false, IfOk};
+ghost use Rattle.std.specs.Option.{option_copied};
+ghost use Rattle.clap.specs.Words.{app_of, first_of, found_of, rows_of, rule_of};
+ghost use Rattle.relay_arguments.specs.Arguments.{asked, is_plain, list_asked, listing, message_number_in};
+ghost use Rattle.relay_arguments.specs.Arguments.{number_rule, option_rule, reporting, rows_asked_in, rows_value};
+ghost use Rattle.relay_arguments.specs.Arguments.{showing, switch_rule, with_forms};
+
+use crate::grammar::{with_default_file, with_file};
+use crate::words::{Subcommand, config, is_given, number_of};
+use clap::builder::ValueParser;
+use clap::{Arg, ArgAction, ArgMatches, Command};
+use std::alloc::{AllocError, Global};
+
+/// Which queued recipients are listed, and how.
+#[derive(Clone, Copy, Debug, Drop)]
+pub struct Listing<'a> {
+    /// As JSON objects, and else as a table.
+    pub json: bool,
+    /// Of this next hop alone.
+    pub hop: Option<&'a str>,
+    /// Of messages with this reverse path alone.
+    pub from: Option<&'a str>,
+    /// Of this forward path alone.
+    pub to: Option<&'a str>,
+    /// Of messages of this age alone.
+    pub older: Option<&'a str>,
+}
+
+/// What `list` asks for: with one of its options, a listing.
+pub(crate) fn list_asked<'a>(matches: &ArgMatches<'a>) -> Subcommand<'a>
+    ensures { asked result ≡ list_asked (rows_of (found_of matches.now)) }
+{
+    let file = config(matches);
+    let asked = rows_asked(matches);
+    if is_plain(&asked) && !is_given(matches, "long") {
+        Subcommand::List(file)
+    } else {
+        Subcommand::Listing { file, asked }
+    }
+}
+
+/// Which recipients are listed, and how.
+fn rows_asked<'a>(matches: &ArgMatches<'a>) -> Listing<'a>
+    ensures { rows_value result ≡ rows_asked_in (rows_of (found_of matches.now)) }
+{
+    Listing {
+        json: is_given(matches, "json"),
+        hop: text_of(matches, "hop"),
+        from: text_of(matches, "from"),
+        to: text_of(matches, "to"),
+        older: text_of(matches, "older"),
+    }
+}
+
+/// Whether a listing asks for nothing.
+fn is_plain(listing: &Listing<'_>) -> bool
+    ensures { result ≡ is_plain (rows_value listing.now) }
+{
+    !listing.json
+        && listing.hop.is_none()
+        && listing.from.is_none()
+        && listing.to.is_none()
+        && listing.older.is_none()
+}
+
+/// The text behind an option, where it was given.
+fn text_of<'a>(matches: &ArgMatches<'a>, option: &str) -> Option<&'a str>
+    ensures { option_copied result ≡ first_of option.now (rows_of (found_of matches.now)) }
+{
+    matches.get_str(option)
+}
+
+/// The number of the message that is asked for; the argument reader refuses words without one.
+pub(crate) fn message_number(matches: &ArgMatches<'_>) -> u64
+    ensures { result ≡ message_number_in (rows_of (found_of matches.now)) }
+{
+    match matches.get_str("number") {
+        Some(text) => number_of(text, u64::MAX),
+        None => 1,
+    }
+}
+
+/// `list --config FILE [--long] [--json] [--hop NAME] [--from PATH] [--to PATH] [--older AGE]`. It fails where memory
+/// runs out.
+pub(crate) fn list<'a>(alloc: Global) -> Result<Command<'a>, AllocError>
+    ensures { IfOk result (λ command. app_of command ≡ listing) }
+{
+    let with_forms = with_file(
+        alloc,
+        "list",
+        "List each queued recipient: message, place, path, due moment",
+        "Example: relayd list --config /etc/relayd.toml --long --older 4h",
+    )?
+    .arg(switch(alloc, "long", "Print a table, oldest messages first"))?
+    .arg(switch(alloc, "json", "Print a JSON object a line"))?;
+    with_filters(alloc, with_forms)
+}
+
+/// `list` with the options that choose recipients. It fails where memory runs out.
+fn with_filters<'a>(alloc: Global, list: Command<'a>) -> Result<Command<'a>, AllocError>
+    requires { app_of list ≡ with_forms }
+    ensures { IfOk result (λ command. app_of command ≡ listing) }
+{
+    list.arg(option(alloc, "hop", "NAME", "List what this next hop gets"))?
+        .arg(option(
+            alloc,
+            "from",
+            "PATH",
+            "List messages with this reverse path",
+        ))?
+        .arg(option(alloc, "to", "PATH", "List recipients with this path"))?
+        .arg(option(
+            alloc,
+            "older",
+            "AGE",
+            "List messages of this age and older, as 90s, 30m, 4h or 2d",
+        ))
+}
+
+/// `show [--config FILE] [--raw] NUMBER`. It fails where memory runs out.
+pub(crate) fn show<'a>(alloc: Global) -> Result<Command<'a>, AllocError>
+    ensures { IfOk result (λ command. app_of command ≡ showing) }
+{
+    with_default_file(
+        alloc,
+        "show",
+        "Show the envelope, the state and the text of a message",
+        "Example: relayd show 7",
+    )?
+    .arg(number_argument(alloc))?
+    .arg(switch(alloc, "raw", "Write the text alone, octet by octet"))
+}
+
+/// `status [--config FILE] [--prometheus]`. It fails where memory runs out.
+pub(crate) fn status<'a>(alloc: Global) -> Result<Command<'a>, AllocError>
+    ensures { IfOk result (λ command. app_of command ≡ reporting) }
+{
+    with_default_file(
+        alloc,
+        "status",
+        "Sum up the queue by next hop, and show how full the spool is",
+        "Example: relayd status --prometheus",
+    )?
+    .arg(switch(
+        alloc,
+        "prometheus",
+        "Print metrics in Prometheus' text format",
+    ))
+}
+
+/// A switch of this name.
+fn switch<'a>(alloc: Global, name: &'a str, help: &'a str) -> Arg<'a>
+    ensures rule { rule_of result ≡ switch_rule name.now }
+    ensures local { result.global ≡ false }
+{
+    Arg::new(alloc, name)
+        .long(name)
+        .action(ArgAction::SetTrue)
+        .help(help)
+}
+
+/// An option of this name, which takes any text; help calls it `value`.
+fn option<'a>(alloc: Global, name: &'a str, value: &'a str, help: &'a str) -> Arg<'a>
+    ensures rule { rule_of result ≡ option_rule name.now }
+    ensures local { result.global ≡ false }
+{
+    Arg::new(alloc, name)
+        .long(name)
+        .value_name(value)
+        .action(ArgAction::Set)
+        .help(help)
+}
+
+/// `NUMBER`, which stands without a name.
+fn number_argument<'a>(alloc: Global) -> Arg<'a>
+    ensures rule { rule_of result ≡ number_rule }
+    ensures local { result.global ≡ false }
+{
+    Arg::new(alloc, "number")
+        .value_name("NUMBER")
+        .action(ArgAction::Set)
+        .required(true)
+        .value_parser(ValueParser::unsigned(1, u64::MAX))
+        .help("The number of the message")
+}

@@ -1,0 +1,77 @@
+//! The subcommands that look at the queue, by their words.
+use relay_arguments::Listing;
+use relay_queue::{
+    Filter, ListForm, MessageForm, QueueFault, StatusForm, print_list, print_message, print_status,
+    read_age,
+};
+use std::alloc::Global;
+use std::fs::File;
+use std::io::Write;
+use std::rt::{Clock, Env, Files};
+
+/// Prints the queued recipients that are asked for.
+pub(crate) fn list_rows<R: Files<File = File> + Env + Clock + AllocGlobal, W: Write>(
+    alloc: Global,
+    rt: &R,
+    path: &str,
+    asked: &Listing<'_>,
+    writer: &mut W,
+) -> Result<(), QueueFault> {
+    let age = match asked.older {
+        Some(text) => Some(asked_age(text)?),
+        None => None,
+    };
+    let filter = Filter {
+        hop: asked.hop.map(|text| text.as_bytes()),
+        reverse_path: asked.from.map(|text| text.as_bytes()),
+        path: asked.to.map(|text| text.as_bytes()),
+        age,
+    };
+    let form = if asked.json {
+        ListForm::Json
+    } else {
+        ListForm::Table
+    };
+    print_list(alloc, rt, path, &filter, form, writer)
+}
+
+/// The age that a text says, in seconds.
+fn asked_age(text: &str) -> Result<u64, QueueFault> {
+    match read_age(text) {
+        Some(age) => Ok(age),
+        None => Err(QueueFault::BadAge),
+    }
+}
+
+/// Prints a message, or its text alone.
+pub(crate) fn show<R: Files<File = File> + Env + Clock + AllocGlobal, W: Write>(
+    alloc: Global,
+    rt: &R,
+    path: &str,
+    number: u64,
+    raw: bool,
+    writer: &mut W,
+) -> Result<(), QueueFault> {
+    let form = if raw {
+        MessageForm::Raw
+    } else {
+        MessageForm::Shown
+    };
+    print_message(alloc, rt, path, number, form, writer)
+}
+
+/// Prints the queue by next hop.
+pub(crate) fn status<R: Files<File = File> + Env + Clock + AllocGlobal, W: Write>(
+    alloc: Global,
+    rt: &R,
+    path: &str,
+    prometheus: bool,
+    writer: &mut W,
+) -> Result<(), QueueFault> {
+    let form = if prometheus {
+        StatusForm::Metrics
+    } else {
+        StatusForm::Table
+    };
+    print_status(alloc, rt, path, form, writer)
+}
