@@ -109,6 +109,12 @@ impl Answer {
         self.show(&number);
     }
 
+    /// Tells an octet in hexadecimal.
+    pub fn hexadecimal(&mut self, octet: u8) {
+        let said = write!(self.text, "{octet:02x}");
+        self.note(said);
+    }
+
     /// Tells that a call was done, or its fault.
     pub fn done<E: Display + Drop>(&mut self, done: Result<(), E>) {
         match done {

@@ -6,9 +6,9 @@ use crate::row::octets_in;
 use crate::words::Words;
 use std::alloc::{AllocError, Global};
 
-/// Tells the name of a row of bodies, and what the row comes to: `name|KIND|limit|sizes|octets|wanted`. KIND is BDAT (a
-/// reader of chunks of these sizes), DATA (of a dot text) or WRITE (a writer of one). CR, LF and a backslash are written
-/// `\r`, `\n` and `\\`.
+/// Tells the name of a row of bodies, and what the row comes to: `name|KIND|limit|sizes|octets|wanted`. KIND is BDAT
+/// (a reader of chunks of these sizes), DATA (of a dot text) or WRITE (a writer of one). CR, LF and a backslash are
+/// written `\r`, `\n` and `\\`.
 pub fn tell_body_row(answer: &mut Answer, line: &str) {
     let mut fields = Words { rest: line };
     answer.say(fields.field());

@@ -4,8 +4,8 @@ use crate::play::{Play, Question};
 use crate::words::Words;
 use relay_octets::Octets;
 
-/// Reads what is done in a row, `KIND|number|octets`; nothing where the fields are no row. Texts of a reply stand between
-/// slashes. Octets that a row can't hold are written with a backslash and a letter.
+/// Reads what is done in a row, `KIND|number|octets`; nothing where the fields are no row. Texts of a reply stand
+/// between slashes. Octets that a row can't hold are written with a backslash and a letter.
 pub fn play_in(answer: &mut Answer, fields: &mut Words<'_>) -> Option<Play> {
     let kind = fields.field();
     let number = fields.field();

@@ -59,12 +59,13 @@ fn first_of(run: Option<(u8, u8)>, value: u8) -> u8 {
 /// Tells a run of values, its first and its last.
 fn tell_run(answer: &mut Answer, run: Option<(u8, u8)>) {
     if let Some((first, last)) = run {
-        let between = if answer.text.is_empty() { "" } else { " " };
-        let told = write!(answer.text, "{between}{first:02x}");
-        answer.note(told);
+        if !answer.text.is_empty() {
+            answer.say(" ");
+        }
+        answer.hexadecimal(first);
         if first < last {
-            let told = write!(answer.text, "-{last:02x}");
-            answer.note(told);
+            answer.say("-");
+            answer.hexadecimal(last);
         }
     }
 }

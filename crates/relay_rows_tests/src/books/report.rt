@@ -1,8 +1,9 @@
 //! What comes of a row of reports.
 use crate::answer::{Answer, RowsFault};
 use crate::books::hex::octets_of;
+use crate::books::subject::read_into;
 use crate::words::Words;
-use relay_book::{Book, BookFault, Change, Message, Outcome, decode_change};
+use relay_book::{Book, Change, Message, Outcome, decode_change};
 use relay_octets::Octets;
 use relay_report::{Parts, Report, boundary_for, report_if_due, split_report};
 use std::alloc::{AllocError, Global};
@@ -47,17 +48,11 @@ fn tell_report(answer: &mut Answer, words: Words<'_>) {
     let mut words = words;
     let accept = octets_of(answer, words.word());
     let outcome = octets_of(answer, words.word());
-    match book_behind(answer.alloc, accept.as_slice()) {
-        Ok(book) => tell_report_of(answer, &book, outcome.as_slice()),
+    let mut book = Book::new(answer.alloc);
+    match read_into(answer.alloc, &mut book, accept.as_slice()) {
+        Ok(()) => tell_report_of(answer, &book, outcome.as_slice()),
         Err(fault) => answer.stop(RowsFault::from(fault)),
     }
-}
-
-/// The book behind an accept.
-fn book_behind(alloc: Global, accept: &[u8]) -> Result<Book, BookFault> {
-    let mut book = Book::new(alloc);
-    book.apply(alloc, decode_change(alloc, accept)?)?;
-    Ok(book)
 }
 
 fn tell_report_of(answer: &mut Answer, book: &Book, outcome: &[u8]) {

@@ -33,8 +33,7 @@ fn tell_hex(answer: &mut Answer, octets: &[u8]) {
     answer.count("", octets.len() as u64);
     answer.say(" octets ");
     for octet in octets {
-        let told = write!(answer.text, "{octet:02x}");
-        answer.note(told);
+        answer.hexadecimal(*octet);
     }
 }
 

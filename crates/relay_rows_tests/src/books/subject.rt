@@ -149,7 +149,8 @@ fn applied(alloc: Global, book: &mut Book, record: &[u8]) -> Result<(), BookFaul
     }
 }
 
-fn read_into(alloc: Global, book: &mut Book, record: &[u8]) -> Result<(), BookFault> {
+/// Reads a record, and applies its change.
+pub fn read_into(alloc: Global, book: &mut Book, record: &[u8]) -> Result<(), BookFault> {
     book.apply(alloc, decode_change(alloc, record)?)
 }
 
