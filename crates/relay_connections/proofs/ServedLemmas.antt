@@ -2,16 +2,21 @@
 use Rattle.std.proofs.Common.{◌≡◌, ◌≢◌, ◌⊎◌, inl, inr, ℕ, true, List, [], ◌++◌, Option, None, Some, Box, is_some, refl, sym, ap, ◌∙◌, subst, append_assoc, append-nil}
 use Rattle.std.proofs.lemmas.Bool.{cases_eq}
 use Rattle.std.specs.Global.{Global}
+use Rattle.std.specs.Net.Addr.{ipv4_octets}
+use Rattle.std.specs.Net.Socket.{v4_ip}
+use Rattle.std.specs.declared.net.socket_addr.SocketAddrV4.{SocketAddrV4}
 use Rattle.relay_disk.specs.File.{file_words}
 use Rattle.relay_disk.specs.declared.file.FileDisk.{FileDisk}
-use Rattle.relay_slots.specs.Slots.{slot_at}
+use Rattle.relay_slots.specs.Slots.{IsLeastFree, OthersStay, slot_at}
 use Rattle.relay_book.specs.declared.change.Change.{Change}
 use Rattle.relay_records.specs.Records.{Keeps}
-use Rattle.relay_loop.specs.Relay.{RelayState}
+use Rattle.relay_server.specs.Dialogue.{Said}
+use Rattle.relay_loop.specs.Clients.{TalksTo}
+use Rattle.relay_loop.specs.Relay.{OnlyClient, RelayState}
 use Rattle.relay_loop.proofs.Theorems.{talks_stay}
 use Rattle.relay_connections.specs.Exchange.{IsRead, OnlyOutbox}
 use Rattle.relay_connections.specs.Matched.{IsFreed, IsMatched}
-use Rattle.relay_connections.specs.Served.{ActsOn, AreServed, AreServedBehind, FreeAreServed, HasNext, HasSession, IsUnused, LeavesRest, ServedAreMatched, Serves, StaysOrEnds, address_of}
+use Rattle.relay_connections.specs.Served.{ActsOn, AreServed, AreServedBehind, FreeAreServed, HasNext, HasSession, IsUnused, LeavesRest, ServedAreMatched, Serves, StaysOrEnds, StaysSaid, address_of}
 use Rattle.relay_connections.specs.Sessions.{EndsAlone}
 use Rattle.relay_connections.specs.declared.channel.Channel.{Channel}
 use Rattle.relay_connections.specs.declared.client.Client.{Client}
@@ -170,3 +175,34 @@ free_are_served changes clients relay keeps free connections seats = record {
       subst (λ slot. Serves changes relay number slot) (sym (free_at clients free number))
       (record { connection = free_at relay.clients connections number; seat = free_at relay.node.seats seats number });
 }
+
+-- a session was opened for a client
+module _ {S : Type 0} (changes : List Change) (peer : SocketAddrV4) (clients : List (Option (Box (Client S) Global))) (old mid new : RelayState FileDisk) (session : ℕ) (said : Said)
+    (talks : TalksTo changes mid session (ipv4_octets (v4_ip peer)) said []) (free : IsLeastFree old.node.seats session) (only : OnlyClient old mid session) (records : mid.node.records ≡ old.node.records)
+    (served : AreServed changes clients old) where
+  none_before : slot_at clients session ≡ None
+  none_before = by (slot_at clients session) refl (served.each session) where
+    by : (slot : Option (Box (Client S) Global)) → slot_at clients session ≡ slot → Serves changes old session slot → slot_at clients session ≡ None
+    by None there unused = there
+    by (Some client) there has = absurd (some_is_not_none has.has_said.talks.seat.at free.free)
+
+  -- it is ended again
+  pub opens_freed : IsFreed session mid new → AreServed changes clients new
+  opens_freed freed =
+      served_on changes clients clients old new session served
+      (record { clients = λ other apart. refl; rest = rest_on session old mid new (record { only = only; records = records }) (rest_of_end session mid new freed.ended) })
+      (subst (λ (slot : Option (Box (Client S) Global)). Serves changes new session slot) (sym none_before)
+      (frees changes mid new session (ipv4_octets (v4_ip peer)) (ap (λ records. records.spool.live) records ∙ served.keeps.live) (record { said = said; has_said = record { written = []; talks = talks } }) freed))
+
+  -- its client stands
+  pub opens_one : (later : List (Option (Box (Client S) Global))) (client : Box (Client S) Global) → client.value.peer ≡ peer → OnlyOutbox session mid new → StaysSaid session mid new
+      → slot_at later session ≡ Some client → OthersStay clients later session → AreServed changes later new
+  opens_one later client same outbox stays there others =
+      let first : HasSession changes new session (ipv4_octets (v4_ip peer)) = record {
+        said = said;
+        has_said = stays changes (ipv4_octets (v4_ip peer)) said (record { written = []; talks = talks });
+      } in
+      served_on changes clients later old new session served
+      (record { clients = others; rest = rest_on session old mid new (record { only = only; records = records }) (rest_of_outbox session mid new outbox) })
+      (subst (λ (slot : Option (Box (Client S) Global)). Serves changes new session slot) (sym there)
+      (subst (λ (at : SocketAddrV4). HasSession changes new session (ipv4_octets (v4_ip at))) (sym same) first))

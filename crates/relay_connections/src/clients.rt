@@ -1,4 +1,4 @@
-ghost use Rattle.std.specs.Prelude.{◌≡◌, ◌≤◌, ◌<◌, ◌↔◌, ℕ, List, None, IfErr, IfOk, IsTrue, true};
+ghost use Rattle.std.specs.Prelude.{◌≡◌, ◌≢◌, ◌≤◌, ◌<◌, ◌↔◌, ℕ, List, None, IfErr, IfOk, IsTrue, true};
 ghost use Rattle.std.specs.Net.Addr.{ipv4_octets};
 ghost use Rattle.relay_book.specs.declared.change.Change.{Change};
 ghost use Rattle.relay_disk.specs.declared.file.FileDisk.{FileDisk};
@@ -8,7 +8,7 @@ ghost use Rattle.relay_slots.specs.declared.slots.TheConstants.{SLOT_COUNT};
 ghost use Rattle.relay_connections.specs.Matched.{AreMatched, IsGreeted, Opens};
 ghost use Rattle.relay_connections.specs.Readiness.{IsLeftClient, IsNoted, clients_of};
 ghost use Rattle.relay_connections.specs.Room.{HasRoom, is_at};
-ghost use Rattle.relay_connections.specs.Served.{AreServed};
+ghost use Rattle.relay_connections.specs.Served.{AreServed, StaysSaid};
 ghost use Rattle.relay_connections.specs.Table.{count_of_such, is_such};
 
 use crate::channel::{Channel, Readiness};
@@ -113,6 +113,8 @@ impl<S: Stream + Drop> Clients<S> {
     ) -> Result<(), NodeFault>
         ensures opens { AreMatched (clients_of self.old) relay.old
             → Opens peer (clients_of self.old) (clients_of self.new) relay.new }
+        ensures served { (changes : List Change) → AreServed changes (clients_of self.old) relay.old
+            → IfOk result (λ _. AreServed changes (clients_of self.new) relay.new) }
         ensures fault { IfErr result (λ fault. fault ≡ NodeFault.Stopped) }
     {
         let session = match relay.accept(peer.ip().octets()) {
@@ -137,7 +139,8 @@ impl<S: Stream + Drop> Clients<S> {
         peer: SocketAddrV4,
         now: &Now,
     ) -> Option<Box<Client<S>>>
-        ensures { IsGreeted session peer relay.old relay.new result }
+        ensures greeted { IsGreeted session peer relay.old relay.new result }
+        ensures said { result ≢ None → StaysSaid session relay.old relay.new }
     {
         let mut stream = stream;
         // Replies are written whole, and wait for no more.

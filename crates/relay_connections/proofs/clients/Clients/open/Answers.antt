@@ -1,9 +1,13 @@
 -- The session is open, and then its client stands, or it is ended again.
-use Rattle.std.proofs.Common.{[], ap, ◌∙◌}
+use Rattle.std.proofs.Common.{[], ap, ◌∙◌, subst}
 use Rattle.std.specs.Net.Addr.{ipv4_octets}
 use Rattle.std.specs.Net.Socket.{v4_ip}
 use Rattle.relay_connections.specs.Matched.{IsOfPeer}
 use Rattle.relay_connections.proofs.MatchedLemmas.{greeted_none, is_live, opens_freed, opens_one}
+use Rattle.relay_loop.specs.Clients.{TalksTo}
+use Rattle.relay_loop.specs.Outboxes.{unwritten_at}
+use Rattle.relay_node.specs.Node.{greeted_by}
+use Rattle.relay_connections.proofs.ServedLemmas as served
 use Rattle.relay_connections.proofs.clients.Clients.open.Goals as goal
 
 pub returns-in-Some-clause-opens : goal.returns-in-Some-clause-opens
@@ -14,7 +18,7 @@ returns-in-Some-clause-opens g c = λ matched.
     let seat : IsOfPeer mid.node.seats session (ipv4_octets (v4_ip c.args.peer)) = record { seat = talks.seat.seat; there = talks.seat.at; same = talks.seat.peer_is ∙ c.octets.ensures ∙ ap ipv4_octets c.ip.ensures } in
     let live = is_live c.args.relay.now mid session c.in-Ok.ensures.records c.in-Ok.ensures.stopped.1 in
     opens_one c.args.peer c.args.self.now.clients c.args.relay.now mid c.greet.new.relay session talks.waiting talks.connection seat c.in-Ok.ensures.free c.in-Ok.ensures.only live matched
-    c.put.new.self c.in-Some.client c.in-Some.ensures.0 c.in-Some.ensures.1 (c.put.ensures.there c.in-Ok.ensures.free.within) c.put.ensures.others
+    c.put.new.self c.in-Some.client c.in-Some.ensures.greeted.0 c.in-Some.ensures.greeted.1 (c.put.ensures.there c.in-Ok.ensures.free.within) c.put.ensures.others
 
 pub returns-in_default-clause-opens : goal.returns-in_default-clause-opens
 returns-in_default-clause-opens g c = λ matched.
@@ -24,4 +28,22 @@ returns-in_default-clause-opens g c = λ matched.
     let seat : IsOfPeer mid.node.seats session (ipv4_octets (v4_ip c.args.peer)) = record { seat = talks.seat.seat; there = talks.seat.at; same = talks.seat.peer_is ∙ c.octets.ensures ∙ ap ipv4_octets c.ip.ensures } in
     let live = is_live c.args.relay.now mid session c.in-Ok.ensures.records c.in-Ok.ensures.stopped.1 in
     opens_freed c.args.peer c.args.self.now.clients c.args.relay.now mid c.greet.new.relay session talks.waiting talks.connection seat c.in-Ok.ensures.free c.in-Ok.ensures.only live matched
-    (greeted_none session c.args.peer mid c.greet.new.relay c.greet.result c.greet.ensures c.in_default.not-Some)
+    (greeted_none session c.args.peer mid c.greet.new.relay c.greet.result c.greet.ensures.greeted c.in_default.not-Some)
+
+pub returns-in-Some-clause-served : goal.returns-in-Some-clause-served
+returns-in-Some-clause-served g c = λ changes all.
+    let mid = c.accept.new.self in
+    let session = c.in-Ok.session in
+    let said = greeted_by (unwritten_at mid.clients session) in
+    let talks = subst (λ address. TalksTo changes mid session address said []) (c.octets.ensures ∙ ap ipv4_octets c.ip.ensures) (c.in-Ok.ensures.talks changes) in
+    served.opens_one changes c.args.peer c.args.self.now.clients c.args.relay.now mid c.greet.new.relay session said talks c.in-Ok.ensures.free c.in-Ok.ensures.only c.in-Ok.ensures.records all
+    c.put.new.self c.in-Some.client c.in-Some.ensures.greeted.0 c.in-Some.ensures.greeted.1 (c.in-Some.ensures.said (λ none. cc none)) (c.put.ensures.there c.in-Ok.ensures.free.within) c.put.ensures.others
+
+pub returns-in_default-clause-served : goal.returns-in_default-clause-served
+returns-in_default-clause-served g c = λ changes all.
+    let mid = c.accept.new.self in
+    let session = c.in-Ok.session in
+    let said = greeted_by (unwritten_at mid.clients session) in
+    let talks = subst (λ address. TalksTo changes mid session address said []) (c.octets.ensures ∙ ap ipv4_octets c.ip.ensures) (c.in-Ok.ensures.talks changes) in
+    served.opens_freed changes c.args.peer c.args.self.now.clients c.args.relay.now mid c.greet.new.relay session said talks c.in-Ok.ensures.free c.in-Ok.ensures.only c.in-Ok.ensures.records all
+    (greeted_none session c.args.peer mid c.greet.new.relay c.greet.result c.greet.ensures.greeted c.in_default.not-Some)
