@@ -98,15 +98,9 @@ pub fn command<
             ended(status(alloc, system, file, prometheus, writer), errors)
         }
         Ok(Subcommand::Compact(file)) => ended(compact(alloc, system, file, writer), errors),
-        Ok(Subcommand::Check { file, route: None }) => {
-            answered(check(alloc, system, file, writer), errors)
+        Ok(Subcommand::Check { file, route }) => {
+            answered(look_into(alloc, system, file, route, writer), errors)
         }
-        Ok(
-            Subcommand::Check {
-                file,
-                route: Some(address),
-            },
-        ) => answered(show_route(alloc, system, file, address, writer), errors),
         Ok(Subcommand::Run { file, quiet }) => run_apart_from_its_log(
             alloc, system, file, quiet, writer, errors, log,
         ),
@@ -210,6 +204,21 @@ fn fail_to_run<F: Files<File = File>, E: Write>(
     status
 }
 
+/// Checks a configuration, or tells the next hop of an address by it. Answers whether a relay can run by it, or whether
+/// there is one.
+fn look_into<F: Files<File = File>, W: Write>(
+    alloc: Global,
+    system: &F,
+    file: &str,
+    route: Option<&str>,
+    writer: &mut W,
+) -> Result<bool, Fault> {
+    match route {
+        Some(address) => show_route(alloc, system, file, address, writer),
+        None => check(alloc, system, file, writer),
+    }
+}
+
 /// Plays a script to its end, and lets its relays go.
 fn play_script<R: Read, W: Write>(
     alloc: Global,
@@ -239,7 +248,7 @@ fn answered<E: Write>(answer: Result<bool, Fault>, errors: &mut E) -> u8
     match answer {
         Ok(true) => DONE,
         Ok(false) => FAULT,
-        Err(fault) => fail(errors, fault),
+        Err(why) => fail(errors, why),
     }
 }
 
