@@ -4,12 +4,13 @@ SHELL := bash
 
 .PHONY: test demo interop hostile bench load instructions relayd relay_node_tests
 
-# The whole gate: the sample configuration beside its tested copy; then every proof from nothing, the edits that must
-# fail and the tests, so many side by side as tools/lanes.sh says (RT_JOBS, where it is given); then the programs that
-# these have built, over two pipes, streams that fail and sockets, short of memory, and on a device that fails. The
-# gate's own last line is the last.
+# The whole gate: the sample configuration and a play beside their tested copies; then every proof from nothing, the
+# edits that must fail and the tests, so many side by side as tools/lanes.sh says (RT_JOBS, where it is given); then the
+# programs that these have built, over two pipes, streams that fail and sockets, short of memory, and on a device that
+# fails. The gate's own last line is the last.
 test:
 	cmp relayd.toml crates/relay_rows_tests/data/relayd.toml
+	cmp docs/plays/lost_reply.play crates/relay_pair_tests/data/lost_reply.play
 	mkdir -p build
 	rm -rf build/lanes
 	RT_JOBS=$$(tools/lanes.sh) rt ci | tee build/gate.log
