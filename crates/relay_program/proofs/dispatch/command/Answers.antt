@@ -19,7 +19,7 @@ pub returns-in-Err-clause-session : goal.returns-in-Err-clause-session
 returns-in-Err-clause-session g c = λ ask.
     let has : HasKind _ c.in-Err.error = search rules in
     let out = only_memory c.in-Err.error _ has ask.0 in
-    let same = c.explain.ensures.writer (λ e. absurd (cc)) in
+    let same = c.explain.ensures.writer (λ e. absurd (cc)) (λ e. absurd (cc)) in
     let status = c.explain.ensures.memory out in
     record {
       served = λ done. absurd (not_both status done);
