@@ -1,7 +1,7 @@
 //! Links of a node over memory. By the rows of data/rounds.in rounds of links, each on a thread of its own, give
 //! messages to one node, which has room for all of them or for few, or whose device fails; then two links wait for
-//! each other; and then each read, write and flush of one link fails in turn. What these come to is the same whatever
-//! the threads' order was.
+//! each other; and then each read, write and flush of one link fails in turn, and one link's node has no number left
+//! for a change. What these come to is the same whatever the threads' order was.
 //!
 //! By the rows of data/links.in a node takes one message by a link without a thread, and hands it on by another: from
 //! a client and to a next hop that give their octets in pieces of any length, and over connections that end or fail
@@ -23,6 +23,7 @@ mod small;
 mod sockets;
 mod trial;
 
+use crate::told::{Told, print_told};
 use came::difference_of;
 use flushes::ends_where_a_flush_fails;
 use gate::two_links_wait_for_each_other;
@@ -87,39 +88,27 @@ fn play_round<T: Print + Threads + Wait + Sync>(
     } else {
         "it came otherwise"
     };
-    println!(rt; "{line}: {end}")?;
-    Ok(())
+    Ok(println!(rt; "{line}: {end}")?)
 }
 
 /// Plays a row of a link without a thread, and prints a line for it.
 fn play_link(rt: &HostRuntime, line: &str) -> Result<(), Fail> {
+    let mut told = Told::new(rt.alloc());
     match difference_of(rt.alloc(), trial::Row::read(line))? {
-        Some(number) => println!(rt; "{line}: differs at {number}")?,
-        None => println!(rt; "{line}: as written down")?,
+        Some(number) => told.count("differs at ", number as u64),
+        None => told.say("as written down"),
     }
-    Ok(())
+    print_told(rt, line, ": ", &told)
 }
 
 /// Prints a line for each row of sockets and flushes.
 fn show_streams(rt: &HostRuntime) -> Result<(), Fail> {
-    let rows = [
-        (
-            "a client is answered over a socket",
-            is_answered_over_a_socket(rt.alloc(), rt)?,
-        ),
-        (
-            "a hop is handed mail over a socket",
-            is_handed_mail_over_a_socket(rt.alloc(), rt)?,
-        ),
-        (
-            "a flush that fails ends the session",
-            ends_where_a_flush_fails(rt.alloc())?,
-        ),
-    ];
-    for (row, holds) in rows {
-        say(rt, row, holds)?;
-    }
-    Ok(())
+    let is_answered = is_answered_over_a_socket(rt.alloc(), rt)?;
+    say(rt, "a client is answered over a socket", is_answered)?;
+    let is_handed = is_handed_mail_over_a_socket(rt.alloc(), rt)?;
+    say(rt, "a hop is handed mail over a socket", is_handed)?;
+    let ends = ends_where_a_flush_fails(rt.alloc())?;
+    Ok(say(rt, "a flush that fails ends the session", ends)?)
 }
 
 /// Prints the line of a row.

@@ -1,8 +1,8 @@
 //! Plays each scenario of data/ on a node over memory: in one piece, with what the other sides say cut in
 //! two at each octet, octet by octet, and in one piece among so many other clients that 64 are there; or, where
 //! a device fails, for each call and each stop. What comes of each event is compared with what is written down. Then
-//! it shows the scenes of a relay without a socket, and rounds and links over the node, and runs each measurement of
-//! bench/ on a few octets.
+//! it shows the scenes of a relay without a socket, rounds and links over the node, and calls of nodes of which one
+//! call of the disks fails, and runs each measurement of bench/ on a few octets.
 //!
 //! By the word `sessions`, `chunks`, `report` or `compactions` it plays what tests/node_without_memory.sh refuses each
 //! allocation of in turn, by `three` what tests/groups_without_memory.sh does, and by `small` a round of links, as
@@ -18,6 +18,7 @@ mod crowd;
 mod dialogues;
 mod escape;
 mod hub;
+mod once;
 mod pushed;
 mod refused;
 mod scenario;
@@ -26,12 +27,14 @@ mod scenes;
 mod stage;
 mod step;
 mod talk;
+mod told;
 mod trial;
 mod words;
 
 use bench::{measure_each, measure_named};
 use dialogues::dialogues;
 use hub::{play_rounds, play_small, show_links};
+use once::show_once;
 use refused::{chunks, compactions, report, sessions};
 use scenario::Scenario;
 use scenes::{show_scenes, show_three};
@@ -40,19 +43,9 @@ use std::{env, fs};
 use trial::difference_of;
 
 /// The files of scenarios.
-const FILES: [&str; 11] = [
-    "receiving",
-    "sessions",
-    "stops",
-    "passing",
-    "retrying",
-    "moments",
-    "delay",
-    "compaction",
-    "compaction_refused",
-    "compaction_stops",
-    "wrong",
-];
+const FILES: &str =
+    "receiving sessions stops passing retrying moments delay compaction compaction_refused \
+compaction_stops full wrong";
 
 /// Without a word all is played that lies where the program runs. A word that is none of these is the folder of the
 /// scenarios of a node.
@@ -90,9 +83,10 @@ fn play_node(rt: &HostRuntime) -> Result<(), Fail> {
     show_scenes(rt)
 }
 
-/// Shows the links without a thread, and each measurement.
+/// Shows the links without a thread, the disks of which a call fails once, and each measurement.
 fn show_rest(rt: &HostRuntime) -> Result<(), Fail> {
     show_links(rt)?;
+    show_once(rt)?;
     measure_each(rt)
 }
 
@@ -107,7 +101,7 @@ fn word_of(words: &[String], place: usize) -> &str {
 /// Plays the scenarios of a folder. It fails where one differs.
 fn play_files(rt: &HostRuntime, folder: &str) -> Result<(), Fail> {
     let mut are_right = true;
-    for file in FILES {
+    for file in FILES.split(' ') {
         let path = format!(in rt.alloc(); "{folder}/{file}.in")?;
         are_right = play_file(rt, path.as_str())? && are_right;
     }

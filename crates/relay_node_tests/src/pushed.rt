@@ -1,95 +1,99 @@
-//! Three places that go three ways, with each call printed.
+//! Three places that go three ways, with each call told.
 use crate::calls::{MemoryNode, due, marks, next_number, reply, start, take_noted};
-use crate::refused::print_handed;
+use crate::refused::{tell_fault, tell_handed, tell_next};
+use crate::told::Told;
 use relay_node::{Noted, Work};
 use relay_routes::HostName;
 use relay_trace::Moment;
-use std::test::Fail;
 
 /// What a next hop with DSN says that takes the first of three recipients, refuses the second, and may take
 /// the third later.
 const SAID: &[u8] =
     b"220 n\r\n250-n\r\n250 DSN\r\n250 ok\r\n250 ok\r\n550 no\r\n552 full\r\n354 go\r\n250 ok\r\n";
 
-/// Tries the one message of a node until that has led to a change, twice at most. It prints what came of
+/// Tries the one message of a node until that has led to a change, twice at most. It tells what came of
 /// each call, and in the end the places that are held and the record of the change.
-pub fn push(rt: &HostRuntime, node: &mut MemoryNode, now: Moment) -> Result<(), Fail> {
+pub fn push(node: &mut MemoryNode, told: &mut Told, now: Moment) {
     for _ in 0..2 {
         if next_number(node) == 2 {
-            push_due(rt, node, now)?;
-            print_held(rt, node)?;
+            push_due(node, told, now);
+            tell_held(told, node);
         }
     }
-    print_held(rt, node)?;
-    match take_noted(node) {
-        Some(noted) => print_noted(rt, &noted),
-        None => Ok(()),
+    tell_held(told, node);
+    if let Some(noted) = take_noted(node) {
+        tell_noted(told, &noted);
     }
 }
 
 /// Tries what is due, after which no attempt is there.
-fn push_due(rt: &HostRuntime, node: &mut MemoryNode, now: Moment) -> Result<(), Fail> {
-    match due(rt.alloc(), node, now) {
+fn push_due(node: &mut MemoryNode, told: &mut Told, now: Moment) {
+    match due(told.alloc, node, now) {
         Ok(works) => {
             for work in works.as_slice() {
                 if let Work::Try(number, hop) = work {
-                    push_to(rt, node, *number, hop, now)?;
+                    push_to(node, told, *number, hop, now);
                 }
             }
         }
-        Err(fault) => println!(rt; "due: {fault}")?,
+        Err(fault) => {
+            tell_fault(told, "due: ", fault);
+            told.say("\n");
+        }
     }
-    answer(rt, node, 0, b"", now)
+    answer(node, told, 0, b"", now);
 }
 
 /// Tries a message for a hop.
-fn push_to(
-    rt: &HostRuntime,
-    node: &mut MemoryNode,
-    number: u64,
-    hop: &HostName,
-    now: Moment,
-) -> Result<(), Fail> {
+fn push_to(node: &mut MemoryNode, told: &mut Told, number: u64, hop: &HostName, now: Moment) {
+    told.count("message ", number);
     match start(node, number, hop, now) {
         Ok(started) => {
-            println!(rt; "message {number}: {} places", started.places.len())?;
-            answer(rt, node, started.attempt, SAID, now)
+            told.count(": ", started.places.len() as u64);
+            told.say(" places\n");
+            answer(node, told, started.attempt, SAID, now);
         }
-        Err(fault) => Ok(println!(rt; "message {number}: {fault}")?),
+        Err(fault) => {
+            tell_fault(told, ": ", fault);
+            told.say("\n");
+        }
     }
 }
 
 /// Answers an attempt.
-fn answer(
-    rt: &HostRuntime,
-    node: &mut MemoryNode,
-    attempt: usize,
-    said: &[u8],
-    now: Moment,
-) -> Result<(), Fail> {
+fn answer(node: &mut MemoryNode, told: &mut Told, attempt: usize, said: &[u8], now: Moment) {
     let handed = reply(node, attempt, said, now);
-    print_handed(rt, "attempt", attempt, handed)
+    tell_handed(told, "attempt ", attempt, handed);
 }
 
-/// Prints the number of the next change, and the places that are held.
-fn print_held(rt: &HostRuntime, node: &MemoryNode) -> Result<(), Fail> {
-    println!(rt; "the next change is {}", next_number(node))?;
-    match marks(rt.alloc(), node) {
+/// Tells the number of the next change, and the places that are held.
+fn tell_held(told: &mut Told, node: &MemoryNode) {
+    tell_next(told, node);
+    match marks(told.alloc, node) {
         Ok(marks) => {
             for (number, place) in marks.as_slice() {
-                println!(rt; "held: {number} {place}")?;
+                told.count("held: ", *number);
+                told.count(" ", u64::from(*place));
+                told.say("\n");
             }
         }
-        Err(fault) => println!(rt; "held: {fault}")?,
+        Err(fault) => {
+            tell_fault(told, "held: ", fault);
+            told.say("\n");
+        }
     }
-    Ok(())
 }
 
-/// Prints the record of a change, octet by octet.
-fn print_noted(rt: &HostRuntime, noted: &Noted) -> Result<(), Fail> {
-    println!(rt; "change {}, report {}:", noted.number, noted.report)?;
+/// Tells the record of a change, octet by octet.
+fn tell_noted(told: &mut Told, noted: &Noted) {
+    told.count("change ", noted.number);
+    told.say(if noted.report {
+        ", report true:\n"
+    } else {
+        ", report false:\n"
+    });
     for octet in noted.octets.as_slice() {
-        print!(rt; "{octet:02x}")?;
+        told.hex(*octet);
     }
-    Ok(println!(rt;)?)
+    told.say("\n");
 }

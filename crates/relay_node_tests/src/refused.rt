@@ -1,16 +1,22 @@
-//! What tests/node_without_memory.sh refuses each allocation of in turn. From the first line that is printed
-//! on, nothing here takes memory but the node.
+//! What tests/node_without_memory.sh refuses each allocation of in turn. From the first line that is told on, nothing
+//! here takes memory but the node: the lines have room from the start. They are printed in the end, and where it gives
+//! up.
 use crate::calls::{
     Handed, MemoryNode, compact, connect, empty_node, first_moment, marks, next_number, receive,
     stop_and_open,
 };
 use crate::pushed::push;
+use crate::told::{Told, print_told};
 use relay_node::NodeFault;
 use relay_trace::Moment;
+use std::alloc::AllocError;
 use std::test::Fail;
 
+/// How many octets the lines have at most.
+const ROOM: usize = 16_384;
+
 /// A client that gives mail without content.
-const MAIL: &[u8] =
+pub const MAIL: &[u8] =
     b"HELO x\r\nMAIL FROM:<a@example.org>\r\nRCPT TO:<b@example.org>\r\nDATA\r\n.\r\n";
 
 /// A client that gives mail in three chunks, with a command between them that is refused.
@@ -39,115 +45,144 @@ pub fn chunks(rt: &HostRuntime) -> Result<(), Fail> {
 /// Two sessions on one node: each gives this mail, and then quits; then the node stops, and is opened again. It prints
 /// what came of each piece, and what is held in the end.
 fn two_sessions(rt: &HostRuntime, mail: &[u8]) -> Result<(), Fail> {
+    let mut told = lines(rt)?;
     let mut node = empty_node(rt.alloc())?;
-    give_in_turn(rt, &mut node, mail)?;
-    open_again(rt, node)
+    give_in_turn(&mut node, &mut told, mail)?;
+    open_again(rt, node, &mut told)
+}
+
+/// Lines with room.
+fn lines(rt: &HostRuntime) -> Result<Told, AllocError> {
+    let mut told = Told::new(rt.alloc());
+    told.text.try_reserve(ROOM)?;
+    Ok(told)
 }
 
 /// Two sessions, of which each gives this mail, and then each quits.
-fn give_in_turn(rt: &HostRuntime, node: &mut MemoryNode, mail: &[u8]) -> Result<(), Fail> {
-    let first = session(node)?;
-    let second = session(node)?;
-    for (session, piece) in [(first, mail), (second, mail), (first, QUIT), (second, QUIT)] {
-        give(rt, node, session, piece)?;
-    }
-    Ok(println!(rt; "the next change is {}", next_number(node))?)
+fn give_in_turn(node: &mut MemoryNode, told: &mut Told, mail: &[u8]) -> Result<(), NodeFault> {
+    let first = connect(node)?.session;
+    let second = connect(node)?.session;
+    give(node, told, first, mail);
+    give(node, told, second, mail);
+    give(node, told, first, QUIT);
+    give(node, told, second, QUIT);
+    tell_next(told, node);
+    Ok(())
 }
 
 /// One message whose three places go three ways at one attempt, with a report of one of them; then the node stops, and
 /// is opened again. What was refused for want of memory is tried once more. It prints what came of each call, and what
 /// is held in the end.
 pub fn report(rt: &HostRuntime) -> Result<(), Fail> {
+    let mut told = lines(rt)?;
     let mut node = empty_node(rt.alloc())?;
     take_mail(&mut node, MAIL_FOR_THREE)?;
-    push(rt, &mut node, Moment::new(1000)?)?;
-    open_again(rt, node)
+    push(&mut node, &mut told, Moment::new(1000)?);
+    open_again(rt, node, &mut told)
 }
 
 /// A spool that is written anew twice behind a message, and a session that gives another behind that; then the node
 /// stops, and is opened again. It prints what came of each call but the first message's, and what is held in the end.
 pub fn compactions(rt: &HostRuntime) -> Result<(), Fail> {
+    let mut told = lines(rt)?;
     let mut node = empty_node(rt.alloc())?;
-    compact_twice(rt, &mut node)?;
-    open_again(rt, node)
+    let session = take_mail(&mut node, MAIL)?;
+    compact_twice(&mut node, &mut told, session);
+    open_again(rt, node, &mut told)
 }
 
-/// A message, two compactions, another message, and the end of its session.
-fn compact_twice(rt: &HostRuntime, node: &mut MemoryNode) -> Result<(), Fail> {
-    let session = take_mail(node, MAIL)?;
-    for _ in 0..2 {
-        write_anew(rt, node)?;
-    }
-    for piece in [MAIL, QUIT] {
-        give(rt, node, session, piece)?;
-    }
-    Ok(println!(rt; "the next change is {}", next_number(node))?)
+/// Two compactions, another message, and the end of its session.
+fn compact_twice(node: &mut MemoryNode, told: &mut Told, session: usize) {
+    write_anew(node, told);
+    write_anew(node, told);
+    give(node, told, session, MAIL);
+    give(node, told, session, QUIT);
+    tell_next(told, node);
 }
 
 /// The number of a session that has given this mail.
-fn take_mail(node: &mut MemoryNode, mail: &[u8]) -> Result<usize, Fail> {
-    let session = session(node)?;
-    match receive(node, session, mail, first_moment()) {
-        Ok(_) => Ok(session),
-        Err(_) => Err(Fail::new("no mail")),
+pub fn take_mail(node: &mut MemoryNode, mail: &[u8]) -> Result<usize, NodeFault> {
+    let session = connect(node)?.session;
+    receive(node, session, mail, first_moment())?;
+    Ok(session)
+}
+
+/// Stops the node, opens it again, and tells the number of its next change and the places that are held. Then it prints
+/// the lines.
+fn open_again(rt: &HostRuntime, node: MemoryNode, told: &mut Told) -> Result<(), Fail> {
+    match stop_and_open(rt.alloc(), node) {
+        Some(node) => {
+            tell_opened(told, &node);
+            print_told(rt, "", "", told)
+        }
+        None => {
+            print_told(rt, "", "", told)?;
+            Err(Fail::new("not opened again"))
+        }
     }
 }
 
-/// Stops the node, opens it again, and prints the number of its next change and the places that are held.
-fn open_again(rt: &HostRuntime, node: MemoryNode) -> Result<(), Fail> {
-    let Some(node) = stop_and_open(rt.alloc(), node) else {
-        return Err(Fail::new("not opened again"));
-    };
-    let held = match marks(rt.alloc(), &node) {
+/// Tells the number of the next change and the places that are held. Where memory runs out for these, they are asked
+/// for once more.
+fn tell_opened(told: &mut Told, node: &MemoryNode) {
+    told.count("opened again: the next change is ", next_number(node));
+    let held = match marks(told.alloc, node) {
         Ok(held) => held,
-        Err(_) => marks(rt.alloc(), &node).unwrap_or(Vec::new(rt.alloc())),
+        Err(_) => marks(told.alloc, node).unwrap_or(Vec::new(told.alloc)),
     };
-    println!(rt; "opened again: the next change is {}", next_number(&node))?;
     for (number, place) in held.as_slice() {
-        println!(rt; "held again: {number} {place}")?;
+        told.count("\nheld again: ", *number);
+        told.count(" ", u64::from(*place));
     }
-    Ok(())
 }
 
-/// Writes the spool anew, and prints its sizes before and behind that.
-fn write_anew(rt: &HostRuntime, node: &mut MemoryNode) -> Result<(), Fail> {
+/// Writes the spool anew, and tells its sizes before and behind that.
+fn write_anew(node: &mut MemoryNode, told: &mut Told) {
     match compact(node) {
-        Ok((before, after)) => println!(rt; "compact: {before} {after}")?,
-        Err(fault) => println!(rt; "compact: {fault}")?,
+        Ok((before, after)) => {
+            told.count("compact: ", before as u64);
+            told.count(" ", after as u64);
+        }
+        Err(fault) => tell_fault(told, "compact: ", fault),
     }
-    Ok(())
+    told.say("\n");
 }
 
-/// Connects a client, and gives the number of its session.
-fn session(node: &mut MemoryNode) -> Result<usize, Fail> {
-    match connect(node) {
-        Ok(connected) => Ok(connected.session),
-        Err(_) => Err(Fail::new("not connected")),
-    }
-}
-
-/// Gives a session a piece, and prints what came of it.
-fn give(rt: &HostRuntime, node: &mut MemoryNode, session: usize, piece: &[u8]) -> Result<(), Fail> {
+/// Gives a session a piece, and tells what came of it.
+fn give(node: &mut MemoryNode, told: &mut Told, session: usize, piece: &[u8]) {
     let handed = receive(node, session, piece, first_moment());
-    print_handed(rt, "session", session, handed)
+    tell_handed(told, "session ", session, handed);
 }
 
-/// Prints what came of a piece.
-pub fn print_handed(
-    rt: &HostRuntime,
-    word: &str,
-    number: usize,
-    handed: Result<Handed, NodeFault>,
-) -> Result<(), Fail> {
+/// Tells the line of the number of the next change.
+pub fn tell_next(told: &mut Told, node: &MemoryNode) {
+    told.count("the next change is ", next_number(node));
+    told.say("\n");
+}
+
+/// Tells a fault behind these words.
+pub fn tell_fault(told: &mut Told, words: &str, fault: NodeFault) {
+    told.say(words);
+    told.show(&fault);
+}
+
+/// Tells the line of what came of a piece.
+pub fn tell_handed(told: &mut Told, words: &str, number: usize, handed: Result<Handed, NodeFault>) {
+    told.count(words, number as u64);
     match handed {
-        Ok(handed) => println!(rt;
-            "{word} {number}: {} octets used, {} out, change {}, close {}",
-            handed.used,
-            handed.out.len(),
-            handed.change.unwrap_or(0),
-            handed.is_closed
-        )?,
-        Err(fault) => println!(rt; "{word} {number}: {fault}")?,
+        Ok(handed) => {
+            told.count(": ", handed.used as u64);
+            told.count(" octets used, ", handed.out.len() as u64);
+            told.count(" out, change ", handed.change.unwrap_or(0));
+            told.say(if handed.is_closed {
+                ", close true\n"
+            } else {
+                ", close false\n"
+            });
+        }
+        Err(fault) => {
+            tell_fault(told, ": ", fault);
+            told.say("\n");
+        }
     }
-    Ok(())
 }

@@ -7,6 +7,8 @@ mod step;
 mod talk;
 mod want;
 
+use crate::told::{Told, print_told};
+use crate::words::Words;
 use setup::{MemoryRelay, WIDE, relay_with};
 use std::fs;
 use std::test::Fail;
@@ -16,7 +18,11 @@ use want::{Came, three_at_once};
 /// Takes each step of the scenes.
 pub fn show_scenes(rt: &HostRuntime) -> Result<(), Fail> {
     let scenes = fs::read_to_string(rt, "scenes.in")?;
-    play_scenes(rt, scenes.as_str())
+    let mut relay = relay_with(rt.alloc(), WIDE, None)?;
+    for line in scenes.as_str().lines() {
+        play_line(rt, &mut relay, line)?;
+    }
+    Ok(())
 }
 
 /// Prints what came of three messages at once.
@@ -29,28 +35,20 @@ pub fn show_three(rt: &HostRuntime) -> Result<(), Fail> {
     Ok(())
 }
 
-/// Takes each step. A line that begins with `#` says what the next ones show, and stands as it is; `relay LIMIT`, and
+/// Takes a step. A line that begins with `#` says what the next ones show, and stands as it is; `relay LIMIT`, and
 /// `relay LIMIT CALLS`, begin with a relay without mail, of a spool of so many octets, on a device that takes so many
 /// calls and no more. `\r\n` stands for CR LF in a step and in its answer.
-fn play_scenes(rt: &HostRuntime, scenes: &str) -> Result<(), Fail> {
-    let mut relay = relay_with(rt.alloc(), WIDE, None)?;
-    for line in scenes.lines() {
-        play_line(rt, &mut relay, line)?;
-    }
-    Ok(())
-}
-
 fn play_line(rt: &HostRuntime, relay: &mut MemoryRelay, line: &str) -> Result<(), Fail> {
-    if line.starts_with("#") {
-        return Ok(println!(rt; "{line}")?);
+    let mut told = Told::new(rt.alloc());
+    if line.starts_with('#') {
+        return print_told(rt, line, "", &told);
     }
-    if let Some(words) = line.strip_prefix("relay ") {
-        let (limit, calls) = words.split_once(' ').unwrap_or((words, "-"));
-        *relay = relay_with(rt.alloc(), limit.parse::<u64>()?, calls.parse::<u64>().ok())?;
+    if let Some(rest) = line.strip_prefix("relay ") {
+        let mut words = Words { rest };
+        *relay = relay_with(rt.alloc(), words.number(), words.word().parse::<u64>().ok())?;
         return Ok(());
     }
     let step = line.replace(rt.alloc(), "\\r\\n", "\r\n")?;
-    let mut answer = String::new(rt.alloc());
-    take_step(rt.alloc(), relay, step.as_str(), &mut answer)?;
-    Ok(println!(rt; "{line}: {answer}")?)
+    take_step(relay, step.as_str(), &mut told);
+    print_told(rt, line, ": ", &told)
 }

@@ -1,4 +1,5 @@
 use crate::bench::mail::envelope_of;
+use crate::told::Told;
 use relay_body::ends_in_line_end;
 use relay_client::{Attempt, MailObject};
 use relay_envelope::Envelope;
@@ -34,17 +35,20 @@ const SENDER_OK: &[u8] = b"250 sender OK\r\n";
 const PLACES: u8 = 100;
 
 /// Hands a text on so many times: by DATA where it ends in CR LF, and else by BDAT.
-pub fn hand_texts_on(alloc: Global, times: u64, text: &[u8]) -> Result<String, Fail> {
-    let envelope = envelope_of(alloc, 1)?;
+pub fn hand_texts_on(told: &mut Told, times: u64, text: &[u8]) -> Result<(), Fail> {
+    let envelope = envelope_of(told.alloc, 1)?;
     let mut octets: u64 = 0;
     for _ in 0..times {
-        octets = octets.saturating_add(hand_on(alloc, &envelope, text)?);
+        octets = octets.saturating_add(hand_on(told.alloc, &envelope, text)?);
     }
-    Ok(format!(in alloc; "attempts: {octets} octets written, in {times} times")?)
+    told.count("", octets);
+    told.count(" octets written, in ", times);
+    told.say(" times");
+    Ok(())
 }
 
 /// Hands the text on once, and gives how many octets were written.
-fn hand_on(alloc: Global, envelope: &Envelope, stored_text: &[u8]) -> Result<u64, Fail> {
+fn hand_on(alloc: Global, envelope: &Envelope, stored_text: &[u8]) -> Result<u64, AllocError> {
     let mail = MailObject {
         envelope,
         stored_text,
@@ -73,27 +77,29 @@ fn count_written(
 }
 
 /// An attempt to hand a message on for its first places.
-fn attempt_of(alloc: Global, count: u8) -> Result<Attempt, Fail> {
-    let mut places = Vec::with_capacity(alloc, usize::from(count))?;
+fn attempt_of(alloc: Global, count: u8) -> Result<Attempt, AllocError> {
+    let mut places = Vec::new(alloc);
     for place in 0..count {
         places.push(place)?;
     }
-    Ok(Attempt::begin(alloc, b"relay.example", places)?)
+    Attempt::begin(alloc, b"relay.example", places)
 }
 
 /// Lets so many attempts with 100 places wait.
-pub fn hold_attempts(alloc: Global, count: u64) -> Result<String, Fail> {
-    let envelope = envelope_of(alloc, PLACES)?;
-    let mut held: Vec<Attempt> = Vec::new(alloc);
+pub fn hold_attempts(told: &mut Told, count: u64) -> Result<(), Fail> {
+    let envelope = envelope_of(told.alloc, PLACES)?;
+    let mut held: Vec<Attempt> = Vec::new(told.alloc);
     for _ in 0..count {
-        held.push(waiting(alloc, &envelope)?)?;
+        held.push(waiting(told.alloc, &envelope)?)?;
     }
-    Ok(format!(in alloc; "waiting: {} attempts", held.len())?)
+    told.count("", held.len() as u64);
+    told.say(" attempts");
+    Ok(())
 }
 
 /// An attempt that waits for the reply to the last of its RCPTs. To the others the server said that they may be tried
 /// again.
-fn waiting(alloc: Global, envelope: &Envelope) -> Result<Attempt, Fail> {
+fn waiting(alloc: Global, envelope: &Envelope) -> Result<Attempt, AllocError> {
     let mail = MailObject {
         envelope,
         stored_text: b"y\r\n",

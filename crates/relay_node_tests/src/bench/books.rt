@@ -1,42 +1,40 @@
-use crate::bench::mail::{AT, accept_of};
+use crate::bench::mail::{AT, accept_of, moment};
+use crate::told::Told;
 use relay_book::{Book, Change, Outcome, Ruling, Rulings, Verdict, Version, decode_change};
 use relay_octets::Octets;
-use relay_trace::Moment;
-use std::alloc::Global;
+use std::alloc::{AllocError, Global};
 use std::test::Fail;
 
-/// Fills a book with so many messages of this text.
-pub fn fill_book(alloc: Global, count: u64, text: &[u8]) -> Result<String, Fail> {
-    let book = filled(alloc, count, text)?;
-    tell_held(alloc, "fill", &book, count)
-}
-
-/// Fills a book with so many messages of this text, and transfers each.
-pub fn drain_book(alloc: Global, count: u64, text: &[u8]) -> Result<String, Fail> {
-    let mut book = filled(alloc, count, text)?;
-    for number in 1..=count {
-        book.apply(alloc, transfer_of(alloc, number)?)?;
+/// Fills a book with so many messages of this text, and transfers each, if it is to be drained.
+pub fn fill_book(told: &mut Told, count: u64, text: &[u8], is_drained: bool) -> Result<(), Fail> {
+    let mut book = Book::new(told.alloc);
+    fill(told.alloc, &mut book, count, text)?;
+    if is_drained {
+        drain(told.alloc, &mut book, count)?;
     }
-    tell_held(alloc, "drain", &book, count)
+    let held = book.held(told.alloc)?.len();
+    told.count("", held as u64);
+    told.count(" places of ", count);
+    told.say(" messages");
+    Ok(())
 }
 
-/// A book with so many messages of this text.
-fn filled(alloc: Global, count: u64, text: &[u8]) -> Result<Book, Fail> {
-    let mut book = Book::new(alloc);
+fn fill(alloc: Global, book: &mut Book, count: u64, text: &[u8]) -> Result<(), Fail> {
     for _ in 0..count {
         book.apply(alloc, accept_of(alloc, text)?)?;
     }
-    Ok(book)
+    Ok(())
 }
 
-/// The line of how many places a book holds.
-fn tell_held(alloc: Global, name: &str, book: &Book, count: u64) -> Result<String, Fail> {
-    let held = book.held(alloc)?.len();
-    Ok(format!(in alloc; "{name}: {held} places of {count} messages")?)
+fn drain(alloc: Global, book: &mut Book, count: u64) -> Result<(), Fail> {
+    for number in 1..=count {
+        book.apply(alloc, transfer_of(alloc, number)?)?;
+    }
+    Ok(())
 }
 
 /// The outcome by which the place of a message goes on to a hop.
-fn transfer_of(alloc: Global, message: u64) -> Result<Change, Fail> {
+fn transfer_of(alloc: Global, message: u64) -> Result<Change, AllocError> {
     let mut rulings = Rulings::new(alloc);
     rulings.push(Ruling {
         place: 0,
@@ -45,7 +43,7 @@ fn transfer_of(alloc: Global, message: u64) -> Result<Change, Fail> {
     Ok(Change::Outcome(Outcome {
         version: Version::WithDelay,
         message,
-        at: Moment::new(AT)?,
+        at: moment(AT),
         hop: Octets::from_slice(alloc, b"next.example")?,
         rulings,
         report: Octets::new(Vec::new(alloc)),
@@ -53,12 +51,15 @@ fn transfer_of(alloc: Global, message: u64) -> Result<Change, Fail> {
 }
 
 /// Decodes a record so many times.
-pub fn decode_record(alloc: Global, times: u64, record: &[u8]) -> Result<String, Fail> {
+pub fn decode_record(told: &mut Told, times: u64, record: &[u8]) -> Result<(), Fail> {
     let mut octets: u64 = 0;
     for _ in 0..times {
-        octets = octets.saturating_add(text_of(alloc, record));
+        octets = octets.saturating_add(text_of(told.alloc, record));
     }
-    Ok(format!(in alloc; "decode: {octets} octets of text, in {times} times")?)
+    told.count("", octets);
+    told.count(" octets of text, in ", times);
+    told.say(" times");
+    Ok(())
 }
 
 /// How many octets of text an accept has that is decoded from a record.

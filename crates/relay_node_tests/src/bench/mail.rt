@@ -1,3 +1,4 @@
+use crate::calls::first_moment;
 use relay_book::{Accept, Change};
 use relay_envelope::{Envelope, Recipient, read_mail, read_rcpt};
 use relay_octets::Octets;
@@ -21,8 +22,13 @@ pub fn envelope_of(alloc: Global, count: u8) -> Result<Envelope, Fail> {
 /// A message for one recipient comes, with this text.
 pub fn accept_of(alloc: Global, text: &[u8]) -> Result<Change, Fail> {
     Ok(Change::Accept(Accept {
-        at: Moment::new(AT)?,
+        at: moment(AT),
         envelope: envelope_of(alloc, 1)?,
         stored_text: Octets::from_slice(alloc, text)?,
     }))
+}
+
+/// The moment of so many seconds, the first where there is none.
+pub fn moment(seconds: u64) -> Moment {
+    Moment::new(seconds).unwrap_or(first_moment())
 }

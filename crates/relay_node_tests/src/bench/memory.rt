@@ -1,12 +1,14 @@
+use crate::told::Told;
 use std::fs;
 use std::test::Fail;
 
-/// The line of this process's status that says how much memory it had at most.
-pub fn peak_line(rt: &HostRuntime) -> Result<String, Fail> {
+/// Tells the line of this process's status that says how much memory it had at most.
+pub fn tell_peak(rt: &HostRuntime, told: &mut Told) -> Result<(), Fail> {
     let status = fs::read_to_string(rt, "/proc/self/status")?;
-    for line in status.lines() {
+    for line in status.as_str().lines() {
         if line.starts_with("VmHWM:") {
-            return Ok(format!(in rt.alloc(); "{line}")?);
+            told.say(line);
+            return Ok(());
         }
     }
     Err(Fail::new("this system doesn't say how much memory a process had"))

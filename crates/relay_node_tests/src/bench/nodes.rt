@@ -1,6 +1,8 @@
 use crate::bench::disks::files;
+use crate::bench::mail::moment;
 use crate::calls::{CLIENT, config_of, first_moment};
-use relay_disk::{Disks, FileDisk};
+use crate::told::Told;
+use relay_disk::FileDisk;
 use relay_node::Node;
 use relay_routes::Config;
 use relay_trace::Moment;
@@ -22,20 +24,28 @@ const KEYS: &str = "spool_limit = 549755813888";
 /// times on one session. The first ten come at the moment 0, and the others later.
 pub fn accept_messages(
     rt: &HostRuntime,
+    told: &mut Told,
     count: u64,
     transaction: &[u8],
     path: &str,
-) -> Result<String, Fail> {
-    let mut node = created(rt, files(rt, path)?)?;
+) -> Result<(), Fail> {
+    let mut node = created(rt, path)?;
     let queued = accept_each(&mut node, count, transaction)?;
-    let size = node.size();
-    Ok(format!(in rt.alloc(); "accepts: {queued} messages, {size} octets")?)
+    tell_messages(told, queued, &node);
+    Ok(())
+}
+
+/// Tells a number of messages, and how large the spool of a node is.
+pub fn tell_messages(told: &mut Told, count: u64, node: &Node<FileDisk>) {
+    told.count("", count);
+    told.count(" messages, ", node.size() as u64);
+    told.say(" octets");
 }
 
 /// Gives a node the commands and the content so many times, and counts the messages that were queued.
 fn accept_each(node: &mut Node<FileDisk>, count: u64, transaction: &[u8]) -> Result<u64, Fail> {
     let session = greeted(node)?;
-    let later = Moment::new(LATER)?;
+    let later = moment(LATER);
     let mut queued: u64 = 0;
     for turn in 0..count {
         let now = if turn < EARLY_MESSAGES {
@@ -49,21 +59,23 @@ fn accept_each(node: &mut Node<FileDisk>, count: u64, transaction: &[u8]) -> Res
 }
 
 /// Opens the node in these files, and tells the number of its next change.
-pub fn open_node(rt: &HostRuntime, path: &str) -> Result<String, Fail> {
-    let next = opened(rt, path)?.next_number();
-    Ok(format!(in rt.alloc(); "node: next number {next}")?)
+pub fn open_node(rt: &HostRuntime, told: &mut Told, path: &str) -> Result<(), Fail> {
+    told.count("next number ", opened(rt, path)?.next_number());
+    Ok(())
 }
 
 /// Opens the node in these files, and writes its spool anew.
-pub fn compact_node(rt: &HostRuntime, path: &str) -> Result<String, Fail> {
-    let mut node = opened(rt, path)?;
-    let (before, behind) = node.compact()?;
-    Ok(format!(in rt.alloc(); "compact: {before} octets, {behind} octets")?)
+pub fn compact_node(rt: &HostRuntime, told: &mut Told, path: &str) -> Result<(), Fail> {
+    let (before, behind) = opened(rt, path)?.compact()?;
+    told.count("", before as u64);
+    told.count(" octets, ", behind as u64);
+    told.say(" octets");
+    Ok(())
 }
 
-/// A node without mail, on disks that are to be empty.
-fn created(rt: &HostRuntime, disks: Disks<FileDisk>) -> Result<Node<FileDisk>, Fail> {
-    match Node::create(rt.alloc(), config(rt)?, disks) {
+/// A node without mail, on the files of this path, which are to be empty.
+fn created(rt: &HostRuntime, path: &str) -> Result<Node<FileDisk>, Fail> {
+    match Node::create(rt.alloc(), config(rt)?, files(rt, path)?) {
         Ok(node) => Ok(node),
         Err(not) => Err(Fail::new(not.cause)),
     }

@@ -1,7 +1,9 @@
-use crate::bench::nodes::{LATER, opened};
+use crate::bench::mail::moment;
+use crate::bench::nodes::{LATER, opened, tell_messages};
 use crate::calls::first_moment;
+use crate::told::Told;
 use relay_disk::FileDisk;
-use relay_node::{Node, Work};
+use relay_node::{Node, NodeFault, Work};
 use relay_routes::HostName;
 use relay_trace::Moment;
 use std::alloc::Global;
@@ -20,42 +22,57 @@ const REPLIES: [&[u8]; 4] = [
 ];
 
 /// Asks the node in these files so many times what there is to do, when ten messages are due at most.
-pub fn ask_for_works(rt: &HostRuntime, times: u64, path: &str) -> Result<String, Fail> {
+pub fn ask_for_works(
+    rt: &HostRuntime,
+    told: &mut Told,
+    times: u64,
+    path: &str,
+) -> Result<(), Fail> {
     let node = opened(rt, path)?;
-    let now = Moment::new(DUE)?;
     let mut works: u64 = 0;
     for _ in 0..times {
-        works = works.saturating_add(works_at(rt.alloc(), &node, now)?.len() as u64);
+        works = works.saturating_add(works_at(told.alloc, &node, moment(DUE))?.len() as u64);
     }
-    Ok(format!(in rt.alloc(); "works: {works} in {times} times")?)
+    told.count("", works);
+    told.count(" in ", times);
+    told.say(" times");
+    Ok(())
 }
 
 /// Begins so many times an attempt for each message of the node in these files that is due then, and loses it.
-pub fn begin_attempts(rt: &HostRuntime, times: u64, path: &str) -> Result<String, Fail> {
+pub fn begin_attempts(
+    rt: &HostRuntime,
+    told: &mut Told,
+    times: u64,
+    path: &str,
+) -> Result<(), Fail> {
     let mut node = opened(rt, path)?;
     let mut begun: u64 = 0;
     for _ in 0..times {
-        begun = begun.saturating_add(begin_and_lose(rt.alloc(), &mut node)?);
+        begun = begun.saturating_add(begin_and_lose(told.alloc, &mut node)?);
     }
-    Ok(format!(in rt.alloc(); "begins: {begun} attempts in {times} times")?)
+    told.count("", begun);
+    told.count(" attempts in ", times);
+    told.say(" times");
+    Ok(())
 }
 
 /// Hands each message of the node in these files to a next hop that takes it, one behind another.
-pub fn deliver_messages(rt: &HostRuntime, path: &str) -> Result<String, Fail> {
+pub fn deliver_messages(rt: &HostRuntime, told: &mut Told, path: &str) -> Result<(), Fail> {
     let mut node = opened(rt, path)?;
-    let delivered = deliver(rt.alloc(), &mut node)?;
-    let size = node.size();
-    Ok(format!(in rt.alloc(); "deliver: {delivered} messages, {size} octets")?)
+    let delivered = deliver(told.alloc, &mut node)?;
+    tell_messages(told, delivered, &node);
+    Ok(())
 }
 
 /// What there is to do at a moment.
-fn works_at(alloc: Global, node: &Node<FileDisk>, now: Moment) -> Result<Vec<Work>, Fail> {
-    Ok(node.due(alloc, now)?)
+fn works_at(alloc: Global, node: &Node<FileDisk>, now: Moment) -> Result<Vec<Work>, NodeFault> {
+    node.due(alloc, now)
 }
 
 /// Begins an attempt for each message that is due, and loses it at the moment 0.
-fn begin_and_lose(alloc: Global, node: &mut Node<FileDisk>) -> Result<u64, Fail> {
-    let now = Moment::new(DUE)?;
+fn begin_and_lose(alloc: Global, node: &mut Node<FileDisk>) -> Result<u64, NodeFault> {
+    let now = moment(DUE);
     let works = works_at(alloc, node, now)?;
     let mut begun: u64 = 0;
     for work in works.iter() {
@@ -69,8 +86,8 @@ fn begin_and_lose(alloc: Global, node: &mut Node<FileDisk>) -> Result<u64, Fail>
 }
 
 /// Hands each message on, and counts those of which the attempt ended with the last reply.
-fn deliver(alloc: Global, node: &mut Node<FileDisk>) -> Result<u64, Fail> {
-    let now = Moment::new(LATER)?;
+fn deliver(alloc: Global, node: &mut Node<FileDisk>) -> Result<u64, NodeFault> {
+    let now = moment(LATER);
     let works = works_at(alloc, node, now)?;
     let mut delivered: u64 = 0;
     for work in works.iter() {
@@ -89,7 +106,7 @@ fn hand_on(
     message: u64,
     hop: &HostName,
     now: Moment,
-) -> Result<bool, Fail> {
+) -> Result<bool, NodeFault> {
     let attempt = start(node, message, hop, now)?;
     let mut is_ended = false;
     for reply in REPLIES {
@@ -104,6 +121,6 @@ fn start(
     message: u64,
     hop: &HostName,
     now: Moment,
-) -> Result<usize, Fail> {
+) -> Result<usize, NodeFault> {
     Ok(node.start(message, hop, now)?.attempt)
 }

@@ -1,24 +1,33 @@
-use crate::bench::mail::{AT, accept_of};
-use relay_book::{Book, Ruling, Rulings, Verdict};
+use crate::bench::mail::{AT, accept_of, moment};
+use crate::told::Told;
+use relay_book::{Book, Message, Ruling, Rulings, Verdict};
 use relay_octets::Octets;
 use relay_report::{Report, report_if_due};
-use relay_trace::Moment;
-use std::alloc::Global;
+use std::alloc::{AllocError, Global};
 use std::test::Fail;
 
 /// Makes the report of a message's refusal so many times: report 2, which returns all of its stored text.
-pub fn make_reports(alloc: Global, times: u64, stored_text: &[u8]) -> Result<String, Fail> {
-    let mut book = Book::new(alloc);
-    book.apply(alloc, accept_of(alloc, stored_text)?)?;
-    let octets = count_octets(alloc, times, &book)?;
-    Ok(format!(in alloc; "reports: {octets} octets, in {times} times")?)
+pub fn make_reports(told: &mut Told, times: u64, stored_text: &[u8]) -> Result<(), Fail> {
+    let mut book = Book::new(told.alloc);
+    book.apply(told.alloc, accept_of(told.alloc, stored_text)?)?;
+    match book.message(1) {
+        Some(message) => {
+            told.count("", count_octets(told.alloc, times, &book, message)?);
+            told.count(" octets, in ", times);
+            told.say(" times");
+            Ok(())
+        }
+        None => Err(Fail::new("there is no message")),
+    }
 }
 
 /// Makes the report of message 1 so many times, and counts its octets.
-fn count_octets(alloc: Global, times: u64, book: &Book) -> Result<u64, Fail> {
-    let Some(message) = book.message(1) else {
-        return Err(Fail::new("there is no message"));
-    };
+fn count_octets(
+    alloc: Global,
+    times: u64,
+    book: &Book,
+    message: &Message,
+) -> Result<u64, AllocError> {
     let rulings = refusal(alloc)?;
     let report = Report {
         host: b"relay.example",
@@ -26,7 +35,7 @@ fn count_octets(alloc: Global, times: u64, book: &Book) -> Result<u64, Fail> {
         message,
         hop: b"next.example",
         rulings: rulings.as_slice(),
-        at: Moment::new(AT)?,
+        at: moment(AT),
     };
     let mut octets: u64 = 0;
     for _ in 0..times {
@@ -36,7 +45,7 @@ fn count_octets(alloc: Global, times: u64, book: &Book) -> Result<u64, Fail> {
 }
 
 /// The verdict of a hop that refused the place.
-fn refusal(alloc: Global) -> Result<Rulings, Fail> {
+fn refusal(alloc: Global) -> Result<Rulings, AllocError> {
     let text = Octets::from_slice(alloc, b"no such user")?;
     let mut rulings = Rulings::new(alloc);
     rulings.push(Ruling {

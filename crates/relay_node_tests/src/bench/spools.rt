@@ -1,52 +1,87 @@
 use crate::bench::disks::files;
-use relay_spool::{Opened, Spool};
+use crate::told::Told;
+use relay_disk::FileDisk;
+use relay_spool::Spool;
 use std::fs::{File, OpenOptions};
 use std::io;
 use std::os::unix::fs::FileExt;
 use std::test::Fail;
 
 /// Opens the spool in these files, and counts its bodies and their octets.
-pub fn open_spool(rt: &HostRuntime, path: &str) -> Result<String, Fail> {
-    let Ok(Opened { spool, bodies }) = Spool::open(rt.alloc(), files(rt, path)?) else {
-        return Err(Fail::new("the spool was refused"));
-    };
-    let size = spool.size();
-    let count = bodies.len();
-    Ok(format!(in rt.alloc(); "open: {count} bodies in {size} octets")?)
+pub fn open_spool(rt: &HostRuntime, told: &mut Told, path: &str) -> Result<(), Fail> {
+    match Spool::open(rt.alloc(), files(rt, path)?) {
+        Ok(opened) => {
+            told.count("", opened.bodies.len() as u64);
+            told.count(" bodies in ", opened.spool.size() as u64);
+            told.say(" octets");
+            Ok(())
+        }
+        Err(_) => Err(Fail::new("the spool was refused")),
+    }
 }
 
 /// Makes a spool in these files, which are to be empty, and appends a body so many times.
 pub fn append_bodies(
     rt: &HostRuntime,
+    told: &mut Told,
     times: u64,
     body: &[u8],
     path: &str,
-) -> Result<String, Fail> {
-    let Ok(mut spool) = Spool::create(rt.alloc(), files(rt, path)?) else {
-        return Err(Fail::new("the spool was refused"));
-    };
+) -> Result<(), Fail> {
+    match Spool::create(rt.alloc(), files(rt, path)?) {
+        Ok(spool) => append_each(told, spool, times, body),
+        Err(_) => Err(Fail::new("the spool was refused")),
+    }
+}
+
+/// Appends a body so many times.
+fn append_each(
+    told: &mut Told,
+    mut spool: Spool<FileDisk>,
+    times: u64,
+    body: &[u8],
+) -> Result<(), Fail> {
+    if !takes_each(&mut spool, times, body) {
+        return Err(Fail::new("a body was refused"));
+    }
+    told.count("", times);
+    told.count(" bodies, ", spool.size() as u64);
+    told.say(" octets");
+    Ok(())
+}
+
+/// Appends a body so many times, and says whether the spool took each.
+fn takes_each(spool: &mut Spool<FileDisk>, times: u64, body: &[u8]) -> bool {
     if u32::try_from(body.len()).is_err() {
-        return Err(Fail::new("the body is too long"));
+        return false;
     }
     for _ in 0..times {
         if !spool.is_live() || spool.append(body).is_err() {
-            return Err(Fail::new("a body was refused"));
+            return false;
         }
     }
-    let size = spool.size();
-    Ok(format!(in rt.alloc(); "append: {times} bodies, {size} octets")?)
+    true
 }
 
 /// Does on a bare file what the device does for so many appends that add as many octets each, and no more: the octets,
 /// a sync, an octet before them, a sync.
-pub fn sync_twice(rt: &HostRuntime, times: u64, octets: &[u8], path: &str) -> Result<String, Fail> {
+pub fn sync_twice(
+    rt: &HostRuntime,
+    told: &mut Told,
+    times: u64,
+    octets: &[u8],
+    path: &str,
+) -> Result<(), Fail> {
     let file = OpenOptions::new().write(true).create(true).open(rt, path)?;
     let mut place: u64 = 0;
     for _ in 0..times {
         sync_link(&file, place, octets)?;
         place = place.saturating_add(octets.len() as u64);
     }
-    Ok(format!(in rt.alloc(); "syncs: {times} times two, {place} octets")?)
+    told.count("", times);
+    told.count(" times two, ", place);
+    told.say(" octets");
+    Ok(())
 }
 
 /// Writes these octets behind a place, and then an octet there, with a sync behind each write.

@@ -1,15 +1,15 @@
-//! A link of a thread, of which each read, each write and each flush fails in turn.
+//! A link of a thread, of which each read, each write and each flush fails in turn, and one over a node that is full.
 ghost use Rattle.std.specs.Prelude.{◌≡◌, List};
 ghost use Rattle.relay_disk.specs.Memory.{memory_words};
 ghost use Rattle.relay_book.specs.declared.change.Change.{Change};
 ghost use Rattle.relay_hub.specs.Hub.{Answers};
 
 use crate::calls::{
-    CLIENT, MemoryNode, SPOOL_LIMIT, config_with, count_held, empty_node, first_moment,
+    CLIENT, MemoryNode, SPOOL_LIMIT, config_with, count_held, empty_node, first_moment, open,
 };
 use crate::hub::faulty::{BadCall, Held, Lines};
 use crate::hub::serving::word_of;
-use relay_disk::MemoryDisk;
+use relay_disk::{Disks, MemoryDisk};
 use relay_hub::{Hub, Opening, hub_link};
 use relay_links::LinkFault;
 use relay_routes::Config;
@@ -19,6 +19,10 @@ use std::marker::Brand;
 use std::sync::Wait;
 use std::sync::ledger::Blank;
 use std::test::Fail;
+
+/// A spool that is a snapshot alone: no message, and behind 2^62 the next number.
+const LAST: &[u8] =
+    b"RELAYQ01\x01\0\0\0\0\0\0\0\x01\x01\0\0\0\x0d\x05\x40\0\0\0\0\0\0\x01\0\0\0\0\0";
 
 /// What came of a link.
 #[derive(Clone, Copy)]
@@ -45,7 +49,7 @@ pub(crate) fn show_link_rows<T: Print + Wait>(rt: &T, alloc: Global) -> Result<(
     for number in 1..=8 {
         show_row(rt, alloc, "flush", number, BadCall::Flush(number))?;
     }
-    Ok(())
+    show_full(rt, alloc)
 }
 
 /// Prints the line of a call.
@@ -61,16 +65,40 @@ fn show_row<T: Print + Wait>(
         written,
         receipts,
         held,
-    } = came_of(rt, alloc, bad)?;
+    } = came_of(rt, alloc, empty_node(alloc)?, bad)?;
     Ok(println!(rt;
         "{call} {number} fails: {end}, octets {written}, receipts {receipts}, held {held}"
     )?)
 }
 
-/// Serves the client, by a link of which a call fails.
-fn came_of<T: Wait>(rt: &T, alloc: Global, bad: BadCall) -> Result<Came, Fail> {
+/// Prints the line of a link without a call that fails, over a node that has no number for a change any more.
+fn show_full<T: Print + Wait>(rt: &T, alloc: Global) -> Result<(), Fail> {
+    let Came {
+        end,
+        written,
+        receipts,
+        held,
+    } = came_of(rt, alloc, full_node(alloc)?, BadCall::Read(0))?;
+    Ok(println!(rt;
+        "no number is left: {end}, octets {written}, receipts {receipts}, held {held}"
+    )?)
+}
+
+/// A node without mail that has no number for a change any more.
+fn full_node(alloc: Global) -> Result<MemoryNode, Fail> {
+    let disks = Disks {
+        first: MemoryDisk::with_image(alloc, LAST)?,
+        second: MemoryDisk::new(alloc),
+    };
+    match open(alloc, config_with(alloc, SPOOL_LIMIT)?, disks) {
+        Ok(node) => Ok(node),
+        Err(_) => Err(Fail::new("not opened")),
+    }
+}
+
+/// Serves the client over this node, by a link of which a call fails.
+fn came_of<T: Wait>(rt: &T, alloc: Global, node: MemoryNode, bad: BadCall) -> Result<Came, Fail> {
     let config = config_with(alloc, SPOOL_LIMIT)?;
-    let node = empty_node(alloc)?;
     let mut reader = Lines { reads: 0, bad };
     let mut writer = Held {
         octets: Vec::new(alloc),

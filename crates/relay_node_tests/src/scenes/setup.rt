@@ -1,12 +1,12 @@
 //! A relay over memory at the first moment. Each call of it stands here alone, in a function without clauses: what
 //! calls these sees none of their contracts.
 use crate::calls::{CLIENT, due, empty_node_with, first_moment};
-use crate::escape::push_escaped;
+use crate::told::Told;
 use relay_disk::MemoryDisk;
 use relay_loop::{Answered, Group, Heard, Outbox, Piece, Relay, ReplyPiece};
 use relay_node::{NodeFault, Work};
 use relay_routes::HostName;
-use std::alloc::{AllocError, Global};
+use std::alloc::Global;
 use std::test::Fail;
 
 /// A relay on disks in memory.
@@ -53,17 +53,12 @@ pub(crate) fn end_client(relay: &mut MemoryRelay, session: usize) -> Result<Outb
     relay.end_client(session)
 }
 
-/// Writes all that waits for a client at the end of the text.
-pub(crate) fn write_to_client(
-    relay: &mut MemoryRelay,
-    session: usize,
-    told: &mut String,
-) -> Result<(), AllocError> {
+/// Tells all that waits for a client, which is written to it.
+pub(crate) fn write_to_client(relay: &mut MemoryRelay, session: usize, told: &mut Told) {
     let waiting = relay.to_client(session);
-    push_escaped(told, waiting)?;
+    told.escape(waiting);
     let count = waiting.len();
     relay.wrote_to_client(session, count);
-    Ok(())
 }
 
 pub(crate) fn reply(
@@ -78,27 +73,23 @@ pub(crate) fn lose(relay: &mut MemoryRelay, attempt: usize) -> Result<u64, NodeF
     relay.lose(attempt, first_moment())
 }
 
-/// Writes all that waits for a next hop at the end of the text.
-pub(crate) fn write_to_hop(
-    relay: &mut MemoryRelay,
-    attempt: usize,
-    told: &mut String,
-) -> Result<(), AllocError> {
+/// Tells all that waits for a next hop, which is written to it.
+pub(crate) fn write_to_hop(relay: &mut MemoryRelay, attempt: usize, told: &mut Told) {
     let waiting = relay.to_hop(attempt);
-    push_escaped(told, waiting)?;
+    told.escape(waiting);
     let count = waiting.len();
     relay.wrote_to_hop(attempt, count);
-    Ok(())
 }
 
 /// The number of the attempt that begins for the one work that is due.
-pub(crate) fn begin(alloc: Global, relay: &mut MemoryRelay) -> Result<usize, Fail> {
+/// It is unknown where nothing is due.
+pub(crate) fn begin(alloc: Global, relay: &mut MemoryRelay) -> Result<usize, NodeFault> {
     for work in due(alloc, relay.node(), first_moment())?.as_slice() {
         if let Work::Try(message, hop) = work {
-            return Ok(start(relay, *message, hop)?);
+            return start(relay, *message, hop);
         }
     }
-    Err(Fail::new("nothing is due"))
+    Err(NodeFault::Unknown)
 }
 
 fn start(relay: &mut MemoryRelay, message: u64, hop: &HostName) -> Result<usize, NodeFault> {

@@ -16,254 +16,216 @@
 //! - `count`: how many changes there are, and how many places are held;
 //! - `closing`: the lines by which the relay closes a connection by itself.
 use crate::calls::{count_changes, count_held};
-use crate::escape::push_escaped;
 use crate::scenes::setup::{MemoryRelay, accept, begin, end_client, lose, read, read_all, reply};
 use crate::scenes::talk::{Client, client_says, hop_says};
-use relay_loop::{Closing, Group, Outbox, Piece, ReplyPiece, closing_line};
+use crate::told::Told;
+use relay_loop::{Answered, Closing, Group, Heard, Outbox, Piece, ReplyPiece, closing_line};
 use relay_node::NodeFault;
-use std::alloc::{AllocError, Global};
-use std::test::Fail;
 
-/// The number that a word writes, and 0 where it is none.
-fn number_in(word: &str) -> usize {
-    word.parse::<usize>().unwrap_or(0)
-}
-
-/// The number at the front of this text, and what follows it.
+/// The number at the front of this text, 0 where there is none, and what follows it.
 fn numbered(text: &str) -> (usize, &str) {
     let (number, rest) = text.split_once(' ').unwrap_or((text, ""));
-    (number_in(number), rest)
+    (number.parse::<usize>().unwrap_or(0), rest)
 }
 
-/// Takes a step, and puts what came of it at the end of the text.
-pub(crate) fn take_step(
-    alloc: Global,
-    relay: &mut MemoryRelay,
-    step: &str,
-    text: &mut String,
-) -> Result<(), Fail> {
+/// Takes a step, and tells what came of it.
+pub(crate) fn take_step(relay: &mut MemoryRelay, step: &str, told: &mut Told) {
     let (word, rest) = step.split_once(' ').unwrap_or((step, ""));
-    let (number, octets) = numbered(rest);
+    let (number, text) = numbered(rest);
     match word {
-        "turn" => take_turns(alloc, relay, number, octets, text),
-        "begin" => Ok(tell_number(text, "", begin(alloc, relay)? as u64)?),
-        "count" => count(alloc, relay, text),
-        "say" => say(relay, number, octets.as_bytes(), text),
-        "hop" => say_to_hop(relay, number, octets.as_bytes(), text),
-        "group" => Ok(hear_group(alloc, relay, rest, text)?),
-        "closing" => Ok(closing_lines(alloc, relay, text)?),
-        _ => Ok(take_plain_step(relay, word, number, octets.as_bytes(), text)?),
+        "turn" => take_turns(relay, number, text, told),
+        "group" => hear_group(relay, rest, told),
+        "begin" => match begin(told.alloc, relay) {
+            Ok(attempt) => told.count("", attempt as u64),
+            Err(fault) => told.show(&fault),
+        },
+        "count" => count(relay, told),
+        "closing" => tell_closing(relay, told),
+        _ => take_plain_step(relay, word, number, text.as_bytes(), told),
     }
 }
 
-/// The same of a step that can fail for want of memory alone.
+/// The same of a step of one client or next hop.
 fn take_plain_step(
     relay: &mut MemoryRelay,
     word: &str,
     number: usize,
     octets: &[u8],
-    text: &mut String,
-) -> Result<(), AllocError> {
+    told: &mut Told,
+) {
     match word {
-        "accept" => accept_each(relay, number, text),
-        "read" => match read(relay, number, octets) {
-            Ok(heard) => tell_used(text, heard.used, heard.change, heard.last.as_ref()),
-            Err(fault) => tell_fault(text, fault),
-        },
-        "waits" => push_escaped(text, relay.to_client(number)),
+        "accept" => accept_each(relay, number, told),
+        "say" => say(relay, number, octets, told),
+        "hop" => say_to_hop(relay, number, octets, told),
+        "read" => tell_heard(told, &read(relay, number, octets)),
+        "reply" => tell_answered(told, &reply(relay, number, octets)),
+        "waits" => told.escape(relay.to_client(number)),
+        "awaits" => told.escape(relay.to_hop(number)),
         "end" => match end_client(relay, number) {
-            Ok(outbox) => push_escaped(text, outbox.as_slice()),
-            Err(fault) => tell_fault(text, fault),
+            Ok(outbox) => told.escape(outbox.as_slice()),
+            Err(fault) => told.show(&fault),
         },
-        "reply" => match reply(relay, number, octets) {
-            Ok(answered) => tell_used(text, answered.used, answered.change, answered.last.as_ref()),
-            Err(fault) => tell_fault(text, fault),
-        },
-        "awaits" => push_escaped(text, relay.to_hop(number)),
-        "lose" => match lose(relay, number) {
-            Ok(number) => tell_number(text, "change ", number),
-            Err(fault) => tell_fault(text, fault),
-        },
-        _ => text.push_str("no step"),
+        "lose" => tell_number(told, "change ", lose(relay, number)),
+        _ => told.say("no step"),
     }
 }
 
-fn accept_each(relay: &mut MemoryRelay, count: usize, text: &mut String) -> Result<(), AllocError> {
+fn accept_each(relay: &mut MemoryRelay, count: usize, told: &mut Told) {
     for turn in 0..count {
         if turn > 0 {
-            text.push_str(" ")?;
+            told.say(" ");
         }
         match accept(relay) {
-            Ok(session) => tell_number(text, "", session as u64)?,
-            Err(fault) => tell_fault(text, fault)?,
+            Ok(session) => told.count("", session as u64),
+            Err(fault) => told.show(&fault),
         }
     }
-    Ok(())
 }
 
-fn take_turns(
-    alloc: Global,
-    relay: &mut MemoryRelay,
-    first: usize,
-    rest: &str,
-    text: &mut String,
-) -> Result<(), Fail> {
+/// Each octet is said by each of the clients of these numbers in turn.
+fn take_turns(relay: &mut MemoryRelay, first: usize, rest: &str, told: &mut Told) {
     let (last, said) = numbered(rest);
-    let mut clients = Vec::new(alloc);
+    let mut clients = Vec::new(told.alloc);
     for session in first..=last {
-        let told = String::new(alloc);
-        clients.push(Client { session, told })?;
-    }
-    turn_by_turn(relay, said.as_bytes(), clients.as_mut_slice())?;
-    Ok(tell_each(text, clients.as_slice())?)
-}
-
-/// Each octet is said by each of these clients in turn.
-fn turn_by_turn(relay: &mut MemoryRelay, said: &[u8], clients: &mut [Client]) -> Result<(), Fail> {
-    for octet in said {
-        for client in &mut *clients {
-            client_says(relay, client.session, &[*octet], &mut client.told)?;
+        if clients.push(Client::new(told.alloc, session)).is_err() {
+            told.is_short = true;
         }
     }
-    Ok(())
+    for octet in said.as_bytes() {
+        for client in &mut clients {
+            client.says(relay, *octet);
+        }
+    }
+    tell_each(told, clients.as_slice());
 }
 
 /// What each of these clients was told.
-fn tell_each(text: &mut String, clients: &[Client]) -> Result<(), AllocError> {
+fn tell_each(told: &mut Told, clients: &[Client]) {
     for client in clients {
-        if !text.is_empty() {
-            text.push_str(" | ")?;
+        if !told.text.is_empty() {
+            told.say(" | ");
         }
-        text.push_str(client.told.as_str())?;
+        told.say(client.told.text.as_str());
+        told.is_short = told.is_short || client.told.is_short;
     }
-    Ok(())
 }
 
 /// Octets of several clients and next hops are heard at once. What came of each is told, and how many notes there are.
-fn hear_group(
-    alloc: Global,
-    relay: &mut MemoryRelay,
-    rest: &str,
-    text: &mut String,
-) -> Result<(), AllocError> {
-    let mut pieces = Vec::new(alloc);
-    let mut replies = Vec::new(alloc);
+fn hear_group(relay: &mut MemoryRelay, rest: &str, told: &mut Told) {
+    let mut pieces = Vec::new(told.alloc);
+    let mut replies = Vec::new(told.alloc);
     for part in rest.split(" | ") {
-        push_part(part, &mut pieces, &mut replies)?;
+        if !is_pushed(part, &mut pieces, &mut replies) {
+            told.is_short = true;
+        }
     }
     match read_all(relay, pieces.as_slice(), replies.as_slice()) {
-        Ok(group) => tell_group(text, &group),
-        Err(fault) => tell_fault(text, fault),
+        Ok(group) => tell_group(told, &group),
+        Err(fault) => told.show(&fault),
     }
 }
 
-/// Reads a part of a group: octets of a client, or of a next hop.
-fn push_part<'a>(
+/// Reads a part of a group: octets of a client, or of a next hop. It says whether there was memory for it.
+fn is_pushed<'a>(
     part: &'a str,
     pieces: &mut Vec<Piece<'a>>,
     replies: &mut Vec<ReplyPiece<'a>>,
-) -> Result<(), AllocError> {
+) -> bool {
     match part.strip_prefix("hop ") {
         Some(rest) => {
-            let (attempt, octets) = numbered(rest);
-            let octets = octets.as_bytes();
-            replies.push(ReplyPiece { attempt, octets })?;
+            let (attempt, text) = numbered(rest);
+            let octets = text.as_bytes();
+            replies.push(ReplyPiece { attempt, octets }).is_ok()
         }
         None => {
-            let (session, octets) = numbered(part);
-            let octets = octets.as_bytes();
-            pieces.push(Piece { session, octets })?;
+            let (session, text) = numbered(part);
+            let octets = text.as_bytes();
+            pieces.push(Piece { session, octets }).is_ok()
         }
     }
-    Ok(())
 }
 
-fn tell_group(text: &mut String, group: &Group) -> Result<(), AllocError> {
-    for answer in group.heard.as_slice() {
-        match answer {
-            Ok(heard) => tell_used(text, heard.used, heard.change, heard.last.as_ref())?,
-            Err(fault) => tell_fault(text, *fault)?,
-        }
-        text.push_str(" | ")?;
+fn tell_group(told: &mut Told, group: &Group) {
+    for heard in group.heard.as_slice() {
+        tell_heard(told, heard);
+        told.say(" | ");
     }
-    for answer in group.answered.as_slice() {
-        match answer {
-            Ok(answered) => {
-                tell_used(text, answered.used, answered.change, answered.last.as_ref())?
-            }
-            Err(fault) => tell_fault(text, *fault)?,
-        }
-        text.push_str(" | ")?;
+    for answered in group.answered.as_slice() {
+        tell_answered(told, answered);
+        told.say(" | ");
     }
-    tell_number(text, "notes ", group.notes.len() as u64)
+    told.count("notes ", group.notes.len() as u64);
+}
+
+fn tell_heard(told: &mut Told, heard: &Result<Heard, NodeFault>) {
+    match heard {
+        Ok(heard) => tell_used(told, heard.used, heard.change, heard.last.as_ref()),
+        Err(fault) => told.show(fault),
+    }
+}
+
+fn tell_answered(told: &mut Told, answered: &Result<Answered, NodeFault>) {
+    match answered {
+        Ok(answered) => tell_used(told, answered.used, answered.change, answered.last.as_ref()),
+        Err(fault) => told.show(fault),
+    }
 }
 
 /// How many octets were used, the change that was made, if one was, and the last octets where the connection is gone.
-fn tell_used(
-    text: &mut String,
-    used: usize,
-    change: Option<u64>,
-    last: Option<&Outbox>,
-) -> Result<(), AllocError> {
-    tell_number(text, "used ", used as u64)?;
+fn tell_used(told: &mut Told, used: usize, change: Option<u64>, last: Option<&Outbox>) {
+    told.count("used ", used as u64);
     if let Some(number) = change {
-        tell_number(text, ", change ", number)?;
+        told.count(", change ", number);
     }
     if let Some(last) = last {
-        text.push_str(", last ")?;
-        push_escaped(text, last.as_slice())?;
+        told.say(", last ");
+        told.escape(last.as_slice());
     }
-    Ok(())
 }
 
-fn say(
-    relay: &mut MemoryRelay,
-    session: usize,
-    octets: &[u8],
-    text: &mut String,
-) -> Result<(), Fail> {
-    if client_says(relay, session, octets, text)? {
-        text.push_str(" closed")?;
+/// Tells a number behind these words, or a fault.
+fn tell_number(told: &mut Told, words: &str, number: Result<u64, NodeFault>) {
+    match number {
+        Ok(number) => told.count(words, number),
+        Err(fault) => told.show(&fault),
     }
-    Ok(())
 }
 
-fn say_to_hop(
-    relay: &mut MemoryRelay,
-    attempt: usize,
-    octets: &[u8],
-    text: &mut String,
-) -> Result<(), Fail> {
+fn say(relay: &mut MemoryRelay, session: usize, octets: &[u8], told: &mut Told) {
+    match client_says(relay, session, octets, told) {
+        Ok(true) => told.say(" closed"),
+        Ok(false) => {}
+        Err(fault) => told.show(&fault),
+    }
+}
+
+fn say_to_hop(relay: &mut MemoryRelay, attempt: usize, octets: &[u8], told: &mut Told) {
     let mut is_ended = false;
     for octet in octets {
-        is_ended = hop_says(relay, attempt, &[*octet], text)?;
+        is_ended = hop_says(relay, attempt, &[*octet], told);
     }
     if is_ended {
-        text.push_str(" ended")?;
+        told.say(" ended");
     }
-    Ok(())
 }
 
-fn count(alloc: Global, relay: &MemoryRelay, text: &mut String) -> Result<(), Fail> {
-    let held = count_held(alloc, relay.node())?;
-    tell_number(text, "changes ", count_changes(relay.node()))?;
-    Ok(tell_number(text, ", held ", held as u64)?)
-}
-
-fn closing_lines(alloc: Global, relay: &MemoryRelay, text: &mut String) -> Result<(), AllocError> {
-    for closing in [Closing::TooMany, Closing::Timeout] {
-        let line = closing_line(alloc, &relay.node().config().host, closing)?;
-        push_escaped(text, line.as_slice())?;
+fn count(relay: &MemoryRelay, told: &mut Told) {
+    told.count("changes ", count_changes(relay.node()));
+    match count_held(told.alloc, relay.node()) {
+        Ok(held) => told.count(", held ", held as u64),
+        Err(fault) => told.show(&fault),
     }
-    Ok(())
 }
 
-/// Puts a word and a number at the end of the text.
-fn tell_number(text: &mut String, word: &str, number: u64) -> Result<(), AllocError> {
-    write!(text, "{word}{number}")
+fn tell_closing(relay: &MemoryRelay, told: &mut Told) {
+    tell_line(relay, Closing::TooMany, told);
+    tell_line(relay, Closing::Timeout, told);
 }
 
-/// Puts a fault at the end of the text.
-fn tell_fault(text: &mut String, fault: NodeFault) -> Result<(), AllocError> {
-    write!(text, "{fault}")
+/// Tells the line by which the relay closes a connection for this reason.
+fn tell_line(relay: &MemoryRelay, closing: Closing, told: &mut Told) {
+    match closing_line(told.alloc, &relay.node().config().host, closing) {
+        Ok(line) => told.escape(line.as_slice()),
+        Err(_) => told.is_short = true,
+    }
 }

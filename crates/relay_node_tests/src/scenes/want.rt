@@ -57,10 +57,12 @@ pub(crate) fn three_at_once(alloc: Global) -> Result<Came, Fail> {
 
 /// A client that has said all of its message but the last line.
 fn client_of(alloc: Global, relay: &mut MemoryRelay) -> Result<Client, Fail> {
-    let session = accept(relay)?;
-    let mut told = String::new(alloc);
-    client_says(relay, session, LINES, &mut told)?;
-    Ok(Client { session, told })
+    let mut client = Client::new(alloc, accept(relay)?);
+    client_says(relay, client.session, LINES, &mut client.told)?;
+    if client.told.is_short {
+        return Err(Fail::new(NodeFault::NoMemory));
+    }
+    Ok(client)
 }
 
 /// The line that ends a client's content.
