@@ -34,8 +34,8 @@ pub fn check<F: Files<File = File>, W: Write>(
     }
 }
 
-/// Tells, before a relay runs by the configuration in a file, what `check` finds in it: each finding as a warning. Where
-/// no relay can run by it nothing is told. It fails as `check` does.
+/// Tells, before a relay runs by the configuration in a file, what `check` finds in it: each finding as a warning.
+/// Where no relay can run by it nothing is told. It fails as `check` does.
 pub fn warn<F: Files<File = File>, W: Write>(
     alloc: Global,
     files: &F,

@@ -7,9 +7,9 @@ use std::fs::File;
 use std::io::{self, Write};
 use std::rt::Files;
 
-/// Writes the next hop of an address by the configuration in a file, `ADDRESS: NAME IP:PORT`, or that there is none, and
-/// answers whether there is one. The address may stand in brackets. It fails where the configuration has a fault, the
-/// line can't be written, or memory runs out.
+/// Writes the next hop of an address by the configuration in a file, `ADDRESS: NAME IP:PORT`, or that there is none,
+/// and answers whether there is one. The address may stand in brackets. It fails where the configuration has a fault,
+/// the line can't be written, or memory runs out.
 pub fn show_route<F: Files<File = File>, W: Write>(
     alloc: Global,
     files: &F,

@@ -39,11 +39,10 @@ const FAULT: u8 = 1;
 /// The status of a run with wrong arguments.
 const WRONG_ARGUMENTS: u8 = 2;
 
-/// Runs the subcommand that the words name, the program's own name first, and answers the status
-/// for the system: 0 done, 1 a fault, with its line on `errors`, or the answer no of `check`, 2 wrong arguments, with the
-/// argument reader's text on `errors`. `--help` and `--version` write that reader's text on `writer`,
-/// and are done.
-/// What `run` logs goes to `log`, from a thread of its own: two writers of one stream.
+/// Runs the subcommand that the words name, the program's own name first, and answers the status for the system: 0
+/// done, 1 a fault, with its line on `errors`, or the answer no of `check`, 2 wrong arguments, with the argument
+/// reader's text on `errors`. `--help` and `--version` write that reader's text on `writer`, and are done. What `run`
+/// logs goes to `log`, from a thread of its own: two writers of one stream.
 pub fn command<
     S: AsStr,
     F: Files<File = File>
