@@ -7,6 +7,7 @@
 //! then, but for the next hops to which a connection for it is being made or stands. Before that nothing of it is
 //! listed: what a next hop turns away of it isn't put back. Each that comes later is listed when it comes, and the
 //! walk passes it by.
+ghost use Rattle.std.specs.Prelude.{◌≡◌};
 ghost use Rattle.relay_next_hops.specs.Lanes.{KeepsCounts, KeepsListed, ListsMore};
 
 use crate::hops::Hops;

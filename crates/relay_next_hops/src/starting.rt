@@ -1,5 +1,6 @@
 //! Attempts that begin, and messages without a next hop that are given up.
-ghost use Rattle.std.specs.Prelude.{◌≡◌, ◌<◌, ◌≤◌, [], IfOk, MatchOption, None, Ok, Some, false, length, option_map};
+ghost use Rattle.std.specs.Prelude.{◌≡◌, ◌<◌, ◌≤◌, ◌∷◌, [], ℕ, List, IfOk, MatchOption, None, Ok, Some, false};
+ghost use Rattle.std.specs.Prelude.{length, option_map};
 ghost use Rattle.relay_book.specs.Queue.{message_of};
 ghost use Rattle.relay_routes.specs.Routes.{place_of};
 ghost use Rattle.relay_next_hops.specs.Lanes.{KeepsCounts};
