@@ -38,7 +38,8 @@ def tour(program, folder):
     """Shows the way of a message through a relay that keeps its files in this folder."""
     refusing = Manners(refusals={f"<{REFUSED}>": REFUSAL}, holds_greeting=True)
     with Sink(manners=refusing) as next_hop, Sink() as home:
-        routes = {"example.net": ("next.example", next_hop.port), "example.org": ("home.example", home.port)}
+        routes = {"example.net": ("next.example", next_hop.port), "example.org": ("home.example", home.port),
+                  "relay.example": ("home.example", home.port)}
         relay = Relay(program, folder / "relay", routes)
         relay.run("init")
         with running(relay):
