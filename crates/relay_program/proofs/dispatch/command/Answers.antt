@@ -1,10 +1,12 @@
--- Where the words have no fault, only want of memory can keep the session from its start.
+-- Where the words have no fault, only want of memory can keep the session from its start; a play whose status is 0 is whole.
 use Rattle.std.proofs.Common.{rules, ◌≡◌, ℕ, inl, inr, [], subst, sym}
 use Rattle.clap.specs.Words.{HasKind, Kinds, kind_of}
 use Rattle.clap.specs.declared.error.Error.{Error}
 use Rattle.clap.specs.declared.error.kind.ErrorKind.TheVariants as kind
 use Rattle.relay_program.specs.Session.{IsBegun}
+use Rattle.relay_program.specs.Play.{IsPlayedWhole}
 use Rattle.relay_program.proofs.SessionLemmas.{begun_nothing}
+use Rattle.relay_program.proofs.StatusLemmas.{done_at_zero}
 use Rattle.relay_program.proofs.dispatch.command.Goals as goal
 
 -- an error of words without a fault is want of memory
@@ -37,3 +39,8 @@ returns-in-Err-clause-play g c = λ ask done.
     let has : HasKind _ c.in-Err.error = search rules in
     let status = c.explain.ensures.memory (only_memory c.in-Err.error _ has ask.0) in
     absurd (cc)
+
+pub returns-in-Ok-Play-clause-play : goal.returns-in-Ok-Play-clause-play
+returns-in-Ok-Play-clause-play g c = λ ask zero.
+    done_at_zero c.play_script.result (IsPlayedWhole (g.R.Read.remaining c.args.reader.now) (g.R.Read.remaining c.play_script.new.reader))
+    c.ended-in-Ok-Play.result c.play_script.ensures c.ended-in-Ok-Play.ensures zero
