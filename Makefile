@@ -35,7 +35,7 @@ test:
 	tests/workers.py build/relayd
 	bench/crashes.py build/relayd 64
 	tests/compaction.py build/relayd
-	tests/queue.py build/relayd
+	tests/looks_at_the_queue.py build/relayd
 	tests/plays.py build/relayd
 	tests/plays_without_memory.py build/relayd
 	tests/random_plays.py build/relayd

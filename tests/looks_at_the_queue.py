@@ -3,7 +3,7 @@
 layout of docs/ alone, at octets that a terminal must not see, at 100,000 messages, and beside a relay that runs. It
 ends at the first difference.
 
-    tests/queue.py build/relayd
+    tests/looks_at_the_queue.py build/relayd
 """
 import json
 import pathlib
