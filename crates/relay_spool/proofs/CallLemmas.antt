@@ -1,14 +1,15 @@
 -- What one call more leaves of the disks, and what a call that has failed answers.
-use Rattle.std.proofs.Common.{◌≡◌, ℕ, ◌-◌, Option, Some, None, Result, Ok, Err, refl, sym, subst, ap, ◌∙◌, inl, inr, arith}
+use Rattle.std.proofs.Common.{◌≡◌, ℕ, zero, suc, ◌-◌, ◌≤◌, Option, Some, None, Result, Ok, Err, OnOk, refl, sym, subst, ap, ◌∙◌, inl, inr, arith}
+use Rattle.std.proofs.lemmas.Bool.{false≢true}
 use Rattle.std.proofs.lemmas.Result.{IfOk-from_err}
 use Rattle.std.specs.Option.{option_map}
 use Rattle.std.specs.Result.{IsErr}
 use Rattle.relay_disk.specs.declared.disk.DiskFault.{DiskFault}
 use Rattle.relay_disk.specs.declared.disks.Disks.{Disks}
 use Rattle.relay_disk.specs.declared.disks.Side.TheVariants.{Second}
-use Rattle.relay_disk.specs.Device.{DiskWords, AddsNoImage, CountsFailure, Fails, FailsNot, OnlyFuseChanges, Rises}
+use Rattle.relay_disk.specs.Device.{DiskWords, AddsNoImage, Burns, CountsFailure, Fails, FailsNot, OnlyFuseChanges, Rises}
 use Rattle.relay_disk.specs.Disks.{CountsFailure as CountsOfBoth, Fails as FailsOfBoth, FailsNot as FailsNotOfBoth, IsTurned}
-use Rattle.relay_spool.specs.Run.{Calls, EachOnlyReads, Makes, OnlyReads}
+use Rattle.relay_spool.specs.Run.{Calls, EachOnlyReads, Makes, OnlyReads, Passes}
 use Rattle.relay_spool.proofs.RunLemmas.{OnlyNow, goes_on, kept, weakened}
 use Rattle.relay_spool.proofs.TurnLemmas.{on_ok, run_on}
 
@@ -46,10 +47,22 @@ module _ {D : Type 0} (words : DiskWords D) where
       → OnlyReads words old new
   reads_once old new only same stays = reads_on old old new (kept words old only) same stays
 
+  -- a fuse that has blown passes no call
+  had_one : {T : Type 0} (value : T) (old new : D) → Burns words old new (Ok value) → (left : ℕ) → words.calls_left old ≡ Some left → 1 ≤ left
+  had_one value old new burns zero blown = absurd (false≢true (burns.blown blown))
+  had_one value old new burns (suc left) some = omega arith
+
+  -- one call that has passed
+  pub passed : {T : Type 0} (value : T) (old new : D) → Burns words old new (Ok value) → Passes words 1 old new
+  passed value old new burns = record { calls = burns.burnt; had = had_one value old new burns }
+
   -- one call
-  pub makes_one : {T E : Type 0} (result : Result T E) (old new : D) → Calls words 1 old new → Makes words 1 old new result
-  makes_one (Ok value) old new calls = record { at_most = (1, omega arith, calls); ok = calls }
-  makes_one (Err fault) old new calls = record { at_most = (1, omega arith, calls); ok = tt }
+  passes_one : {T : Type 0} (result : Result T DiskFault) (old new : D) → Burns words old new result → OnOk result (Passes words 1 old new)
+  passes_one (Ok value) old new burns = passed value old new burns
+  passes_one (Err fault) old new burns = tt
+
+  pub makes_one : {T : Type 0} (result : Result T DiskFault) (old new : D) → Burns words old new result → Makes words 1 old new result
+  makes_one result old new burns = record { at_most = (1, omega arith, burns.burnt); ok = passes_one result old new burns }
 
   calls_none : (left : Option ℕ) → left ≡ option_map (λ calls. calls - 0) left
   calls_none None = refl
@@ -115,13 +128,19 @@ module _ {D : Type 0} {honest : Type 0} (words : DiskWords D) (old mid new : Dis
   calls_turned count calls =
       two.fuse ∙ calls ∙ ap (λ (left : Option ℕ). option_map (λ calls. calls - count) left) one.fuse
 
+  passes_turned : (count : ℕ) → Passes words count mid.first left → Passes words count old.first new.first
+  passes_turned count passes = record {
+    calls = calls_turned count passes.calls;
+    had = λ left is. passes.had left (one.fuse ∙ is);
+  }
+
   pub makes_turned : {T E : Type 0} (count : ℕ) (result : Result T E) → Makes words count mid.first left result
       → Makes words count old.first new.first result
   makes_turned count result makes =
       let most = makes.at_most in
       record {
         at_most = (most.0, most.1, calls_turned most.0 most.2);
-        ok = on_ok result (calls_turned count) makes.ok;
+        ok = on_ok result (passes_turned count) makes.ok;
       }
 
   -- where it only reads, both disks are only read

@@ -1,5 +1,5 @@
 -- Calls of one disk of a spool: what a stop leaves of it at each moment, and what they keep.
-use Rattle.std.specs.Prelude.{◌≡◌, ℕ, ◌-◌, ◌≤◌, List, length, Result, OnOk}
+use Rattle.std.specs.Prelude.{◌≡◌, ℕ, ◌-◌, ◌≤◌, List, length, Result, OnOk, Some}
 use Rattle.std.specs.Option.{option_map}
 use Rattle.relay_disk.specs.declared.disks.Disks.{Disks}
 use Rattle.relay_disk.specs.Device.{DiskWords, EachImage, EachImageSince, Fails, FailsNot, IsSettled}
@@ -48,10 +48,15 @@ module _ {D : Type 0} (words : DiskWords D) where
   abbrev pub CallsUpTo : ℕ → D → D → Type 0
   CallsUpTo most old new = (count : ℕ) × (count ≤ most) × Calls count old new
 
-  -- so many, and fewer where the answer is a fault
+  -- so many went there, and the fuse let all of them pass: it had as many left
+  pub record Passes (count : ℕ) (old new : D) : Type 0 where
+    pub calls : Calls count old new
+    pub had : (left : ℕ) → words.calls_left old ≡ Some left → count ≤ left
+
+  -- so many, which all passed, and fewer where the answer is a fault
   pub record Makes {T E : Type 0} (count : ℕ) (old new : D) (result : Result T E) : Type 0 where
     pub at_most : CallsUpTo count old new
-    pub ok : OnOk result (Calls count old new)
+    pub ok : OnOk result (Passes count old new)
 
   -- only the answer `Device` comes of a failure that the disk has counted
   abbrev pub FailsBy : D → D → SpoolFault → Type 0

@@ -4,7 +4,7 @@ use Rattle.relay_spool.specs.Image.{IsImageOf, HasBodies, size_of}
 use Rattle.relay_spool.specs.Run.{AtEachMoment, Rests}
 use Rattle.relay_spool.specs.Spool.{IsBeforeOrWithAll}
 use Rattle.relay_spool.proofs.ImageLemmas.{AreBehind, are_behind}
-use Rattle.relay_spool.proofs.RunLemmas.{joined, calls_on, all_calls_on}
+use Rattle.relay_spool.proofs.RunLemmas.{joined, calls_on, passes_on}
 use Rattle.relay_spool.proofs.LinkLemmas.{gate_of, Ready, ready_of, opened, tail_run, gate_run, head_run, head_runs}
 use Rattle.relay_spool.proofs.link.write_links.Goals as goal
 
@@ -68,7 +68,7 @@ pub returns-clause-calls : goal.returns-clause-calls
 returns-clause-calls g c =
     record {
       at_most = calls_on g.D.Disk.words 2 2 c.args.disk.now c.write_through.new.disk c.open_gate.new.disk c.write_through.ensures.calls.at_most c.open_gate.ensures.calls.at_most;
-      ok = all_calls_on g.D.Disk.words 2 2 c.args.disk.now c.write_through.new.disk c.open_gate.new.disk c.in_ok-write_through.ensures.calls.ok c.in_ok-open_gate.ensures.calls.ok;
+      ok = passes_on g.D.Disk.words 2 2 c.args.disk.now c.write_through.new.disk c.open_gate.new.disk c.in_ok-write_through.ensures.calls.ok c.in_ok-open_gate.ensures.calls.ok;
     }
 
 pub returns-in_err-write_through-clause-head : goal.returns-in_err-write_through-clause-head

@@ -1,7 +1,7 @@
 use Rattle.std.proofs.Common.{refl, ◌∙◌, arith}
 use Rattle.std.proofs.lemmas.Result.{IfOk-from_err}
-use Rattle.relay_spool.proofs.CallLemmas.{both_fault, both_none, first_fault, reads_once}
-use Rattle.relay_spool.proofs.RunLemmas.{calls_on, all_calls_on, kept, kept_on}
+use Rattle.relay_spool.proofs.CallLemmas.{both_fault, both_none, first_fault, passed, reads_once}
+use Rattle.relay_spool.proofs.RunLemmas.{calls_on, passes_on, kept, kept_on}
 use Rattle.relay_spool.proofs.make.are_empty.Goals as goal
 
 pub returns-in_err-first-clause-empty : goal.returns-in_err-first-clause-empty
@@ -75,7 +75,7 @@ pub returns-then-first-eq0-clause-calls : goal.returns-then-first-eq0-clause-cal
 returns-then-first-eq0-clause-calls g c =
     record {
       at_most = calls_on g.D.Disk.words 1 1 c.args.disks.now.first c.size.new.self c.size_of_second.new.disks.first (1, omega arith, c.size.ensures.fuse.burnt) c.size_of_second.ensures.calls.at_most;
-      ok = all_calls_on g.D.Disk.words 1 1 c.args.disks.now.first c.size.new.self c.size_of_second.new.disks.first c.size.ensures.fuse.burnt c.in_ok-second.ensures.calls.ok;
+      ok = passes_on g.D.Disk.words 1 1 c.args.disks.now.first c.size.new.self c.size_of_second.new.disks.first (passed g.D.Disk.words _ c.args.disks.now.first c.size.new.self c.in_ok-first.ensures.fuse) c.in_ok-second.ensures.calls.ok;
     }
 
 pub returns-else-first-eq0-clause-keeps : goal.returns-else-first-eq0-clause-keeps
@@ -98,5 +98,5 @@ pub returns-else-first-eq0-clause-calls : goal.returns-else-first-eq0-clause-cal
 returns-else-first-eq0-clause-calls g c =
     record {
       at_most = calls_on g.D.Disk.words 1 1 c.args.disks.now.first c.size.new.self c.size_of_second.new.disks.first (1, omega arith, c.size.ensures.fuse.burnt) c.size_of_second.ensures.calls.at_most;
-      ok = all_calls_on g.D.Disk.words 1 1 c.args.disks.now.first c.size.new.self c.size_of_second.new.disks.first c.size.ensures.fuse.burnt c.in_ok-second.ensures.calls.ok;
+      ok = passes_on g.D.Disk.words 1 1 c.args.disks.now.first c.size.new.self c.size_of_second.new.disks.first (passed g.D.Disk.words _ c.args.disks.now.first c.size.new.self c.in_ok-first.ensures.fuse) c.in_ok-second.ensures.calls.ok;
     }

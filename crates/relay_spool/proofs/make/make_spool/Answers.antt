@@ -7,7 +7,7 @@ use Rattle.relay_spool.specs.Run.{EachOnlyReads, EachStaysShort, IsShort}
 use Rattle.relay_spool.specs.Spool.{AtEachMoment}
 use Rattle.relay_spool.proofs.HeadLemmas.{empty_run, empty_still}
 use Rattle.relay_spool.proofs.PairLemmas.{both_short}
-use Rattle.relay_spool.proofs.RunLemmas.{joined, calls_on, all_calls_on}
+use Rattle.relay_spool.proofs.RunLemmas.{joined, calls_on, passes_on}
 use Rattle.relay_spool.proofs.make.make_spool.Goals as goal
 
 -- the sizes, and then the heads
@@ -39,5 +39,5 @@ pub returns-clause-calls : goal.returns-clause-calls
 returns-clause-calls g c =
     record {
       at_most = calls_on g.D.Disk.words 2 6 c.args.disks.now.first c.are_empty.new.disks.first c.write_heads.new.disks.first c.are_empty.ensures.calls.at_most c.write_heads.ensures.calls.at_most;
-      ok = all_calls_on g.D.Disk.words 2 6 c.args.disks.now.first c.are_empty.new.disks.first c.write_heads.new.disks.first c.in_ok-are_empty.ensures.calls.ok c.in_ok-write_heads.ensures.calls.ok;
+      ok = passes_on g.D.Disk.words 2 6 c.args.disks.now.first c.are_empty.new.disks.first c.write_heads.new.disks.first c.in_ok-are_empty.ensures.calls.ok c.in_ok-write_heads.ensures.calls.ok;
     }

@@ -25,4 +25,4 @@ pub returns-clause-calls : goal.returns-clause-calls
 returns-clause-calls g c =
     makes_turned g.D.Disk.words c.args.disks.now c.turn.new.self c.turn-2.new.self c.size-size.new.self c.turn.ensures c.turn-2.ensures
     1 c.size-size.result
-    (makes_one g.D.Disk.words c.size-size.result c.turn.new.self.first c.size-size.new.self c.size-size.ensures.fuse.burnt)
+    (makes_one g.D.Disk.words c.size-size.result c.turn.new.self.first c.size-size.new.self c.size-size.ensures.fuse)
