@@ -2,8 +2,9 @@
 use Rattle.std.specs.Prelude.{◌≡◌, ◌⊎◌, ℕ, ◌+◌, true, false, List, [], ◌∷◌, ◌++◌, length, Option, Some}
 use Rattle.relay_disk.specs.Device.{DiskWords}
 use Rattle.relay_disk.specs.Disks.{Fails, FailsNot}
+use Rattle.relay_spool.specs.Head.{renewal_calls}
 use Rattle.relay_spool.specs.Pair.{renewed_taken}
-use Rattle.relay_spool.specs.Spool.{EveryImageHas, Stored}
+use Rattle.relay_spool.specs.Spool.{EveryImageHas, Passes, Stored}
 use Rattle.relay_book.specs.declared.change.Change.{Change}
 use Rattle.relay_book.specs.Record.{encode}
 use Rattle.relay_book.specs.Queue.{Queue, FitsQueue, Fitting, queue_of, step}
@@ -60,7 +61,8 @@ module _ {D : Type 0} (honest : Type 0) (words : DiskWords D) where
     pub fits : FitsQueue (queue_of changes) change
     pub noted : IsNoted new.noted changes change used
 
--- what a change that was added did to the records, whatever list they keep
+-- what a change that was added did to the records, whatever list they keep: it took four calls of the device, which a
+-- fuse lets pass, and has less left by as many
 pub record Grows {D : Type 0} (words : DiskWords D) (old : Kept D) (change : Change) (number : ℕ)
     (new : Kept D) : Type 0 where
   pub number_is : number ≡ old.queue.next
@@ -68,6 +70,7 @@ pub record Grows {D : Type 0} (words : DiskWords D) (old : Kept D) (change : Cha
   pub size : new.spool.size ≡ old.spool.size + 5 + length (encode change)
   pub live : new.spool.live ≡ true
   pub failures : FailsNot words old.spool.disk new.spool.disk
+  pub calls : Passes words 4 old.spool.disk new.spool.disk
 
 -- the device failed, and nothing was committed
 pub record IsStopped {D : Type 0} (words : DiskWords D) (old new : Kept D) : Type 0 where
@@ -83,13 +86,14 @@ RefusesToAdd words old new Full = new ≡ old
 RefusesToAdd words old new other = ⊥
 
 -- what a compaction did to the records, whatever list they keep: the spool has one body, the snapshot of the queue, on
--- the disk that wasn't taken and is now
+-- the disk that wasn't taken and is now; it took the calls of the device that write a disk anew, which a fuse lets pass
 pub record Compacts {D : Type 0} (honest : Type 0) (words : DiskWords D) (old new : Kept D) : Type 0 where
   pub bodies_are : honest → new.spool.bodies ≡ snapshot old.queue ∷ []
   pub size : new.spool.size ≡ 23 + length (snapshot old.queue)
   pub live : new.spool.live ≡ true
   pub taken : new.spool.taken ≡ renewed_taken old.spool.taken
   pub failures : FailsNot words old.spool.disk new.spool.disk
+  pub calls : Passes words (renewal_calls old.spool.taken.other) old.spool.disk new.spool.disk
 
 -- what a compaction leaves that wasn't made
 abbrev pub RefusesToCompact : {D : Type 0} → DiskWords D → Kept D → Kept D → NodeFault → Type 0

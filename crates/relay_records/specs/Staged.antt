@@ -4,7 +4,7 @@ use Rattle.std.specs.Prelude.{◌≡◌, ◌⊎◌, ℕ, ◌+◌, ◌^◌, ◌�
 use Rattle.relay_disk.specs.Device.{DiskWords}
 use Rattle.relay_disk.specs.Disks.{FailsNot}
 use Rattle.relay_spool.specs.Image.{room_of}
-use Rattle.relay_spool.specs.Spool.{EveryImageHas}
+use Rattle.relay_spool.specs.Spool.{EveryImageHas, Passes, calls_to_add}
 use Rattle.relay_book.specs.declared.change.Change.{Change}
 use Rattle.relay_book.specs.Record.{encode}
 use Rattle.relay_book.specs.Queue.{Queue, FitsFrom, Fitting, queue_of, step}
@@ -91,6 +91,7 @@ pub record GrowsAll {D : Type 0} (words : DiskWords D) (old : Kept D) (row : Row
   pub size : new.spool.size ≡ old.spool.size + room_of row.bodies
   pub live : new.spool.live ≡ true
   pub failures : FailsNot words old.spool.disk new.spool.disk
+  pub calls : Passes words (calls_to_add row.bodies) old.spool.disk new.spool.disk
 
 -- what a call leaves that adds no row
 abbrev pub RefusesToSettle : {D : Type 0} → DiskWords D → Kept D → Kept D → NodeFault → Type 0
