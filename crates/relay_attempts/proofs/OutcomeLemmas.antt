@@ -20,7 +20,7 @@ use Rattle.relay_attempts.specs.AddedOutcome.{HasNoRoom, MayCome, RefusesOutcome
 use Rattle.relay_attempts.specs.declared.runs.Run.{Run}
 use Rattle.relay_attempts.specs.Attempts.{Serves, AttemptTable}
 use Rattle.relay_attempts.specs.Hops.{goes_to, hop_of_place, is_any, is_stranded, stranded_of, stranded_places}
-use Rattle.relay_attempts.specs.Outcomes.{RefusesToGiveUp, unroutable, unrouted}
+use Rattle.relay_attempts.specs.Outcomes.{HasStranded, RefusesToGiveUp, unroutable, unrouted}
 use Rattle.relay_attempts.specs.Runs.{AllGoTo, AreHeld, RunsFor}
 use Rattle.relay_attempts.proofs.MessageLemmas.{found_first, is_ruled, other_stays, place_stays, same_ruled}
 use Rattle.relay_attempts.proofs.PlaceLemmas.{each_passes, stranded_are_held}
@@ -204,17 +204,28 @@ given_up_serves host table queue new number at message outcome report before aft
         subst (λ (o : Outcome). AreApart o.rulings run.places.items) (sym is)
         (routed_are_apart table message run.hop run.places.items (subst (λ (m : Message). AllGoTo table run.hop m run.places.items) one runs.its_hop))
 
+not_none : (numbers : List ℕ) → is_any numbers ≡ true → numbers ≢ []
+not_none numbers some none = false≢true (sym (ap (λ (ns : List ℕ). is_any ns) none) ∙ some)
+
+-- a message with a held place that has no hop
+pub has_stranded : {D : Type 0} (words : DiskWords D) (host : List ℕ) (table : RouteTable) (number at : ℕ) (message : Message) (old : Kept D)
+    → message_of old.queue.messages number ≡ Some message → is_any (stranded_places table message) ≡ true → HasStranded words host table number at old
+has_stranded words host table number at message old found some =
+    record { message = message; found = found; some = not_none (stranded_places table message) some }
+
 -- why a message isn't given up
 pub refused_to_give_up : {D : Type 0} (words : DiskWords D) (host : List ℕ) (table : RouteTable) (number at : ℕ) (message : Message) (outcome : Outcome) (old new : Kept D) (fault : NodeFault)
-    → old.spool.live ≡ true → message_of old.queue.messages number ≡ Some message → outcome ≡ unroutable table number at message
+    → old.spool.live ≡ true → message_of old.queue.messages number ≡ Some message → is_any (stranded_places table message) ≡ true
+    → outcome ≡ unroutable table number at message
     → RefusesOutcome words host outcome old new fault → RefusesToGiveUp words host table number at old new fault
-refused_to_give_up words host table number at message outcome old new NoMemory live found is refused = (live, refused)
-refused_to_give_up words host table number at message outcome old new Stopped live found is refused = inr refused
-refused_to_give_up words host table number at message outcome old new Unknown live found is refused = absurd refused
-refused_to_give_up words host table number at message outcome old new TooMany live found is refused = absurd refused
-refused_to_give_up words host table number at message outcome old new NotDue live found is refused = absurd refused
-refused_to_give_up words host table number at message outcome old new Busy live found is refused = absurd refused
-refused_to_give_up words host table number at message outcome old new (Open cause) live found is refused = absurd refused
-refused_to_give_up words host table number at message outcome old new NoSecond live found is refused = absurd refused
-refused_to_give_up words host table number at message outcome old new Full live found is refused =
-    (live, refused.0, record { message = message; found = found; room = subst (λ (o : Outcome). HasNoRoom host o old) is refused.1 })
+refused_to_give_up words host table number at message outcome old new NoMemory live found some is refused =
+    (live, has_stranded words host table number at message old found some, refused)
+refused_to_give_up words host table number at message outcome old new Stopped live found some is refused = inr refused
+refused_to_give_up words host table number at message outcome old new Unknown live found some is refused = absurd refused
+refused_to_give_up words host table number at message outcome old new TooMany live found some is refused = absurd refused
+refused_to_give_up words host table number at message outcome old new NotDue live found some is refused = absurd refused
+refused_to_give_up words host table number at message outcome old new Busy live found some is refused = absurd refused
+refused_to_give_up words host table number at message outcome old new (Open cause) live found some is refused = absurd refused
+refused_to_give_up words host table number at message outcome old new NoSecond live found some is refused = absurd refused
+refused_to_give_up words host table number at message outcome old new Full live found some is refused =
+    (live, refused.0, record { message = message; found = found; some = not_none (stranded_places table message) some; room = subst (λ (o : Outcome). HasNoRoom host o old) is refused.1 })

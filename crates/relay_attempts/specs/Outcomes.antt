@@ -1,5 +1,5 @@
 -- The outcomes of attempts, and of messages without a hop.
-use Rattle.std.specs.Prelude.{◌≡◌, ◌⊎◌, ℕ, true, false, List, [], ◌∷◌, map, None, Some}
+use Rattle.std.specs.Prelude.{◌≡◌, ◌≢◌, ◌⊎◌, ℕ, true, false, List, [], ◌∷◌, map, None, Some}
 use Rattle.relay_disk.specs.Device.{DiskWords}
 use Rattle.relay_routes.specs.Routes.{RouteTable}
 use Rattle.relay_book.specs.declared.version.Version.TheVariants.{WithDelay}
@@ -10,6 +10,7 @@ use Rattle.relay_book.specs.declared.change.Verdict.TheVariants.{NoRoute}
 use Rattle.relay_book.specs.declared.change.Change.{Change}
 use Rattle.relay_book.specs.declared.message.Message.{Message}
 use Rattle.relay_book.specs.Queue.{message_of}
+use Rattle.relay_spool.specs.Spool.{Passes}
 use Rattle.relay_records.specs.Records.{IsStopped, Kept}
 use Rattle.relay_records.specs.declared.fault.NodeFault.{NodeFault}
 use Rattle.relay_records.specs.declared.fault.NodeFault.TheVariants.{NoMemory, Stopped, Unknown, NotDue, Full}
@@ -45,11 +46,12 @@ unroutable table number at message = outcome_of number at [] (unrouted (stranded
 -- The words below are of the message of a number, which is given up at a moment.
 module _ {D : Type 0} (honest : Type 0) (words : DiskWords D) (host : List ℕ) (table : RouteTable) (number at : ℕ) where
   -- exactly its held places without a hop have ended, in the one change that was added, with the report that is due of
-  -- it
+  -- it, by four calls of the device
   pub record AddsUnroutable (changes : List Change) (old new : Kept D) (added : ℕ) : Type 0 where
     pub message : Message
     pub found : message_of old.queue.messages number ≡ Some message
     pub adds : AddsOutcome honest words host changes (unroutable table number at message) 0 new added
+    pub calls : Passes words 4 old.spool.disk new.spool.disk
 
   -- a stop came while they ended
   pub record CutsUnroutable (changes : List Change) (old new : Kept D) : Type 0 where
@@ -71,14 +73,22 @@ module _ {D : Type 0} (words : DiskWords D) (host : List ℕ) (table : RouteTabl
     pub found : message_of old.queue.messages number ≡ Some message
     pub none : stranded_places table message ≡ []
 
-  -- there is no room for the outcome of the message
+  -- the message is queued, and a held place of it has no hop
+  pub record HasStranded (old : Kept D) : Type 0 where
+    pub message : Message
+    pub found : message_of old.queue.messages number ≡ Some message
+    pub some : stranded_places table message ≢ []
+
+  -- the same, and there is no room for the outcome of the message
   pub record HasNoRoomFor (old : Kept D) : Type 0 where
     pub message : Message
     pub found : message_of old.queue.messages number ≡ Some message
+    pub some : stranded_places table message ≢ []
     pub room : HasNoRoom host (unroutable table number at message) old
 
+  -- why none has ended: the first of these, and want of memory or of room after them
   abbrev pub RefusesToGiveUp : Kept D → Kept D → NodeFault → Type 0
-  RefusesToGiveUp old new NoMemory = (old.spool.live ≡ true) × (new ≡ old)
+  RefusesToGiveUp old new NoMemory = (old.spool.live ≡ true) × HasStranded old × (new ≡ old)
   RefusesToGiveUp old new Stopped = ((old.spool.live ≡ false) × (new ≡ old)) ⊎ IsStopped words old new
   RefusesToGiveUp old new Unknown =
       (old.spool.live ≡ true) × (message_of old.queue.messages number ≡ None) × (new ≡ old)

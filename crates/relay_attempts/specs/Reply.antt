@@ -8,6 +8,7 @@ use Rattle.relay_book.specs.declared.change.Outcome.{Outcome}
 use Rattle.relay_book.specs.declared.change.Verdict.{Verdict}
 use Rattle.relay_book.specs.declared.message.Message.{Message}
 use Rattle.relay_book.specs.Queue.{Queue, message_of}
+use Rattle.relay_spool.specs.Spool.{Passes}
 use Rattle.relay_records.specs.Records.{IsStopped, Kept}
 use Rattle.relay_records.specs.declared.fault.NodeFault.{NodeFault}
 use Rattle.relay_records.specs.declared.fault.NodeFault.TheVariants.{NoMemory, Stopped, Unknown, Full}
@@ -76,27 +77,31 @@ module _ {D : Type 0} (honest : Type 0) (words : DiskWords D) (host : List ℕ) 
     pub same : new ≡ old
     pub tells : TellsAt host new.queue runs number (told_more told (take replied.used piece) replied.out.items)
 
-  -- it has ended, and its outcome was added, with the report that is due of it, as the change of this number
-  pub record AttemptHasEnded (piece : List ℕ) (new : Kept D) (runs : List (Option Run)) (replied : Replied) (change : ℕ)
-      : Type 0 where
+  -- it has ended, and its outcome was added, with the report that is due of it, as the change of this number, by four
+  -- calls of the device
+  pub record AttemptHasEnded (piece : List ℕ) (old new : Kept D) (runs : List (Option Run)) (replied : Replied)
+      (change : ℕ) : Type 0 where
     pub verdicts : List Verdict
     pub course : IsItsCourse host (told_more told (take replied.used piece) replied.out.items) false verdicts
     pub adds : AddsOutcome honest words host changes (outcome_at now told verdicts) replied.used new change
+    pub calls : Passes words 4 old.spool.disk new.spool.disk
     pub gone : slot_at runs number ≡ None
 
   abbrev pub Replies : List ℕ → Kept D → Kept D → List (Option Run) → Replied → Option ℕ → Type 0
   Replies piece old new runs replied None = AttemptGoesOn piece old new runs replied
-  Replies piece old new runs replied (Some change) = AttemptHasEnded piece new runs replied change
+  Replies piece old new runs replied (Some change) = AttemptHasEnded piece old new runs replied change
 
   -- a stop came while its outcome was added
   pub record CutsReply (piece : List ℕ) (new : Kept D) : Type 0 where
     pub ends : ReadsToEnd host told piece
     pub cuts : CutsOutcome honest words host changes (outcome_at now told ends.verdicts) ends.used new
 
-  -- its connection was lost, and of that its outcome was added: each place may be tried again
-  pub record IsLost (new : Kept D) (runs : List (Option Run)) (change : ℕ) : Type 0 where
+  -- its connection was lost, and of that its outcome was added, by four calls of the device: each place may be tried
+  -- again
+  pub record IsLost (old new : Kept D) (runs : List (Option Run)) (change : ℕ) : Type 0 where
     pub course : IsItsCourse host told true (all_later told.places)
     pub adds : AddsOutcome honest words host changes (outcome_at now told (all_later told.places)) 0 new change
+    pub calls : Passes words 4 old.spool.disk new.spool.disk
     pub gone : slot_at runs number ≡ None
 
   -- a stop came while that outcome was added

@@ -19,8 +19,8 @@ use std::alloc::{AllocError, Global};
 impl Attempts {
     /// Ends the held places of a message that have no hop (RFC 5321, section 6.1), all in one change with the report
     /// that is due of them, whose number is the answer. The first fault in this order is answered: `Stopped`, `Unknown`
-    /// where no such message is queued, `NotDue` where each held place has a hop; and then nothing is changed. So it is
-    /// at `NoMemory` and `Full`; the attempts go on at every answer.
+    /// where no such message is queued, `NotDue` where each held place has a hop; then `NoMemory` and `Full`, for want
+    /// of memory or of room. Nothing is changed then; the attempts go on at every answer.
     pub fn give_up_unroutable<D: Disk>(
         &mut self,
         alloc: Global,

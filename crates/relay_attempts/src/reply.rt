@@ -150,8 +150,8 @@ impl Attempts {
         requires serves { Serves config.now.host config.now.routes self.old records.old.queue }
         ensures lost { (changes : List Change) (told : Told) → Keeps D.honest D.words records.old changes
             → TellsAt config.now.host records.old.queue self.old.runs attempt told
-            → IfOk result (IsLost D.honest D.words config.now.host now changes attempt told records.new
-            self.new.runs) }
+            → IfOk result (IsLost D.honest D.words config.now.host now changes attempt told records.old
+            records.new self.new.runs) }
         ensures cut { (changes : List Change) (told : Told) → Keeps D.honest D.words records.old changes
             → TellsAt config.now.host records.old.queue self.old.runs attempt told
             → result ≡ Err NodeFault.Stopped

@@ -1,9 +1,9 @@
-use Rattle.std.proofs.Common.{◌≡◌, Some, subst, true, rules}
+use Rattle.std.proofs.Common.{◌≡◌, Some, refl, subst, true, rules}
 use Rattle.relay_book.specs.declared.change.Outcome.{Outcome}
 use Rattle.relay_book.specs.Queue.{message_of}
 use Rattle.relay_attempts.specs.AddedOutcome.{GrowsBy}
 use Rattle.relay_attempts.specs.Hops.{is_any, stranded_places}
-use Rattle.relay_attempts.proofs.OutcomeLemmas.{given_up_serves, refused_to_give_up, unroutable_may_come}
+use Rattle.relay_attempts.proofs.OutcomeLemmas.{given_up_serves, has_stranded, refused_to_give_up, unroutable_may_come}
 use Rattle.relay_attempts.proofs.attempts.Attempts.give_up_unroutable.Goals as goal
 
 pub conclude-requires-clause-comes : goal.conclude-requires-clause-comes
@@ -37,5 +37,13 @@ pub returns-in-Err-clause-refused : goal.returns-in-Err-clause-refused
 returns-in-Err-clause-refused g c =
     let found : message_of c.args.records.now.queue.messages c.args.number ≡ Some c.in-Some.message.now = search rules in
     let live : c.args.records.now.spool.live ≡ true = search rules in
+    let some : is_any (stranded_places c.args.config.now.routes c.in-Some.message.now) ≡ true = search rules in
     refused_to_give_up g.D.Disk.words c.args.config.now.host c.args.config.now.routes c.args.number c.args.now c.in-Some.message.now c.in-Ok.outcome c.args.records.now
-    c.conclude.new.records c.in-Err.fault live found c.in-Ok.ensures c.in-Err.ensures.refused
+    c.conclude.new.records c.in-Err.fault live found some c.in-Ok.ensures c.in-Err.ensures.refused
+
+pub returns-in_default-unroutable-clause-refused : goal.returns-in_default-unroutable-clause-refused
+returns-in_default-unroutable-clause-refused g c =
+    let found : message_of c.args.records.now.queue.messages c.args.number ≡ Some c.in-Some.message.now = search rules in
+    let live : c.args.records.now.spool.live ≡ true = search rules in
+    let some : is_any (stranded_places c.args.config.now.routes c.in-Some.message.now) ≡ true = search rules in
+    (live, has_stranded g.D.Disk.words c.args.config.now.host c.args.config.now.routes c.args.number c.args.now c.in-Some.message.now c.args.records.now found some, refl)

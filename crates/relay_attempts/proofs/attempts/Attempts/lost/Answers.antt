@@ -63,6 +63,7 @@ returns-in-Ok-conclude-clause-lost g c = λ changes told keeps tells.
           subst
           (λ (o : Outcome). AddsOutcome g.D.Disk.honest g.D.Disk.words c.args.config.now.host changes o 0 c.conclude.new.records c.in-Ok-conclude.number)
           outcome (c.in-Ok-conclude.ensures.ok changes keeps);
+      calls = c.in-Ok-conclude.ensures.grows.grows.calls;
       gone = ap (λ l. slot_at l c.args.attempt) gone ∙ taken_is_none c.args.self.now.runs c.args.attempt;
     }
 

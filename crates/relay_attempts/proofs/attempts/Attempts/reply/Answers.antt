@@ -45,6 +45,7 @@ returns-in-Ok-clause-replies g c = λ changes told keeps tells.
           subst
           (λ (o : Outcome). AddsOutcome g.D.Disk.honest g.D.Disk.words c.args.config.now.host changes o c.in_ok-used.field-0.used c.conclude.new.records c.in-Ok.number)
           (ended.of_told told tells) (c.in-Ok.ensures.ok changes keeps);
+      calls = c.in-Ok.ensures.grows.grows.calls;
       gone = is_gone c.args.self.now.runs c.conclude.new.self.runs c.args.attempt (c.conclude.ensures.runs ∙ ended.gone);
     }
 
