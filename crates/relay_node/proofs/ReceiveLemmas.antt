@@ -11,6 +11,7 @@ use Rattle.relay_book.specs.declared.change.Accept.{Accept}
 use Rattle.relay_book.specs.declared.change.Change.{Change}
 use Rattle.relay_book.specs.Record.{encode}
 use Rattle.relay_records.specs.declared.fault.NodeFault.{NodeFault}
+use Rattle.relay_spool.specs.Spool.{Passes}
 use Rattle.relay_records.specs.Records.{Adds, Cuts, Kept}
 use Rattle.relay_node.specs.declared.intake.Intake.{Intake}
 use Rattle.relay_node.specs.declared.intake.Taken.{Taken}
@@ -87,8 +88,9 @@ module _ {D : Type 0} (honest : Type 0) (words : DiskWords D) (intake : Intake) 
 
       -- an offer was queued
       pub hears_queued : (number : ℕ) → number ≡ length changes + 1 → Adds honest words new changes taken.change spoken.used → new.spool.size ≡ old.spool.size + 5 + length (encode taken.change)
+          → Passes words 4 old.spool.disk new.spool.disk
           → Hears honest words intake.config.now changes intake.peer intake.at said piece session old new (received_of spoken (Some number))
-      hears_queued number count adds size = record {
+      hears_queued number count adds size calls = record {
         later = s.later;
         says = s.says;
         closed = is.closed;
@@ -106,6 +108,7 @@ module _ {D : Type 0} (honest : Type 0) (words : DiskWords D) (intake : Intake) 
             fits = fits last.offer last.is.accept last.is.room;
             adds = subst (λ (c : Change). Adds honest words new changes c spoken.used) last.is.change_is adds;
             size = size ∙ ap (λ (c : Change). old.spool.size + 5 + length (encode c)) last.is.change_is;
+            calls = calls;
           };
           whole = λ unchanged _. absurd (some_none number unchanged);
         };

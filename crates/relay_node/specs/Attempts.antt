@@ -82,7 +82,8 @@ module _ {D : Type 0} (honest : Type 0) (words : DiskWords D) (host : List ℕ) 
   abbrev pub RepliesBy : List ℕ → NodeState D → NodeState D → Replied → Option ℕ → Type 0
   RepliesBy piece old new replied None = ReadsOn piece old new replied
   RepliesBy piece old new replied (Some change) =
-      AttemptHasEnded honest words host now changes number told piece new.records new.attempts replied change
+      AttemptHasEnded honest words host now changes number told piece old.records new.records new.attempts replied
+      change
 
   abbrev pub Replies : List ℕ → NodeState D → NodeState D → Replied → Type 0
   Replies piece old new replied = RepliesBy piece old new replied replied.change

@@ -6,6 +6,7 @@ use Rattle.relay_disk.specs.declared.disks.Disks.{Disks}
 use Rattle.relay_disk.specs.Device.{DiskWords}
 use Rattle.relay_disk.specs.Disks.{FailsNot}
 use Rattle.relay_spool.specs.declared.fault.SpoolFault.TheVariants as spool_fault
+use Rattle.relay_spool.specs.Spool.{Passes}
 use Rattle.relay_routes.specs.declared.config.Config.{Config}
 use Rattle.relay_server.specs.declared.offer.Answer.TheVariants.{Queued}
 use Rattle.relay_server.specs.declared.session.Next.TheVariants as next
@@ -99,7 +100,8 @@ module _ {D : Type 0} (honest : Type 0) (words : DiskWords D) (config : Config) 
   abbrev pub FitsIn : Kept D → Offered → Accept → Type 0
   FitsIn old offer accept = HasRoom next_acceptance config.spool_limit old.spool.size offer accept
 
-  -- behind the refused offers one was queued: the change of this number accepts it, and no octet behind it was read
+  -- behind the refused offers one was queued: the change of this number accepts it, added by four calls of the device,
+  -- and no octet behind it was read
   pub record Queues (said later : Said) (refused : List Offered) (used : ℕ) (old new : Kept D)
       (number : ℕ) : Type 0 where
     pub number_is : number ≡ length changes + 1
@@ -110,6 +112,7 @@ module _ {D : Type 0} (honest : Type 0) (words : DiskWords D) (config : Config) 
     pub fits : FitsIn old offer accept
     pub adds : Adds honest words new changes (change.Accept accept) used
     pub size : new.spool.size ≡ size_with old.spool.size accept
+    pub calls : Passes words 4 old.spool.disk new.spool.disk
 
   -- the change that the call made, if it made one
   abbrev pub Makes : Said → Said → List Offered → ℕ → Kept D → Kept D → Option ℕ → Type 0

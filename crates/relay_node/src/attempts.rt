@@ -94,7 +94,7 @@ impl<D: Disk> Node<D> {
     /// Ends the held places of a message that have no hop (RFC 5321, section 6.1), all in one change with the
     /// report that is due of them, whose number is the answer. The first fault in this order is answered:
     /// `Stopped`, `Unknown` where no place of such a message is held, `NotDue` where each held place has a
-    /// hop; and then nothing is changed. So it is at `NoMemory` and `Full`.
+    /// hop; then `NoMemory` and `Full`, for want of memory or of room. Nothing is changed then.
     pub fn give_up_unroutable(&mut self, message: u64, now: Moment) -> Result<u64, NodeFault>
         ensures gives_up { (changes : List Change) → Keeps D.honest D.words self.old.records changes
             → IfOk result (AddsUnroutable D.honest D.words self.old.config.host self.old.config.routes message

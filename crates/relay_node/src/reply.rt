@@ -61,7 +61,7 @@ impl<D: Disk> Node<D> {
         ensures lost { (changes : List Change) (told : Told) → Keeps D.honest D.words self.old.records changes
             → Tells self.old.config.host changes self.old.attempts attempt told
             → IfOk result (IsLost D.honest D.words self.old.config.host now changes attempt told
-            self.new.records self.new.attempts) }
+            self.old.records self.new.records self.new.attempts) }
         ensures cut { (changes : List Change) (told : Told) → Keeps D.honest D.words self.old.records changes
             → Tells self.old.config.host changes self.old.attempts attempt told
             → result ≡ Err NodeFault.Stopped

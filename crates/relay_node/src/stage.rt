@@ -65,8 +65,8 @@ impl<D: Disk> Node<D> {
 
     /// Brings the changes of a row into the spool, behind one pair of syncs, and answers the note of each: from
     /// then on every stop leaves them. At `Stopped` the device failed, and a stop leaves none of them or all; or
-    /// the node was stopped before. At `Full` nothing changes: no row that was staged for this node is too large
-    /// for its spool. It takes no memory.
+    /// the node was stopped before, and that is all that a stopped node answers. At `Full` nothing changes: no row
+    /// that was staged for this node is too large for its spool. It takes no memory.
     pub fn settle(&mut self, row: Staged) -> Result<Vec<Noted>, Unsettled>
         ensures settles { (changes pending : List Change)
             → Awaits D.honest D.words self.old.records changes pending row
@@ -85,7 +85,8 @@ impl<D: Disk> Node<D> {
             (λ unsettled. unsettled.notes.items ≡ row.notes) }
         ensures rest { (self.new.config ≡ self.old.config) × (self.new.seats ≡ self.old.seats)
             × (self.new.attempts ≡ self.old.attempts) }
-        ensures stopped { self.old.records.spool.live ≡ false → self.new ≡ self.old }
+        ensures stopped { self.old.records.spool.live ≡ false → (self.new ≡ self.old)
+            × MatchResult result (λ _. ⊥) (λ unsettled. unsettled.fault ≡ NodeFault.Stopped) }
         ensures refused { IfErr result (λ unsettled. self.old.records.spool.live ≡ true
             → RefusesToSettle D.words self.old.records self.new.records unsettled.fault) }
         ensures full { IfErr result (λ unsettled. unsettled.fault ≡ NodeFault.Full

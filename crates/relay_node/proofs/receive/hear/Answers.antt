@@ -27,6 +27,7 @@ returns-in-Ok-clause-hears g c = λ changes said keeps says.
     let added = c.in-Ok.ensures.ok changes keeps in
     hears_queued g.D.Disk.honest g.D.Disk.words _ changes said c.args.piece.now c.args.records.now (c.next_number.ensures.kept changes keeps) c.size.ensures.size c.speak.new.session c.in_ok-used.field-0
     (c.in_ok-used.ensures.speaks said (subst (λ session. SessionHasSaid (setup_of_config c.args.config.now) session said) (sym c.deref_mut.ensures.value) says)) c.in_ok-used.ensures.spoken c.in-Some.taken c.in-Some.is c.add.new.self c.in-Ok.number added.0 added.1 c.in-Ok.ensures.grows.size
+    c.in-Ok.ensures.grows.calls
 
 pub returns-in-Ok-clause-heard : goal.returns-in-Ok-clause-heard
 returns-in-Ok-clause-heard g c =
