@@ -296,8 +296,8 @@ module _ {D : Type 0} (honest : Type 0) (words : DiskWords D) (old new : World D
         told : Told
         told = told_by is.of.attempt knows.was.accept (take is.of.link.down_read is.of.link.down) knows.was.output
 
-        ended : IsLost honest words is.of.before.config.host old.clock knows.changes is.of.slot told is.after.records
-            is.after.attempts change_now
+        ended : IsLost honest words is.of.before.config.host old.clock knows.changes is.of.slot told
+            is.of.before.records is.after.records is.after.attempts change_now
         ended = is.loses knows.changes told knows.its_node.keeps
             (subst (λ (c : Config). Tells c.host knows.changes is.of.before.attempts is.of.slot told)
             (sym knows.its_node.config_is) knows.tells)

@@ -73,6 +73,7 @@ mod LeakLemmas
 mod LeakEventLemmas
 mod PromiseLemmas
 mod UnsoundLemmas
+mod FuseLemmas
 mod CrashLemmas
 mod CrashEndLemmas
 mod CrashRunLemmas

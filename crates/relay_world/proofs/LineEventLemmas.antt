@@ -147,8 +147,8 @@ module _ {D : Type 0} (honest : Type 0) (words : DiskWords D) (old new : World D
       told : Told
       told = told_by loses.of.attempt knows.was.accept (take loses.of.link.down_read loses.of.link.down) knows.was.output
 
-      ended : IsLost honest words loses.of.before.config.host old.clock knows.changes loses.of.slot told loses.after.records
-          loses.after.attempts change_now
+      ended : IsLost honest words loses.of.before.config.host old.clock knows.changes loses.of.slot told
+          loses.of.before.records loses.after.records loses.after.attempts change_now
       ended = loses.loses knows.changes told knows.its_node.keeps
           (subst (λ (c : Config). Tells c.host knows.changes loses.of.before.attempts loses.of.slot told)
           (sym knows.its_node.config_is) knows.tells)

@@ -98,8 +98,8 @@ losing_keeps {D} honest words old new lists number change_now bound lost = (
     its_host : of.before.config.host ≡ of.host.config.host
     its_host = ap (λ (c : Config). c.host) knows.its_node.config_is
 
-    ended : IsLost honest words of.before.config.host old.clock knows.changes of.slot told_was lost.after.records
-        lost.after.attempts change_now
+    ended : IsLost honest words of.before.config.host old.clock knows.changes of.slot told_was of.before.records
+        lost.after.records lost.after.attempts change_now
     ended = lost.loses knows.changes told_was knows.its_node.keeps
         (subst (λ h. Tells h knows.changes of.before.attempts of.slot told_was) (sym its_host) knows.tells)
 

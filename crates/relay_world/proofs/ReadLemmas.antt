@@ -38,8 +38,8 @@ module _ {D : Type 0} (honest : Type 0) (words : DiskWords D) (old new : World D
   -- the attempt has ended
   read_to_end : (change_now : ℕ)
       → AttemptHasEnded honest words read.of.before.config.host old.clock knows.changes read.of.slot
-      (told_was honest words old lists number bound read.of knows) (waiting_down count read.of.link) read.after.records
-      read.after.attempts read.replied change_now
+      (told_was honest words old lists number bound read.of knows) (waiting_down count read.of.link) read.of.before.records
+      read.after.records read.after.attempts read.replied change_now
       → RecordsOutcome old new number read.of read.after (RepliedBy change_now) change_now
       → (later : List (List Change)) × IsBound honest words new later
   read_to_end change_now ended records = (

@@ -21,6 +21,7 @@ pub mod Copies
 pub mod Chain
 pub mod Growth
 pub mod Unsound
+pub mod Fuses
 pub mod Leaks
 pub mod Delays
 pub mod Promise

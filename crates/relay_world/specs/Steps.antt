@@ -267,7 +267,8 @@ pub record HasLost {D : Type 0} (honest : Type 0) (words : DiskWords D) (old new
   pub after : NodeState D
   pub loses : (changes : List Change) (told : Told) → Keeps honest words of.before.records changes
       → Tells of.before.config.host changes of.before.attempts of.slot told
-      → IsLost honest words of.before.config.host old.clock changes of.slot told after.records after.attempts change
+      → IsLost honest words of.before.config.host old.clock changes of.slot told of.before.records after.records
+      after.attempts change
   pub others : OthersStay of.before.attempts after.attempts of.slot
   pub config : after.config ≡ of.before.config
   pub seats : after.seats ≡ of.before.seats

@@ -5,6 +5,7 @@ ghost use Rattle.relay_world.specs.Copies.{CopiesAreFew};
 ghost use Rattle.relay_world.specs.CrashRuns.{CompactingHappens, CrashingHappens, CrashingKeepsOnce};
 ghost use Rattle.relay_world.specs.CrashRuns.{RestingCrashHappens};
 ghost use Rattle.relay_world.specs.Growth.{GrownListsBegin, RunsGrow};
+ghost use Rattle.relay_world.specs.Fuses.{StopsCountDown};
 ghost use Rattle.relay_world.specs.Forbidden.{DroppingBreaks, ForgettingBreaks, LeadingElsewhereBreaks};
 ghost use Rattle.relay_world.specs.Forbidden.{LosingOutcomeBreaks, LosingRecordBreaks, LosingRowBreaks};
 ghost use Rattle.relay_world.specs.Invented.{InventingBreaks};
@@ -127,6 +128,12 @@ pub fn healing_breaks<D: Disk>()
 /// A node that stops in a call does so since its device has failed.
 pub fn stopping_is_failing<D: Disk>()
     ensures { StoppingIsFailing D.honest D.words }
+{}
+
+/// A stop that is set for a later call of a node's device comes nearer by the calls that the node's events take, and
+/// lets each of these pass.
+pub fn stops_count_down<D: Disk>()
+    ensures { StopsCountDown D.honest D.words }
 {}
 
 /// Of a message's place as many copies are made as one, and one for each reply that was lost, or fewer.
