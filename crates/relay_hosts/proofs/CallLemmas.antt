@@ -295,12 +295,12 @@ module _ {D : Type 0} (honest : Type 0) (words : DiskWords D) (before after : No
       by (Some number) ended none = absurd (none-some number (sym none))
 
   pub read_ended : Replies honest words host now changes slot told piece before after replied → (replied.change ≡ None → ⊥)
-      → (number : ℕ) × AttemptHasEnded honest words host now changes slot told piece after.records after.attempts replied number
+      → (number : ℕ) × AttemptHasEnded honest words host now changes slot told piece before.records after.records after.attempts replied number
   read_ended replies some = by replied.change replies some
     where
       by : (change : Option ℕ) → RepliesBy honest words host now changes slot told piece before after replied change
           → (change ≡ None → ⊥)
-          → (number : ℕ) × AttemptHasEnded honest words host now changes slot told piece after.records after.attempts replied number
+          → (number : ℕ) × AttemptHasEnded honest words host now changes slot told piece before.records after.records after.attempts replied number
       by None on there = absurd (there refl)
       by (Some number) ended there = (number, ended)
 

@@ -62,7 +62,7 @@ owes_more {D} before after slot len capacity owed more len_now capacity_now room
 -- a refusal to give up leaves the records, unless it is a stop
 pub given_up_same : {D : Type 0} (words : DiskWords D) (host : List ℕ) (table : RouteTable) (message now : ℕ) (old new : Kept D)
     (fault : NodeFault) → is_stop fault ≡ false → RefusesToGiveUp words host table message now old new fault → new ≡ old
-given_up_same words host table message now old new NoMemory ok refuses = refuses.1
+given_up_same words host table message now old new NoMemory ok refuses = refuses.2
 given_up_same words host table message now old new Stopped ok refuses = absurd (true≢false ok)
 given_up_same words host table message now old new Unknown ok refuses = refuses.2
 given_up_same words host table message now old new TooMany ok refuses = absurd refuses

@@ -230,7 +230,8 @@ module _ {D : Type 0} (honest : Type 0) (words : DiskWords D) where
     pub after : NodeState D
     pub loses : (changes : List Change) (told : Told) → Keeps honest words before.records changes
         → Tells before.config.host changes before.attempts slot told
-        → IsLost honest words before.config.host now changes slot told after.records after.attempts change
+        → IsLost honest words before.config.host now changes slot told before.records after.records after.attempts
+        change
     pub others : OthersStay before.attempts after.attempts slot
     pub config : after.config ≡ before.config
     pub seats : after.seats ≡ before.seats
