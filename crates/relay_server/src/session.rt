@@ -73,16 +73,15 @@ impl Session {
             (record { input = []; answers = []; output = made.1.items; offers = [] })) }
         ensures settled { IfOk result (λ made. open_offers made.0 ≡ []) }
     {
-        let server = Server {
-            alloc,
-            host: config.host.copy(alloc)?,
-            max_content: config.max_content,
-            bare_newlines: config.bare_newlines,
-        };
         let mut greeting = Vec::new(alloc);
-        Row::Greeting.write(server.host.as_slice(), &mut greeting)?;
+        Row::Greeting.write(config.host.as_slice(), &mut greeting)?;
         let session = Session {
-            server,
+            server: Server {
+                alloc,
+                host: config.host.copy(alloc)?,
+                max_content: config.max_content,
+                bare_newlines: config.bare_newlines,
+            },
             line: LineBuffer::new(),
             stage: Stage::Command(CommandState::Fresh),
         };

@@ -3,6 +3,7 @@ use Rattle.std.proofs.Common.{◌≡◌, true, refl, sym, arith}
 use Rattle.std.proofs.lemmas.List.{length-drop, take_rest}
 use Rattle.relay_server.specs.Machine.{is_reading}
 use Rattle.relay_server.proofs.StandsLemmas.{hears_further, hears_nothing}
+use Rattle.std.proofs.lemmas.Result.{IfOk-from_err}
 use Rattle.relay_server.proofs.session.Session.read.Goals as goal
 
 pub loop-used-init : goal.loop-used-init
@@ -32,3 +33,15 @@ loop-used-preserved c =
           hears_further setup c.args.self.now c.loop-used.self c.advance.new.self c.args.table.now said piece used c.in_ok-used.field-0
           c.args.out.now.items c.loop-used.out.items c.advance.new.out.items same began reads (c.loop-used.invariant.hears setup said same stands) advances;
     }
+
+pub returns-in_err-used-clause-stands : goal.returns-in_err-used-clause-stands
+returns-in_err-used-clause-stands c = IfOk-from_err c.from_residual.result _ c.from_residual.ensures.0
+
+pub returns-in_err-used-clause-idle : goal.returns-in_err-used-clause-idle
+returns-in_err-used-clause-idle c = IfOk-from_err c.from_residual.result _ c.from_residual.ensures.0
+
+pub returns-in_err-used-clause-within : goal.returns-in_err-used-clause-within
+returns-in_err-used-clause-within c = IfOk-from_err c.from_residual.result _ c.from_residual.ensures.0
+
+pub returns-in_err-used-clause-whole : goal.returns-in_err-used-clause-whole
+returns-in_err-used-clause-whole c = IfOk-from_err c.from_residual.result _ c.from_residual.ensures.0

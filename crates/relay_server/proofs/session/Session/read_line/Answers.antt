@@ -8,6 +8,7 @@ use Rattle.relay_server.specs.State.{Command}
 use Rattle.relay_server.specs.Values.{command_state_of}
 use Rattle.relay_server.specs.declared.stage.Stage.{Stage}
 use Rattle.relay_server.proofs.StandsLemmas.{given_line, holds_nothing, line_is_unit, steps_by, whole_line}
+use Rattle.std.proofs.lemmas.Result.{IfOk-from_err}
 use Rattle.relay_server.proofs.session.Session.read_line.Goals as goal
 
 pub returns-clause-steps : goal.returns-clause-steps
@@ -42,3 +43,15 @@ returns-2-clause-steps c = λ held octets holds.
     let moves = c.in_ok-answer_line.ensures.moves held ended.0 ended.1.first (given_line c.feed.new.self ended.0 ended.2) in
     steps_by setup state c.answer_line-2.new.self (octets ++ take c.in-Some.used c.args.rest.now) before after
     (subst (λ (unit : List ℕ). Moves setup state c.answer_line-2.new.self.stage unit before after) (sym (line_is_unit _ _ ended.1)) moves) c.in_ok-answer_line.ensures.line
+
+pub returns-in_err-stage-clause-steps : goal.returns-in_err-stage-clause-steps
+returns-in_err-stage-clause-steps c = λ held. IfOk-from_err c.from_residual.result _ c.from_residual.ensures.0
+
+pub returns-in_err-stage-clause-within : goal.returns-in_err-stage-clause-within
+returns-in_err-stage-clause-within c = IfOk-from_err c.from_residual.result _ c.from_residual.ensures.0
+
+pub returns-in_err-answer_line-clause-steps : goal.returns-in_err-answer_line-clause-steps
+returns-in_err-answer_line-clause-steps c = λ held. IfOk-from_err c.from_residual-in_err-answer_line.result _ c.from_residual-in_err-answer_line.ensures.0
+
+pub returns-in_err-answer_line-clause-within : goal.returns-in_err-answer_line-clause-within
+returns-in_err-answer_line-clause-within c = IfOk-from_err c.from_residual-in_err-answer_line.result _ c.from_residual-in_err-answer_line.ensures.0
