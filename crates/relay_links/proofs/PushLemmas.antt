@@ -193,7 +193,7 @@ module _ {D : Type 0} (honest : Type 0) (words : DiskWords D) (start : PushStart
         }
 
     -- it has ended
-    pub has_ended : (change : ℕ) → EndsOf honest words start.host at start.changes number (told_more start.told h.input (h.written ++ [])) waiting new.records new.attempts replied change → PushHasEnded honest words start at left new_held rest new.records
+    pub has_ended : (change : ℕ) → EndsOf honest words start.host at start.changes number (told_more start.told h.input (h.written ++ [])) waiting old.records new.records new.attempts replied change → PushHasEnded honest words start at left new_held rest new.records
     has_ended change e =
         let told = start.told in
         record {
@@ -301,9 +301,9 @@ module _ {D : Type 0} (honest : Type 0) (words : DiskWords D) (start : PushStart
 
   -- the connection is lost
   pub loses : (left held : Option (List ℕ)) (waiting unwritten : List ℕ) (old new : NodeState D) (change : ℕ) (h : IsAt honest words start at number left held waiting unwritten old)
-      → IsLost honest words old.config.host at start.changes number (told_more start.told h.input (h.written ++ unwritten)) new.records new.attempts change → HasLost honest words start at left held new.records
+      → IsLost honest words old.config.host at start.changes number (told_more start.told h.input (h.written ++ unwritten)) old.records new.records new.attempts change → HasLost honest words start at left held new.records
   loses left held waiting unwritten old new change h lost =
-      let here = subst (λ host. IsLost honest words host at start.changes number (told_more start.told h.input (h.written ++ unwritten)) new.records new.attempts change) h.host lost in
+      let here = subst (λ host. IsLost honest words host at start.changes number (told_more start.told h.input (h.written ++ unwritten)) old.records new.records new.attempts change) h.host lost in
       record {
         unwritten = unwritten;
         goes = record {

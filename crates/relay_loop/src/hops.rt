@@ -145,7 +145,7 @@ impl<D: Disk> Relay<D> {
             → Keeps D.honest D.words self.old.node.records changes
             → HandsTo changes self.old attempt told written
             → IfOk result (IsLost D.honest D.words self.old.node.config.host now changes attempt told
-            self.new.node.records self.new.node.attempts) }
+            self.old.node.records self.new.node.records self.new.node.attempts) }
         ensures cut { (changes : List Change) (told : Told) (written : List ℕ)
             → Keeps D.honest D.words self.old.node.records changes
             → HandsTo changes self.old attempt told written → result ≡ Err NodeFault.Stopped

@@ -143,7 +143,7 @@ module _ {D : Type 0} (honest : Type 0) (words : DiskWords D) where
         )
 
         left_by : (fault : NodeFault) → RefusesToGiveUp words old.config.host old.config.routes number now old.records new.records fault → fault ≢ node_fault.Stopped → IsDone honest words now (NoRoute number) changes old new
-        left_by node_fault.NoMemory refuses other = same refuses.1
+        left_by node_fault.NoMemory refuses other = same refuses.2
         left_by node_fault.Stopped refuses other = absurd (other refl)
         left_by node_fault.Unknown refuses other = same refuses.2
         left_by node_fault.TooMany refuses other = absurd refuses
