@@ -1,16 +1,4 @@
-ghost use Rattle.std.specs.Prelude.{◌≡◌, ℕ, List, [], ◌∷◌, ◌++◌, ◌+◌, ◌≤◌, ◌<◌, length, take, slice_range, true, false};
-ghost use Rattle.std.specs.Prelude.{IfOk, OnOk, OnErr, IsErr, MatchOption};
-ghost use Rattle.relay_octets.specs.Line.{HasNoCrlf, crlf};
-ghost use Rattle.relay_body.specs.DotReading.{IsReading};
-ghost use Rattle.relay_server.specs.Dialogue.{Said, more_said};
-ghost use Rattle.relay_server.specs.Machine.{Advances, GathersChunk, IsGiven, Moves, RefusesChunk, Steps, is_reading};
-ghost use Rattle.relay_server.specs.Session.{Answered, HasFailed, HasOffer, Hears, Stands, UsesPiece, Waits, next_of};
-ghost use Rattle.relay_server.specs.Session.{offered, offers_since, open_offers};
-ghost use Rattle.relay_server.specs.Setup.{Setup, setup_of};
-ghost use Rattle.relay_server.specs.State as standing;
-ghost use Rattle.relay_server.specs.Values.{IsHeld, command_state_of};
-ghost use Rattle.relay_routes.specs.Routes.{RouteTable};
-ghost use Rattle.relay_lines.specs.HeldLine.{Holds};
+ghost use Rattle.relay_server.specs.Bounds.{IsHeldAt};
 
 use crate::offer::{Answer, Offer};
 use crate::reply_table::Row;
@@ -50,6 +38,7 @@ pub struct Session {
     /// What has come of a command line, and nothing while mail data or a chunk comes.
     line: LineBuffer,
     stage: Stage,
+    ghost bounded: { IsHeldAt server.max_content stage },
 }
 
 // Written out, so that a crate that drops a session calls this, and doesn't look into each stage
@@ -65,6 +54,22 @@ impl Drop for Session {
 }
 
 impl Session {
+    ghost use Rattle.std.specs.Prelude.{◌≡◌, ℕ, List, [], ◌∷◌, ◌++◌, ◌+◌, ◌≤◌, ◌<◌, length, take, slice_range, true, false};
+    ghost use Rattle.std.specs.Prelude.{IfOk, OnOk, OnErr, IsErr, MatchOption};
+    ghost use Rattle.relay_octets.specs.Line.{HasNoCrlf, crlf};
+    ghost use Rattle.relay_body.specs.DotReading.{IsReading, limit_of};
+    ghost use Rattle.relay_body.specs.ChunkText.{chunk_limit_of};
+    ghost use Rattle.relay_server.specs.Bounds.{IsHeld};
+    ghost use Rattle.relay_server.specs.Dialogue.{Said, more_said};
+    ghost use Rattle.relay_server.specs.Machine.{Advances, GathersChunk, IsGiven, Moves, RefusesChunk, Steps, is_reading};
+    ghost use Rattle.relay_server.specs.Session.{Answered, HasFailed, HasOffer, Hears, Stands, UsesPiece, Waits, next_of};
+    ghost use Rattle.relay_server.specs.Session.{offered, offers_since, open_offers};
+    ghost use Rattle.relay_server.specs.Setup.{Setup, setup_of};
+    ghost use Rattle.relay_server.specs.State as standing;
+    ghost use Rattle.relay_server.specs.Values.{command_state_of};
+    ghost use Rattle.relay_routes.specs.Routes.{RouteTable};
+    ghost use Rattle.relay_lines.specs.HeldLine.{Holds};
+
     /// A session, and the greeting for the client. It fails where memory runs out.
     pub fn new(alloc: Global, config: &Config) -> Result<(Self, Vec<u8>), AllocError>
         ensures stands { IfOk result (λ made. (setup : Setup) → setup.host ≡ config.now.host
@@ -196,6 +201,7 @@ impl Session {
     /// Takes the stage out. Until it enters another, the session has failed.
     fn leave(&mut self) -> Stage
         ensures stage { result ≡ self.old.stage }
+        ensures held { IsHeldAt self.new.server.max_content result }
         ensures failed { self.new.stage ≡ Stage.Failed }
         ensures same { (self.new.server ≡ self.old.server) × (self.new.line ≡ self.old.line) }
     {
@@ -204,6 +210,7 @@ impl Session {
 
     /// Stands in this stage from now on.
     fn enter(&mut self, stage: Stage)
+        requires { IsHeldAt self.old.server.max_content stage }
         ensures stage { self.new.stage ≡ stage }
         ensures same { (self.new.server ≡ self.old.server) × (self.new.line ≡ self.old.line) }
     {
@@ -283,6 +290,7 @@ impl Session {
         out: &mut Vec<u8>,
     ) -> Result<usize, AllocError>
         requires some { 0 < length rest.now }
+        requires limit { limit_of mail.reader ≡ self.old.server.max_content }
         ensures moves { IfOk result (λ used. (routes : RouteTable) (octets : List ℕ)
             → IsReading mail.reader self.old.server.max_content octets
             → Moves (setup_of self.old.server routes)
@@ -305,6 +313,7 @@ impl Session {
         out: &mut Vec<u8>,
     ) -> Result<usize, AllocError>
         requires some { 0 < length rest.now }
+        requires limit { chunk_limit_of chunk.reader ≡ self.old.server.max_content }
         ensures moves { IfOk result (λ used. (routes : RouteTable) (state : standing.State) (octets : List ℕ)
             → GathersChunk self.old.server.max_content chunk.transaction chunk.reader chunk.is_last
             state octets
@@ -330,6 +339,7 @@ impl Session {
         out: &mut Vec<u8>,
     ) -> Result<usize, AllocError>
         requires some { 0 < length rest.now }
+        requires held { IsHeld self.old.server.max_content skipped.state }
         ensures moves { IfOk result (λ used. (routes : RouteTable) (state : standing.State) (octets : List ℕ)
             → RefusesChunk self.old.server.max_content skipped.row skipped.state skipped.missing state octets
             → Moves (setup_of self.old.server routes) state self.new.stage
@@ -354,8 +364,8 @@ impl Session {
         out: &mut Vec<u8>,
     ) -> Result<usize, AllocError>
         requires some { 0 < length rest.now }
-        ensures steps { IsHeld self.old.server.max_content state
-            → IfOk result (λ used. (octets : List ℕ) → Holds self.old.line octets
+        requires held { IsHeld self.old.server.max_content state }
+        ensures steps { IfOk result (λ used. (octets : List ℕ) → Holds self.old.line octets
             → Steps (setup_of self.old.server table.now)
             (standing.Command (command_state_of state)) self.new
             (octets ++ take used rest.now) out.old.items out.new.items) }
@@ -386,7 +396,8 @@ impl Session {
         state: CommandState,
         out: &mut Vec<u8>,
     ) -> Result<(), AllocError>
-        ensures moves { IsHeld self.old.server.max_content state → OnOk result ((line : List ℕ)
+        requires { IsHeld self.old.server.max_content state }
+        ensures moves { OnOk result ((line : List ℕ)
             → HasNoCrlf line
             → IsGiven line self.old.line.kept self.old.line.is_long
             → Moves (setup_of self.old.server table.now)
