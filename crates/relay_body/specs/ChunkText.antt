@@ -1,6 +1,6 @@
 -- Chunks (RFC 3030, section 2): behind each BDAT come as many octets as it says, and they are
 -- content as they are.
-use Rattle.std.specs.Prelude.{◌≡◌, ℕ, ◌+◌, ◌≤◌, ◌↔◌, ◌++◌, ◌∷◌, [], List, false, IsTrue, length, map, take}
+use Rattle.std.specs.Prelude.{◌≡◌, ℕ, ◌+◌, ◌≤◌, ◌↔◌, ◌++◌, ◌∷◌, [], List, false, IsSome, IsTrue, length, map, take}
 use Rattle.std.specs.Option.{option_map_or}
 use Rattle.std.specs.List.{flat_map, AllByRecursion}
 use Rattle.relay_body.specs.declared.chunk_reader.Stage.TheVariants.{Awaits, Failed}
@@ -40,6 +40,10 @@ with_octets chunk more = record { size = chunk.size; octets = chunk.octets ++ mo
 -- the content has come so far, and is kept up to the limit
 abbrev pub Gathers : ChunkReader → ℕ → List ℕ → Type 0
 Gathers reader limit content = KeepsContent reader.gathering limit content
+
+-- all of the content that has come is kept
+abbrev pub KeepsAll : ChunkReader → Type 0
+KeepsAll reader = IsSome reader.gathering.kept
 
 -- each chunk that was begun has come whole
 abbrev pub IsBetweenChunks : ChunkReader → Type 0

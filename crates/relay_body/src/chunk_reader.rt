@@ -1,8 +1,8 @@
-ghost use Rattle.std.specs.Prelude.{◌≡◌, ◌<◌, ◌≤◌, ◌↔◌, ℕ, List, [], true, length, nat_lt, Ok, IfOk, OnErr, IsErr};
+ghost use Rattle.std.specs.Prelude.{◌≡◌, ◌<◌, ◌≤◌, ◌↔◌, ℕ, List, [], true, false, length, nat_lt, Ok, IfOk, OnErr, IsErr};
 ghost use Rattle.std.specs.Prelude.{IsTrue};
 ghost use Rattle.relay_body.specs.ChunkText.{Chunk, BeginsChunk, FeedsChunk, Gathers, HasChunks, HasNoMemory};
-ghost use Rattle.relay_body.specs.ChunkText.{IsBetweenChunks, chunk_limit_of, content_of_chunks};
-ghost use Rattle.relay_body.specs.Gathering.{gathered_of};
+ghost use Rattle.relay_body.specs.ChunkText.{IsBetweenChunks, KeepsAll, chunk_limit_of, content_of_chunks};
+ghost use Rattle.relay_body.specs.Gathering.{IsWithin, gathered_of};
 
 use crate::gathered::{BodyFault, Gathered, Gathering};
 use std::alloc::Global;
@@ -63,8 +63,9 @@ impl ChunkReader {
 
     /// Whether the octets that have come pass the limit.
     pub fn is_too_large(&self) -> bool
-        ensures { (limit : ℕ) (content : List ℕ)
+        ensures passes { (limit : ℕ) (content : List ℕ)
             → Gathers self.now limit content → result ≡ nat_lt limit (length content) }
+        ensures kept { result ≡ false → KeepsAll self.now }
     {
         self.gathering.is_too_large()
     }
@@ -105,8 +106,9 @@ impl ChunkReader {
     /// The content of the chunks, or that it was too large. It takes no memory.
     pub fn finish(self) -> Gathered
         requires { IsBetweenChunks self }
-        ensures { (limit : ℕ) (chunks : List Chunk)
+        ensures content { (limit : ℕ) (chunks : List Chunk)
             → HasChunks self limit chunks → result ≡ gathered_of limit (content_of_chunks chunks) }
+        ensures within { IsWithin (chunk_limit_of self) result }
     {
         let ChunkReader {
             stage: _,

@@ -2,7 +2,7 @@ ghost use Rattle.std.specs.Prelude.{◌≡◌, ◌-◌, ◌<◌, ◌≤◌, ◌�
 ghost use Rattle.std.specs.Prelude.{Ok, IfOk, OnOk, OnErr, IsErr, IsTrue, MatchBool};
 ghost use Rattle.relay_body.specs.DotSteps.{IsOpen, RunsOn, phase_behind};
 ghost use Rattle.relay_body.specs.DotText.{ends_in_line_end};
-ghost use Rattle.relay_body.specs.Gathering.{gathered_of};
+ghost use Rattle.relay_body.specs.Gathering.{IsWithin, gathered_of};
 ghost use Rattle.relay_body.specs.DotReading.{IsReading, IsDone, HasFailed, HasRead, Feeds, Uses, limit_of};
 
 use crate::dot_writer::ends_in_line_end;
@@ -135,8 +135,9 @@ impl DotReader {
     /// The content of the text, or that it was too large. It takes no memory.
     pub fn finish(self) -> Gathered
         requires { IsDone self }
-        ensures { (limit : ℕ) (text content : List ℕ)
+        ensures content { (limit : ℕ) (text content : List ℕ)
             → HasRead self limit text content → result ≡ gathered_of limit content }
+        ensures within { IsWithin (limit_of self) result }
     {
         let DotReader {
             phase: _,

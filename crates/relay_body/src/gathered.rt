@@ -54,8 +54,8 @@ impl Drop for Gathering {
 }
 
 impl Gathering {
-    ghost use Rattle.std.specs.Prelude.{◌≡◌, ℕ, List, [], ◌++◌, nat_lt, OnOk};
-    ghost use Rattle.relay_body.specs.Gathering.{KeepsContent, gathered_of};
+    ghost use Rattle.std.specs.Prelude.{◌≡◌, ℕ, List, [], ◌++◌, false, nat_lt, IsSome, OnOk};
+    ghost use Rattle.relay_body.specs.Gathering.{IsWithin, KeepsContent, gathered_of};
 
     /// Nothing of a content yet. It takes no memory.
     pub(crate) fn new(alloc: Global, limit: usize) -> Self
@@ -90,16 +90,18 @@ impl Gathering {
 
     /// Whether the content so far passes the limit.
     pub(crate) fn is_too_large(&self) -> bool
-        ensures { (limit : ℕ) (content : List ℕ)
+        ensures passes { (limit : ℕ) (content : List ℕ)
             → KeepsContent self.now limit content → result ≡ nat_lt limit (length content) }
+        ensures kept { result ≡ false → IsSome self.now.kept }
     {
         self.kept.is_none()
     }
 
     /// The content, once it has come whole. It takes no memory.
     pub(crate) fn finish(self) -> Gathered
-        ensures { (limit : ℕ) (content : List ℕ)
+        ensures content { (limit : ℕ) (content : List ℕ)
             → KeepsContent self limit content → result ≡ gathered_of limit content }
+        ensures within { IsWithin self.limit result }
     {
         let Gathering { limit: _, kept } = self;
         match kept {

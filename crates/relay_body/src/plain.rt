@@ -4,7 +4,7 @@ ghost use Rattle.std.specs.Prelude.{◌≡◌, ◌<◌, ◌≤◌, ◌↔◌, �
 ghost use Rattle.std.specs.Prelude.{OnOk, IsErr, IsTrue, MatchBool, if◌then◌else◌};
 ghost use Rattle.relay_body.specs.DotSteps.{IsOpen, StandsForItself};
 ghost use Rattle.relay_body.specs.DotText.{WritesDotText, ends_in_line_end, with_period};
-ghost use Rattle.relay_body.specs.Gathering.{gathered_of};
+ghost use Rattle.relay_body.specs.Gathering.{IsWithin, gathered_of};
 ghost use Rattle.relay_body.specs.DotReading.{IsReading, IsDone, HasFailed, HasRead, Feeds, Uses, limit_of};
 
 use crate::dot_reader::{self, DotCut, Phase};
@@ -64,8 +64,9 @@ impl DotReader {
     /// The content of the text, or that it was too large. It takes no memory.
     pub fn finish(self) -> Gathered
         requires { IsDone self }
-        ensures { (limit : ℕ) (text content : List ℕ)
+        ensures content { (limit : ℕ) (text content : List ℕ)
             → HasRead self limit text content → result ≡ gathered_of limit content }
+        ensures within { IsWithin (limit_of self) result }
     {
         let DotReader { reader } = self;
         reader.finish()

@@ -5,7 +5,7 @@ use Rattle.std.proofs.lemmas.Bool.Decides.{nat_tests}
 use Rattle.std.proofs.lemmas.Grind.{flat_map-append}
 use Rattle.std.proofs.lemmas.List.{length-take}
 use Rattle.relay_octets.specs.Line.{crlf}
-use Rattle.relay_body.specs.ChunkText.{Chunk as ChunkText, HasChunks, IsBetweenChunks, IsInChunk, content_of_chunks, octets_of, with_octets}
+use Rattle.relay_body.specs.ChunkText.{Chunk as ChunkText, Gathers, HasChunks, IsBetweenChunks, IsInChunk, content_of_chunks, octets_of, with_octets}
 use Rattle.relay_body.specs.declared.chunk_reader.ChunkReader.{ChunkReader}
 use Rattle.relay_body.specs.declared.chunk_reader.Stage.TheVariants.{Awaits}
 use Rattle.relay_body.proofs.Theorems.{whole_is_between, whole_is_one_more}
@@ -13,6 +13,7 @@ use Rattle.relay_lines.specs.Command as line
 use Rattle.relay_lines.specs.Command.{reading_of}
 use Rattle.relay_lines.specs.declared.chunk_argument.BdatArgument.{BdatArgument}
 use Rattle.relay_server.specs.declared.reply_table.Row.{Row}
+use Rattle.relay_server.specs.declared.reply_table.Row.TheVariants.{ChunkOk}
 use Rattle.relay_server.specs.declared.stage.Chunk.{Chunk}
 use Rattle.relay_server.specs.declared.state.CommandState.{CommandState as Held}
 use Rattle.relay_server.specs.declared.state.Transaction.{Transaction}
@@ -22,9 +23,9 @@ use Rattle.relay_server.specs.declared.client.Client.{Client}
 use Rattle.relay_server.specs.ReplyTable.{Course, Replies, course_of_bdat, course_of_chunks, course_of_text, unless_refused}
 use Rattle.relay_server.specs.Machine.{AnnouncesChunk, GathersChunk, RefusesChunk}
 use Rattle.relay_server.specs.Setup.{Setup}
-use Rattle.relay_server.specs.State.{CommandState, State, Command}
+use Rattle.relay_server.specs.State.{CommandState, Gathering, State, Command}
 use Rattle.relay_server.specs.Unit.{AsksBy, Bdat, announced_by, announced_of}
-use Rattle.relay_server.specs.Values.{command_state_of}
+use Rattle.relay_server.specs.Values.{command_state_of, content_in, kept_content}
 
 -- a line of BDAT announces as many octets as it says
 pub announced : (text : List ℕ) (argument : BdatArgument) → length text ≤ 2046 → reading_of text ≡ Ok (line.Bdat argument) → announced_of text ≡ argument.size
@@ -124,7 +125,6 @@ refused_goes_on limit row behind missing left state octets more kept e = record 
   part = kept.part ++ more;
   begins = more_of_chunk octets kept.part more kept.argument kept.begins;
   size_is = let sum = length-append kept.part more in let size = kept.size_is in omega (arith, sum, size, e);
-  is_held = kept.is_held;
   course_is = kept.course_is;
 }
 
@@ -140,6 +140,15 @@ last_chunk limit client envelope content large last is small large_is =
     let within : length content ≤ limit = grind (arith, nat_tests) in
     let fits = le-leb (length content) limit within in
     cond-true (nat_le (length content) limit) _ _ fits ∙ sym (cond-true (nat_le (length content) limit) _ _ fits ∙ cond-true last _ _ is)
+
+-- a chunk that isn't the last is one more, where the content is within the limit
+pub next_chunk : (limit : ℕ) (client : Client) (envelope : Envelope) (reader : ChunkReader) (content : List ℕ) (large last : Bool) → last ≡ false → large ≡ false → large ≡ nat_lt limit (length content) → Gathers reader limit content → course_of_chunks limit client envelope content last ≡ Replies ChunkOk (Command (Gathering client envelope (content_in reader)))
+next_chunk limit client envelope reader content large last goes_on small large_is gathers =
+    let within : length content ≤ limit = grind (arith, nat_tests) in
+    let fits = le-leb (length content) limit within in
+    let kept : content_in reader ≡ content = ap kept_content (gathers.kept_is ∙ cond-true (nat_le (length content) limit) _ _ fits) in
+    cond-true (nat_le (length content) limit) _ _ fits ∙ cond-false last _ _ goes_on
+    ∙ ap (λ (c : List ℕ). Replies ChunkOk (Command (Gathering client envelope c))) (sym kept)
 
 -- where nothing is missing behind the octets of a chunk that is refused, it has ended
 pub refused_ends : (setup : Setup) (row : Row) (behind : Held) (missing used : ℕ) (state : State) (octets rest : List ℕ) → RefusesChunk setup.max_content row behind missing state octets → used ≡ min (length rest) missing → missing - used ≡ 0 → Comes setup state (octets ++ take used rest) (Replies row (Command (command_state_of behind)))

@@ -51,7 +51,7 @@ unended_chunk octets part argument missing begins size some state unit rest is e
 -- what a session keeps is what is left of the input
 left_by : (setup : Setup) (line : HeldLine) (now : Stage) (state : State) (rest : List ℕ) → Keeps setup line now state rest → IsLeft setup state rest (offers_at now)
 left_by setup line (stage.Command held) state rest keeps =
-    inl (subst (λ (s : State). HasNoUnit s rest) (sym keeps.0) (no_line_unit (command_state_of held) line rest keeps.2), refl)
+    inl (subst (λ (s : State). HasNoUnit s rest) (sym keeps.0) (no_line_unit (command_state_of held) line rest keeps.1), refl)
 left_by setup line (stage.Receiving mail) state rest keeps =
     inl (subst (λ (s : State). HasNoUnit s rest) (sym keeps.1.0) (λ unit more is e. (reading_has_no_dot_text mail.reader setup.max_content rest keeps.1.1).nowhere unit is.0 more is.1 e), refl)
 left_by setup line (stage.Chunk chunk) state rest keeps =

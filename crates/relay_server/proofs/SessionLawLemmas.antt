@@ -1,18 +1,26 @@
 -- What a session tells its caller, and what may be said of it behind each call.
-use Rattle.std.proofs.Common.{◌≡◌, ◌≢◌, ◌+◌, ◌-◌, ◌≤◌, ℕ, List, [], ◌∷◌, ◌++◌, length, take, inl, append_assoc, Option, Some, None, refl, sym, ap, ◌∙◌, subst, arith, length-append}
+use Rattle.std.proofs.Common.{◌≡◌, ◌≢◌, ◌+◌, ◌-◌, ◌≤◌, ℕ, List, [], ◌∷◌, ◌++◌, length, take, inl, append_assoc, Option, Some, None, true, nat_eq, refl, sym, ap, ◌∙◌, subst, arith, length-append}
 use Rattle.std.specs.List.{AllByRecursion, slice_range}
+use Rattle.std.specs.Option.{ForSome, option_map_or}
 use Rattle.std.proofs.Math.Seq.{take-add}
 use Rattle.relay_server.specs.declared.offer.Answer.{Answer}
 use Rattle.relay_server.specs.declared.session.Session.{Session}
 use Rattle.relay_server.specs.declared.session.Next.TheVariants as next
 use Rattle.relay_server.specs.declared.stage.Stage.{Stage}
 use Rattle.relay_server.specs.declared.stage.Stage.TheVariants as stage
+use Rattle.relay_server.specs.declared.state.CommandState.{CommandState}
+use Rattle.relay_server.specs.declared.state.CommandState.TheVariants as held
+use Rattle.relay_body.specs.ChunkText.{chunk_limit_of, chunks_held_by}
+use Rattle.relay_body.specs.DotReading.{held_by, limit_of}
+use Rattle.relay_body.specs.declared.chunk_reader.ChunkReader.{ChunkReader}
+use Rattle.std.proofs.lemmas.Bool.{eqb-true, leb-true}
+use Rattle.relay_server.specs.Bounds.{IsHeld, IsHeldAt, content_held, content_held_at}
 use Rattle.relay_server.specs.Dialogue.{Offered, Said, Turn, Turns, answered_by, answers_in, offered_by, offers_in, read_by}
 use Rattle.relay_server.specs.DialogueLaws.{MayBeStored}
 use Rattle.relay_server.specs.Machine.{Keeps, Shown, Reading, Offering, Over, offers_at, offers_shown, shown_at}
 use Rattle.relay_server.specs.Setup.{Setup}
 use Rattle.relay_server.specs.Session.{Stands, next_shown, new_offers, open_offers}
-use Rattle.relay_server.specs.SessionLaws.{AnsweredIsSettled, ClosedIsADialogue, CloseIsClosed, MoreIsMore, NoneElseIsOpen, OfferIsTold, OffersAreAnswered, OpenIsNew, OpenMayBeStored, PieceGoesOn}
+use Rattle.relay_server.specs.SessionLaws.{AnsweredIsSettled, ClosedIsADialogue, CloseIsClosed, ContentIsWithin, OfferIsWithin, MoreIsMore, NoneElseIsOpen, OfferIsTold, OffersAreAnswered, OpenIsNew, OpenMayBeStored, PieceGoesOn}
 use Rattle.relay_server.specs.State.{Closed, State, start}
 use Rattle.relay_server.proofs.DialogueLemmas.{what_stands_is_a_dialogue}
 use Rattle.relay_server.proofs.StoredLemmas.{offers_may_be_stored}
@@ -118,6 +126,53 @@ open_may_be_stored setup session said offer s is_open =
     let all = offers_may_be_stored setup said (what_stands_is_a_dialogue setup session said s) in
     last_of (MayBeStored setup) (offered_by s.turns) offer
     (subst (λ (l : List Offered). AllByRecursion (MayBeStored setup) l) (s.offers ∙ ap (λ l. offered_by s.turns ++ l) is_open) all)
+
+kept_within : (limit : ℕ) (kept : Option (List ℕ)) → ForSome kept (λ octets. length octets ≤ limit) → option_map_or length kept 0 ≤ limit
+kept_within limit None within = omega arith
+kept_within limit (Some octets) within = within octets refl
+
+chunks_within : (limit : ℕ) (reader : ChunkReader) → nat_eq (chunk_limit_of reader) limit ≡ true → chunks_held_by reader ≤ limit
+chunks_within limit reader is =
+    subst (λ n. chunks_held_by reader ≤ n) (eqb-true (chunk_limit_of reader) limit is)
+    (kept_within (chunk_limit_of reader) reader.gathering.kept reader.gathering.within_limit)
+
+command_holds : (limit : ℕ) (state : CommandState) → IsHeld limit state → content_held state ≤ limit
+command_holds limit held.Fresh within = omega arith
+command_holds limit (held.Greeted client) within = omega arith
+command_holds limit (held.Open transaction) within = omega arith
+command_holds limit (held.Gathering gathering) within = chunks_within limit gathering.reader within
+command_holds limit (held.Spent client) within = omega arith
+
+stage_holds : (limit : ℕ) (now : Stage) → IsHeldAt limit now → content_held_at now ≤ limit
+stage_holds limit (stage.Command state) within = command_holds limit state within
+stage_holds limit (stage.Receiving mail) within =
+    subst (λ n. held_by mail.reader ≤ n) (eqb-true (limit_of mail.reader) limit within)
+    (kept_within (limit_of mail.reader) mail.reader.gathering.kept mail.reader.gathering.within_limit)
+stage_holds limit (stage.Chunk chunk) within = chunks_within limit chunk.reader within
+stage_holds limit (stage.Skipping skipped) within = command_holds limit skipped.state within
+stage_holds limit (stage.Offering transaction content) within = leb-true (length content) limit within
+stage_holds limit stage.Closed within = omega arith
+stage_holds limit stage.Failed within = omega arith
+
+-- what a session holds is within its limit
+pub content_is_within : ContentIsWithin
+content_is_within session = stage_holds session.server.max_content session.stage session.bounded
+
+offer_held : (limit : ℕ) (now : Stage) (offer : Offered) → content_held_at now ≤ limit → offers_at now ≡ offer ∷ [] → length offer.content ≤ limit
+offer_held limit (stage.Command state) offer within is = absurd (cc)
+offer_held limit (stage.Receiving mail) offer within is = absurd (cc)
+offer_held limit (stage.Chunk chunk) offer within is = absurd (cc)
+offer_held limit (stage.Skipping skipped) offer within is = absurd (cc)
+offer_held limit (stage.Offering transaction content) offer within is =
+    let same : content ≡ offer.content = cc in
+    subst (λ (octets : List ℕ). length octets ≤ limit) same within
+offer_held limit stage.Closed offer within is = absurd (cc)
+offer_held limit stage.Failed offer within is = absurd (cc)
+
+-- so is an open offer's content
+pub offer_is_within : OfferIsWithin
+offer_is_within session offer is =
+    offer_held session.server.max_content session.stage offer (content_is_within session) is
 
 -- what was said behind more is more
 pub more_is_more : MoreIsMore

@@ -3,6 +3,7 @@ use Rattle.std.proofs.Common.{◌≡◌, ◌≤◌, ◌<◌, arith, ℕ, Bool, c
 use Rattle.std.proofs.lemmas.Bool.{cond-true, le-leb}
 use Rattle.std.proofs.Math.Seq.{take-nil, take-take}
 use Rattle.relay_octets.specs.Line.{HasNoCrlf, crlf}
+use Rattle.relay_body.specs.ChunkText.{chunk_limit_of}
 use Rattle.relay_body.specs.declared.chunk_reader.ChunkReader.{ChunkReader}
 use Rattle.relay_lines.specs.Command.{reading_of}
 use Rattle.relay_server.specs.declared.judge.Judged.TheVariants as judged
@@ -12,6 +13,7 @@ use Rattle.relay_server.specs.declared.state.State.{State as Next}
 use Rattle.relay_server.specs.declared.state.Transaction.{Transaction}
 use Rattle.relay_server.specs.declared.stage.Stage.{Stage}
 use Rattle.relay_server.specs.declared.stage.Stage.TheVariants as stage
+use Rattle.relay_server.specs.Bounds.{IsHeld}
 use Rattle.relay_server.specs.Dialogue.{Comes}
 use Rattle.relay_server.specs.Reply.{reply_of}
 use Rattle.relay_server.specs.ReplyTable.{Course, Replies, Offers, course_of, course_of_chunks}
@@ -102,7 +104,6 @@ refuses_line setup state text row behind size is_line short (inr is) = record {
   part = [];
   begins = record { text = text; octets_are = sym (append-nil (text ++ crlf)); line = is_line; short = short; reads = is.1 };
   size_is = let size_is = is.2.0 in omega (arith, size_is);
-  is_held = is.2.1;
   course_is = is.2.2;
 }
 
@@ -116,10 +117,20 @@ pub long_asks : (line : List ℕ) → asked_of_long (take 2048 line) ≡ asked_o
 unfolding begins_with_bdat
 long_asks line = ap (λ front. cond (is_word front (codes "BDAT ")) (Faulty BadChunkSize) LongLine) (take-take 5 2048 line (omega arith))
 
--- what the state behind a judged line holds is as it must be
+-- so is what stands behind a judged line
 pub judged_held : (setup : Setup) (state : CommandState) (text : List ℕ) (row : Row) (next : Next) → IsJudged setup (reading_of text) state (judged.Replied row next) → IsNextHeld setup.max_content next
 judged_held setup state text row next (inl is) = is.held
 judged_held setup state text row next (inr is) = absurd is.2
+
+-- a chunk that has begun is gathered up to the limit
+pub gathers_limit : (setup : Setup) (state : CommandState) (text : List ℕ) (transaction : Transaction) (reader : ChunkReader) (is_last : Bool) → IsJudged setup (reading_of text) state (judged.Gathers transaction reader is_last) → chunk_limit_of reader ≡ setup.max_content
+gathers_limit setup state text transaction reader is_last (inl is) = absurd is.replied
+gathers_limit setup state text transaction reader is_last (inr is) = is.2.1.chunk_is.gathers.limit_is
+
+-- so is what stands behind a chunk that is refused
+pub refuses_held : (setup : Setup) (state : CommandState) (text : List ℕ) (row : Row) (behind : Held) (size : ℕ) → IsJudged setup (reading_of text) state (judged.Refuses row behind size) → IsHeld setup.max_content behind
+refuses_held setup state text row behind size (inl is) = absurd is.replied
+refuses_held setup state text row behind size (inr is) = is.2.1
 
 -- what is true of the value is true of what follows from it
 pub if_ok : {T E : Type 0} (P Q : T → Type 0) (result : Result T E) → ((value : T) → P value → Q value) → IfOk result P → IfOk result Q

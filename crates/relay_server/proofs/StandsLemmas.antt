@@ -79,7 +79,7 @@ stands_on setup old new said more offers s same unanswered keeps = record {
 -- what a stage keeps, and a line buffer without a line, are what a session keeps
 pub keeps_text : (setup : Setup) (line : HeldLine) (now : Stage) (state : State) (octets : List ℕ) → Holds line [] → KeepsText setup now state octets → Keeps setup line now state octets
 keeps_text setup line (stage.Command held) state octets empty kept =
-    (kept.0, kept.1, subst (λ (o : List ℕ). Holds line o) (sym kept.2) empty)
+    (kept.0, subst (λ (o : List ℕ). Holds line o) (sym kept.1) empty)
 keeps_text setup line (stage.Receiving mail) state octets empty kept = (empty, kept)
 keeps_text setup line (stage.Chunk chunk) state octets empty kept = (empty, kept)
 keeps_text setup line (stage.Skipping skipped) state octets empty kept = (empty, kept)
@@ -143,7 +143,7 @@ answered setup old new said transaction content given before after s offering sa
       takes = (given, refl, refl, refl);
     } in
     let host = ap (λ (x : Setup). x.host) s.setup_is in
-    let keeps : Keeps setup new.line (stage.Command (held.Greeted transaction.client)) next [] = (refl, tt, subst (λ (l : HeldLine). Holds l []) (sym line_is) kept.0) in
+    let keeps : Keeps setup new.line (stage.Command (held.Greeted transaction.client)) next [] = (refl, subst (λ (l : HeldLine). Holds l []) (sym line_is) kept.0) in
     record {
       later = more_said said [] (given ∷ []) (reply_text turn.reply) [];
       stands =

@@ -10,4 +10,4 @@ pub use Rattle.relay_server.proofs.StoredLemmas.{offers_may_be_stored}
 -- Of turns.
 pub use Rattle.relay_server.proofs.TurnLawLemmas.{asked_is_a_unit, chunk_is_answered, course_is_fixed, course_is_of_a_unit, line_is_answered, no_unit_lacks_a_course, text_is_answered, turn_is_of_its_unit}
 -- Of sessions.
-pub use Rattle.relay_server.proofs.SessionLawLemmas.{answered_is_settled, close_is_closed, closed_is_a_dialogue, more_is_more, none_else_is_open, offer_is_told, offers_are_answered, open_is_new, open_may_be_stored, piece_goes_on}
+pub use Rattle.relay_server.proofs.SessionLawLemmas.{answered_is_settled, close_is_closed, closed_is_a_dialogue, content_is_within, more_is_more, none_else_is_open, offer_is_told, offer_is_within, offers_are_answered, open_is_new, open_may_be_stored, piece_goes_on}

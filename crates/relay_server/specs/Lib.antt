@@ -4,6 +4,7 @@ pub mod Unit
 pub mod Reply
 pub mod ReplyTable
 pub mod Dialogue
+pub mod Bounds
 pub mod Values
 pub mod Machine
 pub mod Session

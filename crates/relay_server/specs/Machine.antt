@@ -22,7 +22,7 @@ use Rattle.relay_server.specs.Reply.{reply_of}
 use Rattle.relay_server.specs.ReplyTable.{Course, Replies, Offers, course_of_bdat, course_of_chunks}
 use Rattle.relay_server.specs.Setup.{Setup, setup_of}
 use Rattle.relay_server.specs.State.{CommandState, State, Command, Receiving, Closed}
-use Rattle.relay_server.specs.Values.{IsHeld, command_state_of}
+use Rattle.relay_server.specs.Values.{command_state_of}
 
 -- what a stage shows to the caller: octets are read, or an offer is open, or nothing more is to come
 pub data Shown : Type 0 where
@@ -90,7 +90,6 @@ pub record RefusesChunk (limit : ℕ) (row : Row) (behind : Held) (missing : ℕ
   pub part : List ℕ
   pub begins : AnnouncesChunk octets argument part
   pub size_is : argument.size ≡ length part + missing
-  pub is_held : IsHeld limit behind
   pub course_is : (rest : List ℕ) → course_of_bdat limit rest argument.last old
       ≡ Replies row (Command (command_state_of behind))
 
@@ -98,7 +97,7 @@ pub record RefusesChunk (limit : ℕ) (row : Row) (behind : Held) (missing : ℕ
 -- command line, which stand elsewhere
 abbrev pub KeepsText : Setup → Stage → State → List ℕ → Type 0
 KeepsText setup (stage.Command now) state octets =
-    (state ≡ Command (command_state_of now)) × IsHeld setup.max_content now × (octets ≡ [])
+    (state ≡ Command (command_state_of now)) × (octets ≡ [])
 KeepsText setup (stage.Receiving mail) state octets =
     (state ≡ Receiving mail.transaction.client mail.transaction.envelope)
     × IsReading mail.reader setup.max_content octets
@@ -114,7 +113,7 @@ KeepsText setup stage.Failed state octets = ⊥
 -- the session stands in this state, and has used these octets since the last unit
 abbrev pub Keeps : Setup → HeldLine → Stage → State → List ℕ → Type 0
 Keeps setup line (stage.Command now) state octets =
-    (state ≡ Command (command_state_of now)) × IsHeld setup.max_content now × Holds line octets
+    (state ≡ Command (command_state_of now)) × Holds line octets
 Keeps setup line now state octets = Holds line [] × KeepsText setup now state octets
 
 -- the text is all of a line that isn't too long, or the beginning of one that is

@@ -2,6 +2,7 @@
 use Rattle.std.specs.Prelude.{◌≡◌, ◌≢◌, ◌↔◌, ℕ, ◌+◌, ◌≤◌, List, [], ◌∷◌, ◌++◌, length, take, slice_range}
 use Rattle.relay_server.specs.declared.session.Next.TheVariants as next
 use Rattle.relay_server.specs.declared.session.Session.{Session}
+use Rattle.relay_server.specs.Bounds.{content_held_at}
 use Rattle.relay_server.specs.Dialogue.{Offered, Said, IsDialogue, unread_behind}
 use Rattle.relay_server.specs.DialogueLaws.{MayBeStored}
 use Rattle.relay_server.specs.Session.{IsClosed, SaysMore, Stands, next_of, offers_since, open_offers}
@@ -52,6 +53,16 @@ abbrev pub OpenMayBeStored : Type 0
 OpenMayBeStored =
     (setup : Setup) (session : Session) (said : Said) (offer : Offered) → Stands setup session said
     → open_offers session ≡ offer ∷ [] → MayBeStored setup offer
+
+-- a session holds no more octets of content than its configuration allows, whatever it has answered
+abbrev pub ContentIsWithin : Type 0
+ContentIsWithin = (session : Session) → content_held_at session.stage ≤ session.server.max_content
+
+-- an open offer's content is no longer than the session's configuration allows, whatever it has answered
+abbrev pub OfferIsWithin : Type 0
+OfferIsWithin =
+    (session : Session) (offer : Offered) → open_offers session ≡ offer ∷ []
+    → length offer.content ≤ session.server.max_content
 
 -- what was said behind more is more, in one
 abbrev pub MoreIsMore : Type 0

@@ -1,12 +1,13 @@
 -- The plain values of what the code holds: texts in place of memory, and no reader.
-use Rattle.std.specs.Prelude.{◌≡◌, ◌≤◌, ◌⊎◌, ◌++◌, ℕ, List, [], length, Option, Some, None, Result, Ok}
-use Rattle.relay_body.specs.ChunkText.{Gathers, IsInChunk, Chunk, content_of_chunks, new_chunk}
+use Rattle.std.specs.Prelude.{◌≡◌, ◌⊎◌, ◌++◌, ℕ, List, [], Option, Some, None, Result, Ok}
+use Rattle.relay_body.specs.ChunkText.{IsInChunk, Chunk, content_of_chunks, new_chunk}
 use Rattle.relay_body.specs.declared.chunk_reader.ChunkReader.{ChunkReader}
 use Rattle.relay_lines.specs.declared.chunk_argument.BdatArgument.{BdatArgument}
 use Rattle.relay_lines.specs.declared.command.LineFault.{LineFault}
 use Rattle.relay_lines.specs.Command as line
 use Rattle.relay_server.specs.declared.judge.Judged.{Judged}
 use Rattle.relay_server.specs.declared.judge.Judged.TheVariants as judged
+use Rattle.relay_server.specs.Bounds.{IsHeld}
 use Rattle.relay_server.specs.Setup.{Setup}
 use Rattle.relay_server.specs.ReplyTable.{Course, Replies, course_of, course_of_bdat, course_of_chunks}
 use Rattle.relay_server.specs.Unit.{Asked, AsksBy, announced_by}
@@ -40,16 +41,7 @@ state_of (next.Command state) = Command (command_state_of state)
 state_of (next.Receiving transaction) = Receiving transaction.client transaction.envelope
 state_of next.Closed = Closed
 
--- what is held of chunks is their content, which is within the limit
-abbrev pub IsHeld : ℕ → Held → Type 0
-IsHeld limit held.Fresh = Unit {0}
-IsHeld limit (held.Greeted client) = Unit {0}
-IsHeld limit (held.Open transaction) = Unit {0}
-IsHeld limit (held.Gathering gathering) =
-    Gathers gathering.reader limit (content_in gathering.reader)
-    × (length (content_in gathering.reader) ≤ limit)
-IsHeld limit (held.Spent client) = Unit {0}
-
+-- what a command leads to gathers chunks up to this limit
 abbrev pub IsNextHeld : ℕ → Next → Type 0
 IsNextHeld limit (next.Command state) = IsHeld limit state
 IsNextHeld limit (next.Receiving transaction) = Unit {0}
@@ -61,7 +53,7 @@ IsReplied course (judged.Replied row next) = course ≡ Replies row (state_of ne
 IsReplied course (judged.Gathers transaction reader is_last) = ⊥
 IsReplied course (judged.Refuses row state size) = ⊥
 
--- what the state behind a reply holds is as it must be
+-- the state behind a reply gathers chunks up to this limit
 abbrev pub IsReplyHeld : ℕ → Judged → Type 0
 IsReplyHeld limit (judged.Replied row next) = IsNextHeld limit next
 IsReplyHeld limit (judged.Gathers transaction reader is_last) = Unit {0}

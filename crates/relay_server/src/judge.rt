@@ -3,13 +3,14 @@ ghost use Rattle.std.specs.Prelude.{◌≡◌, ℕ, Ok, IfOk};
 ghost use Rattle.relay_lines.specs.Command as line;
 ghost use Rattle.relay_lines.specs.Command.{reading_of};
 ghost use Rattle.relay_envelope.specs.Mail.{mail_reading, rcpt_reading, rcpt_value};
+ghost use Rattle.relay_server.specs.Bounds.{IsHeld};
 ghost use Rattle.relay_server.specs.ReplyTable.{Replies, course_of_data, course_of_mail, course_of_rcpt};
 ghost use Rattle.relay_server.specs.ReplyTable.{row_of_envelope_fault, row_of_fault, row_of_hello, state_behind_fault};
 ghost use Rattle.relay_server.specs.ReplyTable.{without_transaction};
 ghost use Rattle.relay_server.specs.Setup.{setup_of};
 ghost use Rattle.relay_server.specs.State as standing;
 ghost use Rattle.relay_server.specs.State.{client_of};
-ghost use Rattle.relay_server.specs.Values.{IsChunked, IsHeld, IsJudged, IsReplied, IsReplyHeld, command_state_of};
+ghost use Rattle.relay_server.specs.Values.{IsChunked, IsJudged, IsReplied, IsReplyHeld, command_state_of};
 
 use crate::client::Client;
 use crate::reply_table::Row;
@@ -43,8 +44,8 @@ pub(crate) fn judge(
     text: &[u8],
     state: CommandState,
 ) -> Result<Judged, AllocError>
-    ensures { IsHeld server.now.max_content state
-        → IfOk result (IsJudged (setup_of server.now table.now) (reading_of text.now)
+    requires { IsHeld server.now.max_content state }
+    ensures { IfOk result (IsJudged (setup_of server.now table.now) (reading_of text.now)
         (command_state_of state)) }
 {
     match Command::parse(text) {
@@ -60,8 +61,8 @@ fn judge_command(
     command: Command<'_>,
     state: CommandState,
 ) -> Result<Judged, AllocError>
-    ensures { IsHeld server.now.max_content state
-        → IfOk result (IsJudged (setup_of server.now table.now) (Ok (line.value_of command.entry))
+    requires { IsHeld server.now.max_content state }
+    ensures { IfOk result (IsJudged (setup_of server.now table.now) (Ok (line.value_of command.entry))
         (command_state_of state)) }
 {
     match command {
@@ -99,7 +100,7 @@ fn judge_fault(fault: LineFault, state: CommandState) -> Judged
 fn greet(server: &Server, word: &[u8], protocol: Protocol) -> Result<Judged, AllocError>
     ensures course { IfOk result (IsReplied
         (Replies (row_of_hello protocol) (standing.Command (standing.Greeted (client_of word.now protocol))))) }
-    ensures held { (limit : ℕ) → IfOk result (IsReplyHeld limit) }
+    ensures held { IfOk result (IsReplyHeld server.now.max_content) }
 {
     let client = Client::new(server.alloc, word, protocol)?;
     let row = match protocol {
@@ -115,9 +116,10 @@ fn judge_mail(
     mail: Result<Mail<'_>, EnvelopeFault>,
     state: CommandState,
 ) -> Result<Judged, AllocError>
+    requires { IsHeld server.now.max_content state }
     ensures course { IfOk result (IsReplied (course_of_mail (mail_reading mail.entry)
         (command_state_of state))) }
-    ensures held { (limit : ℕ) → IsHeld limit state → IfOk result (IsReplyHeld limit) }
+    ensures held { IfOk result (IsReplyHeld server.now.max_content) }
 {
     let mail = match mail {
         Err(fault) => {
@@ -146,9 +148,10 @@ fn judge_rcpt(
     rcpt: Result<Rcpt<'_>, EnvelopeFault>,
     state: CommandState,
 ) -> Result<Judged, AllocError>
+    requires { IsHeld server.now.max_content state }
     ensures course { IfOk result (IsReplied
         (course_of_rcpt (setup_of server.now table.now) (rcpt_reading rcpt.entry) (command_state_of state))) }
-    ensures held { (limit : ℕ) → IsHeld limit state → IfOk result (IsReplyHeld limit) }
+    ensures held { IfOk result (IsReplyHeld server.now.max_content) }
 {
     let rcpt = match rcpt {
         Err(fault) => {
@@ -173,7 +176,7 @@ fn add(
     ensures course { IfOk result (IsReplied
         (course_of_rcpt (setup_of server.now table.now) (Ok (rcpt_value rcpt.entry))
         (standing.Open transaction.client transaction.envelope))) }
-    ensures held { (limit : ℕ) → IfOk result (IsReplyHeld limit) }
+    ensures held { IfOk result (IsReplyHeld server.now.max_content) }
 {
     if transaction.envelope.recipients.len() >= RECIPIENT_LIMIT {
         return Ok(Judged::Replied(
@@ -217,8 +220,8 @@ fn judge_data(state: CommandState) -> Judged
 
 /// BDAT begins a chunk of a transaction with a recipient. The octets of another are dropped.
 fn judge_bdat(server: &Server, argument: BdatArgument, state: CommandState) -> Judged
-    ensures { IsHeld server.now.max_content state
-        → IsChunked server.now.max_content argument (command_state_of state) result }
+    requires { IsHeld server.now.max_content state }
+    ensures { IsChunked server.now.max_content argument (command_state_of state) result }
 {
     let BdatArgument { size, last } = argument;
     match state {

@@ -1,9 +1,11 @@
 //! Whole lines, texts and chunks, each with its reply.
 ghost use Rattle.std.specs.Prelude.{◌≡◌, ℕ, List, [], ◌++◌, ◌≤◌, ◌<◌, length, take, IfOk};
 ghost use Rattle.relay_octets.specs.Line.{HasNoCrlf, crlf};
-ghost use Rattle.relay_body.specs.ChunkText.{Chunk as ChunkText, HasChunks, IsBetweenChunks, content_of_chunks};
-ghost use Rattle.relay_body.specs.DotReading.{IsReading};
-ghost use Rattle.relay_body.specs.Gathering.{gathered_of};
+ghost use Rattle.relay_body.specs.ChunkText.{Chunk as ChunkText, HasChunks, IsBetweenChunks, chunk_limit_of};
+ghost use Rattle.relay_body.specs.ChunkText.{content_of_chunks};
+ghost use Rattle.relay_body.specs.DotReading.{IsReading, limit_of};
+ghost use Rattle.relay_body.specs.Gathering.{IsWithin, gathered_of};
+ghost use Rattle.relay_server.specs.Bounds.{IsHeld, IsHeldAt};
 ghost use Rattle.relay_server.specs.Dialogue.{row_of_answer};
 ghost use Rattle.relay_server.specs.ReplyTable.{course_of, course_of_chunks, course_of_content, course_of_text, Offers};
 ghost use Rattle.relay_server.specs.ReplyTable.{is_refused_by, unless_refused};
@@ -12,7 +14,7 @@ ghost use Rattle.relay_server.specs.Machine.{offers_at};
 ghost use Rattle.relay_server.specs.Setup.{setup_of};
 ghost use Rattle.relay_server.specs.State as standing;
 ghost use Rattle.relay_server.specs.Unit.{asked_of_long};
-ghost use Rattle.relay_server.specs.Values.{IsHeld, IsNextHeld, command_state_of, state_of};
+ghost use Rattle.relay_server.specs.Values.{IsNextHeld, command_state_of, state_of};
 ghost use Rattle.relay_routes.specs.Routes.{RouteTable};
 
 use crate::judge::{Judged, judge};
@@ -64,10 +66,12 @@ impl Server {
         state: CommandState,
         out: &mut Vec<u8>,
     ) -> Result<Stage, AllocError>
-        ensures { IsHeld self.now.max_content state → IfOk result (λ stage. (line : List ℕ)
+        requires { IsHeld self.now.max_content state }
+        ensures moves { IfOk result (λ stage. (line : List ℕ)
             → HasNoCrlf line → IsGiven line text.now is_long
             → Moves (setup_of self.now table.now) (standing.Command (command_state_of state)) stage
             (line ++ crlf) out.old.items out.new.items) }
+        ensures held { IfOk result (IsHeldAt self.now.max_content) }
     {
         if is_long {
             return self.answer_long_line(text, state, out);
@@ -92,9 +96,11 @@ impl Server {
         state: CommandState,
         out: &mut Vec<u8>,
     ) -> Result<Stage, AllocError>
-        ensures { IsHeld self.now.max_content state → IfOk result (λ stage. (routes : RouteTable)
+        requires { IsHeld self.now.max_content state }
+        ensures ends { IfOk result (λ stage. (routes : RouteTable)
             → EndsBy (setup_of self.now routes) (course_of (setup_of self.now routes)
             (asked_of_long text.now) (command_state_of state)) stage out.old.items out.new.items) }
+        ensures held { IfOk result (IsHeldAt self.now.max_content) }
     {
         if begins_with_bdat(text) {
             self.reply(Row::BadChunkSize, State::Closed, out)
@@ -105,8 +111,10 @@ impl Server {
 
     /// Writes a reply, and gives the stage of the state behind it.
     fn reply(&self, row: Row, next: State, out: &mut Vec<u8>) -> Result<Stage, AllocError>
-        ensures { IsNextHeld self.now.max_content next → IfOk result (λ stage. (routes : RouteTable)
+        requires { IsNextHeld self.now.max_content next }
+        ensures enters { IfOk result (λ stage. (routes : RouteTable)
             → EntersBy (setup_of self.now routes) row (state_of next) stage out.old.items out.new.items) }
+        ensures held { IfOk result (IsHeldAt self.now.max_content) }
     {
         row.write(self.host.as_slice(), out)?;
         Ok(self.stage_of(next))
@@ -114,9 +122,11 @@ impl Server {
 
     /// The stage of the state that a command has led to.
     fn stage_of(&self, state: State) -> Stage
-        ensures begun { IsNextHeld self.now.max_content state
-            → (routes : RouteTable) → KeepsText (setup_of self.now routes) result (state_of state) [] }
+        requires { IsNextHeld self.now.max_content state }
+        ensures begun { (routes : RouteTable)
+            → KeepsText (setup_of self.now routes) result (state_of state) [] }
         ensures none { offers_at result ≡ [] }
+        ensures held { IsHeldAt self.now.max_content result }
     {
         match state {
             State::Command(state) => Stage::Command(state),
@@ -138,6 +148,7 @@ impl Server {
         rest: &[u8],
         out: &mut Vec<u8>,
     ) -> Result<(Stage, usize), AllocError>
+        requires { limit_of mail.reader ≡ self.now.max_content }
         ensures moves { IfOk result (λ read. (routes : RouteTable) (octets : List ℕ)
             → IsReading mail.reader self.now.max_content octets
             → Moves (setup_of self.now routes)
@@ -145,6 +156,7 @@ impl Server {
             (octets ++ take read.1 rest.now) out.old.items out.new.items) }
         ensures within { IfOk result (λ read. read.1 ≤ length rest.now) }
         ensures progress { 0 < length rest.now → IfOk result (λ read. 0 < read.1) }
+        ensures held { IfOk result (λ read. IsHeldAt self.now.max_content read.0) }
     {
         let (transaction, mut reader) = mail.into_parts();
         match reader.feed(rest) {
@@ -171,12 +183,14 @@ impl Server {
         gathered: Gathered,
         out: &mut Vec<u8>,
     ) -> Result<Stage, AllocError>
-        ensures { IfOk result (λ stage. (routes : RouteTable) (content : List ℕ)
+        requires { IsWithin self.now.max_content gathered }
+        ensures ends { IfOk result (λ stage. (routes : RouteTable) (content : List ℕ)
             → gathered ≡ gathered_of self.now.max_content content
             → EndsBy (setup_of self.now routes)
             (unless_refused self.now.bare_newlines
             (course_of_text self.now.max_content transaction.client transaction.envelope content))
             stage out.old.items out.new.items) }
+        ensures held { IfOk result (IsHeldAt self.now.max_content) }
     {
         match gathered {
             Gathered::Whole(content) => self.end_content(transaction, content, out),
@@ -194,11 +208,13 @@ impl Server {
         content: Octets,
         out: &mut Vec<u8>,
     ) -> Result<Stage, AllocError>
-        ensures { IfOk result (λ stage. (routes : RouteTable)
+        requires { length content ≤ self.now.max_content }
+        ensures ends { IfOk result (λ stage. (routes : RouteTable)
             → EndsBy (setup_of self.now routes)
             (unless_refused self.now.bare_newlines
             (course_of_content transaction.client transaction.envelope content)) stage out.old.items
             out.new.items) }
+        ensures held { IfOk result (IsHeldAt self.now.max_content) }
     {
         if received_count(content.as_slice()) >= RECEIVED_LIMIT {
             let greeted = CommandState::Greeted(transaction.into_client());
@@ -214,11 +230,13 @@ impl Server {
         content: Octets,
         out: &mut Vec<u8>,
     ) -> Result<Stage, AllocError>
-        ensures { IfOk result (λ stage. (routes : RouteTable)
+        requires { length content ≤ self.now.max_content }
+        ensures ends { IfOk result (λ stage. (routes : RouteTable)
             → EndsBy (setup_of self.now routes)
             (unless_refused self.now.bare_newlines
             (Offers transaction.client transaction.envelope content)) stage out.old.items
             out.new.items) }
+        ensures held { IfOk result (IsHeldAt self.now.max_content) }
     {
         if is_refused(self.bare_newlines, content.as_slice()) {
             let greeted = CommandState::Greeted(transaction.into_client());
@@ -236,6 +254,7 @@ impl Server {
         rest: &[u8],
         out: &mut Vec<u8>,
     ) -> Result<(Stage, usize), AllocError>
+        requires { chunk_limit_of reader ≡ self.now.max_content }
         ensures moves { IfOk result (λ read. (routes : RouteTable) (state : standing.State) (octets : List ℕ)
             → GathersChunk self.now.max_content transaction reader is_last state octets
             → Moves (setup_of self.now routes) state read.0
@@ -243,6 +262,7 @@ impl Server {
         ensures within { IfOk result (λ read. read.1 ≤ length rest.now) }
         ensures progress { 0 < length rest.now → (¬ IsBetweenChunks reader)
             → IfOk result (λ read. 0 < read.1) }
+        ensures held { IfOk result (λ read. IsHeldAt self.now.max_content read.0) }
     {
         match reader.feed(rest) {
             Err(BodyFault::NoMemory) => Err(AllocError),
@@ -270,13 +290,15 @@ impl Server {
         is_last: bool,
         out: &mut Vec<u8>,
     ) -> Result<Stage, AllocError>
-        requires { IsBetweenChunks reader }
-        ensures { IfOk result (λ stage. (routes : RouteTable) (chunks : List ChunkText)
+        requires between { IsBetweenChunks reader }
+        requires limit { chunk_limit_of reader ≡ self.now.max_content }
+        ensures ends { IfOk result (λ stage. (routes : RouteTable) (chunks : List ChunkText)
             → HasChunks reader self.now.max_content chunks
             → EndsBy (setup_of self.now routes)
             (unless_refused self.now.bare_newlines
             (course_of_chunks self.now.max_content transaction.client transaction.envelope
             (content_of_chunks chunks) is_last)) stage out.old.items out.new.items) }
+        ensures held { IfOk result (IsHeldAt self.now.max_content) }
     {
         if reader.is_too_large() {
             let spent = CommandState::Spent(transaction.into_client());
@@ -302,12 +324,14 @@ impl Server {
         rest: &[u8],
         out: &mut Vec<u8>,
     ) -> Result<(Stage, usize), AllocError>
+        requires { IsHeld self.now.max_content state }
         ensures moves { IfOk result (λ read. (routes : RouteTable) (old : standing.State) (octets : List ℕ)
             → RefusesChunk self.now.max_content row state missing old octets
             → Moves (setup_of self.now routes) old read.0
             (octets ++ take read.1 rest.now) out.old.items out.new.items) }
         ensures within { IfOk result (λ read. read.1 ≤ length rest.now) }
         ensures progress { 0 < length rest.now → 0 < missing → IfOk result (λ read. 0 < read.1) }
+        ensures held { IfOk result (λ read. IsHeldAt self.now.max_content read.0) }
     {
         let used = rest.len().min(missing as usize);
         let missing = missing - used as u32;

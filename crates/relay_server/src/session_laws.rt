@@ -1,7 +1,7 @@
 //! What a session tells its caller, and what may be said of it behind each call.
-ghost use Rattle.relay_server.specs.SessionLaws.{AnsweredIsSettled, ClosedIsADialogue, CloseIsClosed, MoreIsMore};
-ghost use Rattle.relay_server.specs.SessionLaws.{NoneElseIsOpen, OfferIsTold, OffersAreAnswered, OpenIsNew};
-ghost use Rattle.relay_server.specs.SessionLaws.{OpenMayBeStored, PieceGoesOn};
+ghost use Rattle.relay_server.specs.SessionLaws.{AnsweredIsSettled, ClosedIsADialogue, CloseIsClosed, ContentIsWithin};
+ghost use Rattle.relay_server.specs.SessionLaws.{MoreIsMore, NoneElseIsOpen, OfferIsTold, OfferIsWithin, OffersAreAnswered};
+ghost use Rattle.relay_server.specs.SessionLaws.{OpenIsNew, OpenMayBeStored, PieceGoesOn};
 
 /// The caller is told to take an offer exactly where one is open.
 pub fn offer_is_told()
@@ -42,6 +42,16 @@ pub fn closed_is_a_dialogue()
 /// The open offer of a session may be stored.
 pub fn open_may_be_stored()
     ensures { OpenMayBeStored }
+{}
+
+/// A session holds no more octets of content than its configuration allows, whatever it has answered.
+pub fn content_is_within()
+    ensures { ContentIsWithin }
+{}
+
+/// An open offer's content is no longer than the session's configuration allows, whatever it has answered.
+pub fn offer_is_within()
+    ensures { OfferIsWithin }
 {}
 
 /// What was said behind more is more, in one.

@@ -1,5 +1,5 @@
 ghost use Rattle.std.specs.Prelude.{◌≡◌};
-ghost use Rattle.relay_body.specs.ChunkText.{IsBetweenChunks};
+ghost use Rattle.relay_body.specs.ChunkText.{IsBetweenChunks, KeepsAll};
 
 use crate::client::Client;
 use relay_body::ChunkReader;
@@ -39,6 +39,7 @@ pub(crate) struct Gathering {
     pub(crate) transaction: Transaction,
     pub(crate) reader: ChunkReader,
     ghost between: { IsBetweenChunks reader },
+    ghost kept: { KeepsAll reader },
 }
 
 // Written out, so that what drops a gathering calls this, and doesn't look into its parts.

@@ -2,12 +2,13 @@
 use Rattle.std.proofs.Common.{nat_le, [], length, refl}
 use Rattle.std.proofs.lemmas.Bool.{cond-true}
 use Rattle.relay_server.specs.declared.state.CommandState.TheVariants as code
-use Rattle.relay_server.specs.Values.{IsHeld, content_in}
-use Rattle.relay_server.proofs.JudgeLemmas.{chunks_of, held_chunks, held_content, some_by}
+use Rattle.relay_server.specs.Bounds.{IsHeld}
+use Rattle.relay_server.specs.Values.{content_in}
+use Rattle.relay_server.proofs.JudgeLemmas.{chunks_of, gathers_kept, held_chunks, held_content, some_by}
 use Rattle.relay_server.proofs.judge.judge_bdat.Goals as goal
 
 pub returns-else-is_empty : goal.returns-else-is_empty
-returns-else-is_empty c = λ held.
+returns-else-is_empty c =
     let limit = c.args.server.now.max_content in
     let recipients = c.in-Open.transaction.envelope.recipients in
     let some = some_by recipients c.is_empty.result c.is_empty.ensures c.if-is_empty.false in (
@@ -18,16 +19,17 @@ returns-else-is_empty c = λ held.
     )
 
 pub returns-in-Gathering : goal.returns-in-Gathering
-returns-in-Gathering c = λ held.
+returns-in-Gathering c =
     let limit = c.args.server.now.max_content in
     let gathering = c.in-Gathering.gathering in
-    let kept : IsHeld limit (code.Gathering gathering) = rw c.in-Gathering.is at held in
+    let held : IsHeld limit (code.Gathering gathering) = rw c.in-Gathering.is at c.requires in
+    let kept = gathers_kept limit gathering held in
     let content = content_in gathering.reader in
     let parts = c.into_parts-transaction.ensures in (
       content,
       record {
         chunks = chunks_of content;
-        chunk_is = c.begin-in-Gathering.ensures.begins.begins limit (chunks_of content) (rw parts.1 (held_chunks gathering.reader limit gathering.between kept.0));
+        chunk_is = c.begin-in-Gathering.ensures.begins.begins limit (chunks_of content) (rw parts.1 (held_chunks gathering.reader limit gathering.between kept));
         before_is = held_content content;
       },
       refl,

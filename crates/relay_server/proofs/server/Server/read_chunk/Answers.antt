@@ -19,7 +19,7 @@ returns-in_ok-stage-in-Ok-clause-moves c = λ routes state octets kept.
     let ended = chunk_ends setup transaction c.feed.new.self is_last state (octets ++ more) now (feeds.done.0 c.if-cut.true) in
     comes_and_ends setup state (octets ++ more)
     (unless_refused setup.bare_newlines (course_of_chunks limit transaction.client transaction.envelope (content_of_chunks ended.chunks) is_last))
-    c.in_ok-stage-in-Ok.stage c.args.out.now.items c.end_chunk.new.out.items ended.comes (c.in_ok-stage-in-Ok.ensures routes ended.chunks ended.has)
+    c.in_ok-stage-in-Ok.stage c.args.out.now.items c.end_chunk.new.out.items ended.comes (c.in_ok-stage-in-Ok.ensures.ends routes ended.chunks ended.has)
 
 pub returns-else-cut-clause-moves : goal.returns-else-cut-clause-moves
 returns-else-cut-clause-moves c = λ routes state octets kept.

@@ -18,4 +18,4 @@ returns-in_ok-stage-in-Ok-clause-moves c = λ routes octets reading.
     (unless_refused c.args.self.now.bare_newlines (course_of_text limit transaction.client transaction.envelope content))
     c.in_ok-stage-in-Ok.stage c.args.out.now.items c.end_text.new.out.items
     (record { content = content; reads = whole.1.reads; course_is = refl })
-    (rw parts.0 at c.in_ok-stage-in-Ok.ensures routes content (c.finish.ensures limit text content whole.1))
+    (rw parts.0 at c.in_ok-stage-in-Ok.ensures.ends routes content (c.finish.ensures.content limit text content whole.1))

@@ -15,4 +15,4 @@ returns-then-missing-eq0-clause-moves c = λ routes old octets refused.
     comes_and_ends setup old (octets ++ take used c.args.rest.now) (Replies c.args.row (Command (command_state_of c.args.state)))
     c.in_ok-stage.stage c.args.out.now.items c.reply.new.out.items
     (refused_ends setup c.args.row c.args.state c.args.missing used old octets c.args.rest.now refused c.min-used.ensures c.if-missing-eq0.true)
-    (c.in_ok-stage.ensures refused.is_held routes)
+    (c.in_ok-stage.ensures.enters routes)
