@@ -35,8 +35,8 @@ median() {
     sort -n | awk '{ at[NR] = $1 } END { print at[int((NR + 1) / 2)] }'
 }
 
-# measure NAME UNIT COUNT FILE WC-OPTION LINES COMMAND..: COUNT units of work in FILE, whose answer has LINES lines. `wc`
-# reads the same file, or the one that `against` names.
+# measure NAME UNIT COUNT FILE WC-OPTION LINES COMMAND..: COUNT units of work in FILE, whose answer has LINES lines.
+# `wc` reads the same file, or the one that `against` names.
 measure() {
     local name=$1 unit=$2 count=$3 file=$4 option=$5 lines=$6
     shift 6
@@ -268,8 +268,8 @@ full_node() {
     fi
 }
 
-# The work of a node: what there is to do, attempts that begin and are lost, and the queue of the full file on its way to a
-# next hop in memory, from a fresh copy each time.
+# The work of a node: what there is to do, attempts that begin and are lost, and the queue of the full file on its way
+# to a next hop in memory, from a fresh copy each time.
 queues() {
     full_node
     among "node: what is due, 10 of 10,000 queued messages" answers 200000 works node few "10 of 100 queued"
