@@ -1,6 +1,6 @@
 #!/usr/bin/env bash
-# The faults of `init` and `list` over files, in the order in which they are looked for: what comes of each on standard error,
-# and its status. Nothing is written to standard output then. After them, what `list` writes of a message.
+# The faults of `init` and `list` over files, in the order in which they are looked for: what comes of each on standard
+# error, and its status. Nothing is written to standard output then. After them, what `list` writes of a message.
 #
 #   tests/fault_lines.sh build/relayd
 set -euo pipefail
@@ -101,9 +101,9 @@ if [ "$(stat -c '%a %s' relay.spool)" != '600 18' ]; then
     echo "the spool has the mode and size $(stat -c '%a %s' relay.spool)" >&2
     exit 1
 fi
-# A message of the first moment, from <a@example.org> to <b@example.org>, as its record stands in a spool by hand: an open
-# gate and the record's 57 octets; its kind and its moment; MAIL's path, and neither RET nor ENVID; one recipient, its
-# path, and neither NOTIFY nor ORCPT; the stored text, which is a line of one letter.
+# A message of the first moment, from <a@example.org> to <b@example.org>, as its record stands in a spool by hand: an
+# open gate and the record's 57 octets; its kind and its moment; MAIL's path, and neither RET nor ENVID; one recipient,
+# its path, and neither NOTIFY nor ORCPT; the stored text, which is a line of one letter.
 moment='\x00\x00\x00\x00\x00\x00\x00\x00'
 mail='\x00\x0f<a@example.org>\x00\x00\x00'
 rcpt='\x01\x00\x0f<b@example.org>\x00\x00\x00'
