@@ -3,7 +3,7 @@ use Rattle.std.proofs.Common.{◌≡◌, ◌≤◌, ◌⊎◌, inl, inr, ℕ, Li
 use Rattle.std.specs.Global.{Global}
 use Rattle.std.specs.Io.KnownBytes.{Appends, Consumes, Keeps, append_known, prepend_known}
 use Rattle.relay_slots.specs.Slots.{slot_at}
-use Rattle.relay_server.specs.Dialogue.{IsDialogue, Said}
+use Rattle.relay_server.specs.Dialogue.{Said}
 use Rattle.relay_server.specs.Setup.{Setup}
 use Rattle.relay_loop.specs.Closing.{closing_of}
 use Rattle.relay_loop.specs.Outboxes.{unwritten_at}
@@ -12,7 +12,7 @@ use Rattle.relay_loop.specs.declared.closing.Closing.TheVariants.{Timeout}
 use Rattle.relay_connections.specs.Carried.{Beginning, Begins, Carries, CarriesLast, GetsDialogue, Setting, beginning_of, input_after, output_and}
 use Rattle.relay_connections.specs.Channel.{KeepsInput, KeepsOutput, held_of, output_of, unread_of}
 use Rattle.relay_connections.specs.Exchange.{Hands, Uses}
-use Rattle.relay_connections.specs.Leaving.{ClientsJoin, IsOneOf, MayJoin, MayTake, whole_output}
+use Rattle.relay_connections.specs.Leaving.{ClientsJoin, MayJoin, MayTake, whole_output}
 use Rattle.relay_connections.specs.declared.channel.Channel.{Channel}
 use Rattle.relay_connections.specs.declared.leaving.Leaver.{Leaver}
 use Rattle.relay_connections.proofs.KnownLemmas.{appends_first, appends_more, appends_on, consumes_more, consumes_none, consumes_on, keeps_same, used_and_rest}

@@ -1,5 +1,5 @@
 -- What is known of the octets that a stream has left, or has taken, as some are used or more come.
-use Rattle.std.proofs.Common.{◌≡◌, ℕ, ◌≤◌, List, [], ◌∷◌, ◌++◌, Option, None, Some, drop, take, length, refl, sym, ap, ◌∙◌, subst, arith, take-append-drop, append_assoc, append-nil}
+use Rattle.std.proofs.Common.{◌≡◌, ℕ, ◌≤◌, List, [], ◌++◌, Option, None, Some, drop, take, length, refl, sym, ap, ◌∙◌, subst, arith, take-append-drop, append_assoc, append-nil}
 use Rattle.std.proofs.lemmas.List.{length-take, take-take}
 use Rattle.std.specs.Io.KnownBytes.{Appends, Consumes, Keeps, append_known, prepend_known}
 

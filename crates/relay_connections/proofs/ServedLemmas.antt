@@ -19,7 +19,7 @@ use Rattle.relay_connections.specs.Carried.{Begins, Carries, Setting, beginning_
 use Rattle.relay_connections.specs.Channel.{KeepsOctets}
 use Rattle.relay_connections.specs.Exchange.{HandsAndReads, IsRead, OnlyOutbox}
 use Rattle.relay_connections.specs.Matched.{IsFreed, IsMatched}
-use Rattle.relay_connections.specs.Readiness.{IsNoted, IsStill}
+use Rattle.relay_connections.specs.Readiness.{IsStill}
 use Rattle.relay_connections.specs.Served.{ActsOn, AreServed, AreServedBehind, FreeAreServed, HasNext, HasSaid, HasSession, IsUnused, LeavesRest, NotedAreServed, ServedAreMatched, Serves, StaysOrEnds, StaysSaid, WorksWith, address_of, opened}
 use Rattle.std.specs.Io.KnownBytes.{append_known, prepend_known}
 use Rattle.relay_connections.specs.Sessions.{EndsAlone}

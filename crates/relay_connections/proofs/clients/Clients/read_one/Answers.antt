@@ -3,7 +3,7 @@ use Rattle.std.proofs.Common.{sym, subst}
 use Rattle.std.specs.Net.Addr.{ipv4_octets}
 use Rattle.std.specs.Net.Socket.{v4_ip}
 use Rattle.relay_slots.specs.Slots.{slot_at}
-use Rattle.relay_connections.specs.Exchange.{HandsAndReads, IsRead}
+use Rattle.relay_connections.specs.Exchange.{IsRead}
 use Rattle.relay_connections.specs.Served.{HasNext, HasSession, Serves, StaysOrEnds, address_of}
 use Rattle.relay_connections.proofs.CarriedLemmas.{none_join}
 use Rattle.relay_connections.proofs.NextLemmas.{read_none, serves_none, stays_none}
