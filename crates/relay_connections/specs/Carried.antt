@@ -23,8 +23,8 @@ pub record Setting : Type 0 where
   pub setup : Setup
   pub beginnings : ℕ → Beginning
 
--- What a peer gets in the end: all that was said in a dialogue, and after that at most the one line with which the relay
--- cuts a client off (RFC 5321, section 3.8).
+-- What a peer gets in the end: all that was said in a dialogue, and after that at most the one line with which the
+-- relay cuts a client off (RFC 5321, section 3.8).
 pub record GetsDialogue (setup : Setup) (beginning : Beginning) (output : Option (List ℕ)) : Type 0 where
   pub said : Said
   pub dialogue : IsDialogue setup said
