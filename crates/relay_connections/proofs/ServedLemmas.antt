@@ -11,6 +11,7 @@ use Rattle.relay_book.specs.declared.change.Change.{Change}
 use Rattle.relay_records.specs.Records.{Keeps}
 use Rattle.relay_server.specs.Dialogue.{IsDialogue, Said}
 use Rattle.relay_server.specs.Setup.{Setup, setup_of_config}
+use Rattle.relay_node.specs.Node.{NodeState}
 use Rattle.relay_loop.specs.Clients.{TalksTo}
 use Rattle.relay_loop.specs.Outboxes.{octets_of, unwritten_at}
 use Rattle.relay_loop.specs.Relay.{OnlyClient, RelayState}
@@ -193,6 +194,17 @@ module _ {D S : Type 0} (honest : Type 0) (words : DiskWords D) (remaining conte
   served_at_once clients relay served = record {
     added = [];
     served = subst (λ (list : List Change). AreServed honest words remaining contents list setting clients relay) (sym (append-nil changes)) served;
+  }
+
+  -- a relay whose node and connections are as before serves the clients that it served
+  pub still_served : (clients : List (Option (Box (Client S) Global))) (old new : RelayState D) → new.clients ≡ old.clients → new.node ≡ old.node
+      → AreServed honest words remaining contents changes setting clients old → AreServed honest words remaining contents changes setting clients new
+  still_served clients old new same node served = record {
+    keeps = subst (λ (state : NodeState D). Keeps honest words state.records changes) (sym node) served.keeps;
+    setup_is = ap (λ (state : NodeState D). setup_of_config state.config) node ∙ served.setup_is;
+    each = λ number.
+        serves_still remaining contents setting changes old new number (slot_at clients number) (ap (λ (state : NodeState D). slot_at state.seats number) node) (ap (λ table. slot_at table number) same)
+        (ap (λ (state : NodeState D). state.config) node) (served.each number);
   }
 
   -- nobody was opened
